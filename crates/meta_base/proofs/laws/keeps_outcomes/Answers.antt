@@ -1,0 +1,5 @@
+use Rattle.meta_base.proofs.laws.keeps_outcomes.Goals as goal
+use Rattle.meta_base.proofs.Keeping.{keeps}
+
+pub returns : goal.returns
+returns c = keeps

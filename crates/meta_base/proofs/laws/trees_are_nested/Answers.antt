@@ -1,0 +1,5 @@
+use Rattle.meta_base.proofs.Within.{fits}
+use Rattle.meta_base.proofs.laws.trees_are_nested.Goals as goal
+
+pub returns : goal.returns
+returns c = λ text g classes k s o d h. fits text d h
