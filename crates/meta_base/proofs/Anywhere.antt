@@ -1,7 +1,7 @@
 -- What holds of a rewriting at the root of an expression holds of it at any place, and of many of them.
 use Rattle.meta_base.specs.Expression.{Grammar, Expression}
 use Rattle.meta_base.specs.State.{Classes, Mode}
-use Rattle.meta_base.specs.Rewriting.{Within, here, in_pos_pred, in_neg_pred, in_seq_left, in_seq_right, in_choice_left, in_choice_right, in_opt, in_rep, in_rep_once, in_rep_exact, in_rep_min, in_rep_max, in_rep_min_max, in_push, in_restore, Many, none, one_step}
+use Rattle.meta_base.specs.Rewriting.{Within, here, in_pos_pred, in_neg_pred, in_seq_left, in_seq_right, in_choice_left, in_choice_right, in_opt, in_rep, in_rep_once, in_rep_exact, in_rep_min, in_rep_max, in_rep_min_max, in_push, in_restore, Many, no_step, one_step}
 use Rattle.meta_base.proofs.Congruence as same
 use Rattle.meta_base.proofs.Congruence.{Implies}
 
@@ -30,7 +30,7 @@ module _ (f : Grammar) (classes : Classes) (m : Mode) where
     within (in_restore w) = let (i, j) = within w in (same.restore_same f classes m i, same.restore_same f classes m j)
 
     pub along : {a b : Expression} → Many R a b → Alike a b
-    along {a} none = (same.itself f classes m a, same.itself f classes m a)
+    along {a} no_step = (same.itself f classes m a, same.itself f classes m a)
     along (one_step w ws) =
         let (i, j) = within w in
         let (k, l) = along ws in

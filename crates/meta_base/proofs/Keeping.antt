@@ -102,27 +102,27 @@ module _ (g h : Grammar) (classes : Classes) where
     carried between = between
 
 -- 4. names stand for the same strings behind a step, since there is no step within what stands for strings
-no_step : {g : Grammar} {y : RuleType} {e b : Expression} {ts : List Text} → Strings g e ts → Within (Rewrites g y) e b → ⊥
-no_step one (here (by_rotating w)) = elim w [ ]
-no_step one (here (by_unrolling w)) = elim w [ ]
-no_step one (here (by_skipping w)) = elim w [ ]
-no_step one (here (by_joining w)) = elim w [ ]
-no_step one (here (by_factoring w)) = elim w [ ]
-no_step (named e d) (here (by_rotating w)) = elim w [ ]
-no_step (named e d) (here (by_unrolling w)) = elim w [ ]
-no_step (named e d) (here (by_skipping w)) = elim w [ ]
-no_step (named e d) (here (by_joining w)) = elim w [ ]
-no_step (named e d) (here (by_factoring w)) = elim w [ ]
-no_step (more l d f) (here (by_unrolling w)) = elim w [ ]
-no_step (more l d f) (here (by_skipping w)) = elim w [ ]
-no_step (more l d f) (here (by_joining w)) = elim w [ ]
-no_step (more l d f) (here (by_rotating rotate_choice)) = elim l [ ]
-no_step (more l d f) (here (by_factoring factor_prefix)) = elim l [ ]
-no_step (more l d f) (here (by_factoring factor_optional)) = elim l [ ]
-no_step (more l d f) (here (by_factoring factor_optional_compound)) = elim l [ ]
-no_step (more l d f) (here (by_factoring factor_absorbed)) = elim f [ ]
-no_step (more l d f) (in_choice_left w) = no_step d w
-no_step (more l d f) (in_choice_right w) = no_step f w
+not_within : {g : Grammar} {y : RuleType} {e b : Expression} {ts : List Text} → Strings g e ts → Within (Rewrites g y) e b → ⊥
+not_within one (here (by_rotating w)) = elim w [ ]
+not_within one (here (by_unrolling w)) = elim w [ ]
+not_within one (here (by_skipping w)) = elim w [ ]
+not_within one (here (by_joining w)) = elim w [ ]
+not_within one (here (by_factoring w)) = elim w [ ]
+not_within (named e d) (here (by_rotating w)) = elim w [ ]
+not_within (named e d) (here (by_unrolling w)) = elim w [ ]
+not_within (named e d) (here (by_skipping w)) = elim w [ ]
+not_within (named e d) (here (by_joining w)) = elim w [ ]
+not_within (named e d) (here (by_factoring w)) = elim w [ ]
+not_within (more l d f) (here (by_unrolling w)) = elim w [ ]
+not_within (more l d f) (here (by_skipping w)) = elim w [ ]
+not_within (more l d f) (here (by_joining w)) = elim w [ ]
+not_within (more l d f) (here (by_rotating rotate_choice)) = elim l [ ]
+not_within (more l d f) (here (by_factoring factor_prefix)) = elim l [ ]
+not_within (more l d f) (here (by_factoring factor_optional)) = elim l [ ]
+not_within (more l d f) (here (by_factoring factor_optional_compound)) = elim l [ ]
+not_within (more l d f) (here (by_factoring factor_absorbed)) = elim f [ ]
+not_within (more l d f) (in_choice_left w) = not_within d w
+not_within (more l d f) (in_choice_right w) = not_within f w
 
 abbrev pub Differs : Grammar → RuleType → Expression → Expression → Type 0
 Differs g y a b = (a ≡ b) ⊎ Within (Rewrites g y) a b
@@ -131,7 +131,7 @@ module _ (g h : Grammar) where
   named_by : {n : Text} {r : Rule} {p q : Option Rule} {ts : List Text} → Matched (Differs g) p q → p ≡ Some r → rule_of h n ≡ q → Strings g r.body ts → Strings h r.body ts → Strings h (Ident n) ts
   named_by neither e k d i = cc
   named_by {ts = ts} (two (inl j)) e k d i = named k (subst (λ x. Strings h x ts) (sym (ap (λ r. r.body) (same_rule e)) ∙ j) i)
-  named_by {ts = ts} (two (inr w)) e k d i = absurd (no_step (subst (λ r. Strings g r.body ts) (sym (same_rule e)) d) w)
+  named_by {ts = ts} (two (inr w)) e k d i = absurd (not_within (subst (λ r. Strings g r.body ts) (sym (same_rule e)) d) w)
 
   pub still_known : {c : Expression} {ts : List Text} → ((n : Text) → Matched (Differs g) (rule_of g n) (rule_of h n)) → Strings g c ts → Strings h c ts
   still_known p one = one

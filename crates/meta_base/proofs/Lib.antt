@@ -15,4 +15,9 @@ pub mod Restoring
 pub mod Passing
 pub mod Within
 pub mod Steps
-pub mod Texts
+pub mod MetaNames
+pub mod Characters
+pub mod RewritingAnywhere
+pub mod Rotating
+pub mod Literals
+pub mod Lines

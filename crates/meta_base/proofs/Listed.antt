@@ -2,7 +2,8 @@
 use Rattle.std.proofs.Common.{◌≡◌, ◌⊎◌, inl, inr, ℕ, ◌+◌, Bool, true, false, if◌then◌else◌, refl, sym, ◌∙◌, ap, ap₂, subst, arith}
 use Rattle.meta_base.specs.Expression.{Expression, PosPred, NegPred, Seq, Choice, Opt, Rep, RepOnce, RepExact, RepMin, RepMax, RepMinMax, Push, RestoreOnErr}
 use Rattle.meta_base.specs.Equality.{expression_eq, expression_eq-Decides}
-use Rattle.meta_base.specs.Listing.{listed, listed_sequence}
+use Rattle.meta_base.specs.Listing.{listed}
+use Rattle.meta_base.specs.Listing.{listed_sequence}
 
 -- how many nodes an expression has
 abbrev size : Expression → ℕ

@@ -174,7 +174,7 @@ module _ (g : Grammar) (classes : Classes) where
             let k = begins-append alike a b s.rest ∙ ap (λ x. x && begins alike b (drop (length a) s.rest)) h in
             with_outcome (sym (at_test (a ++ b) s k)) (seq_first (with_outcome (at_test a s h) (does a s)))
 
--- S4
+-- `(!c ~ ANY)*` goes where `Skip` goes
 -- a success, or a failure
 data Hit : Bool → Outcome → Type 0 where
   hit : {s : State} {us : Trees} → Hit true (Success s us)

@@ -1,7 +1,7 @@
 -- A pass is a chain of steps.
 use Rattle.std.proofs.Common.{◌∷◌}
 use Rattle.meta_base.specs.Expression.{Expression, RuleType, Rule, Grammar}
-use Rattle.meta_base.specs.Rewriting.{by_rotating, by_unrolling, by_skipping, by_joining, by_factoring, Rewrites, rotate_sequence, rotate_choice, unroll_once, unroll_exact, unroll_min, unroll_max, unroll_min_max, skip_until, join_literals, join_insensitive, factor_prefix, factor_optional, factor_optional_compound, factor_absorbed, Within, here, in_pos_pred, in_neg_pred, in_seq_left, in_seq_right, in_choice_left, in_choice_right, in_opt, in_rep, in_rep_once, in_rep_exact, in_rep_min, in_rep_max, in_rep_min_max, in_push, in_restore, Changed, this, later, Step, Chain, done, step, Many, none, one_step, EachRewritten, no_rules, also_rule}
+use Rattle.meta_base.specs.Rewriting.{by_rotating, by_unrolling, by_skipping, by_joining, by_factoring, Rewrites, rotate_sequence, rotate_choice, unroll_once, unroll_exact, unroll_min, unroll_max, unroll_min_max, skip_until, join_literals, join_insensitive, factor_prefix, factor_optional, factor_optional_compound, factor_absorbed, Within, here, in_pos_pred, in_neg_pred, in_seq_left, in_seq_right, in_choice_left, in_choice_right, in_opt, in_rep, in_rep_once, in_rep_exact, in_rep_min, in_rep_max, in_rep_min_max, in_push, in_restore, Changed, this, later, Step, Chain, done, step, Many, no_step, one_step, EachRewritten, no_rules, also_rule}
 use Rattle.meta_base.proofs.Keeping.{differs, still_known}
 
 -- a rewriting that may be done before a step may be done behind it
@@ -57,7 +57,7 @@ module _ (g : Grammar) where
 
   in_rule : (put : Grammar → Grammar) → Deep put → (r : Rule) (rs i : Grammar) {a b : Expression} → Many (Rewrites g r.type_of) a b
       → Known g (put (with_body r a ∷ rs)) → (Known g (put (with_body r b ∷ rs)) → Chain (put (with_body r b ∷ rs)) i) → Chain (put (with_body r a ∷ rs)) i
-  in_rule put deep r rs i none k f = f k
+  in_rule put deep r rs i no_step k f = f k
   in_rule put deep r rs i (one_step w ws) k f =
       let c = deep _ _ _ (this (k _ _ _ w)) in
       step c (in_rule put deep r rs i ws (λ y a b v. within_still c (k y a b v)) f)

@@ -5,12 +5,12 @@ use Rattle.meta_base.specs.Expression.{Str, Ident, Seq, Opt, Rep, RepOnce, Norma
 use Rattle.meta_base.specs.State.{Mode, NonAtomicMode, AtomicMode, State, None', Tree, Outcome, Success, Failure, Classes}
 use Rattle.meta_base.specs.Meaning.{Matches}
 
--- r = ${ ("a" ~ "b")* ~ "a" }, and as it is listed
-abbrev pub spelled : Grammar
-spelled = record { name = codes "r"; type_of = CompoundAtomic; body = Seq (Rep (Seq (Str (codes "a")) (Str (codes "b")))) (Str (codes "a")) } ∷ []
+-- r = ${ ("a" ~ "b")* ~ "a" }, and as it is listed_grammar
+abbrev pub spelled_grammar : Grammar
+spelled_grammar = record { name = codes "r"; type_of = CompoundAtomic; body = Seq (Rep (Seq (Str (codes "a")) (Str (codes "b")))) (Str (codes "a")) } ∷ []
 
-abbrev pub listed : Grammar
-listed = record { name = codes "r"; type_of = CompoundAtomic; body = Seq (Str (codes "a")) (Rep (Seq (Str (codes "b")) (Str (codes "a")))) } ∷ []
+abbrev pub listed_grammar : Grammar
+listed_grammar = record { name = codes "r"; type_of = CompoundAtomic; body = Seq (Str (codes "a")) (Rep (Seq (Str (codes "b")) (Str (codes "a")))) } ∷ []
 
 -- WHITESPACE = _{ " " } a = { "x"+ }
 abbrev pub blanks : Grammar
@@ -29,11 +29,11 @@ endless =
 abbrev pub start : Text → State
 start t = record { position = 0; rest = t; stack = [] }
 
--- on `ab` the spelled rule fails, and the listed one ends at 1
+-- on `ab` the spelled_grammar rule fails, and the listed_grammar one ends at 1
 abbrev pub ListingDiffers : Type 0
 ListingDiffers = (classes : Classes) (m : Mode)
-    → Matches spelled classes (Ident (codes "r")) m (start (codes "ab")) Failure
-    × Matches listed classes (Ident (codes "r")) m (start (codes "ab")) (Success (record { position = 1; rest = codes "b"; stack = [] }) (Tree (codes "r") 0 1 None' None'))
+    → Matches spelled_grammar classes (Ident (codes "r")) m (start (codes "ab")) Failure
+    × Matches listed_grammar classes (Ident (codes "r")) m (start (codes "ab")) (Success (record { position = 1; rest = codes "b"; stack = [] }) (Tree (codes "r") 0 1 None' None'))
 
 -- on `x` and a blank, `a` ends behind the blank
 abbrev pub BlankIsTaken : Type 0

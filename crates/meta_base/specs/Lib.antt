@@ -16,3 +16,8 @@ pub mod Places
 pub mod Ran
 pub mod MetaRules
 pub mod Facts
+pub mod Printing
+pub mod Replacing
+pub mod Span
+pub mod LineColumn
+pub mod PrintedError

@@ -75,7 +75,7 @@ module _ (R : Expression → Expression → Type 0) where
 
   -- rewritings one after another
   pub data Many : Expression → Expression → Type 0 where
-    none : {a : Expression} → Many a a
+    no_step : {a : Expression} → Many a a
     one_step : {a b c : Expression} → Within a b → Many b c → Many a c
 
   -- it applies nowhere

@@ -19,6 +19,8 @@ pub struct Rule {
 }
 
 /// How a rule's body is run, and whether the rule gives a token.
+///
+/// A rule named `WHITESPACE` or `COMMENT` runs as an Atomic one, unless it is CompoundAtomic.
 #[derive(Clone, Copy, Debug, Eq, PartialEq)]
 pub enum RuleType {
     /// Runs as its caller does, and gives a token: `a = { .. }`.

@@ -5,3 +5,6 @@ pub mod ast;
 pub mod facts;
 pub mod grammar;
 pub mod laws;
+pub mod printing;
+pub mod runtime;
+pub mod texts;

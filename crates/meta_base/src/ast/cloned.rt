@@ -1,8 +1,9 @@
 //! Clones of rules and expressions. A clone that is given equals its source.
-ghost use Rattle.std.specs.Prelude.{◌≡◌, IfOk, map};
-ghost use Rattle.meta_base.specs.Ast.{text_of, expression_of, rule_of_code};
+ghost use Rattle.std.specs.Prelude.{◌≡◌, IfOk};
+ghost use Rattle.meta_base.specs.Ast.{expression_of, rule_of_code};
 
 use super::{Expr, Rule};
+use crate::texts::copy_texts;
 use std::alloc::AllocError;
 
 impl Clone for Rule {
@@ -58,11 +59,4 @@ fn copy_boxed(expr: &Box<Expr>) -> Result<Box<Expr>, AllocError>
     ensures { IfOk result (λ copy. expression_of copy.value ≡ expression_of expr.now.value) }
 {
     Ok(Box::new(*Box::allocator(expr), copy(expr)?)?)
-}
-
-// The same texts again.
-fn copy_texts(texts: &Vec<String>) -> Result<Vec<String>, AllocError>
-    ensures { IfOk result (λ copy. map text_of copy.items ≡ map text_of texts.now.items) }
-{
-    Ok(texts.clone()?)
 }

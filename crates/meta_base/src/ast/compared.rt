@@ -1,10 +1,11 @@
 //! Equality of rules and expressions: by structure, and exactly that.
-ghost use Rattle.std.specs.Prelude.{◌≡◌, ◌↔◌, IsTrue, map};
+ghost use Rattle.std.specs.Prelude.{◌≡◌, ◌↔◌, IsTrue};
 ghost use Rattle.std.specs.Cmp.{on_equiv, partial_equiv_from_equiv};
-ghost use Rattle.meta_base.specs.Ast.{text_of, expression_of, rule_of_code};
-ghost use Rattle.meta_base.specs.Equality.{text_eq, texts_eq, expression_eq, rule_eq, expression_eq_equiv, rule_eq_equiv};
+ghost use Rattle.meta_base.specs.Ast.{expression_of, rule_of_code};
+ghost use Rattle.meta_base.specs.Equality.{expression_eq, rule_eq, expression_eq_equiv, rule_eq_equiv};
 
 use super::{Expr, Rule};
+use crate::texts::{same_text, same_texts};
 
 impl PartialEq for Rule {
     ghost eq = { λ a b. rule_eq (rule_of_code a) (rule_of_code b) };
@@ -65,18 +66,4 @@ fn same(a: &Expr, b: &Expr) -> bool
         (Expr::Push(x), Expr::Push(y)) => same(x, y),
         _ => false,
     }
-}
-
-// Whether two strings have the same characters.
-fn same_text(s: &String, t: &String) -> bool
-    ensures { result ≡ text_eq (text_of s.now) (text_of t.now) }
-{
-    s == t
-}
-
-// The same of lists, text by text.
-fn same_texts(ss: &Vec<String>, ts: &Vec<String>) -> bool
-    ensures { result ≡ texts_eq (map text_of ss.now.items) (map text_of ts.now.items) }
-{
-    ss == ts
 }

@@ -1,0 +1,24 @@
+-- What a span and a position show.
+use Rattle.std.specs.Prelude.{ℕ, List}
+use Rattle.meta_base.specs.declared.runtime.places.Span.{Span}
+use Rattle.meta_base.specs.declared.runtime.places.Position.{Position}
+
+-- the text that a span is a part of, as bytes
+abbrev pub span_text : Span → List ℕ
+span_text span = span.text.now
+
+-- the byte at which a span begins
+abbrev pub span_start : Span → ℕ
+span_start span = span.start
+
+-- the byte before which a span ends
+abbrev pub span_end : Span → ℕ
+span_end span = span.end
+
+-- the text that a position is a place in, as bytes
+abbrev pub position_text : Position → List ℕ
+position_text position = position.text.now
+
+-- how many bytes of its text stand before a position
+abbrev pub position_offset : Position → ℕ
+position_offset position = position.pos

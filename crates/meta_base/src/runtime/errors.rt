@@ -1,0 +1,167 @@
+ghost use Rattle.std.specs.Prelude.{◌≡◌, Some, IfOk, IfErr, ◌++◌, filter, alloc_error, string_bytes};
+ghost use Rattle.std.specs.Str.{chars, encode_utf8_all};
+ghost use Rattle.meta_base.specs.Span.{span_text, span_start, span_end, position_text, position_offset};
+ghost use Rattle.meta_base.specs.LineColumn.{line_column};
+ghost use Rattle.meta_base.specs.PrintedError.{message_of, start_of, is_printed, printed_line, error_line, error_text};
+
+use super::faults::Fault;
+use super::layout::{Margin, Underline};
+use super::lines::{first_line, last_line};
+use super::places::{Position, Span};
+use std::alloc::{AllocError, Global};
+use std::fmt;
+use std::marker::PhantomData;
+
+/// What is wrong with a text.
+#[derive(Debug, PartialEq, Eq, Drop)]
+pub enum ErrorVariant {
+    /// No rule matches it.
+    ParsingError,
+    /// What the message says.
+    CustomError { message: String },
+}
+
+impl fmt::Display for ErrorVariant {
+    ghost output = { λ variant. Some (message_of variant) };
+
+    fn fmt<W: fmt::Write>(&self, f: &mut fmt::Formatter<W>) -> fmt::Result {
+        match self {
+            ErrorVariant::ParsingError => f.write_str("unknown parsing error"),
+            ErrorVariant::CustomError { message } => f.write_str(message.as_str()),
+        }
+    }
+}
+
+/// Where an error stands, in bytes from the start of the text: a place, or the start and the end of a span.
+#[derive(Clone, Copy, Debug, PartialEq, Eq)]
+pub enum InputLocation {
+    Pos(usize),
+    Span((usize, usize)),
+}
+
+/// Where an error stands, as line and column: of a place, or of the start and the end of a span.
+#[derive(Clone, Copy, Debug, PartialEq, Eq)]
+pub enum LineColLocation {
+    Pos((usize, usize)),
+    Span((usize, usize), (usize, usize)),
+}
+
+impl LineColLocation {
+    /// The line and the column at which the error begins.
+    pub(crate) fn start(&self) -> (usize, usize)
+        ensures { result ≡ start_of self.now }
+    {
+        match *self {
+            LineColLocation::Pos(place) => place,
+            LineColLocation::Span(start, _) => start,
+        }
+    }
+}
+
+/// An error in a text that rules of type `R` read. It keeps the line that it prints.
+#[derive_where(Debug, PartialEq, Eq)]
+#[derive(Drop)]
+pub struct Error<R> {
+    pub variant: ErrorVariant,
+    pub location: InputLocation,
+    pub line_col: LineColLocation,
+    line: String,
+    rule: PhantomData<R>,
+}
+
+/// Six lines, without a last newline: where the error begins, its line of the text, what it spans
+/// there, and its message.
+impl<R> fmt::Display for Error<R> {
+    ghost output = { λ error. Some (error_text error) };
+
+    fn fmt<W: fmt::Write>(&self, f: &mut fmt::Formatter<W>) -> fmt::Result {
+        let (line, column) = self.line_col.start();
+        let margin = Margin(line);
+        let underline = Underline {
+            place: self.line_col,
+            line: self.line.as_str(),
+        };
+        writeln!(f, "{margin}--> {line}:{column}")?;
+        writeln!(f, "{margin} |")?;
+        writeln!(f, "{line} | {}", self.line)?;
+        writeln!(f, "{margin} | {underline}")?;
+        writeln!(f, "{margin} |")?;
+        write!(f, "{margin} = {}", self.variant)
+    }
+}
+
+impl<R> Error<R> {
+    /// The error `variant` at `span`: its places are those of the span's start and end, and it prints
+    /// the line on which the span begins. The only fault is a want of memory.
+    pub fn new_from_span(
+        alloc: Global,
+        variant: ErrorVariant,
+        span: Span<'_>,
+    ) -> Result<Error<R>, Fault>
+        ensures variant { IfOk result (λ error. error.variant ≡ variant) }
+        ensures location { IfOk result (λ error. error.location
+            ≡ InputLocation.Span (span_start span.entry, span_end span.entry)) }
+        ensures line_col { let text = span_text span.entry in
+            IfOk result (λ error. error.line_col ≡ LineColLocation.Span
+            (line_column text (span_start span.entry)) (line_column text (span_end span.entry))) }
+        ensures line { IfOk result (λ error. error_line error
+            ≡ printed_line (span_text span.entry) (span_start span.entry)) }
+        ensures memory { IfErr result (λ fault. fault ≡ Fault.Memory alloc_error) }
+    {
+        let start = span.start_pos();
+        let line = printed_line(alloc, start).map_err(Fault::Memory)?;
+        Ok(Error {
+            variant,
+            location: InputLocation::Span((span.start(), span.end())),
+            line_col: LineColLocation::Span(start.line_col(), span.end_pos().line_col()),
+            line,
+            rule: PhantomData,
+        })
+    }
+
+    /// The error `variant` at `pos`: its place is that position, and it prints the line in which the
+    /// position stands. The only fault is a want of memory.
+    pub fn new_from_pos(
+        alloc: Global,
+        variant: ErrorVariant,
+        pos: Position<'_>,
+    ) -> Result<Error<R>, Fault>
+        ensures variant { IfOk result (λ error. error.variant ≡ variant) }
+        ensures location { IfOk result (λ error. error.location
+            ≡ InputLocation.Pos (position_offset pos.entry)) }
+        ensures line_col { IfOk result (λ error. error.line_col ≡ LineColLocation.Pos
+            (line_column (position_text pos.entry) (position_offset pos.entry))) }
+        ensures line { IfOk result (λ error. error_line error
+            ≡ printed_line (position_text pos.entry) (position_offset pos.entry)) }
+        ensures memory { IfErr result (λ fault. fault ≡ Fault.Memory alloc_error) }
+    {
+        let line = printed_line(alloc, pos).map_err(Fault::Memory)?;
+        Ok(Error {
+            variant,
+            location: InputLocation::Pos(pos.pos()),
+            line_col: LineColLocation::Pos(pos.line_col()),
+            line,
+            rule: PhantomData,
+        })
+    }
+}
+
+/// The line in which `pos` stands, without any `\r` and `\n`.
+fn printed_line(alloc: Global, pos: Position<'_>) -> Result<String, AllocError>
+    ensures { IfOk result (λ line. string_bytes line
+        ≡ printed_line (position_text pos.entry) (position_offset pos.entry)) }
+{
+    without_breaks(alloc, last_line(pos.before()), first_line(pos.after()))
+}
+
+/// `before` and `after` in one text, without any `\r` and `\n`.
+fn without_breaks(alloc: Global, before: &str, after: &str) -> Result<String, AllocError>
+    ensures { IfOk result (λ text. string_bytes text
+        ≡ encode_utf8_all (filter is_printed (chars (before.now ++ after.now)))) }
+{
+    before
+        .chars()
+        .chain(after.chars())
+        .filter(|c| *c != '\r' && *c != '\n')
+        .collect(alloc)
+}

@@ -1,0 +1,15 @@
+use super::errors::Error;
+use crate::grammar::Rule;
+use std::alloc::AllocError;
+use thiserror::Error as DeriveError;
+
+/// Why a call has no answer.
+#[derive(Debug, Drop, DeriveError)]
+pub enum Fault {
+    /// Memory was wanting.
+    #[error("out of memory")]
+    Memory(#[from(alloc)] AllocError),
+    /// The text is at fault, as these errors say.
+    #[error("grammar error")]
+    Grammar(Vec<Error<Rule>>),
+}

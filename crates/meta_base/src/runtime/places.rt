@@ -1,0 +1,152 @@
+ghost use Rattle.std.specs.Prelude.{◌≡◌, ◌≤◌, ◌↔◌, IsSome, IfSome, take, drop, slice_range};
+ghost use Rattle.std.specs.Str.{IsCharBoundary};
+ghost use Rattle.meta_base.specs.LineColumn.{line_column};
+
+use super::lines::last_line;
+
+/// A part of a text: the bytes from `start` up to `end`.
+#[derive(Clone, Copy, Debug, PartialEq, Eq)]
+pub struct Span<'i> {
+    text: &'i str,
+    start: usize,
+    end: usize,
+    pub ghost ordered: { start ≤ end },
+    pub ghost starts_at_character: { IsCharBoundary text.now start },
+    pub ghost ends_at_character: { IsCharBoundary text.now end },
+}
+
+/// A place in a text, counted in bytes from its start.
+#[derive(Clone, Copy, Debug, PartialEq, Eq)]
+pub struct Position<'i> {
+    text: &'i str,
+    pos: usize,
+    pub ghost at_character: { IsCharBoundary text.now pos },
+}
+
+impl<'i> Span<'i> {
+    ghost use Rattle.meta_base.specs.Span.{span_text, span_start, span_end, position_text, position_offset};
+
+    /// The part of `text` from byte `start` up to byte `end`, or `None` where the range is reversed,
+    /// reaches past the end of the text, or has an end inside a character.
+    pub fn new(text: &'i str, start: usize, end: usize) -> Option<Span<'i>>
+        ensures accepted { IsSome result
+            ↔ (start ≤ end) × IsCharBoundary text.now start × IsCharBoundary text.now end }
+        ensures text { IfSome result (λ span. span_text span ≡ text.now) }
+        ensures start { IfSome result (λ span. span_start span ≡ start) }
+        ensures end { IfSome result (λ span. span_end span ≡ end) }
+    {
+        if start <= end && text.is_char_boundary(start) && text.is_char_boundary(end) {
+            Some(Span { text, start, end })
+        } else {
+            None
+        }
+    }
+
+    /// The byte at which the span begins.
+    pub fn start(&self) -> usize
+        ensures { result ≡ span_start self.now }
+    {
+        self.start
+    }
+
+    /// The byte before which the span ends.
+    pub fn end(&self) -> usize
+        ensures { result ≡ span_end self.now }
+    {
+        self.end
+    }
+
+    /// The part of the text itself: its bytes from the span's start up to its end.
+    pub fn as_str(&self) -> &'i str
+        ensures { result.now ≡ slice_range (span_text self.now) (span_start self.now) (span_end self.now) }
+    {
+        &self.text[self.start..self.end]
+    }
+
+    /// The place at which the span begins, in the same text.
+    pub fn start_pos(&self) -> Position<'i>
+        ensures text { position_text result ≡ span_text self.now }
+        ensures place { position_offset result ≡ span_start self.now }
+    {
+        Position {
+            text: self.text,
+            pos: self.start,
+        }
+    }
+
+    /// The place at which the span ends, in the same text.
+    pub fn end_pos(&self) -> Position<'i>
+        ensures text { position_text result ≡ span_text self.now }
+        ensures place { position_offset result ≡ span_end self.now }
+    {
+        Position {
+            text: self.text,
+            pos: self.end,
+        }
+    }
+}
+
+impl<'i> Position<'i> {
+    ghost use Rattle.meta_base.specs.Span.{span_text, span_start, span_end, position_text, position_offset};
+
+    /// The place before byte `pos` of `text`, or `None` where that is past the end or inside a
+    /// character.
+    pub fn new(text: &'i str, pos: usize) -> Option<Position<'i>>
+        ensures accepted { IsSome result ↔ IsCharBoundary text.now pos }
+        ensures text { IfSome result (λ position. position_text position ≡ text.now) }
+        ensures place { IfSome result (λ position. position_offset position ≡ pos) }
+    {
+        if text.is_char_boundary(pos) {
+            Some(Position { text, pos })
+        } else {
+            None
+        }
+    }
+
+    /// How many bytes of the text stand before the place.
+    pub fn pos(&self) -> usize
+        ensures { result ≡ position_offset self.now }
+    {
+        self.pos
+    }
+
+    /// The line and the column of the place, both counted from 1: a `\n` ends a line, and a column is
+    /// a character.
+    pub fn line_col(&self) -> (usize, usize)
+        ensures { result ≡ line_column (position_text self.now) (position_offset self.now) }
+    {
+        let before = self.before();
+        let line = 1 + before.bytes().filter(|byte| *byte == b'\n').count();
+        let column = 1 + last_line(before).chars().count();
+        (line, column)
+    }
+
+    /// What stands before the place.
+    pub(crate) fn before(&self) -> &'i str
+        ensures { result.now ≡ take (position_offset self.now) (position_text self.now) }
+    {
+        &self.text[..self.pos]
+    }
+
+    /// What stands after the place.
+    pub(crate) fn after(&self) -> &'i str
+        ensures { result.now ≡ drop (position_offset self.now) (position_text self.now) }
+    {
+        &self.text[self.pos..]
+    }
+
+    /// The part of the text from this place up to `other`.
+    pub fn span(&self, other: &Position<'i>) -> Span<'i>
+        requires same_text { position_text self.now ≡ position_text other.now }
+        requires ordered { position_offset self.now ≤ position_offset other.now }
+        ensures text { span_text result ≡ position_text self.now }
+        ensures start { span_start result ≡ position_offset self.now }
+        ensures end { span_end result ≡ position_offset other.now }
+    {
+        Span {
+            text: self.text,
+            start: self.pos,
+            end: other.pos,
+        }
+    }
+}

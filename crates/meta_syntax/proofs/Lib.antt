@@ -1,0 +1,4 @@
+pub mod Leaves
+pub mod Lookup
+pub mod MetaWellFormed
+pub mod Steps

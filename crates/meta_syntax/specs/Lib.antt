@@ -1,0 +1,4 @@
+pub mod MetaGrammar
+pub mod Forms
+pub mod Rows
+pub mod Runs

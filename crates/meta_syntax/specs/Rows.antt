@@ -1,0 +1,25 @@
+-- What is known of a rule's row.
+use Rattle.std.specs.Prelude.{◌≡◌, ◌≤◌, Bool, true, false}
+use Rattle.meta_base.specs.declared.grammar.Rule.{Rule}
+use Rattle.meta_base.specs.declared.grammar.Rule.TheVariants.{EOI}
+use Rattle.meta_syntax.specs.declared.table.Kind.{Kind}
+use Rattle.meta_syntax.specs.declared.table.Form.{Form}
+use Rattle.meta_syntax.specs.Forms.{IsGood, IsSpelled, cost, expression_of, kind_of, null, nullable, rank_of}
+use Rattle.meta_syntax.specs.MetaGrammar.{body_of, type_of_rule}
+
+-- whether it is a rule of the grammar
+abbrev pub is_defined : Rule → Bool
+is_defined EOI = false
+is_defined _ = true
+
+-- type and body are those of the meta-grammar, and what the recognizer needs to end
+abbrev pub IsRow : Kind → Form → Rule → Type 0
+IsRow kind form rule = record {
+  defined : is_defined rule ≡ true;
+  kind : kind_of kind ≡ type_of_rule rule;
+  body : expression_of form ≡ body_of rule;
+  spelled : IsSpelled form;
+  good : IsGood form;
+  cost : cost form ≤ rank_of rule;
+  null : null form ≡ nullable rule;
+}

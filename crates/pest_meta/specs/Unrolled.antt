@@ -1,0 +1,25 @@
+-- Which expressions have no repetition but `*`.
+use Rattle.std.specs.Prelude.{⊤, [], ◌∷◌}
+use Rattle.meta_base.specs.Expression.{Expression, PosPred, NegPred, Seq, Choice, Opt, Rep, RepOnce, RepExact, RepMin, RepMax, RepMinMax, Push, RestoreOnErr, Grammar}
+
+-- no part is a `+` or a counted repetition
+abbrev pub IsUnrolled : Expression → Type 0
+IsUnrolled (RepOnce e) = ⊥
+IsUnrolled (RepExact e n) = ⊥
+IsUnrolled (RepMin e m) = ⊥
+IsUnrolled (RepMax e n) = ⊥
+IsUnrolled (RepMinMax e m n) = ⊥
+IsUnrolled (PosPred e) = IsUnrolled e
+IsUnrolled (NegPred e) = IsUnrolled e
+IsUnrolled (Seq a b) = IsUnrolled a × IsUnrolled b
+IsUnrolled (Choice a b) = IsUnrolled a × IsUnrolled b
+IsUnrolled (Opt e) = IsUnrolled e
+IsUnrolled (Rep e) = IsUnrolled e
+IsUnrolled (Push e) = IsUnrolled e
+IsUnrolled (RestoreOnErr e) = IsUnrolled e
+IsUnrolled _ = ⊤
+
+-- so are the bodies of all rules
+abbrev pub AreUnrolled : Grammar → Type 0
+AreUnrolled [] = ⊤
+AreUnrolled (r ∷ rs) = IsUnrolled r.body × AreUnrolled rs
