@@ -21,3 +21,4 @@ pub mod RewritingAnywhere
 pub mod Rotating
 pub mod Literals
 pub mod Lines
+pub mod PairLemmas

@@ -21,3 +21,6 @@ pub mod Replacing
 pub mod Span
 pub mod LineColumn
 pub mod PrintedError
+pub mod TokenTrees
+pub mod TreeViews
+pub mod Pairs

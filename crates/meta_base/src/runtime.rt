@@ -1,14 +1,19 @@
-//! What stands for the parts of `pest` that a reader of grammars calls: places in a text and errors.
+//! What stands for the parts of the crate `pest` that a reader of grammars calls: places in a text, pairs and
+//! errors; and the faults of every call.
 
 mod errors;
 mod faults;
 mod layout;
 mod lines;
 mod places;
+mod tokens;
+mod trees;
 
 pub use errors::{Error, ErrorVariant, InputLocation, LineColLocation};
 pub use faults::Fault;
 pub use places::{Position, Span};
+pub use tokens::{FlatPairs, Pair, Pairs};
+pub use trees::TokenTree;
 
 #[cfg(test)]
 mod tests;

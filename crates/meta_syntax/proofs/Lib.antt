@@ -1,4 +1,8 @@
-pub mod Leaves
+pub mod EntryLists
+pub mod LeafLemmas
 pub mod Lookup
+pub mod Making
+pub mod Memory
 pub mod MetaWellFormed
+pub mod Parsing
 pub mod Steps

@@ -13,8 +13,8 @@ use Rattle.meta_base.specs.declared.grammar.Rule.{Rule}
 use Rattle.meta_base.specs.declared.grammar.Rule.TheVariants as is
 use Rattle.meta_syntax.specs.declared.table.Kind.{Kind}
 use Rattle.meta_syntax.specs.declared.table.Kind.TheVariants as of
-use Rattle.meta_syntax.specs.declared.recognize.Mode as mode
-use Rattle.meta_syntax.specs.declared.recognize.Mode.TheVariants as in_mode
+use Rattle.meta_syntax.specs.declared.modes.Mode as mode
+use Rattle.meta_syntax.specs.declared.modes.Mode.TheVariants as in_mode
 use Rattle.meta_syntax.specs.Forms.{kind_of}
 use Rattle.meta_syntax.specs.MetaGrammar.{meta_grammar, rule_at, type_of_rule}
 use Rattle.meta_syntax.specs.Rows.{is_defined}

@@ -93,7 +93,7 @@ rank_of is.insensitive_string = 3
 rank_of is.range = 16
 rank_of is.character = 8
 rank_of is.inner_str = 13
-rank_of is.inner_chr = 8
+rank_of is.inner_chr = 9
 rank_of is.escape = 3
 rank_of is.code = 6
 rank_of is.unicode = 9
@@ -106,7 +106,7 @@ rank_of is.COMMENT = 10
 rank_of is.space = 2
 rank_of is.grammar_doc = 6
 rank_of is.line_doc = 6
-rank_of is.inner_doc = 10
+rank_of is.inner_doc = 11
 rank_of _ = 0
 
 -- a bound on the calls that nest before input is taken
@@ -121,7 +121,7 @@ cost (form.Choice' p a q b) = 2 + max (cost a) (cost b)
 cost (form.Opt' p a) = 2 + cost a
 cost (form.Rep' p a) = 2 + cost a
 cost (form.RepOnce' p a) = 3 + cost a
-cost (form.NegPred' p a) = 1 + cost a
+cost (form.NegPred' p a) = 2 + cost a
 cost (form.RepMinMax' p a i j q b) = 1 + cost b
 
 -- no body of a repetition may succeed without input, and costs are below their limit

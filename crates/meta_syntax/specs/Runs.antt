@@ -1,24 +1,22 @@
 -- What a run of the recognizer answers.
-use Rattle.std.specs.Prelude.{◌≡◌, ℕ, ◌+◌, ◌*◌, ◌<◌, ◌≤◌, max, List, [], Bool, true, false, length, chars, ◌⊎◌, if◌then◌else◌, ⊤}
-use Rattle.meta_base.specs.State as state
-use Rattle.meta_base.specs.Text.{Text}
+use Rattle.std.specs.Prelude.{◌≡◌, ℕ, ◌+◌, ◌-◌, ◌*◌, ◌<◌, ◌≤◌, max, List, [], Bool, true, false, Option, Some, None, drop, length, chars, ◌⊎◌, if◌then◌else◌, nat_eq, ⊤}
+use Rattle.std.specs.Borrow.{Bor}
+use Rattle.std.specs.HashSet.{HashSet, contains}
+use Rattle.std.specs.declared.hash.FoldHasher.{FoldHasher}
+use Rattle.std.specs.declared.hash.BuildHasherDefault.{BuildHasherDefault}
 use Rattle.meta_base.specs.Expression.{Ident}
-use Rattle.meta_base.specs.State.{Mode, NonAtomicMode, AtomicMode, CompoundAtomicMode, State, Outcome, Success, Failure, Classes}
+use Rattle.meta_base.specs.State.{Mode, NonAtomicMode, AtomicMode, CompoundAtomicMode, State, Trees, None', Outcome, Success, Failure, Classes}
 use Rattle.meta_base.specs.Meaning.{Matches, Task}
 use Rattle.meta_base.specs.FurthestFailure.{furthest}
 use Rattle.meta_base.specs.Ran.{Ran}
 use Rattle.meta_base.specs.MetaRules.{name_of}
 use Rattle.meta_base.specs.declared.grammar.Rule.{Rule}
 use Rattle.meta_base.specs.declared.grammar.Rule.TheVariants as is
-use Rattle.meta_syntax.specs.declared.recognize.Mode as mode
-use Rattle.meta_syntax.specs.declared.recognize.Mode.TheVariants as in_mode
-use Rattle.meta_syntax.specs.declared.trees.Trees as trees
-use Rattle.meta_syntax.specs.declared.trees.Trees.TheVariants as trees_are
-use Rattle.meta_syntax.specs.declared.recognize.Match.{Match}
-use Rattle.meta_syntax.specs.declared.recognize.Outcome as code
-use Rattle.meta_syntax.specs.declared.recognize.Outcome.TheVariants as found
-use Rattle.meta_syntax.specs.declared.grammar.Refusal.{Refusal}
-use Rattle.meta_syntax.specs.declared.grammar.Refusal.TheVariants as refused
+use Rattle.meta_syntax.specs.declared.entries.Entry.{Entry}
+use Rattle.meta_syntax.specs.declared.modes.Mode as mode
+use Rattle.meta_syntax.specs.declared.modes.Mode.TheVariants as in_mode
+use Rattle.meta_syntax.specs.declared.recognize.Recognizer.{Recognizer}
+use Rattle.meta_syntax.specs.Entries.{Adds, seen}
 use Rattle.meta_syntax.specs.MetaGrammar.{meta_grammar}
 
 -- the mode of a mode of the code
@@ -27,42 +25,70 @@ mode_of in_mode.NonAtomic = NonAtomicMode
 mode_of in_mode.Atomic = AtomicMode
 mode_of in_mode.CompoundAtomic = CompoundAtomicMode
 
--- trees by their rules' names
-abbrev pub trees_of : trees.Trees → state.Trees
-trees_of trees_are.Empty = state.None'
-trees_of (trees_are.Tree' r i j p inner q others) = state.Tree (name_of r) i j (trees_of inner) (trees_of others)
+-- these bytes are what is left of a text from some place on
+abbrev pub IsLeft : List ℕ → List ℕ → Type 0
+IsLeft text rest = rest ≡ drop (length text - length rest) text
 
--- the trees, or one tree around them
-abbrev pub token : Bool → Text → ℕ → ℕ → state.Trees → state.Trees
-token gives n i j us = if gives then state.Tree n i j us state.None' else us
+-- the state in a text with these bytes left, and the stack empty
+abbrev pub at : List ℕ → List ℕ → State
+at text rest = record { position = length text - length rest; rest = chars rest; stack = [] }
 
--- the state at a position, with these bytes left and the stack empty
-abbrev pub at : ℕ → List ℕ → State
-at position rest = record { position = position; rest = chars rest; stack = [] }
+-- what a form without tokens does: it leaves these bytes, or fails
+abbrev pub leaving : List ℕ → Option (Bor (List ℕ)) → Outcome
+leaving text None = Failure
+leaving text (Some after) = Success (at text after.now) None'
 
--- the outcome that a match is
-abbrev pub found_of : Match → Outcome
-found_of m = Success (at m.position m.rest.now) (trees_of m.trees)
-
-abbrev pub outcome_of : code.Outcome → Outcome
-outcome_of (found.Success m) = found_of m
-outcome_of found.Failure = Failure
-
--- a match goes on, and takes input unless it may be empty
-abbrev pub GoesOn : ℕ → List ℕ → Bool → Match → Type 0
-GoesOn position rest empty m = record {
-  kept : m.position + length m.rest.now ≡ position + length rest;
-  shorter : length m.rest.now ≤ length rest;
-  consumed : (length m.rest.now < length rest) ⊎ (empty ≡ true);
+-- a match leaves an end of the text, and takes input unless it may be empty
+abbrev pub GoesOn : List ℕ → List ℕ → Bool → List ℕ → Type 0
+GoesOn text rest empty after = record {
+  left : IsLeft text after;
+  shorter : length after ≤ length rest;
+  consumed : (length after < length rest) ⊎ (empty ≡ true);
 }
 
-abbrev pub Progress : ℕ → List ℕ → Bool → code.Outcome → Type 0
-Progress position rest empty (found.Success m) = GoesOn position rest empty m
-Progress position rest empty found.Failure = ⊤
+abbrev pub Progress : List ℕ → List ℕ → Bool → Option (Bor (List ℕ)) → Type 0
+Progress text rest empty None = ⊤
+Progress text rest empty (Some after) = GoesOn text rest empty after.now
 
--- what was found for a task, whatever the classes are
-abbrev pub RunsTo : Task → ℕ → List ℕ → Outcome → ℕ → ℕ → Type 0
-RunsTo k position rest o old new = (classes : Classes) → Ran meta_grammar classes k (at position rest) o old new
+-- the task was found to fail, whatever the classes are; the entries are what they were
+pub record Fails (k : Task) (text rest : List ℕ) (old new : List Entry) (p q : ℕ) : Type 0 where
+  pub kept : seen new ≡ seen old
+  pub ran : (classes : Classes) → Ran meta_grammar classes k (at text rest) Failure p q
+
+-- the task was found to succeed and to leave these bytes, whatever the classes are; the entries of its trees were added
+pub record Finds (k : Task) (text rest : List ℕ) (old new : List Entry) (p q : ℕ) (after : List ℕ) : Type 0 where
+  pub trees : Trees
+  pub added : Adds old new trees
+  pub ran : (classes : Classes) → Ran meta_grammar classes k (at text rest) (Success (at text after) trees) p q
+
+abbrev pub Gives : Task → List ℕ → List ℕ → List Entry → List Entry → ℕ → ℕ → Option (Bor (List ℕ)) → Type 0
+Gives k text rest old new p q None = Fails k text rest old new p q
+Gives k text rest old new p q (Some after) = Finds k text rest old new p q after.now
+
+-- what a run answers, and what it makes of the entries and of the furthest failure
+abbrev pub Runs : Task → List ℕ → List ℕ → Recognizer → Recognizer → Option (Bor (List ℕ)) → Type 0
+Runs k text rest old new o = Gives k text rest old.entries.items new.entries.items old.furthest new.furthest o
+
+-- the same of a run that cannot fail
+abbrev pub Reaches : Task → List ℕ → List ℕ → Recognizer → Recognizer → List ℕ → Type 0
+Reaches k text rest old new after = Finds k text rest old.entries.items new.entries.items old.furthest new.furthest after
+
+-- a call fails, whatever the classes are, and nothing in it fails further than at a place
+abbrev pub FailsWithin : Rule → Mode → List ℕ → List ℕ → ℕ → Type 0
+FailsWithin rule m text rest bound = (classes : Classes)
+    → (d : Matches meta_grammar classes (Ident (name_of rule)) m (at text rest) Failure) × (furthest d ≤ bound)
+
+-- a comment does so at each place that is remembered, by the count of bytes that are left there
+abbrev pub Remembers : Mode → List ℕ → ℕ → HashSet ℕ (BuildHasherDefault FoldHasher) → Type 0
+Remembers m text bound places = (n : ℕ) → contains nat_eq places n ≡ true
+    → FailsWithin is.block_comment m text (drop (length text - n) text) bound
+
+-- what the recognizer remembers is so
+abbrev pub IsSound : List ℕ → Recognizer → Type 0
+IsSound text r = record {
+  atomic : Remembers AtomicMode text r.furthest r.failed_in_atomic;
+  non_atomic : Remembers NonAtomicMode text r.furthest r.failed_in_non_atomic;
+}
 
 -- the furthest failure, with one more at a position if it counts
 abbrev pub noted : Bool → ℕ → ℕ → ℕ
@@ -87,16 +113,3 @@ skips_in_call r m = if is_blank r then 0 else skips_in m
 -- text left, then whether blanks are skipped, then the cost
 abbrev pub measure : List ℕ → ℕ → ℕ → ℕ
 measure rest skipping n = (length rest * 2 + skipping) * 1000 + n
-
--- the rule is called at the start of the text, in NonAtomic, with the empty stack
-abbrev pub Recognizes : Rule → List ℕ → Classes → Outcome → Type 0
-Recognizes rule text classes o = Matches meta_grammar classes (Ident (name_of rule)) NonAtomicMode (at 0 text) o
-
--- these are the trees that the text spells for the rule
-abbrev pub ParseGives : Rule → List ℕ → trees.Trees → Type 0
-ParseGives rule text us = (classes : Classes) → (t : State) × Recognizes rule text classes (Success t (trees_of us))
-
--- the rule fails, and this is the place of the failure, unless memory was refused
-abbrev pub ParseRefuses : Rule → List ℕ → Refusal → Type 0
-ParseRefuses rule text (refused.Memory e) = ⊤
-ParseRefuses rule text (refused.Place p) = (classes : Classes) → (d : Recognizes rule text classes Failure) × (p ≡ furthest d)

@@ -1,8 +1,11 @@
 // The recognizer of the meta-grammar.
 #![tactic(auto)]
 
+pub mod entries;
 pub mod grammar;
 pub mod laws;
+mod leaves;
+mod modes;
 mod recognize;
 mod table;
 pub mod trees;

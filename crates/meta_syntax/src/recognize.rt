@@ -1,597 +1,507 @@
 // The recognizer: an interpreter of the table.
-ghost use Rattle.std.specs.Prelude.{◌≡◌, ◌+◌, ◌<◌, ◌≤◌, ◌^◌, ◌&&◌, ◌||◌, [], ◌∷◌, length, IfOk, true, false, nat_eq, codes};
-ghost use Rattle.meta_base.specs.State.{Between, None', Success};
-ghost use Rattle.meta_base.specs.Expression.{Choice, Ident, Opt, Rep, RepOnce, Seq, comment, whitespace};
-ghost use Rattle.meta_base.specs.Matching.{character_outcome, range_set, text_outcome};
-ghost use Rattle.meta_base.specs.Meaning.{Run, Skipping, Turns, body_mode, gives_token, not_ahead, seen_from};
+ghost use Rattle.std.specs.Prelude.{◌≡◌, ◌<◌, ◌&&◌, ◌||◌, ℕ, List, IfOk, OnOk, [], true, false, codes};
+ghost use Rattle.meta_base.specs.State.{Between};
+ghost use Rattle.meta_base.specs.Expression.{Choice, Ident, NegPred, Opt, Rep, RepOnce, Seq, comment, whitespace};
+ghost use Rattle.meta_base.specs.Meaning.{Run, Skipping, Turns};
 ghost use Rattle.meta_base.specs.MetaRules.{name_of};
-ghost use Rattle.meta_syntax.specs.Forms.{IsGood, IsSpelled, cost, decoded, expression_of, kind_of, null, nullable};
-ghost use Rattle.meta_syntax.specs.MetaGrammar.{rule_at, type_of_rule};
-ghost use Rattle.meta_syntax.specs.Runs.{GoesOn, Progress, RunsTo, at, found_of, is_blank, mode_of, noted, outcome_of, skips_in, skips_in_call, token as with_token, trees_of};
+ghost use Rattle.meta_base.specs.declared.grammar.Rule.TheVariants.{block_comment};
+ghost use Rattle.meta_syntax.specs.Entries.{seen};
+ghost use Rattle.meta_syntax.specs.Forms.{IsGood, IsSpelled, cost, expression_of, null, nullable};
+ghost use Rattle.meta_syntax.specs.Runs.{FailsWithin, GoesOn, IsLeft, IsSound, Progress, Reaches, Runs, mode_of};
 
-use crate::table::{Form, Kind, row_of};
-use crate::trees::{Trees, joined};
+use crate::entries::{Entry, close, cut, open, written};
+use crate::leaves::{any, character, literal};
+use crate::modes::{Mode, body_mode, call_counts, gives_token, is_seen_from, noted};
+use crate::table::{Form, row_of};
 use meta_base::grammar::Rule;
 use std::alloc::{AllocError, Global};
+use std::collections::HashSet;
 
-/// What is skipped between parts, and which rules give tokens.
-#[derive(Clone, Copy, Debug, PartialEq, Eq)]
-pub enum Mode {
-    NonAtomic,
-    Atomic,
-    CompoundAtomic,
-}
-
-/// Where a match ended, and its trees.
+/// What a run has written and noted so far.
 #[derive(Drop)]
-pub struct Match<'i> {
-    pub rest: &'i str,
-    pub position: usize,
-    pub trees: Trees,
+pub struct Recognizer {
+    /// The tokens, in order.
+    pub entries: Vec<Entry>,
+    /// The furthest place, in bytes, at which a call that counts has failed.
+    pub furthest: usize,
+    /// The places where a comment is left open, each as the count of bytes that are left there.
+    failed_in_atomic: HashSet<usize>,
+    failed_in_non_atomic: HashSet<usize>,
 }
 
-#[derive(Drop)]
-pub enum Outcome<'i> {
-    Success(Match<'i>),
-    Failure,
-}
-
-/// Matches the text itself.
-fn literal<'i>(text: &str, rest: &'i str, position: usize) -> Outcome<'i>
-    requires room { position + length rest.now < 2 ^ 64 }
-    ensures goes_on { Progress position rest.entry.now (nat_eq (length text.now) 0) result }
-    ensures means { outcome_of result ≡ text_outcome nat_eq (decoded text.now) (at position rest.entry.now) }
+/// Whether a call is that of a comment which is begun there: such a call may be made again and
+/// again, and take long.
+fn begins_comment(rule: Rule, rest: &str) -> bool
+    ensures { result ≡ true → rule ≡ block_comment }
 {
-    match rest.strip_prefix(text) {
-        Some(after) => Outcome::Success(Match {
-            rest: after,
-            position: position + text.len(),
-            trees: Trees::Empty,
-        }),
-        None => Outcome::Failure,
+    rule == Rule::block_comment && rest.starts_with("/*")
+}
+
+impl Recognizer {
+    pub fn new(alloc: Global) -> Recognizer
+        ensures entries { seen result.entries.items ≡ [] }
+        ensures furthest { result.furthest ≡ 0 }
+        ensures sound { (text : List ℕ) → IsSound text result }
+    {
+        Recognizer {
+            entries: Vec::new(alloc),
+            furthest: 0,
+            failed_in_atomic: HashSet::new(alloc),
+            failed_in_non_atomic: HashSet::new(alloc),
+        }
     }
-}
 
-/// Matches one character from `low` to `high`.
-fn character<'i>(low: char, high: char, rest: &'i str, position: usize) -> Outcome<'i>
-    requires room { position + length rest.now < 2 ^ 64 }
-    ensures goes_on { Progress position rest.entry.now false result }
-    ensures means { outcome_of result ≡ character_outcome (range_set (low ∷ []) (high ∷ [])) (at position rest.entry.now) }
-{
-    let mut characters = rest.chars();
-    match characters.next() {
-        Some(c) => {
-            if low <= c && c <= high {
-                Outcome::Success(Match {
-                    rest: characters.as_str(),
-                    position: position + c.len_utf8(),
-                    trees: Trees::Empty,
-                })
-            } else {
-                Outcome::Failure
+    /// The tokens that were written.
+    pub fn into_entries(self) -> Vec<Entry>
+        ensures { result ≡ self.entries }
+    {
+        let Recognizer {
+            entries,
+            furthest: _,
+            failed_in_atomic: _,
+            failed_in_non_atomic: _,
+        } = self;
+        entries
+    }
+
+    /// Whether it is remembered that a call fails here. Nothing is then noted that was not noted
+    /// before.
+    fn has_failed(&self, rule: Rule, mode: Mode, rest: &str) -> bool
+        ensures { (text : List ℕ) → IsSound text self.now → IsLeft text rest.now → result ≡ true
+            → FailsWithin rule (mode_of mode) text rest.now self.now.furthest }
+    {
+        if !begins_comment(rule, rest) {
+            return false;
+        }
+        let left = rest.len();
+        match mode {
+            Mode::Atomic => self.failed_in_atomic.contains(&left),
+            Mode::NonAtomic => self.failed_in_non_atomic.contains(&left),
+            Mode::CompoundAtomic => false,
+        }
+    }
+
+    /// Remembers that a call has failed here, if it may be made again.
+    fn remember(&mut self, rule: Rule, mode: Mode, rest: &str) -> Result<(), AllocError>
+        ensures entries { OnOk result (self.new.entries ≡ self.old.entries) }
+        ensures furthest { OnOk result (self.new.furthest ≡ self.old.furthest) }
+        ensures sound { (text : List ℕ) → IsSound text self.old → IsLeft text rest.now
+            → FailsWithin rule (mode_of mode) text rest.now self.old.furthest
+            → OnOk result (IsSound text self.new) }
+    {
+        if begins_comment(rule, rest) {
+            let left = rest.len();
+            match mode {
+                Mode::Atomic => {
+                    self.failed_in_atomic.insert(left)?;
+                }
+                Mode::NonAtomic => {
+                    self.failed_in_non_atomic.insert(left)?;
+                }
+                Mode::CompoundAtomic => {}
             }
         }
-        None => Outcome::Failure,
+        Ok(())
     }
-}
 
-/// Matches any one character.
-fn any<'i>(rest: &'i str, position: usize) -> Outcome<'i>
-    requires room { position + length rest.now < 2 ^ 64 }
-    ensures goes_on { Progress position rest.entry.now false result }
-    ensures means { outcome_of result ≡ character_outcome (λ _. true) (at position rest.entry.now) }
-{
-    let mut characters = rest.chars();
-    match characters.next() {
-        Some(c) => Outcome::Success(Match {
-            rest: characters.as_str(),
-            position: position + c.len_utf8(),
-            trees: Trees::Empty,
-        }),
-        None => Outcome::Failure,
+    /// Matches the end of the text, with a token.
+    fn end_of_input<'i>(
+        &mut self,
+        text: &str,
+        mode: Mode,
+        rest: &'i str,
+    ) -> Result<Option<&'i str>, AllocError>
+        requires left { IsLeft text.now rest.now }
+        requires sound { IsSound text.now self.old }
+        ensures goes_on { IfOk result (Progress text.now rest.entry.now true) }
+        ensures sound { OnOk result (IsSound text.now self.new) }
+        ensures means { IfOk result
+            (Runs (Run (mode_of mode) (Ident (codes "EOI")))
+            text.now rest.entry.now self.old self.new) }
+    {
+        let seen = is_seen_from(mode);
+        let place = text.len() - rest.len();
+        if !rest.is_empty() {
+            self.furthest = noted(seen, place, self.furthest);
+            return Ok(None);
+        }
+        let first = written(&self.entries);
+        open(&mut self.entries, seen, Rule::EOI, place)?;
+        close(&mut self.entries, seen, Rule::EOI, first, place, place)?;
+        Ok(Some(rest))
     }
-}
 
-/// A match of nothing.
-fn nothing<'i>(rest: &'i str, position: usize) -> Match<'i>
-    ensures goes_on { GoesOn position rest.entry.now true result }
-    ensures means { found_of result ≡ Success (at position rest.entry.now) None' }
-{
-    Match {
-        rest,
-        position,
-        trees: Trees::Empty,
-    }
-}
-
-/// What `!e` makes of the outcome of `e`.
-fn not_ahead<'i>(found: &Outcome<'i>, rest: &'i str, position: usize) -> Outcome<'i>
-    ensures goes_on { Progress position rest.entry.now true result }
-    ensures means { outcome_of result ≡ not_ahead (at position rest.entry.now) (outcome_of found.now) }
-{
-    match found {
-        Outcome::Success(_) => Outcome::Failure,
-        Outcome::Failure => Outcome::Success(nothing(rest, position)),
-    }
-}
-
-/// One tree, if the rule gives a token.
-fn tree(
-    alloc: Global,
-    gives: bool,
-    rule: Rule,
-    start: usize,
-    end: usize,
-    inner: Trees,
-) -> Result<Trees, AllocError>
-    ensures { IfOk result (λ t. trees_of t ≡ with_token gives (name_of rule) start end (trees_of inner)) }
-{
-    if !gives {
-        return Ok(inner);
-    }
-    Ok(Trees::Tree {
-        rule,
-        start,
-        end,
-        inner: Box::new(alloc, inner)?,
-        others: Box::new(alloc, Trees::Empty)?,
-    })
-}
-
-/// Whether a mode sees the tokens of normal and atomic rules.
-fn is_seen_from(mode: Mode) -> bool
-    ensures { result ≡ seen_from (mode_of mode) }
-{
-    !matches!(mode, Mode::Atomic)
-}
-
-/// Whether a rule of a kind gives a token to a caller's mode.
-fn gives_token(kind: Kind, mode: Mode) -> bool
-    ensures { result ≡ gives_token (kind_of kind) (mode_of mode) }
-{
-    match kind {
-        Kind::Normal | Kind::Atomic => is_seen_from(mode),
-        Kind::CompoundAtomic => true,
-        Kind::Silent => false,
-    }
-}
-
-/// Whether a failed call counts for the place.
-fn call_counts(kind: Kind, mode: Mode) -> bool
-    ensures { result ≡ (seen_from (mode_of mode) && gives_token (kind_of kind) (mode_of mode)) }
-{
-    is_seen_from(mode) && gives_token(kind, mode)
-}
-
-/// Whether a rule is one of the two that are skipped.
-fn is_blank(rule: Rule) -> bool
-    ensures { result ≡ is_blank rule }
-{
-    matches!(rule, Rule::WHITESPACE | Rule::COMMENT)
-}
-
-/// The mode in which the body of a rule is run.
-fn body_mode(rule: Rule, kind: Kind, mode: Mode) -> Mode
-    requires { kind_of kind ≡ type_of_rule rule }
-    ensures skips { skips_in result ≤ skips_in_call rule mode }
-    ensures means { mode_of result ≡ body_mode (rule_at rule) (mode_of mode) }
-{
-    match kind {
-        Kind::Atomic => Mode::Atomic,
-        Kind::CompoundAtomic => Mode::CompoundAtomic,
-        Kind::Normal | Kind::Silent => { if is_blank(rule) { Mode::Atomic } else { mode } }
-    }
-}
-
-/// Notes a failure that counts for the place.
-fn note(counts: bool, position: usize, furthest: &mut usize)
-    ensures { furthest.new ≡ noted counts position furthest.old }
-{
-    if counts && *furthest < position {
-        *furthest = position;
-    }
-}
-
-/// Matches the end of the text, with a token.
-fn end_of_input<'i>(
-    alloc: Global,
-    mode: Mode,
-    rest: &'i str,
-    position: usize,
-    furthest: &mut usize,
-) -> Result<Outcome<'i>, AllocError>
-    ensures goes_on { IfOk result (Progress position rest.entry.now true) }
-    ensures means { IfOk result (λ o. RunsTo (Run (mode_of mode) (Ident (codes "EOI"))) position rest.entry.now (outcome_of o) furthest.old furthest.new) }
-{
-    let seen = is_seen_from(mode);
-    if !rest.is_empty() {
-        note(seen, position, furthest);
-        return Ok(Outcome::Failure);
-    }
-    let trees = tree(alloc, seen, Rule::EOI, position, position, Trees::Empty)?;
-    Ok(Outcome::Success(Match {
-        rest,
-        position,
-        trees,
-    }))
-}
-
-/// Runs a form.
-#[cycle(recognize)]
-pub fn run<'i>(
-    alloc: Global,
-    form: &'static Form,
-    mode: Mode,
-    rest: &'i str,
-    position: usize,
-    furthest: &mut usize,
-) -> Result<Outcome<'i>, AllocError>
-    requires good { IsGood form.now }
-    requires spelled { IsSpelled form.now }
-    requires room { position + length rest.now < 2 ^ 64 }
-    ensures goes_on { IfOk result (Progress position rest.entry.now (null form.now)) }
-    ensures means { IfOk result (λ o. RunsTo (Run (mode_of mode) (expression_of form.now)) position rest.entry.now (outcome_of o) furthest.old furthest.new) }
-{
-    match form {
-        Form::Str(text) => Ok(literal(text, rest, position)),
-        Form::Range(low, high) => Ok(character(*low, *high, rest, position)),
-        Form::Any => Ok(any(rest, position)),
-        Form::Start => {
-            if position == 0 {
-                Ok(Outcome::Success(nothing(rest, position)))
-            } else {
-                Ok(Outcome::Failure)
+    /// Runs a form on what is left of the text. The answer is what is left after it, or `None`
+    /// where it fails. The entries of its trees are then written, or none.
+    #[cycle(recognize)]
+    fn run<'i>(
+        &mut self,
+        text: &str,
+        form: &'static Form,
+        mode: Mode,
+        rest: &'i str,
+    ) -> Result<Option<&'i str>, AllocError>
+        requires good { IsGood form.now }
+        requires spelled { IsSpelled form.now }
+        requires left { IsLeft text.now rest.now }
+        requires sound { IsSound text.now self.old }
+        ensures goes_on { IfOk result (Progress text.now rest.entry.now (null form.now)) }
+        ensures sound { OnOk result (IsSound text.now self.new) }
+        ensures means { IfOk result
+            (Runs (Run (mode_of mode) (expression_of form.now))
+            text.now rest.entry.now self.old self.new) }
+    {
+        match form {
+            Form::Str(literally) => Ok(literal(literally, rest)),
+            Form::Range(low, high) => Ok(character(*low, *high, rest)),
+            Form::Any => Ok(any(rest)),
+            Form::Start => {
+                if rest.len() == text.len() {
+                    Ok(Some(rest))
+                } else {
+                    Ok(None)
+                }
             }
-        }
-        Form::Call(rule) => call(alloc, *rule, mode, rest, position, furthest),
-        Form::Seq(first, second) => sequence(alloc, first, second, mode, rest, position, furthest),
-        Form::Choice(first, second) => choice(alloc, first, second, mode, rest, position, furthest),
-        Form::Opt(body) => option(alloc, body, mode, rest, position, furthest),
-        Form::Rep(body) => {
-            let all = repetition(alloc, body, mode, rest, position, furthest)?;
-            Ok(Outcome::Success(all))
-        }
-        Form::RepOnce(body) => once_or_more(alloc, body, mode, rest, position, furthest),
-        Form::NegPred(body) => {
-            let found = run(alloc, body, mode, rest, position, furthest)?;
-            Ok(not_ahead(&found, rest, position))
-        }
-        Form::RepMinMax(_, _, _, spelled) => run(alloc, spelled, mode, rest, position, furthest),
-    }
-}
-
-/// One form, or the other.
-#[inline(never)]
-#[cycle(recognize)]
-fn choice<'i>(
-    alloc: Global,
-    first: &'static Form,
-    second: &'static Form,
-    mode: Mode,
-    rest: &'i str,
-    position: usize,
-    furthest: &mut usize,
-) -> Result<Outcome<'i>, AllocError>
-    requires first { IsGood first.now }
-    requires second { IsGood second.now }
-    requires first_spelled { IsSpelled first.now }
-    requires second_spelled { IsSpelled second.now }
-    requires room { position + length rest.now < 2 ^ 64 }
-    ensures goes_on { IfOk result (Progress position rest.entry.now (null first.now || null second.now)) }
-    ensures means { IfOk result (λ o. RunsTo (Run (mode_of mode) (Choice (expression_of first.now) (expression_of second.now))) position rest.entry.now (outcome_of o) furthest.old furthest.new) }
-{
-    match run(alloc, first, mode, rest, position, furthest)? {
-        Outcome::Success(found) => Ok(Outcome::Success(found)),
-        Outcome::Failure => run(alloc, second, mode, rest, position, furthest),
-    }
-}
-
-/// A form, or nothing.
-#[inline(never)]
-#[cycle(recognize)]
-fn option<'i>(
-    alloc: Global,
-    body: &'static Form,
-    mode: Mode,
-    rest: &'i str,
-    position: usize,
-    furthest: &mut usize,
-) -> Result<Outcome<'i>, AllocError>
-    requires good { IsGood body.now }
-    requires spelled { IsSpelled body.now }
-    requires room { position + length rest.now < 2 ^ 64 }
-    ensures goes_on { IfOk result (Progress position rest.entry.now true) }
-    ensures means { IfOk result (λ o. RunsTo (Run (mode_of mode) (Opt (expression_of body.now))) position rest.entry.now (outcome_of o) furthest.old furthest.new) }
-{
-    match run(alloc, body, mode, rest, position, furthest)? {
-        Outcome::Success(found) => Ok(Outcome::Success(found)),
-        Outcome::Failure => Ok(Outcome::Success(nothing(rest, position))),
-    }
-}
-
-/// One turn, the skipping, and as many more as there are.
-#[inline(never)]
-#[cycle(recognize)]
-fn once_or_more<'i>(
-    alloc: Global,
-    body: &'static Form,
-    mode: Mode,
-    rest: &'i str,
-    position: usize,
-    furthest: &mut usize,
-) -> Result<Outcome<'i>, AllocError>
-    requires good { IsGood body.now }
-    requires spelled { IsSpelled body.now }
-    requires consumes { null body.now ≡ false }
-    requires below { cost body.now < 999 }
-    requires room { position + length rest.now < 2 ^ 64 }
-    ensures goes_on { IfOk result (Progress position rest.entry.now (null body.now)) }
-    ensures means { IfOk result (λ o. RunsTo (Run (mode_of mode) (RepOnce (expression_of body.now))) position rest.entry.now (outcome_of o) furthest.old furthest.new) }
-{
-    let first = match run(alloc, body, mode, rest, position, furthest)? {
-        Outcome::Success(first) => first,
-        Outcome::Failure => return Ok(Outcome::Failure),
-    };
-    let gap = skip(alloc, mode, first.rest, first.position, furthest)?;
-    let others = repetition(alloc, body, mode, gap.rest, gap.position, furthest)?;
-    Ok(Outcome::Success(Match {
-        rest: others.rest,
-        position: others.position,
-        trees: joined(first.trees, joined(gap.trees, others.trees)),
-    }))
-}
-
-/// One form, the skipping, and the other.
-#[inline(never)]
-#[cycle(recognize)]
-fn sequence<'i>(
-    alloc: Global,
-    first: &'static Form,
-    second: &'static Form,
-    mode: Mode,
-    rest: &'i str,
-    position: usize,
-    furthest: &mut usize,
-) -> Result<Outcome<'i>, AllocError>
-    requires first { IsGood first.now }
-    requires second { IsGood second.now }
-    requires first_spelled { IsSpelled first.now }
-    requires second_spelled { IsSpelled second.now }
-    requires below { cost second.now < 1000 }
-    requires room { position + length rest.now < 2 ^ 64 }
-    ensures goes_on { IfOk result (Progress position rest.entry.now (null first.now && null second.now)) }
-    ensures means { IfOk result (λ o. RunsTo (Run (mode_of mode) (Seq (expression_of first.now) (expression_of second.now))) position rest.entry.now (outcome_of o) furthest.old furthest.new) }
-{
-    let left = match run(alloc, first, mode, rest, position, furthest)? {
-        Outcome::Success(left) => left,
-        Outcome::Failure => return Ok(Outcome::Failure),
-    };
-    let gap = skip(alloc, mode, left.rest, left.position, furthest)?;
-    let right = match run(alloc, second, mode, gap.rest, gap.position, furthest)? {
-        Outcome::Success(right) => right,
-        Outcome::Failure => return Ok(Outcome::Failure),
-    };
-    Ok(Outcome::Success(Match {
-        rest: right.rest,
-        position: right.position,
-        trees: joined(left.trees, joined(gap.trees, right.trees)),
-    }))
-}
-
-/// As many turns as there are.
-#[inline(never)]
-#[cycle(recognize)]
-fn repetition<'i>(
-    alloc: Global,
-    body: &'static Form,
-    mode: Mode,
-    rest: &'i str,
-    position: usize,
-    furthest: &mut usize,
-) -> Result<Match<'i>, AllocError>
-    requires good { IsGood body.now }
-    requires spelled { IsSpelled body.now }
-    requires consumes { null body.now ≡ false }
-    requires below { cost body.now < 999 }
-    requires room { position + length rest.now < 2 ^ 64 }
-    ensures goes_on { IfOk result (GoesOn position rest.entry.now true) }
-    ensures means { IfOk result (λ m. RunsTo (Run (mode_of mode) (Rep (expression_of body.now))) position rest.entry.now (found_of m) furthest.old furthest.new) }
-{
-    match run(alloc, body, mode, rest, position, furthest)? {
-        Outcome::Success(first) => {
-            let others = turns(alloc, body, mode, first.rest, first.position, furthest)?;
-            Ok(Match {
-                rest: others.rest,
-                position: others.position,
-                trees: joined(first.trees, others.trees),
-            })
-        }
-        Outcome::Failure => Ok(nothing(rest, position)),
-    }
-}
-
-/// The turns of a repetition after its first.
-#[inline(never)]
-#[cycle(recognize)]
-fn turns<'i>(
-    alloc: Global,
-    body: &'static Form,
-    mode: Mode,
-    from: &'i str,
-    start: usize,
-    furthest: &mut usize,
-) -> Result<Match<'i>, AllocError>
-    requires good { IsGood body.now }
-    requires spelled { IsSpelled body.now }
-    requires consumes { null body.now ≡ false }
-    requires below { cost body.now < 999 }
-    requires room { start + length from.now < 2 ^ 64 }
-    ensures goes_on { IfOk result (GoesOn start from.entry.now true) }
-    ensures means { IfOk result (λ m. RunsTo (Turns (mode_of mode) (expression_of body.now)) start from.entry.now (found_of m) furthest.old furthest.new) }
-{
-    let mut rest = from;
-    let mut position = start;
-    let mut trees = Trees::Empty;
-    loop {
-        let gap = skip(alloc, mode, rest, position, furthest)?;
-        match run(alloc, body, mode, gap.rest, gap.position, furthest)? {
-            Outcome::Success(turn) => {
-                rest = turn.rest;
-                position = turn.position;
-                trees = joined(trees, joined(gap.trees, turn.trees));
+            Form::Call(rule) => self.call(text, *rule, mode, rest),
+            Form::Seq(first, second) => self.sequence(text, first, second, mode, rest),
+            Form::Choice(first, second) => self.choice(text, first, second, mode, rest),
+            Form::Opt(body) => self.option(text, body, mode, rest),
+            Form::Rep(body) => {
+                let after = self.repetition(text, body, mode, rest)?;
+                Ok(Some(after))
             }
-            Outcome::Failure => {
-                return Ok(Match {
-                    rest,
-                    position,
-                    trees,
-                });
+            Form::RepOnce(body) => self.once_or_more(text, body, mode, rest),
+            Form::NegPred(body) => self.negation(text, body, mode, rest),
+            Form::RepMinMax(_, _, _, spelled) => self.run(text, spelled, mode, rest),
+        }
+    }
+
+    /// One form, or the other.
+    #[inline(never)]
+    #[cycle(recognize)]
+    fn choice<'i>(
+        &mut self,
+        text: &str,
+        first: &'static Form,
+        second: &'static Form,
+        mode: Mode,
+        rest: &'i str,
+    ) -> Result<Option<&'i str>, AllocError>
+        requires first { IsGood first.now }
+        requires second { IsGood second.now }
+        requires first_spelled { IsSpelled first.now }
+        requires second_spelled { IsSpelled second.now }
+        requires left { IsLeft text.now rest.now }
+        requires sound { IsSound text.now self.old }
+        ensures goes_on { IfOk result
+            (Progress text.now rest.entry.now (null first.now || null second.now)) }
+        ensures sound { OnOk result (IsSound text.now self.new) }
+        ensures means { IfOk result
+            (Runs (Run (mode_of mode) (Choice (expression_of first.now) (expression_of second.now)))
+            text.now rest.entry.now self.old self.new) }
+    {
+        match self.run(text, first, mode, rest)? {
+            Some(after) => Ok(Some(after)),
+            None => self.run(text, second, mode, rest),
+        }
+    }
+
+    /// A form, or nothing.
+    #[inline(never)]
+    #[cycle(recognize)]
+    fn option<'i>(
+        &mut self,
+        text: &str,
+        body: &'static Form,
+        mode: Mode,
+        rest: &'i str,
+    ) -> Result<Option<&'i str>, AllocError>
+        requires good { IsGood body.now }
+        requires spelled { IsSpelled body.now }
+        requires left { IsLeft text.now rest.now }
+        requires sound { IsSound text.now self.old }
+        ensures goes_on { IfOk result (Progress text.now rest.entry.now true) }
+        ensures sound { OnOk result (IsSound text.now self.new) }
+        ensures means { IfOk result
+            (Runs (Run (mode_of mode) (Opt (expression_of body.now)))
+            text.now rest.entry.now self.old self.new) }
+    {
+        match self.run(text, body, mode, rest)? {
+            Some(after) => Ok(Some(after)),
+            None => Ok(Some(rest)),
+        }
+    }
+
+    /// Nothing, where a form fails.
+    #[inline(never)]
+    #[cycle(recognize)]
+    fn negation<'i>(
+        &mut self,
+        text: &str,
+        body: &'static Form,
+        mode: Mode,
+        rest: &'i str,
+    ) -> Result<Option<&'i str>, AllocError>
+        requires good { IsGood body.now }
+        requires spelled { IsSpelled body.now }
+        requires left { IsLeft text.now rest.now }
+        requires sound { IsSound text.now self.old }
+        ensures goes_on { IfOk result (Progress text.now rest.entry.now true) }
+        ensures sound { OnOk result (IsSound text.now self.new) }
+        ensures means { IfOk result
+            (Runs (Run (mode_of mode) (NegPred (expression_of body.now)))
+            text.now rest.entry.now self.old self.new) }
+    {
+        let mark = written(&self.entries);
+        match self.run(text, body, mode, rest)? {
+            Some(_) => {
+                cut(&mut self.entries, mark);
+                Ok(None)
+            }
+            None => Ok(Some(rest)),
+        }
+    }
+
+    /// One turn, the skipping, and as many more as there are.
+    #[inline(never)]
+    #[cycle(recognize)]
+    fn once_or_more<'i>(
+        &mut self,
+        text: &str,
+        body: &'static Form,
+        mode: Mode,
+        rest: &'i str,
+    ) -> Result<Option<&'i str>, AllocError>
+        requires good { IsGood body.now }
+        requires spelled { IsSpelled body.now }
+        requires consumes { null body.now ≡ false }
+        requires below { cost body.now < 999 }
+        requires left { IsLeft text.now rest.now }
+        requires sound { IsSound text.now self.old }
+        ensures goes_on { IfOk result (Progress text.now rest.entry.now (null body.now)) }
+        ensures sound { OnOk result (IsSound text.now self.new) }
+        ensures means { IfOk result
+            (Runs (Run (mode_of mode) (RepOnce (expression_of body.now)))
+            text.now rest.entry.now self.old self.new) }
+    {
+        let Some(after) = self.run(text, body, mode, rest)? else {
+            return Ok(None);
+        };
+        let next = self.skip(text, mode, after)?;
+        let last = self.repetition(text, body, mode, next)?;
+        Ok(Some(last))
+    }
+
+    /// One form, the skipping, and the other.
+    #[inline(never)]
+    #[cycle(recognize)]
+    fn sequence<'i>(
+        &mut self,
+        text: &str,
+        first: &'static Form,
+        second: &'static Form,
+        mode: Mode,
+        rest: &'i str,
+    ) -> Result<Option<&'i str>, AllocError>
+        requires first { IsGood first.now }
+        requires second { IsGood second.now }
+        requires first_spelled { IsSpelled first.now }
+        requires second_spelled { IsSpelled second.now }
+        requires below { cost second.now < 1000 }
+        requires left { IsLeft text.now rest.now }
+        requires sound { IsSound text.now self.old }
+        ensures goes_on { IfOk result
+            (Progress text.now rest.entry.now (null first.now && null second.now)) }
+        ensures sound { OnOk result (IsSound text.now self.new) }
+        ensures means { IfOk result
+            (Runs (Run (mode_of mode) (Seq (expression_of first.now) (expression_of second.now)))
+            text.now rest.entry.now self.old self.new) }
+    {
+        let mark = written(&self.entries);
+        let Some(after) = self.run(text, first, mode, rest)? else {
+            return Ok(None);
+        };
+        let next = self.skip(text, mode, after)?;
+        match self.run(text, second, mode, next)? {
+            Some(last) => Ok(Some(last)),
+            None => {
+                cut(&mut self.entries, mark);
+                Ok(None)
             }
         }
     }
-}
 
-/// A call of a rule, or of `EOI`.
-#[cycle(recognize)]
-pub fn call<'i>(
-    alloc: Global,
-    rule: Rule,
-    mode: Mode,
-    rest: &'i str,
-    position: usize,
-    furthest: &mut usize,
-) -> Result<Outcome<'i>, AllocError>
-    requires room { position + length rest.now < 2 ^ 64 }
-    ensures goes_on { IfOk result (Progress position rest.entry.now (nullable rule)) }
-    ensures means { IfOk result (λ o. RunsTo (Run (mode_of mode) (Ident (name_of rule))) position rest.entry.now (outcome_of o) furthest.old furthest.new) }
-{
-    let Some(row) = row_of(rule) else {
-        return end_of_input(alloc, mode, rest, position, furthest);
-    };
-    let inner_mode = body_mode(rule, row.kind, mode);
-    match run(alloc, row.body, inner_mode, rest, position, furthest)? {
-        Outcome::Success(found) => {
-            let gives = gives_token(row.kind, mode);
-            let trees = tree(alloc, gives, rule, position, found.position, found.trees)?;
-            Ok(Outcome::Success(Match {
-                rest: found.rest,
-                position: found.position,
-                trees,
-            }))
-        }
-        Outcome::Failure => {
-            note(call_counts(row.kind, mode), position, furthest);
-            Ok(Outcome::Failure)
-        }
-    }
-}
-
-/// The implicit skipping.
-#[inline(never)]
-#[cycle(recognize)]
-fn skip<'i>(
-    alloc: Global,
-    mode: Mode,
-    from: &'i str,
-    start: usize,
-    furthest: &mut usize,
-) -> Result<Match<'i>, AllocError>
-    requires room { start + length from.now < 2 ^ 64 }
-    ensures goes_on { IfOk result (GoesOn start from.entry.now true) }
-    ensures means { IfOk result (λ m. RunsTo (Skipping (mode_of mode)) start from.entry.now (found_of m) furthest.old furthest.new) }
-{
-    match mode {
-        Mode::NonAtomic => {
-            let first = blanks(alloc, from, start, furthest)?;
-            let others = comments(alloc, first.rest, first.position, furthest)?;
-            Ok(Match {
-                rest: others.rest,
-                position: others.position,
-                trees: joined(first.trees, others.trees),
-            })
-        }
-        Mode::Atomic | Mode::CompoundAtomic => Ok(nothing(from, start)),
-    }
-}
-
-/// All blanks, from here on.
-#[inline(never)]
-#[cycle(recognize)]
-fn blanks<'i>(
-    alloc: Global,
-    from: &'i str,
-    start: usize,
-    furthest: &mut usize,
-) -> Result<Match<'i>, AllocError>
-    requires room { start + length from.now < 2 ^ 64 }
-    ensures goes_on { IfOk result (GoesOn start from.entry.now true) }
-    ensures means { IfOk result (λ m. RunsTo (Run Between (Rep (Ident whitespace))) start from.entry.now (found_of m) furthest.old furthest.new) }
-{
-    let mut rest = from;
-    let mut position = start;
-    let mut trees = Trees::Empty;
-    loop {
-        match call(
-            alloc,
-            Rule::WHITESPACE,
-            Mode::NonAtomic,
-            rest,
-            position,
-            furthest,
-        )? {
-            Outcome::Success(blank) => {
-                rest = blank.rest;
-                position = blank.position;
-                trees = joined(trees, blank.trees);
+    /// As many turns as there are.
+    #[inline(never)]
+    #[cycle(recognize)]
+    fn repetition<'i>(
+        &mut self,
+        text: &str,
+        body: &'static Form,
+        mode: Mode,
+        rest: &'i str,
+    ) -> Result<&'i str, AllocError>
+        requires good { IsGood body.now }
+        requires spelled { IsSpelled body.now }
+        requires consumes { null body.now ≡ false }
+        requires below { cost body.now < 999 }
+        requires left { IsLeft text.now rest.now }
+        requires sound { IsSound text.now self.old }
+        ensures goes_on { IfOk result (λ after. GoesOn text.now rest.entry.now true after.now) }
+        ensures sound { OnOk result (IsSound text.now self.new) }
+        ensures means { IfOk result
+            (λ after. Reaches (Run (mode_of mode) (Rep (expression_of body.now)))
+            text.now rest.entry.now self.old self.new after.now) }
+    {
+        match self.run(text, body, mode, rest)? {
+            Some(after) => {
+                let last = self.turns(text, body, mode, after)?;
+                Ok(last)
             }
-            Outcome::Failure => {
-                return Ok(Match {
-                    rest,
-                    position,
-                    trees,
-                });
+            None => Ok(rest),
+        }
+    }
+
+    /// The turns of a repetition after its first.
+    #[inline(never)]
+    #[cycle(recognize)]
+    fn turns<'i>(
+        &mut self,
+        text: &str,
+        body: &'static Form,
+        mode: Mode,
+        from: &'i str,
+    ) -> Result<&'i str, AllocError>
+        requires good { IsGood body.now }
+        requires spelled { IsSpelled body.now }
+        requires consumes { null body.now ≡ false }
+        requires below { cost body.now < 999 }
+        requires left { IsLeft text.now from.now }
+        requires sound { IsSound text.now self.old }
+        ensures goes_on { IfOk result (λ after. GoesOn text.now from.entry.now true after.now) }
+        ensures sound { OnOk result (IsSound text.now self.new) }
+        ensures means { IfOk result
+            (λ after. Reaches (Turns (mode_of mode) (expression_of body.now))
+            text.now from.entry.now self.old self.new after.now) }
+    {
+        let mut rest = from;
+        loop {
+            let mark = written(&self.entries);
+            let next = self.skip(text, mode, rest)?;
+            match self.run(text, body, mode, next)? {
+                Some(after) => rest = after,
+                None => {
+                    cut(&mut self.entries, mark);
+                    return Ok(rest);
+                }
             }
         }
     }
-}
 
-/// All comments from here on, each with the blanks after it.
-#[inline(never)]
-#[cycle(recognize)]
-fn comments<'i>(
-    alloc: Global,
-    from: &'i str,
-    start: usize,
-    furthest: &mut usize,
-) -> Result<Match<'i>, AllocError>
-    requires room { start + length from.now < 2 ^ 64 }
-    ensures goes_on { IfOk result (GoesOn start from.entry.now true) }
-    ensures means { IfOk result (λ m. RunsTo (Run Between (Rep (Seq (Ident comment) (Rep (Ident whitespace))))) start from.entry.now (found_of m) furthest.old furthest.new) }
-{
-    let mut rest = from;
-    let mut position = start;
-    let mut trees = Trees::Empty;
-    loop {
-        match call(
-            alloc,
-            Rule::COMMENT,
-            Mode::NonAtomic,
-            rest,
-            position,
-            furthest,
-        )? {
-            Outcome::Success(comment) => {
-                let after = blanks(alloc, comment.rest, comment.position, furthest)?;
-                rest = after.rest;
-                position = after.position;
-                trees = joined(trees, joined(comment.trees, after.trees));
+    /// A call of a rule, or of `EOI`.
+    #[inline(never)]
+    #[cycle(recognize)]
+    pub fn call<'i>(
+        &mut self,
+        text: &str,
+        rule: Rule,
+        mode: Mode,
+        rest: &'i str,
+    ) -> Result<Option<&'i str>, AllocError>
+        requires left { IsLeft text.now rest.now }
+        requires sound { IsSound text.now self.old }
+        ensures goes_on { IfOk result (Progress text.now rest.entry.now (nullable rule)) }
+        ensures sound { OnOk result (IsSound text.now self.new) }
+        ensures means { IfOk result
+            (Runs (Run (mode_of mode) (Ident (name_of rule)))
+            text.now rest.entry.now self.old self.new) }
+    {
+        let Some(row) = row_of(rule) else {
+            return self.end_of_input(text, mode, rest);
+        };
+        if self.has_failed(rule, mode, rest) {
+            return Ok(None);
+        }
+        let place = text.len() - rest.len();
+        let gives = gives_token(row.kind, mode);
+        let first = written(&self.entries);
+        open(&mut self.entries, gives, rule, place)?;
+        let inner_mode = body_mode(rule, row.kind, mode);
+        match self.run(text, row.body, inner_mode, rest)? {
+            Some(after) => {
+                let end = text.len() - after.len();
+                close(&mut self.entries, gives, rule, first, place, end)?;
+                Ok(Some(after))
             }
-            Outcome::Failure => {
-                return Ok(Match {
-                    rest,
-                    position,
-                    trees,
-                });
+            None => {
+                cut(&mut self.entries, first);
+                self.furthest = noted(call_counts(row.kind, mode), place, self.furthest);
+                self.remember(rule, mode, rest)?;
+                Ok(None)
+            }
+        }
+    }
+
+    /// The implicit skipping.
+    #[inline(never)]
+    #[cycle(recognize)]
+    fn skip<'i>(&mut self, text: &str, mode: Mode, from: &'i str) -> Result<&'i str, AllocError>
+        requires left { IsLeft text.now from.now }
+        requires sound { IsSound text.now self.old }
+        ensures goes_on { IfOk result (λ after. GoesOn text.now from.entry.now true after.now) }
+        ensures sound { OnOk result (IsSound text.now self.new) }
+        ensures means { IfOk result
+            (λ after. Reaches (Skipping (mode_of mode))
+            text.now from.entry.now self.old self.new after.now) }
+    {
+        match mode {
+            Mode::NonAtomic => {
+                let after = self.blanks(text, from)?;
+                let last = self.comments(text, after)?;
+                Ok(last)
+            }
+            Mode::Atomic | Mode::CompoundAtomic => Ok(from),
+        }
+    }
+
+    /// All blanks, from here on.
+    #[inline(never)]
+    #[cycle(recognize)]
+    fn blanks<'i>(&mut self, text: &str, from: &'i str) -> Result<&'i str, AllocError>
+        requires left { IsLeft text.now from.now }
+        requires sound { IsSound text.now self.old }
+        ensures goes_on { IfOk result (λ after. GoesOn text.now from.entry.now true after.now) }
+        ensures sound { OnOk result (IsSound text.now self.new) }
+        ensures means { IfOk result
+            (λ after. Reaches (Run Between (Rep (Ident whitespace)))
+            text.now from.entry.now self.old self.new after.now) }
+    {
+        let mut rest = from;
+        loop {
+            match self.call(text, Rule::WHITESPACE, Mode::NonAtomic, rest)? {
+                Some(after) => rest = after,
+                None => return Ok(rest),
+            }
+        }
+    }
+
+    /// All comments from here on, each with the blanks after it.
+    #[inline(never)]
+    #[cycle(recognize)]
+    fn comments<'i>(&mut self, text: &str, from: &'i str) -> Result<&'i str, AllocError>
+        requires left { IsLeft text.now from.now }
+        requires sound { IsSound text.now self.old }
+        ensures goes_on { IfOk result (λ after. GoesOn text.now from.entry.now true after.now) }
+        ensures sound { OnOk result (IsSound text.now self.new) }
+        ensures means { IfOk result
+            (λ after. Reaches (Run Between (Rep (Seq (Ident comment) (Rep (Ident whitespace)))))
+            text.now from.entry.now self.old self.new after.now) }
+    {
+        let mut rest = from;
+        loop {
+            match self.call(text, Rule::COMMENT, Mode::NonAtomic, rest)? {
+                Some(after) => rest = self.blanks(text, after)?,
+                None => return Ok(rest),
             }
         }
     }

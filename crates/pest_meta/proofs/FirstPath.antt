@@ -10,7 +10,7 @@ use Rattle.meta_base.proofs.Deterministic.{same}
 use Rattle.meta_base.proofs.Keeping.{each_body, rotations_keep}
 use Rattle.meta_base.proofs.Rotating.{rotations_chain}
 use Rattle.meta_syntax.specs.MetaGrammar.{meta_grammar}
-use Rattle.meta_syntax.specs.Runs.{Recognizes}
+use Rattle.meta_syntax.specs.Parses.{Recognizes}
 use Rattle.pest_meta.specs.FirstReading.{Level, Reads, one_alternative, choice, one_term, sequence, name, string, group, ReadsRule, a_rule, ReadsRules, no_more, and_rule}
 use Rattle.pest_meta.specs.Unrolled.{IsUnrolled, AreUnrolled}
 use Rattle.pest_meta.specs.Optimized.{optimized_rules_of}

@@ -7,7 +7,7 @@ use Rattle.meta_base.specs.State.{Trees, None', Tree, joined}
 use Rattle.meta_base.specs.Ast.{expression_of, rule_type_of, rule_of_code, rules_of}
 use Rattle.meta_base.specs.declared.ast.Expr.{Expr}
 use Rattle.meta_syntax.specs.declared.trees.Trees as code
-use Rattle.meta_syntax.specs.Runs.{trees_of}
+use Rattle.meta_syntax.specs.Building.{trees_of}
 use Rattle.pest_meta.specs.FirstReading.{Mark, Level, Node, Terms, Reads, IsWritten, HasNoBackslash, Modified, ReadsRule, ReadsRules}
 use Rattle.std.specs.declared.vec.Vec.{Vec}
 use Rattle.std.specs.declared.alloc.Global.{Global}

@@ -10,7 +10,7 @@ use Rattle.meta_base.specs.declared.runtime.errors.ErrorVariant.TheVariants as v
 use Rattle.meta_base.specs.declared.runtime.errors.InputLocation.TheVariants as location_is
 use Rattle.meta_base.specs.declared.runtime.faults.Fault.{Fault}
 use Rattle.meta_base.specs.declared.runtime.faults.Fault.TheVariants as fault_is
-use Rattle.meta_syntax.specs.Runs.{Recognizes}
+use Rattle.meta_syntax.specs.Parses.{Recognizes}
 use Rattle.pest_meta.specs.FirstReading.{ReadsRules}
 use Rattle.pest_meta.specs.Optimized.{optimized_rules_of}
 use Rattle.pest_meta.specs.declared.optimizer.OptimizedRule.{OptimizedRule}

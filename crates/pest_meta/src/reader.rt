@@ -5,7 +5,7 @@ ghost use Rattle.meta_base.specs.Ast.{expression_of, rule_of_code, rules_of};
 ghost use Rattle.meta_base.specs.State.{None'};
 ghost use Rattle.meta_base.specs.Text.{Text};
 ghost use Rattle.meta_base.specs.MetaRules.{name_of};
-ghost use Rattle.meta_syntax.specs.Runs.{trees_of};
+ghost use Rattle.meta_syntax.specs.Building.{trees_of};
 ghost use Rattle.pest_meta.specs.FirstReading.{Alternatives, IsWritten, Node};
 ghost use Rattle.pest_meta.specs.ReadTrees.{BeginsOrNot, BracedOrNot, GroupOrNot, ModifiedOrNot, RuleOrNot, RulesOrNot, HoldsOrNot, IsEnd, LeafOrNot, LiteralOrNot, ReadsOrNot, TermOrNot, TermsOrNot, WrittenOrNot};
 

@@ -1,3 +1,4 @@
+// Why a call of this crate or of those above has no answer.
 use super::errors::Error;
 use crate::grammar::Rule;
 use std::alloc::AllocError;

@@ -1,3 +1,4 @@
+// What stands beside and under the line that an error prints.
 ghost use Rattle.std.specs.Prelude.{◌≡◌, ◌+◌, ◌-◌, ◌≤◌, Some, length, take, map, replicate};
 ghost use Rattle.std.specs.Fmt.{decimal, WritesOnOk};
 ghost use Rattle.std.specs.Str.{chars};

@@ -1,3 +1,4 @@
+// Places in a text, and the parts between them.
 ghost use Rattle.std.specs.Prelude.{◌≡◌, ◌≤◌, ◌↔◌, IsSome, IfSome, take, drop, slice_range};
 ghost use Rattle.std.specs.Str.{IsCharBoundary};
 ghost use Rattle.meta_base.specs.LineColumn.{line_column};
@@ -40,6 +41,19 @@ impl<'i> Span<'i> {
         } else {
             None
         }
+    }
+
+    /// The part of `text` from byte `start` up to byte `end`, where these stand in it in this order, each between
+    /// two characters.
+    pub(crate) fn of(text: &'i str, start: usize, end: usize) -> Span<'i>
+        requires ordered { start ≤ end }
+        requires starts_at_character { IsCharBoundary text.now start }
+        requires ends_at_character { IsCharBoundary text.now end }
+        ensures text { span_text result ≡ text.now }
+        ensures start { span_start result ≡ start }
+        ensures end { span_end result ≡ end }
+    {
+        Span { text, start, end }
     }
 
     /// The byte at which the span begins.

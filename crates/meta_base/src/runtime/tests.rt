@@ -1,4 +1,5 @@
-use super::{Error, ErrorVariant, Fault, Position, Span};
+// What no clause says: printed errors, line by line, and each call once where memory is found.
+use super::{Error, ErrorVariant, Fault, Pairs, Position, Span, TokenTree};
 use crate::grammar::Rule;
 use std::alloc::{AllocError, Global};
 use std::test::Fail;
@@ -174,5 +175,47 @@ fn equal_parts_are_equal(rt: HostRuntime) -> Result<(), Fail> {
     );
     assert_ne!(rt; span, Span::new("a b", 1, 1).ok_or("no span")?);
     assert_ne!(rt; span, Span::new("a c", 0, 1).ok_or("no span")?);
+    Ok(())
+}
+
+/// A pair of `a b` with one of `a` and one of `b` inside it, and one of the empty text after it.
+fn sample(alloc: Global) -> Result<Pairs<'static, Rule>, AllocError> {
+    let mut inner = Vec::new(alloc);
+    inner.push(TokenTree::new(Rule::EOI, 2, 3, Vec::new(alloc)))?;
+    inner.push(TokenTree::new(Rule::EOI, 0, 1, Vec::new(alloc)))?;
+    let mut trees = Vec::new(alloc);
+    trees.push(TokenTree::new(Rule::EOI, 3, 3, Vec::new(alloc)))?;
+    trees.push(TokenTree::new(Rule::grammar_rules, 0, 3, inner))?;
+    Ok(Pairs::new("a b", trees))
+}
+
+#[test]
+fn pairs_come_in_order(rt: HostRuntime) -> Result<(), Fail> {
+    let mut pairs = sample(rt.alloc())?;
+    let outer = pairs.next().ok_or("no pair")?;
+    assert_eq!(rt; outer.as_rule(), Rule::grammar_rules);
+    assert_eq!(rt; outer.as_str(), "a b");
+    assert_eq!(rt; outer.as_span(), Span::new("a b", 0, 3).ok_or("no span")?);
+    let mut inner = outer.into_inner();
+    assert_eq!(rt; inner.next().ok_or("no pair")?.as_str(), "a");
+    assert_eq!(rt; inner.next().ok_or("no pair")?.as_str(), "b");
+    assert!(rt; inner.next().is_none());
+    assert_eq!(rt; pairs.next().ok_or("no pair")?.as_str(), "");
+    assert!(rt; pairs.next().is_none());
+    Ok(())
+}
+
+#[test]
+fn flattened_pairs_come_outer_first(rt: HostRuntime) -> Result<(), Fail> {
+    let pairs = sample(rt.alloc())?;
+    let copy = pairs.clone()?;
+    for pairs in [pairs, copy] {
+        let mut flat = pairs.flatten(rt.alloc())?;
+        for expected in ["a b", "a", "b", ""] {
+            let pair = flat.next().ok_or("no pair")??;
+            assert_eq!(rt; pair.as_str(), expected);
+        }
+        assert!(rt; flat.next().is_none());
+    }
     Ok(())
 }

@@ -1,5 +1,5 @@
 use Rattle.meta_base.specs.Ast.{rules_of}
-use Rattle.meta_syntax.specs.Runs.{trees_of}
+use Rattle.meta_syntax.specs.Building.{trees_of}
 use Rattle.pest_meta.proofs.FirstPath.{all_unrolled, fails_so, not_read_so, answer, refusal}
 use Rattle.pest_meta.proofs.parse_and_optimize.Goals as goal
 

@@ -1,6 +1,6 @@
 use Rattle.std.proofs.Common.{◌+◌, ◌*◌}
 use Rattle.meta_base.specs.Ast.{expression_of}
-use Rattle.meta_syntax.specs.Runs.{trees_of}
+use Rattle.meta_syntax.specs.Building.{trees_of}
 use Rattle.pest_meta.specs.ReadTrees.{size}
 use Rattle.pest_meta.proofs.Reading.{InTerms, InAlternatives}
 use Rattle.pest_meta.proofs.reader.+read.Given as goal

@@ -1,5 +1,5 @@
 use Rattle.meta_base.specs.Ast.{rules_of}
-use Rattle.meta_syntax.specs.Runs.{trees_of}
+use Rattle.meta_syntax.specs.Building.{trees_of}
 use Rattle.pest_meta.specs.ReadTrees.{size}
 use Rattle.pest_meta.proofs.ReadingRules.{InRules}
 use Rattle.pest_meta.proofs.reader.rules.Given as goal

@@ -1,0 +1,58 @@
+// The trees that pairs are made of.
+ghost use Rattle.std.specs.Prelude.{◌≡◌, IfOk, map};
+ghost use Rattle.meta_base.specs.TokenTrees.{NoTokens, Token};
+ghost use Rattle.meta_base.specs.TreeViews.{tree_of, trees_of};
+
+use std::alloc::{AllocError, Global};
+
+/// A rule with the part of a text that it matched, in bytes, and the trees of the rules inside it.
+#[derive(Drop)]
+pub struct TokenTree<R> {
+    pub(crate) rule: R,
+    pub(crate) start: usize,
+    pub(crate) end: usize,
+    /// The last tree comes first.
+    pub(crate) inner: Vec<TokenTree<R>>,
+}
+
+impl<R> TokenTree<R> {
+    /// The tree of `rule` from byte `start` up to byte `end`. Of the trees inside it the last comes
+    /// first.
+    pub fn new(rule: R, start: usize, end: usize, inner: Vec<TokenTree<R>>) -> TokenTree<R>
+        ensures { tree_of result ≡ Token rule start end (trees_of inner.items) NoTokens }
+    {
+        TokenTree {
+            rule,
+            start,
+            end,
+            inner,
+        }
+    }
+}
+
+/// A copy of `trees`, in the same order.
+#[cycle(copy)]
+pub(crate) fn copies<R: Copy>(
+    alloc: Global,
+    trees: &Vec<TokenTree<R>>,
+) -> Result<Vec<TokenTree<R>>, AllocError>
+    ensures { IfOk result (λ copies. map tree_of copies.items ≡ map tree_of trees.now.items) }
+{
+    let mut copies = Vec::with_capacity(alloc, trees.len())?;
+    for tree in trees {
+        copies.push(copy(alloc, tree)?)?;
+    }
+    Ok(copies)
+}
+
+#[cycle(copy)]
+fn copy<R: Copy>(alloc: Global, tree: &TokenTree<R>) -> Result<TokenTree<R>, AllocError>
+    ensures { IfOk result (λ copy. tree_of copy ≡ tree_of tree.now) }
+{
+    Ok(TokenTree {
+        rule: tree.rule,
+        start: tree.start,
+        end: tree.end,
+        inner: copies(alloc, &tree.inner)?,
+    })
+}

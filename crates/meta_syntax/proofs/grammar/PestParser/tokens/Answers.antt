@@ -1,0 +1,20 @@
+use Rattle.meta_syntax.proofs.Parsing.{refused, spelled, tokens_whole}
+use Rattle.meta_syntax.proofs.grammar.PestParser.tokens.Goals as goal
+
+pub call-requires-clause-sound : goal.call-requires-clause-sound
+call-requires-clause-sound c = c.new-recognizer.ensures.sound c.args.text.now
+
+pub returns-in-Ok-Some-clause-trees : goal.returns-in-Ok-Some-clause-trees
+returns-in-Ok-Some-clause-trees c =
+    let x = rw c.in-Ok-Some.field-0-is at c.in-Ok-Some.ensures.means in
+    rw c.into_entries.ensures (spelled c.args.rule c.args.text.now _ _ _ _ _ x c.new-recognizer.ensures.entries)
+
+pub returns-in-Ok-Some-clause-whole : goal.returns-in-Ok-Some-clause-whole
+returns-in-Ok-Some-clause-whole c =
+    let x = rw c.in-Ok-Some.field-0-is at c.in-Ok-Some.ensures.means in
+    rw c.into_entries.ensures (tokens_whole c.args.rule c.args.text.now _ (spelled c.args.rule c.args.text.now _ _ _ _ _ x c.new-recognizer.ensures.entries))
+
+pub returns-in-Ok-None-clause-trees : goal.returns-in-Ok-None-clause-trees
+returns-in-Ok-None-clause-trees c =
+    let x = rw c.in-Ok-None.field-0-is at c.in-Ok-None.ensures.means in
+    refused c.args.rule c.args.text.now _ _ _ _ x c.new-recognizer.ensures.furthest

@@ -1,0 +1,186 @@
+use Rattle.std.proofs.Common.{rules, ap, ◌∙◌}
+use Rattle.meta_base.proofs.Steps.{ran_str, ran_range}
+use Rattle.meta_syntax.specs.Entries.{seen}
+use Rattle.meta_syntax.specs.Forms.{IsSpelled}
+use Rattle.meta_syntax.specs.Runs.{IsLeft, IsSound}
+use Rattle.meta_syntax.proofs.EntryLists.{adds_tree}
+use Rattle.meta_syntax.proofs.Memory.{failed_within, fails_again, sound_on}
+use Rattle.meta_syntax.proofs.Steps.{call_failed, call_found, copies_if_ok, cut_opened, fails_first, fails_not, fails_once, fails_second, fails_start, finds_blanks, finds_comments, finds_left, finds_no_opt, finds_no_rep, finds_no_skipping, finds_not, finds_once, finds_opt, finds_rep, finds_seq, finds_skipped, finds_start, finds_turns, gives_leaving, ran_any, right_if_ok, so_far_blank, so_far_comment, so_far_turn}
+use Rattle.meta_syntax.proofs.recognize.Recognizer.+recognize.Goals as goal
+
+pub run-returns-in-Str-clause-means : goal.run-returns-in-Str-clause-means
+run-returns-in-Str-clause-means t c =
+    let l : IsLeft c.args.text.now c.args.rest.now = search rules in
+    rw c.in-Str.is (gives_leaving _ _ _ _ _ _ (λ classes. ran_str (c.literal.ensures.means c.args.text.now l)))
+
+pub run-returns-in-Range-clause-means : goal.run-returns-in-Range-clause-means
+run-returns-in-Range-clause-means t c =
+    let l : IsLeft c.args.text.now c.args.rest.now = search rules in
+    rw c.in-Range.is (gives_leaving _ _ _ _ _ _ (λ classes. ran_range (c.character.ensures.means c.args.text.now l)))
+
+pub run-returns-in-Any-clause-means : goal.run-returns-in-Any-clause-means
+run-returns-in-Any-clause-means t c =
+    let l : IsLeft c.args.text.now c.args.rest.now = search rules in
+    rw c.in-Any.is (gives_leaving _ _ _ _ _ _ (λ classes. ran_any c.args.mode (c.any.ensures.means c.args.text.now l)))
+
+pub run-returns-then-rest-text-clause-means : goal.run-returns-then-rest-text-clause-means
+run-returns-then-rest-text-clause-means t c =
+    rw c.in-Start.is (finds_start c.args.mode _ _ _ _ c.if-rest-text.true)
+
+pub run-returns-else-rest-text-clause-means : goal.run-returns-else-rest-text-clause-means
+run-returns-else-rest-text-clause-means t c =
+    let l : IsLeft c.args.text.now c.args.rest.now = search rules in
+    rw c.in-Start.is (fails_start c.args.mode _ _ _ _ l c.if-rest-text.false)
+
+pub run-returns-in-RepMinMax-clause-means : goal.run-returns-in-RepMinMax-clause-means
+run-returns-in-RepMinMax-clause-means t c =
+    let h : IsSpelled c.args.form.now = search rules in
+    let k = rw c.in-RepMinMax.is at h in
+    rw c.in-RepMinMax.is (copies_if_ok _ _ _ _ _ _ _ _ _ _ _ _ k.0 c.run.ensures.means)
+
+pub choice-returns-in-Some-clause-means : goal.choice-returns-in-Some-clause-means
+choice-returns-in-Some-clause-means t c = let x = rw c.in-Some.is at c.in_ok-after.ensures.means in finds_left x
+
+pub choice-returns-in-None-clause-means : goal.choice-returns-in-None-clause-means
+choice-returns-in-None-clause-means t c =
+    let x = rw c.in-None.is at c.in_ok-after.ensures.means in
+    right_if_ok _ _ _ _ _ _ _ _ _ _ _ _ x c.run-in-None.ensures.means
+
+pub option-returns-in-Some-clause-means : goal.option-returns-in-Some-clause-means
+option-returns-in-Some-clause-means t c = let x = rw c.in-Some.is at c.in_ok-after.ensures.means in finds_opt x
+
+pub option-returns-in-None-clause-means : goal.option-returns-in-None-clause-means
+option-returns-in-None-clause-means t c = let x = rw c.in-None.is at c.in_ok-after.ensures.means in finds_no_opt x
+
+pub negation-returns-in-Some-clause-means : goal.negation-returns-in-Some-clause-means
+negation-returns-in-Some-clause-means t c =
+    let x = rw c.in-Some.is at c.in_ok-run.ensures.means in
+    fails_not x c.cut.ensures c.written-mark.ensures
+
+pub negation-returns-in-None-clause-means : goal.negation-returns-in-None-clause-means
+negation-returns-in-None-clause-means t c = let x = rw c.in-None.is at c.in_ok-run.ensures.means in finds_not x
+
+pub once_or_more-returns-in_default-clause-means : goal.once_or_more-returns-in_default-clause-means
+once_or_more-returns-in_default-clause-means t c =
+    let x = rw c.in_default.is at c.in_ok-after.ensures.means in
+    fails_once (fails_first x)
+
+pub once_or_more-returns-clause-means : goal.once_or_more-returns-clause-means
+once_or_more-returns-clause-means t c =
+    let x = rw c.in-Some.is at c.in_ok-after.ensures.means in
+    finds_once (finds_seq x c.in_ok-next.ensures.means c.in_ok-last.ensures.means)
+
+pub sequence-returns-in_default-clause-means : goal.sequence-returns-in_default-clause-means
+sequence-returns-in_default-clause-means t c =
+    let x = rw c.in_default.is at c.in_ok-after.ensures.means in
+    fails_first x
+
+pub sequence-returns-in-Some-2-clause-means : goal.sequence-returns-in-Some-2-clause-means
+sequence-returns-in-Some-2-clause-means t c =
+    let x = rw c.in-Some.is at c.in_ok-after.ensures.means in
+    let y = rw c.in-Some-2.is at c.in_ok-last.ensures.means in
+    finds_seq x c.in_ok-next.ensures.means y
+
+pub sequence-returns-in-None-clause-means : goal.sequence-returns-in-None-clause-means
+sequence-returns-in-None-clause-means t c =
+    let x = rw c.in-Some.is at c.in_ok-after.ensures.means in
+    let y = rw c.in-None.is at c.in_ok-last.ensures.means in
+    fails_second x c.in_ok-next.ensures.means y c.cut.ensures c.written-mark.ensures
+
+pub repetition-returns-in_ok-last-in-Some-clause-means : goal.repetition-returns-in_ok-last-in-Some-clause-means
+repetition-returns-in_ok-last-in-Some-clause-means t c =
+    let x = rw c.in-Some.is at c.in_ok-after.ensures.means in
+    finds_rep x c.in_ok-last-in-Some.ensures.means
+
+pub repetition-returns-in-None-clause-means : goal.repetition-returns-in-None-clause-means
+repetition-returns-in-None-clause-means t c = let x = rw c.in-None.is at c.in_ok-after.ensures.means in finds_no_rep x
+
+pub turns-loop-next-preserved : goal.turns-loop-next-preserved
+turns-loop-next-preserved t c =
+    let x = rw c.in-Some.is at c.in_ok-after.ensures.means in
+    record {
+      text = search rules;
+      means = so_far_turn c.loop-next.invariant.means c.in_ok-next.ensures.means x;
+      left = search rules;
+      shorter = search rules;
+      sound = search rules;
+    }
+
+pub turns-returns-in-None-clause-means : goal.turns-returns-in-None-clause-means
+turns-returns-in-None-clause-means t c =
+    let x = rw c.in-None.is at c.in_ok-after.ensures.means in
+    finds_turns c.loop-next.invariant.means c.in_ok-next.ensures.means x c.cut.ensures c.written-mark.ensures
+
+pub blanks-loop-after-preserved : goal.blanks-loop-after-preserved
+blanks-loop-after-preserved t c =
+    let x = rw c.in-Some.is at c.in_ok-after.ensures.means in
+    record {
+      text = search rules;
+      means = so_far_blank c.loop-after.invariant.means x;
+      left = search rules;
+      shorter = search rules;
+      sound = search rules;
+    }
+
+pub blanks-returns-in-None-clause-means : goal.blanks-returns-in-None-clause-means
+blanks-returns-in-None-clause-means t c = let x = rw c.in-None.is at c.in_ok-after.ensures.means in finds_blanks c.loop-after.invariant.means x
+
+pub comments-loop-after-preserved : goal.comments-loop-after-preserved
+comments-loop-after-preserved t c =
+    let x = rw c.in-Some.is at c.in_ok-after.ensures.means in
+    record {
+      text = search rules;
+      means = so_far_comment c.loop-after.invariant.means x c.in_ok-rest-in-Some.ensures.means;
+      left = search rules;
+      shorter = search rules;
+      sound = search rules;
+    }
+
+pub comments-returns-in-None-clause-means : goal.comments-returns-in-None-clause-means
+comments-returns-in-None-clause-means t c = let x = rw c.in-None.is at c.in_ok-after.ensures.means in finds_comments c.loop-after.invariant.means x
+
+pub skip-returns-in_ok-last-in-NonAtomic-clause-means : goal.skip-returns-in_ok-last-in-NonAtomic-clause-means
+skip-returns-in_ok-last-in-NonAtomic-clause-means t c =
+    rw c.in-NonAtomic.is (finds_skipped c.in_ok-after-in-NonAtomic.ensures.means c.in_ok-last-in-NonAtomic.ensures.means)
+
+pub skip-returns-in-Atomic : goal.skip-returns-in-Atomic
+skip-returns-in-Atomic t c = record {
+  goes_on = search rules;
+  sound = search rules;
+  means = finds_no_skipping c.args.mode _ _ _ _ c.in-Atomic.is;
+}
+
+pub call-returns-then-has_failed-clause-means : goal.call-returns-then-has_failed-clause-means
+call-returns-then-has_failed-clause-means t c =
+    let l : IsLeft c.args.text.now c.args.rest.now = search rules in
+    let s : IsSound c.args.text.now c.args.self.now = search rules in
+    fails_again c.args.rule _ _ _ _ _ (c.has_failed.ensures c.args.text.now s l c.if-has_failed.true)
+
+pub call-returns-in_ok-close-in-Some-2-clause-means : goal.call-returns-in_ok-close-in-Some-2-clause-means
+call-returns-in_ok-close-in-Some-2-clause-means t c =
+    let x = rw c.in-Some-2.is at c.in_ok-after.ensures.means in
+    let r = c.in-Some.ensures in
+    record {
+      trees = _;
+      added = adds_tree _ _ _ _ _ c.args.self.now.entries.items c.open.new.entries.items c.run.new.self.entries.items c.close.new.entries.items x.trees c.in_ok-open.ensures x.added c.written-first.ensures c.in_ok-close-in-Some-2.ensures;
+      ran = λ classes. call_found c.args.rule _ _ _ _ r.defined c.body_mode-inner_mode.ensures.means r.body r.kind _ (x.ran classes) c.gives_token-gives.ensures;
+    }
+
+pub call-returns-in_ok-remember-in-None-clause-sound : goal.call-returns-in_ok-remember-in-None-clause-sound
+call-returns-in_ok-remember-in-None-clause-sound t c =
+    let x = rw c.in-None.is at c.in_ok-after.ensures.means in
+    let r = c.in-Some.ensures in
+    let l : IsLeft c.args.text.now c.args.rest.now = search rules in
+    c.in_ok-remember-in-None.ensures.sound c.args.text.now
+    (sound_on c.args.text.now c.run.new.self c.noted-self.result c.in_ok-after.ensures.sound c.noted-self.ensures.further) l
+    (failed_within c.args.rule _ _ _ _ _ (λ classes. call_failed c.args.rule _ _ _ _ r.defined c.body_mode-inner_mode.ensures.means r.body r.kind _ (x.ran classes) c.call_counts.ensures c.noted-self.ensures.value))
+
+pub call-returns-in_ok-remember-in-None-clause-means : goal.call-returns-in_ok-remember-in-None-clause-means
+call-returns-in_ok-remember-in-None-clause-means t c =
+    let x = rw c.in-None.is at c.in_ok-after.ensures.means in
+    let r = c.in-Some.ensures in
+    let m = c.in_ok-remember-in-None.ensures in
+    record {
+      kept = ap (λ v. seen v.items) m.entries ∙ cut_opened c.args.self.now.entries.items c.open.new.entries.items c.run.new.self.entries.items c.cut.new.entries.items c.written-first.result _ c.in_ok-open.ensures x.kept c.cut.ensures c.written-first.ensures;
+      ran = λ classes. call_failed c.args.rule _ _ _ _ r.defined c.body_mode-inner_mode.ensures.means r.body r.kind _ (x.ran classes) c.call_counts.ensures (m.furthest ∙ c.noted-self.ensures.value);
+    }

@@ -1,0 +1,80 @@
+use Rattle.std.proofs.Common.{◌+◌, ◌≤◌, length, max, if◌then◌else◌}
+use denote.Shadow.{shadow}
+use denote.Text.{Utf8}
+use Rattle.meta_base.specs.Meaning.{Turns}
+use Rattle.meta_syntax.specs.Forms.{cost, null, expression_of, rank_of}
+use Rattle.meta_syntax.specs.Runs.{IsLeft, IsSound, measure, mode_of, skips_in, skips_in_call}
+use Rattle.meta_syntax.proofs.Steps.{SoFar, blanks, comments}
+use Rattle.meta_syntax.proofs.recognize.Recognizer.+recognize.Given as goal
+
+abbrev pub decreases-call : goal.decreases-call
+decreases-call l = measure l.rest.now (skips_in_call l.rule l.mode) (rank_of l.rule + 1)
+
+abbrev pub decreases-run : goal.decreases-run
+decreases-run l = measure l.rest.now (skips_in l.mode) (cost l.form.now)
+
+abbrev pub decreases-choice : goal.decreases-choice
+decreases-choice l = measure l.rest.now (skips_in l.mode) (1 + max (cost l.first.now) (cost l.second.now))
+
+abbrev pub decreases-option : goal.decreases-option
+decreases-option l = measure l.rest.now (skips_in l.mode) (1 + cost l.body.now)
+
+abbrev pub decreases-negation : goal.decreases-negation
+decreases-negation l = measure l.rest.now (skips_in l.mode) (1 + cost l.body.now)
+
+abbrev pub decreases-once_or_more : goal.decreases-once_or_more
+decreases-once_or_more l = measure l.rest.now (skips_in l.mode) (2 + cost l.body.now)
+
+abbrev pub decreases-sequence : goal.decreases-sequence
+decreases-sequence l = measure l.rest.now (skips_in l.mode) (2 + max (cost l.first.now) (if null l.first.now then cost l.second.now else 0))
+
+abbrev pub decreases-skip : goal.decreases-skip
+decreases-skip l = measure l.from.now (skips_in l.mode) 1
+
+abbrev pub decreases-blanks : goal.decreases-blanks
+decreases-blanks l = measure l.from.now 1 0
+
+abbrev pub decreases-comments : goal.decreases-comments
+decreases-comments l = measure l.from.now 1 0
+
+abbrev pub decreases-repetition : goal.decreases-repetition
+decreases-repetition l = measure l.rest.now (skips_in l.mode) (1 + cost l.body.now)
+
+abbrev pub decreases-turns : goal.decreases-turns
+decreases-turns l = measure l.from.now 1 999
+
+abbrev pub invariant-blanks-loop-after : goal.invariant-blanks-loop-after
+invariant-blanks-loop-after l = record {
+  text : shadow (Utf8 l.rest);
+  means : SoFar blanks l.text l.from l.fn.self.entries.items l.fn.self.furthest l.rest l.self.entries.items l.self.furthest;
+  left : IsLeft l.text l.rest;
+  shorter : length l.rest ≤ length l.from;
+  sound : IsSound l.text l.self;
+}
+
+abbrev pub decreases-blanks-loop-after : goal.decreases-blanks-loop-after
+decreases-blanks-loop-after l = length l.rest
+
+abbrev pub invariant-comments-loop-after : goal.invariant-comments-loop-after
+invariant-comments-loop-after l = record {
+  text : shadow (Utf8 l.rest);
+  means : SoFar comments l.text l.from l.fn.self.entries.items l.fn.self.furthest l.rest l.self.entries.items l.self.furthest;
+  left : IsLeft l.text l.rest;
+  shorter : length l.rest ≤ length l.from;
+  sound : IsSound l.text l.self;
+}
+
+abbrev pub decreases-comments-loop-after : goal.decreases-comments-loop-after
+decreases-comments-loop-after l = length l.rest
+
+abbrev pub invariant-turns-loop-next : goal.invariant-turns-loop-next
+invariant-turns-loop-next l = record {
+  text : shadow (Utf8 l.rest);
+  means : SoFar (Turns (mode_of l.mode) (expression_of l.body)) l.text l.from l.fn.self.entries.items l.fn.self.furthest l.rest l.self.entries.items l.self.furthest;
+  left : IsLeft l.text l.rest;
+  shorter : length l.rest ≤ length l.from;
+  sound : IsSound l.text l.self;
+}
+
+abbrev pub decreases-turns-loop-next : goal.decreases-turns-loop-next
+decreases-turns-loop-next l = length l.rest

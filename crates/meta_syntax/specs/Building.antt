@@ -1,0 +1,45 @@
+-- How trees are made from their entries, the last entry first.
+use Rattle.std.specs.Prelude.{ℕ, List, [], ◌∷◌, map, reverse}
+use Rattle.meta_base.specs.Text.{Text}
+use Rattle.meta_base.specs.State as state
+use Rattle.meta_base.specs.MetaRules.{name_of}
+use Rattle.meta_syntax.specs.Entries.{Entry, Starts, Ends}
+use Rattle.meta_syntax.specs.declared.trees.Trees as code
+use Rattle.meta_syntax.specs.declared.trees.Trees.TheVariants as is
+use Rattle.meta_syntax.specs.declared.trees.Pending as waits
+
+-- trees by their rules' names
+abbrev pub trees_of : code.Trees → state.Trees
+trees_of is.Empty = state.None'
+trees_of (is.Tree' r i j p inner q others) = state.Tree (name_of r) i j (trees_of inner) (trees_of others)
+
+-- an end that waits for its start: its place, and the trees behind it
+pub record Pending : Type 0 where
+  pub end_ : ℕ
+  pub others : state.Trees
+
+-- the trees made so far, and the ends that wait, the last one met first
+pub record Making : Type 0 where
+  pub trees : state.Trees
+  pub waiting : List Pending
+
+abbrev pub pending_of : waits.Pending → Pending
+pending_of p = record { end_ = p.end; others = trees_of p.others }
+
+abbrev pub making_of : code.Trees → List waits.Pending → Making
+making_of us ps = record { trees = trees_of us; waiting = reverse (map pending_of ps) }
+
+-- a start takes the end that was met last
+abbrev pub started : Text → ℕ → state.Trees → List Pending → Making
+started r i us [] = record { trees = us; waiting = [] }
+started r i us (p ∷ ps) = record { trees = state.Tree r i p.end_ us p.others; waiting = ps }
+
+-- what one more entry makes, before those that were met
+abbrev pub stepped : Entry → Making → Making
+stepped (Starts r i m) k = started r i k.trees k.waiting
+stepped (Ends j n) k = record { trees = state.None'; waiting = record { end_ = j; others = k.trees } ∷ k.waiting }
+
+-- what all entries make
+abbrev pub made : List Entry → Making
+made [] = record { trees = state.None'; waiting = [] }
+made (e ∷ es) = stepped e (made es)

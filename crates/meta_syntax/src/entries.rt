@@ -1,0 +1,83 @@
+// Trees as one flat list of entries.
+ghost use Rattle.std.specs.Prelude.{◌≡◌, ◌<◌, ◌++◌, OnOk, length, take, true};
+ghost use Rattle.meta_base.specs.MetaRules.{name_of};
+ghost use Rattle.meta_syntax.specs.Entries.{Closes, opened, seen};
+
+use meta_base::grammar::Rule;
+use std::alloc::{AllocError, Global};
+
+/// One end of a tree: where it starts, or where it ends, in bytes, and the number of its other
+/// entry in the list.
+#[derive(Clone, Copy, Debug, PartialEq, Eq)]
+pub enum Entry {
+    Start {
+        rule: Rule,
+        pos: usize,
+        partner: usize,
+    },
+    End {
+        pos: usize,
+        partner: usize,
+    },
+}
+
+/// How many entries there are.
+pub(crate) fn written(entries: &Vec<Entry>) -> usize
+    ensures { result ≡ length (seen entries.now.items) }
+{
+    entries.len()
+}
+
+/// Starts a tree, if there is to be one. Its partner is not known yet.
+pub(crate) fn open(
+    entries: &mut Vec<Entry>,
+    gives: bool,
+    rule: Rule,
+    from: usize,
+) -> Result<(), AllocError>
+    ensures { OnOk result
+        (seen entries.new.items ≡ seen entries.old.items ++ opened gives (name_of rule) from) }
+{
+    if gives {
+        entries.push(Entry::Start {
+            rule,
+            pos: from,
+            partner: 0,
+        })?;
+    }
+    Ok(())
+}
+
+/// Ends the tree, if there is one, that was started by the entry of a number.
+pub(crate) fn close(
+    entries: &mut Vec<Entry>,
+    gives: bool,
+    rule: Rule,
+    first: usize,
+    from: usize,
+    to: usize,
+) -> Result<(), AllocError>
+    requires { gives ≡ true → first < length entries.old.items }
+    ensures { OnOk result (Closes gives (name_of rule) from to first entries.old.items entries.new.items) }
+{
+    if gives {
+        let last = entries.len();
+        entries.push(Entry::End {
+            pos: to,
+            partner: first,
+        })?;
+        entries[first] = Entry::Start {
+            rule,
+            pos: from,
+            partner: last,
+        };
+    }
+    Ok(())
+}
+
+/// Cuts the list back to a length that it had.
+pub(crate) fn cut(entries: &mut Vec<Entry>, length: usize)
+    ensures { seen entries.new.items ≡ take length (seen entries.old.items) }
+{
+    entries.truncate(length);
+}

@@ -1,0 +1,75 @@
+// What is skipped, and which rules give tokens.
+ghost use Rattle.std.specs.Prelude.{◌≡◌, ◌≤◌, ◌&&◌};
+ghost use Rattle.meta_base.specs.Meaning.{body_mode, gives_token, seen_from};
+ghost use Rattle.meta_syntax.specs.Forms.{kind_of};
+ghost use Rattle.meta_syntax.specs.MetaGrammar.{rule_at, type_of_rule};
+ghost use Rattle.meta_syntax.specs.Runs.{is_blank, mode_of, noted, skips_in, skips_in_call};
+
+use crate::table::Kind;
+use meta_base::grammar::Rule;
+
+/// How the parts of an expression are put together: with white space and comments between them, or
+/// without; and whether their rules give tokens.
+#[derive(Clone, Copy, Debug, PartialEq, Eq)]
+pub enum Mode {
+    NonAtomic,
+    Atomic,
+    CompoundAtomic,
+}
+
+/// Whether a mode sees the tokens of normal and atomic rules.
+pub fn is_seen_from(mode: Mode) -> bool
+    ensures { result ≡ seen_from (mode_of mode) }
+{
+    !matches!(mode, Mode::Atomic)
+}
+
+/// Whether a rule of a kind gives a token to a caller's mode.
+pub fn gives_token(kind: Kind, mode: Mode) -> bool
+    ensures { result ≡ gives_token (kind_of kind) (mode_of mode) }
+{
+    match kind {
+        Kind::Normal | Kind::Atomic => is_seen_from(mode),
+        Kind::CompoundAtomic => true,
+        Kind::Silent => false,
+    }
+}
+
+/// Whether a failed call counts for the place.
+pub fn call_counts(kind: Kind, mode: Mode) -> bool
+    ensures { result ≡ (seen_from (mode_of mode) && gives_token (kind_of kind) (mode_of mode)) }
+{
+    is_seen_from(mode) && gives_token(kind, mode)
+}
+
+/// Whether a rule is one of the two that are skipped.
+fn is_blank(rule: Rule) -> bool
+    ensures { result ≡ is_blank rule }
+{
+    matches!(rule, Rule::WHITESPACE | Rule::COMMENT)
+}
+
+/// The mode in which the body of a rule is run.
+pub fn body_mode(rule: Rule, kind: Kind, mode: Mode) -> Mode
+    requires { kind_of kind ≡ type_of_rule rule }
+    ensures skips { skips_in result ≤ skips_in_call rule mode }
+    ensures means { mode_of result ≡ body_mode (rule_at rule) (mode_of mode) }
+{
+    match kind {
+        Kind::Atomic => Mode::Atomic,
+        Kind::CompoundAtomic => Mode::CompoundAtomic,
+        Kind::Normal | Kind::Silent => { if is_blank(rule) { Mode::Atomic } else { mode } }
+    }
+}
+
+/// A failure, if it counts and is further than those before it.
+pub fn noted(counts: bool, position: usize, furthest: usize) -> usize
+    ensures value { result ≡ noted counts position furthest }
+    ensures further { furthest ≤ result }
+{
+    if counts && furthest < position {
+        position
+    } else {
+        furthest
+    }
+}
