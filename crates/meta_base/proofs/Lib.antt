@@ -1,5 +1,4 @@
 pub mod Deterministic
-pub mod SmallGrammars
 pub mod Congruence
 pub mod Local
 pub mod Anywhere
@@ -22,3 +21,5 @@ pub mod Rotating
 pub mod Literals
 pub mod Lines
 pub mod PairLemmas
+pub mod FailuresStand
+pub mod InBytes

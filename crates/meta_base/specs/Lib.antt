@@ -15,7 +15,6 @@ pub mod Equality
 pub mod Places
 pub mod Ran
 pub mod MetaRules
-pub mod Facts
 pub mod Printing
 pub mod Replacing
 pub mod Span
@@ -23,4 +22,5 @@ pub mod LineColumn
 pub mod PrintedError
 pub mod TokenTrees
 pub mod TreeViews
+pub mod NamedTrees
 pub mod Pairs

@@ -9,7 +9,7 @@ ghost use Rattle.meta_base.specs.FurthestFailure.{furthest};
 ghost use Rattle.meta_base.specs.LooseMeaning.{Restored, IsSafe, SameEndings};
 ghost use Rattle.meta_base.specs.WellFormed.{HasReadableCounts, IsWellFormed, IsPlain, Start, EndsFrom};
 ghost use Rattle.meta_base.specs.Places.{FitsIn, Stands};
-ghost use Rattle.meta_base.specs.Text.{Text};
+ghost use Rattle.meta_base.specs.Text.{IsPosition, Text};
 
 /// An expression has at most one outcome from one start.
 pub fn one_outcome()
@@ -65,4 +65,10 @@ pub fn rotations_keep_outcomes()
 pub fn trees_are_nested()
     ensures { (text : Text) (g : Grammar) (classes : Classes) (k : Task) (s : State) (o : Outcome)
         → Does g classes k s o → Stands text s → FitsIn text s o }
+{}
+
+/// The place of a failure stands on a character of the text.
+pub fn failures_are_on_characters()
+    ensures { (text : Text) (g : Grammar) (classes : Classes) (k : Task) (s : State) (o : Outcome)
+        → (d : Does g classes k s o) → Stands text s → IsPosition text (furthest d) }
 {}

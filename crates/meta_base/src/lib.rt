@@ -2,7 +2,6 @@
 #![tactic(auto)]
 
 pub mod ast;
-pub mod facts;
 pub mod grammar;
 pub mod laws;
 pub mod printing;

@@ -13,7 +13,7 @@ pub use errors::{Error, ErrorVariant, InputLocation, LineColLocation};
 pub use faults::Fault;
 pub use places::{Position, Span};
 pub use tokens::{FlatPairs, Pair, Pairs};
-pub use trees::TokenTree;
+pub use trees::{FirstTree, TokenTree, first_tree};
 
 #[cfg(test)]
 mod tests;

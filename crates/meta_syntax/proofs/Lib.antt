@@ -4,5 +4,12 @@ pub mod Lookup
 pub mod Making
 pub mod Memory
 pub mod MetaWellFormed
+pub mod Naming
+pub mod Numerals
 pub mod Parsing
+pub mod Quiet
+pub mod ShapeOfTrees
 pub mod Steps
+pub mod Taken
+pub mod Yielding
+pub mod Yields

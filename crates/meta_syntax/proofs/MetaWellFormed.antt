@@ -15,7 +15,6 @@ use Rattle.meta_syntax.specs.Forms.{rank_of}
 use Rattle.meta_syntax.specs.MetaGrammar.{meta_grammar, rule_at, type_of_rule, body_of}
 use Rattle.meta_syntax.specs.Rows.{is_defined}
 use Rattle.meta_syntax.proofs.Lookup.{any_builtin, soi_builtin, eoi_builtin}
-use Rattle.meta_base.specs.Meaning.{rep_min, rep_once}
 
 and-first : (a b : Bool) → (a && b) ≡ true → a ≡ true
 and-first true b h = refl
@@ -181,11 +180,12 @@ all_fine is.grammar_doc h = refl
 all_fine is.line_doc h = refl
 all_fine is.inner_doc h = refl
 
-record Known (n : Text) (q : spec.Rule) : Type 0 where
-  rule : Rule
-  defined : is_defined rule ≡ true
-  is_at : q ≡ rule_at rule
-  named : name_of rule ≡ n
+-- the rule of a name
+pub record Known (n : Text) (q : spec.Rule) : Type 0 where
+  pub rule : Rule
+  pub defined : is_defined rule ≡ true
+  pub is_at : q ≡ rule_at rule
+  pub named : name_of rule ≡ n
 
 known_among : (rs : List Rule) (n : Text) (q : spec.Rule) → list_all is_defined rs ≡ true → rule_of (map rule_at rs) n ≡ Some q → Known n q
 known_among [] n q d h = cc
@@ -202,7 +202,7 @@ known_among (r ∷ rs) n q d h = go (rule_of (map rule_at rs) n) refl h (known_a
 all_defined : list_all is_defined meta_rules ≡ true
 all_defined = refl
 
-known : (n : Text) (q : spec.Rule) → rule_of meta_grammar n ≡ Some q → Known n q
+pub known : (n : Text) (q : spec.Rule) → rule_of meta_grammar n ≡ Some q → Known n q
 unfolding meta_grammar
 known n q h = known_among meta_rules n q all_defined h
 

@@ -1,5 +1,6 @@
 -- From what a call finds at the start of a text to what the text spells.
-use Rattle.std.proofs.Common.{◌≡◌, sym, ap, subst, ℕ, ◌-◌, max, List, [], length, chars, arith}
+use Rattle.std.proofs.Common.{◌≡◌, refl, sym, ap, subst, ℕ, ◌-◌, max, List, [], length, chars, false, arith}
+use Rattle.std.specs.Str.{IsCharBoundary, IsUtf8}
 use Rattle.meta_base.specs.State.{Classes, NonAtomicMode, State, Failure, Success}
 use Rattle.meta_base.specs.Expression.{Ident}
 use Rattle.meta_base.specs.Meaning.{Does, Task, Run}
@@ -9,7 +10,16 @@ use Rattle.meta_base.specs.declared.grammar.Rule.{Rule}
 use Rattle.meta_syntax.specs.declared.entries.Entry.{Entry}
 use Rattle.meta_syntax.specs.Entries.{IsWhole, seen}
 use Rattle.meta_syntax.specs.MetaGrammar.{meta_grammar}
-use Rattle.meta_syntax.specs.Parses.{Recognizes, Spells, TokensGive, start_of}
+use Rattle.meta_base.specs.NamedTrees.{named}
+use Rattle.meta_base.specs.Places.{Stands}
+use Rattle.meta_base.specs.TokenTrees.{TokenTrees, AreNested}
+use Rattle.meta_base.specs.declared.runtime.faults.Fault.{Fault}
+use Rattle.meta_base.specs.declared.runtime.faults.Fault.TheVariants as fault_is
+use Rattle.meta_base.proofs.FailuresStand.{stands_at}
+use Rattle.meta_base.proofs.InBytes.{ends_within, nested_bytes, on_bytes}
+use Rattle.meta_base.proofs.PairLemmas.{AreNested-wider}
+use Rattle.meta_base.proofs.Within.{fits}
+use Rattle.meta_syntax.specs.Parses.{FailsAt, IsSyntaxErrorOrMemory, ParseRefuses, Spells, TokensGive, start_of}
 use Rattle.meta_syntax.specs.Runs.{Fails, Finds, at}
 use Rattle.meta_syntax.proofs.EntryLists.{entries-whole}
 
@@ -30,7 +40,7 @@ spelled rule text es fs p q after x e =
 placed : (classes : Classes) (k : Task) (s t : State) (q : ℕ) → s ≡ t → (d : Does meta_grammar classes k s Failure) → q ≡ furthest d → (f : Does meta_grammar classes k t Failure) × (q ≡ furthest f)
 placed classes k s t q e d h = subst (λ s. (f : Does meta_grammar classes k s Failure) × (q ≡ furthest f)) e (d, h)
 
-pub refused : (rule : Rule) (text : List ℕ) (es fs : List Entry) (p q : ℕ) → Fails (Run NonAtomicMode (Ident (name_of rule))) text text es fs p q → p ≡ 0 → (classes : Classes) → (d : Recognizes rule text classes Failure) × (q ≡ furthest d)
+pub refused : (rule : Rule) (text : List ℕ) (es fs : List Entry) (p q : ℕ) → Fails (Run NonAtomicMode (Ident (name_of rule))) text text es fs p q → p ≡ 0 → FailsAt rule text q
 refused rule text es fs p q x z classes =
     let r = x.ran classes in
     let n : q ≡ max p (furthest r.found) = r.noted in
@@ -38,3 +48,26 @@ refused rule text es fs p q x z classes =
 
 pub tokens_whole : (rule : Rule) (text : List ℕ) (es : List Entry) → TokensGive rule text es → IsWhole 0 (seen es)
 tokens_whole rule text es t = subst (λ l. IsWhole 0 l) (sym t.2) (entries-whole 0 t.0)
+
+-- the places of what a text spells, and of a failure
+no_classes : Classes
+no_classes n c = false
+
+stands_first : (text : List ℕ) → Stands (chars text) (start_of text)
+stands_first text = record { front = []; split = refl; size = refl }
+
+pub nested_in_text : (rule : Rule) (text : List ℕ) (trees : TokenTrees Rule) → IsUtf8 text → Spells rule text (named trees) → AreNested text trees 0 (length text)
+nested_in_text rule text trees utf8 s =
+    let x = s no_classes in
+    let f = fits (chars text) x.1 (stands_first text) in
+    AreNested-wider text trees 0 x.0.position 0 (length text) (nested_bytes text utf8 trees 0 x.0.position f.1) (omega arith) (ends_within text utf8 x.0 f.0)
+
+pub fails_on_character : (rule : Rule) (text : List ℕ) (place : ℕ) → IsUtf8 text → FailsAt rule text place → IsCharBoundary text place
+fails_on_character rule text place utf8 f =
+    let x = f no_classes in
+    let p = on_bytes text utf8 (furthest x.0) (stands_at (chars text) x.0 (stands_first text)) in
+    rw (← x.1) at p
+
+pub refuses : (rule : Rule) (text : List ℕ) (place : ℕ) (fault : Fault) → FailsAt rule text place → IsSyntaxErrorOrMemory text place fault → ParseRefuses rule text fault
+refuses rule text place (fault_is.Memory e) f h = tt
+refuses rule text place (fault_is.Grammar errors) f h = record { place = place; fails = f; says = h }

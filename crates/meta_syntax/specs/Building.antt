@@ -2,16 +2,11 @@
 use Rattle.std.specs.Prelude.{ℕ, List, [], ◌∷◌, map, reverse}
 use Rattle.meta_base.specs.Text.{Text}
 use Rattle.meta_base.specs.State as state
-use Rattle.meta_base.specs.MetaRules.{name_of}
+use Rattle.meta_base.specs.NamedTrees.{named_trees_of}
 use Rattle.meta_syntax.specs.Entries.{Entry, Starts, Ends}
-use Rattle.meta_syntax.specs.declared.trees.Trees as code
-use Rattle.meta_syntax.specs.declared.trees.Trees.TheVariants as is
+use Rattle.meta_base.specs.declared.grammar.Rule.{Rule}
+use Rattle.meta_base.specs.declared.runtime.trees.TokenTree.{TokenTree}
 use Rattle.meta_syntax.specs.declared.trees.Pending as waits
-
--- trees by their rules' names
-abbrev pub trees_of : code.Trees → state.Trees
-trees_of is.Empty = state.None'
-trees_of (is.Tree' r i j p inner q others) = state.Tree (name_of r) i j (trees_of inner) (trees_of others)
 
 -- an end that waits for its start: its place, and the trees behind it
 pub record Pending : Type 0 where
@@ -24,10 +19,10 @@ pub record Making : Type 0 where
   pub waiting : List Pending
 
 abbrev pub pending_of : waits.Pending → Pending
-pending_of p = record { end_ = p.end; others = trees_of p.others }
+pending_of p = record { end_ = p.end; others = named_trees_of p.others.items }
 
-abbrev pub making_of : code.Trees → List waits.Pending → Making
-making_of us ps = record { trees = trees_of us; waiting = reverse (map pending_of ps) }
+abbrev pub making_of : List (TokenTree Rule) → List waits.Pending → Making
+making_of us ps = record { trees = named_trees_of us; waiting = reverse (map pending_of ps) }
 
 -- a start takes the end that was met last
 abbrev pub started : Text → ℕ → state.Trees → List Pending → Making

@@ -5,3 +5,4 @@ pub mod MetaGrammar
 pub mod Parses
 pub mod Rows
 pub mod Runs
+pub mod Shape

@@ -1,5 +1,5 @@
 -- What a text spells for a rule.
-use Rattle.std.specs.Prelude.{◌≡◌, List, [], ℕ, chars, ⊤}
+use Rattle.std.specs.Prelude.{◌≡◌, List, [], ◌∷◌, ℕ, chars, ⊤}
 use Rattle.meta_base.specs.Expression.{Ident}
 use Rattle.meta_base.specs.State.{NonAtomicMode, State, Trees, Outcome, Success, Failure, Classes}
 use Rattle.meta_base.specs.Meaning.{Matches}
@@ -7,10 +7,17 @@ use Rattle.meta_base.specs.FurthestFailure.{furthest}
 use Rattle.meta_base.specs.MetaRules.{name_of}
 use Rattle.meta_base.specs.declared.grammar.Rule.{Rule}
 use Rattle.meta_syntax.specs.declared.entries.Entry.{Entry}
-use Rattle.meta_syntax.specs.declared.trees.Trees as code
-use Rattle.meta_syntax.specs.declared.grammar.Refusal.{Refusal}
-use Rattle.meta_syntax.specs.declared.grammar.Refusal.TheVariants as refused
-use Rattle.meta_syntax.specs.Building.{trees_of}
+use Rattle.meta_base.specs.NamedTrees.{named}
+use Rattle.meta_base.specs.Pairs.{pairs_text, pairs_trees}
+use Rattle.meta_base.specs.LineColumn.{line_column}
+use Rattle.meta_base.specs.PrintedError.{error_line, printed_line}
+use Rattle.meta_base.specs.declared.runtime.tokens.Pairs.{Pairs}
+use Rattle.meta_base.specs.declared.runtime.errors.Error.{Error}
+use Rattle.meta_base.specs.declared.runtime.errors.ErrorVariant.TheVariants.{ParsingError}
+use Rattle.meta_base.specs.declared.runtime.errors.InputLocation.TheVariants as at
+use Rattle.meta_base.specs.declared.runtime.errors.LineColLocation.TheVariants as in_lines
+use Rattle.meta_base.specs.declared.runtime.faults.Fault.{Fault}
+use Rattle.meta_base.specs.declared.runtime.faults.Fault.TheVariants as fault_is
 use Rattle.meta_syntax.specs.Entries.{entries_of, seen}
 use Rattle.meta_syntax.specs.MetaGrammar.{meta_grammar}
 
@@ -30,11 +37,33 @@ Spells rule text us = (classes : Classes) → (t : State) × Recognizes rule tex
 abbrev pub TokensGive : Rule → List ℕ → List Entry → Type 0
 TokensGive rule text es = (us : Trees) × Spells rule text us × (seen es ≡ entries_of 0 us)
 
--- the text spells these trees
-abbrev pub ParseGives : Rule → List ℕ → code.Trees → Type 0
-ParseGives rule text us = Spells rule text (trees_of us)
+-- the pairs are all those that their text spells for the rule
+abbrev pub AreSpelled : Rule → Pairs Rule → Type 0
+AreSpelled rule pairs = Spells rule (pairs_text pairs) (named (pairs_trees pairs))
 
--- the rule fails, and this is the place of the failure, unless memory was refused
-abbrev pub ParseRefuses : Rule → List ℕ → Refusal → Type 0
-ParseRefuses rule text (refused.Memory e) = ⊤
-ParseRefuses rule text (refused.Place p) = (classes : Classes) → (d : Recognizes rule text classes Failure) × (p ≡ furthest d)
+-- the rule fails, whatever the classes are, and this is the place of the failure
+abbrev pub FailsAt : Rule → List ℕ → ℕ → Type 0
+FailsAt rule text place = (classes : Classes) → (d : Recognizes rule text classes Failure) × (place ≡ furthest d)
+
+-- the errors are one syntax error, at a place of a text
+pub record IsSyntaxError (text : List ℕ) (place : ℕ) (errors : List (Error Rule)) : Type 0 where
+  pub error : Error Rule
+  pub one : errors ≡ error ∷ []
+  pub variant : error.variant ≡ ParsingError
+  pub location : error.location ≡ at.Pos place
+  pub line_col : error.line_col ≡ in_lines.Pos (line_column text place)
+  pub line : error_line error ≡ printed_line text place
+
+abbrev pub IsSyntaxErrorOrMemory : List ℕ → ℕ → Fault → Type 0
+IsSyntaxErrorOrMemory text place (fault_is.Memory e) = ⊤
+IsSyntaxErrorOrMemory text place (fault_is.Grammar errors) = IsSyntaxError text place errors.items
+
+-- one syntax error at the place where the rule fails, unless memory is wanting
+pub record IsRefused (rule : Rule) (text : List ℕ) (errors : List (Error Rule)) : Type 0 where
+  pub place : ℕ
+  pub fails : FailsAt rule text place
+  pub says : IsSyntaxError text place errors
+
+abbrev pub ParseRefuses : Rule → List ℕ → Fault → Type 0
+ParseRefuses rule text (fault_is.Memory e) = ⊤
+ParseRefuses rule text (fault_is.Grammar errors) = IsRefused rule text errors.items

@@ -1,51 +1,48 @@
 // The rules of the meta-grammar, and what a text spells for one of them.
-ghost use Rattle.std.specs.Prelude.{IfOk, MatchResult};
+ghost use Rattle.std.specs.Prelude.{◌≡◌, alloc_error, IfErr, IfOk, MatchResult};
+ghost use Rattle.std.specs.Str.{IsCharBoundary};
+ghost use Rattle.meta_base.specs.Pairs.{pairs_text};
 ghost use Rattle.meta_syntax.specs.Entries.{IsWhole, seen};
-ghost use Rattle.meta_syntax.specs.Parses.{ParseGives, ParseRefuses, TokensGive};
+ghost use Rattle.meta_syntax.specs.Parses.{AreSpelled, IsSyntaxError, IsSyntaxErrorOrMemory, ParseRefuses, TokensGive};
 
 use crate::entries::Entry;
 use crate::modes::Mode;
 use crate::recognize::Recognizer;
-use crate::trees::{Trees, from_entries};
+use crate::trees::from_entries;
 pub use meta_base::grammar::Rule;
-use std::alloc::{AllocError, Global};
-
-/// Why there are no trees.
-#[derive(Debug, Drop)]
-pub enum Refusal {
-    /// Memory was refused.
-    Memory(AllocError),
-    /// The rule fails. The place, in bytes, is the greatest at which a rule that gives a token, or
-    /// `EOI`, was called and failed, in a mode other than Atomic and in any branch; 0 where there
-    /// is none.
-    Place(usize),
-}
-
-impl From<AllocError> for Refusal {
-    ghost use Rattle.std.specs.Prelude.{◌≡◌};
-    ghost use Rattle.meta_syntax.specs.declared.grammar.Refusal.TheVariants.{Memory};
-
-    ghost from_gives = { λ e refusal. refusal ≡ Memory e };
-
-    fn from(error: AllocError) -> Refusal {
-        Refusal::Memory(error)
-    }
-}
+use meta_base::runtime::{Error, ErrorVariant, Fault, Pairs, Position};
+use std::alloc::Global;
 
 /// The parser of the meta-grammar.
 #[derive(Clone, Copy, Debug, PartialEq, Eq)]
 pub struct PestParser;
 
 impl PestParser {
-    /// The trees that the text spells for a rule, from its start on, as one flat list: an entry
-    /// where each tree starts and one where it ends, in order, each with the number of the other.
-    /// Or why there are none.
+    /// The pairs that the text spells for a rule, from its start on, or one error at the place of
+    /// the failure.
     ///
     /// The rule is matched by the meaning of expressions over the meta-grammar at position 0, in
     /// NonAtomic, with the empty stack. Text may be left over, unless the rule asks for `EOI`.
-    /// `Rule::EOI` gives one tree from 0 to 0 on the empty text, and fails at 0 elsewhere. All
-    /// places are in bytes.
-    pub fn tokens(alloc: Global, rule: Rule, text: &str) -> Result<Vec<Entry>, Refusal>
+    /// `Rule::EOI` gives one pair from 0 to 0 on the empty text, and fails at 0 elsewhere.
+    ///
+    /// The error is a `ParsingError` at the greatest position, in bytes, at which a rule that gives
+    /// a token, or `EOI`, was called and failed, in a mode other than Atomic and in any branch; at 0
+    /// where there is none. Any other fault is a want of memory.
+    pub fn parse(alloc: Global, rule: Rule, text: &str) -> Result<Pairs<'_, Rule>, Fault>
+        ensures text { IfOk result (λ pairs. pairs_text pairs ≡ text.entry.now) }
+        ensures spelled { MatchResult result (AreSpelled rule) (ParseRefuses rule text.entry.now) }
+    {
+        let entries = PestParser::tokens(alloc, rule, text)?;
+        match from_entries(alloc, &entries) {
+            Ok(trees) => Ok(Pairs::new(text, trees)),
+            Err(refused) => Err(Fault::Memory(refused)),
+        }
+    }
+
+    /// The trees that the text spells for a rule as one flat list: an entry where each tree starts
+    /// and one where it ends, in order, each with the number of the other. All places are in bytes.
+    /// It is refused as by `parse`.
+    pub fn tokens(alloc: Global, rule: Rule, text: &str) -> Result<Vec<Entry>, Fault>
         ensures trees { MatchResult result
             (λ v. TokensGive rule text.now v.items) (ParseRefuses rule text.now) }
         ensures whole { IfOk result (λ v. IsWhole 0 (seen v.items)) }
@@ -53,22 +50,34 @@ impl PestParser {
         let mut recognizer = Recognizer::new(alloc);
         match recognizer.call(text, rule, Mode::NonAtomic, text) {
             Ok(Some(_)) => Ok(recognizer.into_entries()),
-            Ok(None) => Err(Refusal::Place(recognizer.furthest)),
-            Err(error) => Err(Refusal::Memory(error)),
+            Ok(None) => Err(syntax_error(alloc, text, recognizer.furthest)),
+            Err(error) => Err(Fault::Memory(error)),
         }
     }
 }
 
-/// The trees that the text spells for a rule, from its start on, or why there are none, as
-/// `PestParser::tokens` has them. They are made once the text was recognized, from the list of all
-/// entries.
-pub fn parse(alloc: Global, rule: Rule, text: &str) -> Result<Trees, Refusal>
-    ensures { MatchResult result (ParseGives rule text.now) (ParseRefuses rule text.now) }
+/// The fault of a text with one syntax error, at a place in bytes that stands on a character; or the
+/// want of memory for it.
+pub fn syntax_error(alloc: Global, text: &str, place: usize) -> Fault
+    requires { IsCharBoundary text.now place }
+    ensures { IsSyntaxErrorOrMemory text.now place result }
 {
-    let entries = PestParser::tokens(alloc, rule, text)?;
-    let trees = from_entries(alloc, &entries)?;
-    Ok(trees)
+    match syntax_errors(alloc, text, place) {
+        Ok(errors) => Fault::Grammar(errors),
+        Err(fault) => fault,
+    }
 }
 
-#[cfg(test)]
-mod tests;
+/// A list of one syntax error at a place.
+fn syntax_errors(alloc: Global, text: &str, place: usize) -> Result<Vec<Error<Rule>>, Fault>
+    requires { IsCharBoundary text.now place }
+    ensures one { IfOk result (λ errors. IsSyntaxError text.now place errors.items) }
+    ensures memory { IfErr result (λ fault. fault ≡ Fault.Memory alloc_error) }
+{
+    let position = Position::new(text, place).unwrap();
+    let error = Error::new_from_pos(alloc, ErrorVariant::ParsingError, position)?;
+    match vec![in alloc; error] {
+        Ok(errors) => Ok(errors),
+        Err(refused) => Err(Fault::Memory(refused.into())),
+    }
+}

@@ -1,12 +1,16 @@
 // Laws of the meta-grammar.
-ghost use Rattle.std.specs.Prelude.{◌≡◌};
-ghost use Rattle.meta_base.specs.State.{Classes, Mode, Outcome, State};
+ghost use Rattle.std.specs.Prelude.{◌≡◌, ℕ, List};
+ghost use Rattle.std.specs.Str.{IsUtf8};
+ghost use Rattle.meta_base.specs.State.{Classes, Mode, Outcome, State, Trees};
 ghost use Rattle.meta_base.specs.Expression.{Ident};
 ghost use Rattle.meta_base.specs.Meaning.{Matches};
 ghost use Rattle.meta_base.specs.MetaRules.{name_of};
 ghost use Rattle.meta_base.specs.WellFormed.{HasReadableCounts, IsPlain, IsWellFormed};
 ghost use Rattle.meta_base.specs.declared.grammar.Rule.{Rule};
+ghost use Rattle.meta_base.specs.declared.grammar.Rule.TheVariants.{grammar_rules};
 ghost use Rattle.meta_syntax.specs.MetaGrammar.{meta_grammar};
+ghost use Rattle.meta_syntax.specs.Parses.{Spells};
+ghost use Rattle.meta_syntax.specs.Shape.{IsGrammar};
 
 use meta_base::laws::{one_outcome, terminates};
 
@@ -33,3 +37,9 @@ pub fn each_rule_has_one_outcome()
     terminates();
     one_outcome();
 }
+
+/// The trees of a text that is a grammar have their shape: which trees stand where, one behind
+/// another and inside one another, and digits where there are numbers.
+pub fn trees_of_a_grammar_have_their_shape()
+    ensures { (text : List ℕ) (us : Trees) → IsUtf8 text → Spells grammar_rules text us → IsGrammar text us }
+{}

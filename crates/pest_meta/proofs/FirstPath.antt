@@ -10,11 +10,12 @@ use Rattle.meta_base.proofs.Deterministic.{same}
 use Rattle.meta_base.proofs.Keeping.{each_body, rotations_keep}
 use Rattle.meta_base.proofs.Rotating.{rotations_chain}
 use Rattle.meta_syntax.specs.MetaGrammar.{meta_grammar}
-use Rattle.meta_syntax.specs.Parses.{Recognizes}
+use Rattle.meta_syntax.specs.Parses.{IsSyntaxErrorOrMemory, ParseRefuses, Recognizes}
 use Rattle.pest_meta.specs.FirstReading.{Level, Reads, one_alternative, choice, one_term, sequence, name, string, group, ReadsRule, a_rule, ReadsRules, no_more, and_rule}
 use Rattle.pest_meta.specs.Unrolled.{IsUnrolled, AreUnrolled}
 use Rattle.pest_meta.specs.Optimized.{optimized_rules_of}
-use Rattle.pest_meta.specs.Spelling.{Spells, IsAnswer, IsRefusal, IsSyntaxErrorOrMemory}
+use Rattle.meta_syntax.specs.Parses as parsed
+use Rattle.pest_meta.specs.Spelling.{Spells, IsAnswer, IsRefusal, unrecognized, unread}
 use Rattle.pest_meta.specs.declared.optimizer.OptimizedRule.{OptimizedRule}
 
 -- what is read has no repetitions
@@ -74,6 +75,10 @@ module _ (text : List ℕ) where
         outcomes = rotations_keep g (optimized_rules_of rules) m;
       }
 
-  pub refusal : (fault : Fault) → IsSyntaxErrorOrMemory fault → ((g : Grammar) → Spells text g → ⊥) → IsRefusal text fault
-  refusal (fault_is.Memory e) h f = tt
-  refusal (fault_is.Grammar errors) h f = (h, f)
+  pub not_recognized : (fault : Fault) → ParseRefuses rule_is.grammar_rules text fault → IsRefusal text fault
+  not_recognized (fault_is.Memory e) h = tt
+  not_recognized (fault_is.Grammar errors) h = (unrecognized h, fails_so (λ classes. (h.fails classes).0))
+
+  pub not_read : (trees : Trees) → parsed.Spells rule_is.grammar_rules text trees → ((g : Grammar) → Spells text g → ⊥) → (fault : Fault) → IsSyntaxErrorOrMemory text 0 fault → IsRefusal text fault
+  not_read trees s f (fault_is.Memory e) h = tt
+  not_read trees s f (fault_is.Grammar errors) h = (unread trees s h, f)

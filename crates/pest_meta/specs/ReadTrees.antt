@@ -6,8 +6,9 @@ use Rattle.meta_base.specs.Expression.{Expression, Str}
 use Rattle.meta_base.specs.State.{Trees, None', Tree, joined}
 use Rattle.meta_base.specs.Ast.{expression_of, rule_type_of, rule_of_code, rules_of}
 use Rattle.meta_base.specs.declared.ast.Expr.{Expr}
-use Rattle.meta_syntax.specs.declared.trees.Trees as code
-use Rattle.meta_syntax.specs.Building.{trees_of}
+use Rattle.meta_base.specs.NamedTrees.{named_trees_of}
+use Rattle.meta_base.specs.declared.grammar.Rule as token
+use Rattle.meta_base.specs.declared.runtime.trees.TokenTree.{TokenTree}
 use Rattle.pest_meta.specs.FirstReading.{Mark, Level, Node, Terms, Reads, IsWritten, HasNoBackslash, Modified, ReadsRule, ReadsRules}
 use Rattle.std.specs.declared.vec.Vec.{Vec}
 use Rattle.std.specs.declared.alloc.Global.{Global}
@@ -31,8 +32,8 @@ pub record BeginsWith (rule : Text) (us rest : Trees) : Type 0 where
   pub split : us ≡ Mark rule start end_ rest
   pub smaller : size rest < size us
 
-abbrev pub BeginsOrNot : Text → Trees → Option (Bor code.Trees) → Type 0
-BeginsOrNot rule us answer = MatchOption answer ((i j : ℕ) (rest : Trees) → us ≡ Mark rule i j rest → ⊥) (λ t. BeginsWith rule us (trees_of t.now))
+abbrev pub BeginsOrNot : Text → Trees → Option (Bor (List (TokenTree token.Rule))) → Type 0
+BeginsOrNot rule us answer = MatchOption answer ((i j : ℕ) (rest : Trees) → us ≡ Mark rule i j rest → ⊥) (λ t. BeginsWith rule us (named_trees_of t.now))
 
 -- a tree of a rule, what it holds and what follows it
 pub record Holds (rule : Text) (us inner rest : Trees) : Type 0 where
@@ -41,8 +42,8 @@ pub record Holds (rule : Text) (us inner rest : Trees) : Type 0 where
   pub split : us ≡ Tree rule start end_ inner rest
   pub smaller : size inner + size rest < size us
 
-abbrev pub HoldsOrNot : Text → Trees → Option (Bor code.Trees × Bor code.Trees) → Type 0
-HoldsOrNot rule us answer = MatchOption answer ((i j : ℕ) (inner rest : Trees) → us ≡ Tree rule i j inner rest → ⊥) (λ t. Holds rule us (trees_of t.0.now) (trees_of t.1.now))
+abbrev pub HoldsOrNot : Text → Trees → Option (Bor (List (TokenTree token.Rule)) × Bor (List (TokenTree token.Rule))) → Type 0
+HoldsOrNot rule us answer = MatchOption answer ((i j : ℕ) (inner rest : Trees) → us ≡ Tree rule i j inner rest → ⊥) (λ t. Holds rule us (named_trees_of t.0.now) (named_trees_of t.1.now))
 
 -- a mark of a rule with what is written there, and what follows it
 pub record IsWrittenFirst (text : List ℕ) (rule : Text) (us : Trees) (characters : Text) (rest : Trees) : Type 0 where
@@ -52,8 +53,8 @@ pub record IsWrittenFirst (text : List ℕ) (rule : Text) (us : Trees) (characte
   pub written : IsWritten text start end_ characters
   pub smaller : size rest < size us
 
-abbrev pub WrittenOrNot : List ℕ → Text → Trees → Option (Bor (List ℕ) × Bor code.Trees) → Type 0
-WrittenOrNot text rule us answer = MatchOption answer ((i j : ℕ) (rest : Trees) (characters : Text) → us ≡ Mark rule i j rest → IsWritten text i j characters → ⊥) (λ t. IsWrittenFirst text rule us (chars t.0.now) (trees_of t.1.now))
+abbrev pub WrittenOrNot : List ℕ → Text → Trees → Option (Bor (List ℕ) × Bor (List (TokenTree token.Rule))) → Type 0
+WrittenOrNot text rule us answer = MatchOption answer ((i j : ℕ) (rest : Trees) (characters : Text) → us ≡ Mark rule i j rest → IsWritten text i j characters → ⊥) (λ t. IsWrittenFirst text rule us (chars t.0.now) (named_trees_of t.1.now))
 
 -- the trees in a string literal
 abbrev pub Quoted : ℕ → ℕ → ℕ → ℕ → ℕ → ℕ → Trees
@@ -86,8 +87,8 @@ pub record IsGroup (us inner : Trees) : Type 0 where
   pub n : ℕ
   pub split : us ≡ Mark (codes "opening_paren") i j (Tree (codes "expression") k l inner (Mark (codes "closing_paren") m n None'))
 
-abbrev pub GroupOrNot : Trees → Option (Bor code.Trees) → Type 0
-GroupOrNot us answer = MatchOption answer ((inner : Trees) → IsGroup us inner → ⊥) (λ t. IsGroup us (trees_of t.now) × (size (trees_of t.now) < size us))
+abbrev pub GroupOrNot : Trees → Option (Bor (List (TokenTree token.Rule))) → Type 0
+GroupOrNot us answer = MatchOption answer ((inner : Trees) → IsGroup us inner → ⊥) (λ t. IsGroup us (named_trees_of t.now) × (size (named_trees_of t.now) < size us))
 
 -- a name or a string is read, or what is read is in parentheses
 abbrev pub LeafOrNot : List ℕ → Trees → Option Expr → Type 0
@@ -119,8 +120,8 @@ pub record ReadsTerm (text : List ℕ) (us : Trees) (e : Expression) (rest : Tre
   pub reads : Reads text Node inner e
   pub smaller : size rest < size us
 
-abbrev pub TermOrNot : List ℕ → Trees → Option (Expr × Bor code.Trees) → Type 0
-TermOrNot text us answer = MatchOption answer ((i j : ℕ) (vs rest : Trees) (x : Expression) → us ≡ Tree (codes "term") i j vs rest → Reads text Node vs x → ⊥) (λ t. ReadsTerm text us (expression_of t.0) (trees_of t.1.now))
+abbrev pub TermOrNot : List ℕ → Trees → Option (Expr × Bor (List (TokenTree token.Rule))) → Type 0
+TermOrNot text us answer = MatchOption answer ((i j : ℕ) (vs rest : Trees) (x : Expression) → us ≡ Tree (codes "term") i j vs rest → Reads text Node vs x → ⊥) (λ t. ReadsTerm text us (expression_of t.0) (named_trees_of t.1.now))
 
 -- a front is read, and the rest is left
 pub record ReadsFront (text : List ℕ) (level : Level) (us : Trees) (e : Expression) (rest : Trees) : Type 0 where
@@ -134,12 +135,12 @@ pub record ReadsTerms (text : List ℕ) (us : Trees) (e : Expression) (rest : Tr
   pub reads : ReadsFront text Terms us e rest
   pub goes_on : Chained text us → EndsOrBar text rest
 
-abbrev pub TermsOrNot : List ℕ → Trees → Option (Expr × Bor code.Trees) → Type 0
-TermsOrNot text us answer = MatchOption answer (Chained text us → ⊥) (λ t. ReadsTerms text us (expression_of t.0) (trees_of t.1.now))
+abbrev pub TermsOrNot : List ℕ → Trees → Option (Expr × Bor (List (TokenTree token.Rule))) → Type 0
+TermsOrNot text us answer = MatchOption answer (Chained text us → ⊥) (λ t. ReadsTerms text us (expression_of t.0) (named_trees_of t.1.now))
 
 -- the modifier of a rule is read
-abbrev pub ModifiedOrNot : Trees → Option (RuleType × Bor code.Trees) → Type 0
-ModifiedOrNot us answer = MatchOption answer ((kind : spec.RuleType) (rest : Trees) → Modified us kind rest → ⊥) (λ t. Modified us (rule_type_of t.0) (trees_of t.1.now))
+abbrev pub ModifiedOrNot : Trees → Option (RuleType × Bor (List (TokenTree token.Rule))) → Type 0
+ModifiedOrNot us answer = MatchOption answer ((kind : spec.RuleType) (rest : Trees) → Modified us kind rest → ⊥) (λ t. Modified us (rule_type_of t.0) (named_trees_of t.1.now))
 
 -- an expression in braces
 pub record IsBraced (us inner : Trees) : Type 0 where
@@ -151,8 +152,8 @@ pub record IsBraced (us inner : Trees) : Type 0 where
   pub n : ℕ
   pub split : us ≡ Mark (codes "opening_brace") c d (Tree (codes "expression") e f inner (Mark (codes "closing_brace") m n None'))
 
-abbrev pub BracedOrNot : Trees → Option (Bor code.Trees) → Type 0
-BracedOrNot us answer = MatchOption answer ((inner : Trees) → IsBraced us inner → ⊥) (λ t. IsBraced us (trees_of t.now))
+abbrev pub BracedOrNot : Trees → Option (Bor (List (TokenTree token.Rule))) → Type 0
+BracedOrNot us answer = MatchOption answer ((inner : Trees) → IsBraced us inner → ⊥) (λ t. IsBraced us (named_trees_of t.now))
 
 abbrev pub RuleOrNot : List ℕ → Trees → Option Rule → Type 0
 RuleOrNot text us answer = MatchOption answer ((r : spec.Rule) → ReadsRule text us r → ⊥) (λ r. ReadsRule text us (rule_of_code r))

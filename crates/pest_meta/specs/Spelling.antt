@@ -6,11 +6,10 @@ use Rattle.meta_base.specs.Rewriting.{Chain, EachBody, IsDone, Rotates, SameOutc
 use Rattle.meta_base.specs.declared.grammar.Rule as rule
 use Rattle.meta_base.specs.declared.grammar.Rule.TheVariants as rule_is
 use Rattle.meta_base.specs.declared.runtime.errors.Error.{Error}
-use Rattle.meta_base.specs.declared.runtime.errors.ErrorVariant.TheVariants as variant_is
-use Rattle.meta_base.specs.declared.runtime.errors.InputLocation.TheVariants as location_is
 use Rattle.meta_base.specs.declared.runtime.faults.Fault.{Fault}
 use Rattle.meta_base.specs.declared.runtime.faults.Fault.TheVariants as fault_is
-use Rattle.meta_syntax.specs.Parses.{Recognizes}
+use Rattle.meta_syntax.specs.Parses as parsed
+use Rattle.meta_syntax.specs.Parses.{IsRefused, IsSyntaxError, Recognizes}
 use Rattle.pest_meta.specs.FirstReading.{ReadsRules}
 use Rattle.pest_meta.specs.Optimized.{optimized_rules_of}
 use Rattle.pest_meta.specs.declared.optimizer.OptimizedRule.{OptimizedRule}
@@ -29,19 +28,12 @@ pub record IsAnswer (text : List ℕ) (answer : List OptimizedRule) : Type 0 whe
   pub chain : Chain spelled (optimized_rules_of answer)
   pub outcomes : SameOutcomes spelled (optimized_rules_of answer)
 
--- one syntax error, at the start of the text
-pub record IsSyntaxError (errors : List (Error rule.Rule)) : Type 0 where
-  pub error : Error rule.Rule
-  pub alone : errors ≡ error ∷ []
-  pub variant : error.variant ≡ variant_is.ParsingError
-  pub location : error.location ≡ location_is.Pos 0
+-- one syntax error: where the text is refused by the meta-grammar, or at its start where it is a grammar that is not read so far
+pub data SaysSyntaxError (text : List ℕ) (errors : List (Error rule.Rule)) : Type 0 where
+  unrecognized : IsRefused rule_is.grammar_rules text errors → SaysSyntaxError text errors
+  unread : (trees : Trees) → parsed.Spells rule_is.grammar_rules text trees → IsSyntaxError text 0 errors → SaysSyntaxError text errors
 
--- memory was refused, or the text spells no grammar
+-- memory is wanting, or the text spells no grammar
 abbrev pub IsRefusal : List ℕ → Fault → Type 0
 IsRefusal text (fault_is.Memory e) = ⊤
-IsRefusal text (fault_is.Grammar errors) = IsSyntaxError errors.items × ((g : Grammar) → Spells text g → ⊥)
-
--- one syntax error at the start of the text, unless memory was refused
-abbrev pub IsSyntaxErrorOrMemory : Fault → Type 0
-IsSyntaxErrorOrMemory (fault_is.Memory e) = ⊤
-IsSyntaxErrorOrMemory (fault_is.Grammar errors) = IsSyntaxError errors.items
+IsRefusal text (fault_is.Grammar errors) = SaysSyntaxError text errors.items × ((g : Grammar) → Spells text g → ⊥)

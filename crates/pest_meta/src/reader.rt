@@ -5,20 +5,21 @@ ghost use Rattle.meta_base.specs.Ast.{expression_of, rule_of_code, rules_of};
 ghost use Rattle.meta_base.specs.State.{None'};
 ghost use Rattle.meta_base.specs.Text.{Text};
 ghost use Rattle.meta_base.specs.MetaRules.{name_of};
-ghost use Rattle.meta_syntax.specs.Building.{trees_of};
+ghost use Rattle.meta_base.specs.NamedTrees.{named_trees_of};
 ghost use Rattle.pest_meta.specs.FirstReading.{Alternatives, IsWritten, Node};
 ghost use Rattle.pest_meta.specs.ReadTrees.{BeginsOrNot, BracedOrNot, GroupOrNot, ModifiedOrNot, RuleOrNot, RulesOrNot, HoldsOrNot, IsEnd, LeafOrNot, LiteralOrNot, ReadsOrNot, TermOrNot, TermsOrNot, WrittenOrNot};
 
 use meta_base::ast::{Expr, Rule as ReadRule, RuleType};
 use meta_base::grammar::Rule;
-use meta_syntax::trees::Trees;
+use meta_base::runtime::{FirstTree, TokenTree};
+use meta_syntax::trees::first_tree;
 use std::alloc::{AllocError, Global};
 
 /// Whether there are no trees.
-fn is_empty(trees: &Trees) -> bool
-    ensures { IsTrue result ↔ (trees_of trees.now ≡ None') }
+fn is_empty(trees: &[TokenTree<Rule>]) -> bool
+    ensures { IsTrue result ↔ (named_trees_of trees.now ≡ None') }
 {
-    matches!(trees, Trees::Empty)
+    first_tree(trees).is_none()
 }
 
 /// Whether two rules are the same.
@@ -29,44 +30,39 @@ fn is_same(rule: Rule, wanted: Rule) -> bool
 }
 
 /// What follows a first tree of the rule that holds no trees.
-fn mark<'t>(trees: &'t Trees, wanted: Rule) -> Option<&'t Trees>
-    ensures { BeginsOrNot (name_of wanted) (trees_of trees.entry.now) result }
+fn mark<'t>(trees: &'t [TokenTree<Rule>], wanted: Rule) -> Option<&'t [TokenTree<Rule>]>
+    ensures { BeginsOrNot (name_of wanted) (named_trees_of trees.entry.now) result }
 {
-    match trees {
-        Trees::Tree {
-            rule,
-            inner,
-            others,
-            ..
-        } => {
-            if is_same(*rule, wanted) && is_empty(inner) {
-                Some(others)
-            } else {
-                None
-            }
-        }
-        Trees::Empty => None,
+    let FirstTree {
+        rule,
+        inner,
+        others,
+        ..
+    } = first_tree(trees)?;
+    if is_same(rule, wanted) && is_empty(inner) {
+        Some(others)
+    } else {
+        None
     }
 }
 
 /// The first tree of the rule: what it holds, and what follows it.
-fn tree<'t>(trees: &'t Trees, wanted: Rule) -> Option<(&'t Trees, &'t Trees)>
-    ensures { HoldsOrNot (name_of wanted) (trees_of trees.entry.now) result }
+fn tree<'t>(
+    trees: &'t [TokenTree<Rule>],
+    wanted: Rule,
+) -> Option<(&'t [TokenTree<Rule>], &'t [TokenTree<Rule>])>
+    ensures { HoldsOrNot (name_of wanted) (named_trees_of trees.entry.now) result }
 {
-    match trees {
-        Trees::Tree {
-            rule,
-            inner,
-            others,
-            ..
-        } => {
-            if is_same(*rule, wanted) {
-                Some((inner, others))
-            } else {
-                None
-            }
-        }
-        Trees::Empty => None,
+    let FirstTree {
+        rule,
+        inner,
+        others,
+        ..
+    } = first_tree(trees)?;
+    if is_same(rule, wanted) {
+        Some((inner, others))
+    } else {
+        None
     }
 }
 
@@ -81,25 +77,25 @@ fn slice<'i>(text: &'i str, start: usize, end: usize) -> Option<&'i str>
 }
 
 /// What is written under a first tree of the rule that holds no trees, and what follows it.
-fn written<'t, 'i>(text: &'i str, trees: &'t Trees, wanted: Rule) -> Option<(&'i str, &'t Trees)>
-    ensures { WrittenOrNot text.entry.now (name_of wanted) (trees_of trees.entry.now) result }
+fn written<'t, 'i>(
+    text: &'i str,
+    trees: &'t [TokenTree<Rule>],
+    wanted: Rule,
+) -> Option<(&'i str, &'t [TokenTree<Rule>])>
+    ensures { WrittenOrNot text.entry.now (name_of wanted) (named_trees_of trees.entry.now) result }
 {
-    match trees {
-        Trees::Tree {
-            rule,
-            start,
-            end,
-            inner,
-            others,
-        } => {
-            if is_same(*rule, wanted) && is_empty(inner) {
-                let slice = slice(text, *start, *end)?;
-                Some((slice, others))
-            } else {
-                None
-            }
-        }
-        Trees::Empty => None,
+    let FirstTree {
+        rule,
+        start,
+        end,
+        inner,
+        others,
+    } = first_tree(trees)?;
+    if is_same(rule, wanted) && is_empty(inner) {
+        let slice = slice(text, start, end)?;
+        Some((slice, others))
+    } else {
+        None
     }
 }
 
@@ -111,8 +107,8 @@ fn has_backslash(literal: &str) -> bool
 }
 
 /// A string literal, by the trees in it: a quote, what is quoted and a quote.
-fn literal(alloc: Global, text: &str, trees: &Trees) -> Result<Option<Expr>, AllocError>
-    ensures { IfOk result (LiteralOrNot text.now (trees_of trees.now)) }
+fn literal(alloc: Global, text: &str, trees: &[TokenTree<Rule>]) -> Result<Option<Expr>, AllocError>
+    ensures { IfOk result (LiteralOrNot text.now (named_trees_of trees.now)) }
 {
     let Some(quoted) = mark(trees, Rule::quote) else {
         return Ok(None);
@@ -130,8 +126,8 @@ fn literal(alloc: Global, text: &str, trees: &Trees) -> Result<Option<Expr>, All
 }
 
 /// A name or a string, where the trees are one.
-fn leaf(alloc: Global, text: &str, trees: &Trees) -> Result<Option<Expr>, AllocError>
-    ensures { IfOk result (LeafOrNot text.now (trees_of trees.now)) }
+fn leaf(alloc: Global, text: &str, trees: &[TokenTree<Rule>]) -> Result<Option<Expr>, AllocError>
+    ensures { IfOk result (LeafOrNot text.now (named_trees_of trees.now)) }
 {
     if let Some((name, end)) = written(text, trees, Rule::identifier) {
         if is_empty(end) {
@@ -146,8 +142,8 @@ fn leaf(alloc: Global, text: &str, trees: &Trees) -> Result<Option<Expr>, AllocE
 }
 
 /// What stands in parentheses, where the trees are an expression in parentheses.
-fn parenthesised<'t>(trees: &'t Trees) -> Option<&'t Trees>
-    ensures { GroupOrNot (trees_of trees.entry.now) result }
+fn parenthesised<'t>(trees: &'t [TokenTree<Rule>]) -> Option<&'t [TokenTree<Rule>]>
+    ensures { GroupOrNot (named_trees_of trees.entry.now) result }
 {
     let inside = mark(trees, Rule::opening_paren)?;
     let (body, closing) = tree(inside, Rule::expression)?;
@@ -157,8 +153,8 @@ fn parenthesised<'t>(trees: &'t Trees) -> Option<&'t Trees>
 
 /// What stands in one term: a name, a string, or an expression in parentheses.
 #[cycle(read)]
-fn node(alloc: Global, text: &str, trees: &Trees) -> Result<Option<Expr>, AllocError>
-    ensures { IfOk result (ReadsOrNot text.now Node (trees_of trees.now)) }
+fn node(alloc: Global, text: &str, trees: &[TokenTree<Rule>]) -> Result<Option<Expr>, AllocError>
+    ensures { IfOk result (ReadsOrNot text.now Node (named_trees_of trees.now)) }
 {
     match parenthesised(trees) {
         Some(body) => alternatives(alloc, text, body),
@@ -171,9 +167,9 @@ fn node(alloc: Global, text: &str, trees: &Trees) -> Result<Option<Expr>, AllocE
 fn term<'t>(
     alloc: Global,
     text: &str,
-    trees: &'t Trees,
-) -> Result<Option<(Expr, &'t Trees)>, AllocError>
-    ensures { IfOk result (TermOrNot text.now (trees_of trees.entry.now)) }
+    trees: &'t [TokenTree<Rule>],
+) -> Result<Option<(Expr, &'t [TokenTree<Rule>])>, AllocError>
+    ensures { IfOk result (TermOrNot text.now (named_trees_of trees.entry.now)) }
 {
     let Some((inner, others)) = tree(trees, Rule::term) else {
         return Ok(None);
@@ -189,9 +185,9 @@ fn term<'t>(
 fn terms<'t>(
     alloc: Global,
     text: &str,
-    trees: &'t Trees,
-) -> Result<Option<(Expr, &'t Trees)>, AllocError>
-    ensures { IfOk result (TermsOrNot text.now (trees_of trees.entry.now)) }
+    trees: &'t [TokenTree<Rule>],
+) -> Result<Option<(Expr, &'t [TokenTree<Rule>])>, AllocError>
+    ensures { IfOk result (TermsOrNot text.now (named_trees_of trees.entry.now)) }
 {
     let Some((mut left, mut rest)) = term(alloc, text, trees)? else {
         return Ok(None);
@@ -208,8 +204,12 @@ fn terms<'t>(
 
 /// All alternatives, with `|` between them.
 #[cycle(read)]
-fn alternatives(alloc: Global, text: &str, trees: &Trees) -> Result<Option<Expr>, AllocError>
-    ensures { IfOk result (ReadsOrNot text.now Alternatives (trees_of trees.now)) }
+fn alternatives(
+    alloc: Global,
+    text: &str,
+    trees: &[TokenTree<Rule>],
+) -> Result<Option<Expr>, AllocError>
+    ensures { IfOk result (ReadsOrNot text.now Alternatives (named_trees_of trees.now)) }
 {
     let Some((mut left, mut rest)) = terms(alloc, text, trees)? else {
         return Ok(None);
@@ -228,8 +228,8 @@ fn alternatives(alloc: Global, text: &str, trees: &Trees) -> Result<Option<Expr>
 }
 
 /// The type that a rule's modifier gives, and what follows the modifier.
-fn modifier<'t>(trees: &'t Trees) -> Option<(RuleType, &'t Trees)>
-    ensures { ModifiedOrNot (trees_of trees.entry.now) result }
+fn modifier<'t>(trees: &'t [TokenTree<Rule>]) -> Option<(RuleType, &'t [TokenTree<Rule>])>
+    ensures { ModifiedOrNot (named_trees_of trees.entry.now) result }
 {
     if let Some(rest) = mark(trees, Rule::silent_modifier) {
         return Some((RuleType::Silent, rest));
@@ -250,8 +250,8 @@ fn modifier<'t>(trees: &'t Trees) -> Option<(RuleType, &'t Trees)>
 }
 
 /// What stands in braces, where the trees are an expression in braces.
-fn braced<'t>(trees: &'t Trees) -> Option<&'t Trees>
-    ensures { BracedOrNot (trees_of trees.entry.now) result }
+fn braced<'t>(trees: &'t [TokenTree<Rule>]) -> Option<&'t [TokenTree<Rule>]>
+    ensures { BracedOrNot (named_trees_of trees.entry.now) result }
 {
     let inside = mark(trees, Rule::opening_brace)?;
     let (body, closing) = tree(inside, Rule::expression)?;
@@ -260,8 +260,12 @@ fn braced<'t>(trees: &'t Trees) -> Option<&'t Trees>
 }
 
 /// A rule, by the trees in its tree.
-fn rule(alloc: Global, text: &str, trees: &Trees) -> Result<Option<ReadRule>, AllocError>
-    ensures { IfOk result (RuleOrNot text.now (trees_of trees.now)) }
+fn rule(
+    alloc: Global,
+    text: &str,
+    trees: &[TokenTree<Rule>],
+) -> Result<Option<ReadRule>, AllocError>
+    ensures { IfOk result (RuleOrNot text.now (named_trees_of trees.now)) }
 {
     let Some((name, assigned)) = written(text, trees, Rule::identifier) else {
         return Ok(None);
@@ -286,8 +290,8 @@ fn rule(alloc: Global, text: &str, trees: &Trees) -> Result<Option<ReadRule>, Al
 }
 
 /// Whether the trees are the one of the end of the text.
-fn is_end(trees: &Trees) -> bool
-    ensures { IsTrue result ↔ IsEnd (trees_of trees.now) }
+fn is_end(trees: &[TokenTree<Rule>]) -> bool
+    ensures { IsTrue result ↔ IsEnd (named_trees_of trees.now) }
 {
     match mark(trees, Rule::EOI) {
         Some(end) => is_empty(end),
@@ -296,8 +300,12 @@ fn is_end(trees: &Trees) -> bool
 }
 
 /// The rules that the trees of a whole text are read as, in order, or None where they are not read.
-pub fn rules(alloc: Global, text: &str, trees: &Trees) -> Result<Option<Vec<ReadRule>>, AllocError>
-    ensures { IfOk result (RulesOrNot text.now (trees_of trees.now)) }
+pub fn rules(
+    alloc: Global,
+    text: &str,
+    trees: &[TokenTree<Rule>],
+) -> Result<Option<Vec<ReadRule>>, AllocError>
+    ensures { IfOk result (RulesOrNot text.now (named_trees_of trees.now)) }
 {
     let mut read = Vec::new(alloc);
     let mut rest = trees;

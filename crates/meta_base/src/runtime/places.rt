@@ -56,6 +56,13 @@ impl<'i> Span<'i> {
         Span { text, start, end }
     }
 
+    /// The text that the span is a part of.
+    pub fn get_input(&self) -> &'i str
+        ensures { result.now ≡ span_text self.now }
+    {
+        self.text
+    }
+
     /// The byte at which the span begins.
     pub fn start(&self) -> usize
         ensures { result ≡ span_start self.now }

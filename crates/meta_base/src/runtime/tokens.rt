@@ -88,6 +88,20 @@ impl<'i, R: Copy> Pairs<'i, R> {
         Pairs { text, rest: trees }
     }
 
+    /// The text that they are parts of.
+    pub fn get_input(&self) -> &'i str
+        ensures { result.now ≡ pairs_text self.now }
+    {
+        self.text
+    }
+
+    /// Their trees, by reference. The last comes first.
+    pub fn trees(&self) -> &[TokenTree<R>]
+        ensures { trees_of result.now ≡ pairs_trees self.entry.now }
+    {
+        &self.rest
+    }
+
     /// These pairs and all pairs inside them, each before those inside it. The only fault is a want of
     /// memory.
     pub fn flatten(self, alloc: Global) -> Result<FlatPairs<'i, R>, Fault>

@@ -1,5 +1,5 @@
 // The trees that pairs are made of.
-ghost use Rattle.std.specs.Prelude.{◌≡◌, IfOk, map};
+ghost use Rattle.std.specs.Prelude.{◌≡◌, IfOk, MatchOption, map};
 ghost use Rattle.meta_base.specs.TokenTrees.{NoTokens, Token};
 ghost use Rattle.meta_base.specs.TreeViews.{tree_of, trees_of};
 
@@ -28,6 +28,35 @@ impl<R> TokenTree<R> {
             inner,
         }
     }
+}
+
+/// The first of some trees, by reference: its rule, where it starts and ends in bytes, the trees
+/// inside it and those after it. Of the trees the last comes first.
+#[derive(Clone, Copy)]
+pub struct FirstTree<'t, R> {
+    pub rule: R,
+    pub start: usize,
+    pub end: usize,
+    pub inner: &'t [TokenTree<R>],
+    pub others: &'t [TokenTree<R>],
+}
+
+/// The first of these trees, of which the last comes first, or `None` where there is no tree.
+pub fn first_tree<R: Copy>(trees: &[TokenTree<R>]) -> Option<FirstTree<'_, R>>
+    ensures { MatchOption result (trees_of trees.entry.now ≡ NoTokens)
+        (λ first. trees_of trees.entry.now
+        ≡ Token first.rule first.start first.end (trees_of first.inner.now) (trees_of first.others.now)) }
+{
+    let [others @ .., first] = trees else {
+        return None;
+    };
+    Some(FirstTree {
+        rule: first.rule,
+        start: first.start,
+        end: first.end,
+        inner: &first.inner,
+        others,
+    })
 }
 
 /// A copy of `trees`, in the same order.

@@ -1,4 +1,4 @@
-use Rattle.meta_syntax.proofs.Parsing.{refused, spelled, tokens_whole}
+use Rattle.meta_syntax.proofs.Parsing.{fails_on_character, refused, refuses, spelled, tokens_whole}
 use Rattle.meta_syntax.proofs.grammar.PestParser.tokens.Goals as goal
 
 pub call-requires-clause-sound : goal.call-requires-clause-sound
@@ -17,4 +17,9 @@ returns-in-Ok-Some-clause-whole c =
 pub returns-in-Ok-None-clause-trees : goal.returns-in-Ok-None-clause-trees
 returns-in-Ok-None-clause-trees c =
     let x = rw c.in-Ok-None.field-0-is at c.in-Ok-None.ensures.means in
-    refused c.args.rule c.args.text.now _ _ _ _ x c.new-recognizer.ensures.furthest
+    refuses c.args.rule c.args.text.now _ c.syntax_error.result (refused c.args.rule c.args.text.now _ _ _ _ x c.new-recognizer.ensures.furthest) c.syntax_error.ensures
+
+pub syntax_error-requires : goal.syntax_error-requires
+syntax_error-requires c =
+    let x = rw c.in-Ok-None.field-0-is at c.in-Ok-None.ensures.means in
+    fails_on_character c.args.rule c.args.text.now _ c.utf8.text (refused c.args.rule c.args.text.now _ _ _ _ x c.new-recognizer.ensures.furthest)

@@ -1,0 +1,14 @@
+pub mod PieceFacts
+pub mod Answers
+pub mod Chains
+pub mod Literals
+pub mod Nodes
+pub mod Operators
+pub mod Pieces
+pub mod Rules
+pub mod Terminals
+pub mod Terms
+pub mod Within
+pub mod Uniqueness
+pub mod NodeTests
+pub mod Walks

@@ -1,0 +1,51 @@
+use Rattle.std.proofs.Common.{◌≡◌, ◌+◌, ◌*◌, ◌≤◌, ◌<◌}
+use Rattle.meta_base.specs.NamedTrees.{named_trees_of}
+use Rattle.meta_reader.specs.Faults.{first_fault}
+use Rattle.meta_reader.specs.Pieces.{StandIn}
+use Rattle.meta_syntax.specs.Shape.{IsMore}
+use Rattle.meta_reader.specs.Views.{IsRest, count_of}
+use Rattle.meta_reader.specs.Nodes.{view}
+use Rattle.meta_reader.proofs.Chains.{InFront, SplitOff}
+use Rattle.meta_reader.proofs.parser.reading.+read.Given as goal
+
+abbrev pub decreases-expression : goal.decreases-expression
+decreases-expression l = 2 * count_of (named_trees_of l.trees.now) + 1
+
+abbrev pub decreases-sequence : goal.decreases-sequence
+decreases-sequence l = 2 * count_of (named_trees_of l.trees.now)
+
+abbrev pub decreases-term : goal.decreases-term
+decreases-term l = 2 * count_of (named_trees_of l.trees.now)
+
+abbrev pub decreases-group : goal.decreases-group
+decreases-group l = 2 * count_of (named_trees_of l.trees.now)
+
+abbrev pub decreases-node : goal.decreases-node
+decreases-node l = 2 * count_of (named_trees_of l.inner.now) + 1
+
+abbrev pub decreases-push : goal.decreases-push
+decreases-push l = 2 * count_of (named_trees_of l.trees.now)
+
+abbrev pub decreases-expression-loop-others : goal.decreases-expression-loop-others
+decreases-expression-loop-others l = count_of (named_trees_of l.rest)
+
+abbrev pub invariant-expression-loop-others : goal.invariant-expression-loop-others
+invariant-expression-loop-others l = record {
+  shape : IsRest l.text (named_trees_of l.rest);
+  nested : StandIn l.text (named_trees_of l.rest);
+  faults : first_fault l.text (named_trees_of l.trees) ≡ first_fault l.text (named_trees_of l.rest);
+  shorter : count_of (named_trees_of l.rest) ≤ count_of (named_trees_of l.trees);
+  reads : SplitOff l.text (named_trees_of l.trees) (named_trees_of l.rest) (view l.left);
+}
+
+abbrev pub decreases-sequence-loop-inner : goal.decreases-sequence-loop-inner
+decreases-sequence-loop-inner l = count_of (named_trees_of l.rest)
+
+abbrev pub invariant-sequence-loop-inner : goal.invariant-sequence-loop-inner
+invariant-sequence-loop-inner l = record {
+  shape : IsMore l.text (named_trees_of l.rest);
+  nested : StandIn l.text (named_trees_of l.rest);
+  faults : first_fault l.text (named_trees_of l.trees) ≡ first_fault l.text (named_trees_of l.rest);
+  shorter : count_of (named_trees_of l.rest) < count_of (named_trees_of l.trees);
+  reads : InFront l.text (named_trees_of l.trees) (named_trees_of l.rest) (view l.left);
+}

@@ -1,0 +1,132 @@
+-- What the code's values stand for, and what its answers say.
+use Rattle.std.specs.Prelude.{◌≡◌, ◌≤◌, ◌<◌, ◌+◌, ◌⊎◌, ℕ, List, [], ◌∷◌, true, false, Option, Some, None, chars, Result, Ok, Err, MatchOption, MatchResult, ℤ, codes}
+use Rattle.std.specs.Borrow.{Bor}
+use Rattle.std.specs.Str.{all_scalars}
+use Rattle.meta_base.specs.Expression as meaning
+use Rattle.meta_base.specs.State as state
+use Rattle.meta_base.specs.Text.{Text}
+use Rattle.meta_base.specs.State.{joined}
+use Rattle.meta_base.specs.Span.{span_text, span_end}
+use Rattle.meta_reader.specs.Spanned as spanned
+use Rattle.meta_reader.specs.Pieces.{StandBehind, StandIn}
+use Rattle.meta_syntax.specs.Shape.{Mark, IsChain, IsMore, IsTerm, IsModifier}
+use Rattle.meta_reader.specs.Spanned.{Spanned, One, Unary}
+use Rattle.meta_reader.specs.Nodes.{piece_of, view}
+use Rattle.meta_base.specs.NamedTrees.{named_trees_of}
+use Rattle.meta_reader.specs.Reading.{Modifies, Part, AnExpression, Alternatives, ASequence, Reads, Postfix, integer}
+use Rattle.meta_reader.specs.Literal.{unescaped}
+use Rattle.meta_reader.specs.Faults as faults
+use Rattle.meta_reader.specs.Faults.{first_fault}
+use Rattle.meta_base.specs.declared.grammar.Rule.{Rule}
+use Rattle.meta_base.specs.declared.runtime.trees.TokenTree.{TokenTree}
+use Rattle.meta_reader.specs.declared.parser.node.ParserNode.{ParserNode}
+use Rattle.meta_reader.specs.declared.parser.faults.Cause as code_cause
+use Rattle.meta_reader.specs.declared.parser.faults.Cause.TheVariants as cause_is
+use Rattle.meta_reader.specs.declared.parser.faults.Finding.{Finding}
+use Rattle.meta_reader.specs.declared.parser.faults.ReadError as error
+use Rattle.meta_reader.specs.declared.parser.faults.ReadError.TheVariants as error_is
+
+abbrev pub cause_of : code_cause.Cause → faults.Cause
+cause_of cause_is.PushLiteralCalled = faults.PushLiteralCalled
+cause_of cause_is.NoScalarValue = faults.NoScalarValue
+cause_of cause_is.PastI32 = faults.PastI32
+cause_of cause_is.PastU32 = faults.PastU32
+cause_of cause_is.ZeroTimes = faults.ZeroTimes
+
+abbrev pub fault_of : Finding → faults.Fault
+fault_of f = record { cause = cause_of f.cause; span = piece_of f.span }
+
+-- an error says that memory was refused, or is the first fault
+abbrev pub IsFirst : Option faults.Fault → error.ReadError → Type 0
+IsFirst o (error_is.Memory e) = Unit {0}
+IsFirst o (error_is.Found f) = o ≡ Some (fault_of f)
+
+-- an answer: what is read has no fault; otherwise the fault is the first
+abbrev pub Answers : {X : Type 0} → Option faults.Fault → Result X error.ReadError → (X → Type 0) → Type 0
+Answers o (Ok x) P = (o ≡ None) × P x
+Answers o (Err e) P = IsFirst o e
+
+-- what the trees of a part read as, or their first fault
+abbrev pub ReadsAs : List ℕ → Part → state.Trees → Result ParserNode error.ReadError → Type 0
+ReadsAs text part us result = Answers (first_fault text us) result (λ n. Reads text part us (view n))
+
+-- the same number, or both past the greatest scalar value
+abbrev pub IsSameNumber : ℕ → ℕ → Type 0
+IsSameNumber v n = (v ≡ n) ⊎ ((0x110000 ≤ v) × (0x110000 ≤ n))
+
+-- the number that an escape names, and what follows it, where f says what the text stands for; or the text ends in it
+abbrev pub NamesFirst : (List ℕ → List ℕ) → List ℕ → Option (ℕ × Bor (List ℕ)) → Type 0
+NamesFirst f t result = MatchOption result (f (chars t) ≡ []) (λ x. (n : ℕ) × IsSameNumber x.0 n × (f (chars t) ≡ n ∷ unescaped (chars x.1.now)))
+
+-- the text with its escapes read, or none where one names no character
+abbrev pub Unescapes : {X : Type 0} → (X → List ℕ) → List ℕ → Option X → Type 0
+Unescapes of t result = MatchOption result (all_scalars (unescaped t) ≡ false) (λ s. (all_scalars (unescaped t) ≡ true) × (of s ≡ unescaped t))
+
+-- a node that stands in the text, before some trees
+pub record StandsBefore (text : List ℕ) (n : ParserNode) (us : state.Trees) : Type 0 where
+  pub same_text : span_text n.span ≡ text
+  pub behind : StandBehind text (span_end n.span) us
+
+-- a postfix operator's node round another
+pub record IsPostfixOf (text : List ℕ) (r : Text) (us : state.Trees) (s : spanned.Span) (n x : ParserNode) : Type 0 where
+  pub operator : Unary
+  pub says : Postfix text r us operator
+  pub round : view x ≡ One s operator (view n)
+
+-- the number that may stand first, and what follows it
+pub data TakesNumber (text : List ℕ) : state.Trees → Option ℤ → state.Trees → Type 0 where
+  a_number : {i j : ℕ} {us : state.Trees} → TakesNumber text (Mark (codes "integer") i j us) (Some (integer text i j)) us
+  the_dots : {i j : ℕ} {us : state.Trees} → TakesNumber text (Mark (codes "range_operator") i j us) None (Mark (codes "range_operator") i j us)
+  the_end : {i j : ℕ} → TakesNumber text (Mark (codes "closing_brack") i j state.None') None (Mark (codes "closing_brack") i j state.None')
+
+-- the same of an answer: the first fault is the number's, or that of what follows
+pub record TakesBound (text : List ℕ) (us : state.Trees) (n : Option ℤ) (rest : state.Trees) : Type 0 where
+  pub takes : TakesNumber text us n rest
+  pub faults : first_fault text us ≡ first_fault text rest
+
+abbrev pub AnswersBound : List ℕ → state.Trees → Result (Option ℤ × Bor (List (TokenTree Rule))) error.ReadError → Type 0
+AnswersBound text us result = MatchResult result (λ x. TakesBound text us x.0 (named_trees_of x.1.now)) (IsFirst (first_fault text us))
+
+-- how many trees there are, with the ends of their lists
+abbrev pub count_of : state.Trees → ℕ
+count_of state.None' = 1
+count_of (state.Tree r i j inner others) = 1 + (count_of inner + count_of others)
+
+-- the alternatives of an expression, behind a bar before the first
+pub record IsBehindBar (text : List ℕ) (us vs : state.Trees) : Type 0 where
+  pub shape : IsChain text vs
+  pub nested : StandIn text us → StandIn text vs
+  pub reads : (x : Spanned) → Reads text Alternatives vs x → Reads text AnExpression us x
+  pub faults : first_fault text us ≡ first_fault text vs
+  pub shorter : count_of vs ≤ count_of us
+
+-- behind a sequence: nothing, or a bar and a chain
+pub data IsRest (text : List ℕ) : state.Trees → Type 0 where
+  at_end : IsRest text state.None'
+  at_bar : {i j : ℕ} {us : state.Trees} → IsChain text us → IsRest text (Mark (codes "choice_operator") i j us)
+
+-- a tilde, a term and more
+pub data GoesOn (text : List ℕ) : state.Trees → state.Trees → state.Trees → Type 0 where
+  goes_on : {i j k l : ℕ} {inner us : state.Trees} → IsTerm text inner → IsMore text us → GoesOn text (Mark (codes "sequence_operator") i j (state.Tree (codes "term") k l inner us)) inner us
+
+-- a front of the trees is read as a sequence, and the rest is left
+pub record ReadsFront (text : List ℕ) (us : state.Trees) (n : ParserNode) (rest : state.Trees) : Type 0 where
+  pub front : state.Trees
+  pub split : us ≡ joined front rest
+  pub reads : Reads text ASequence front (view n)
+  pub faults : first_fault text us ≡ first_fault text rest
+  pub shape : IsRest text rest
+  pub shorter : count_of rest < count_of us
+
+abbrev pub AnswersFront : List ℕ → state.Trees → Result (ParserNode × Bor (List (TokenTree Rule))) error.ReadError → Type 0
+AnswersFront text us result = MatchResult result (λ x. ReadsFront text us x.0 (named_trees_of x.1.now)) (IsFirst (first_fault text us))
+
+-- where a rule's modifier may stand: it does, or the opening brace follows at once
+pub data MayBeModifier : state.Trees → Type 0 where
+  a_modifier : {r : Text} {i j : ℕ} {us : state.Trees} → IsModifier r → MayBeModifier (Mark r i j us)
+  the_brace : {i j : ℕ} {us : state.Trees} → MayBeModifier (Mark (codes "opening_brace") i j us)
+
+-- the type that a modifier gives, and what follows it
+pub data TakesModifier : state.Trees → meaning.RuleType → state.Trees → Type 0 where
+  a_type : {r : Text} {t : meaning.RuleType} {i j : ℕ} {us : state.Trees} → Modifies r t → TakesModifier (Mark r i j us) t us
+  no_type : {i j : ℕ} {us : state.Trees} → TakesModifier (Mark (codes "opening_brace") i j us) meaning.Normal (Mark (codes "opening_brace") i j us)

@@ -1,0 +1,12 @@
+// Laws over the definitions alone.
+ghost use Rattle.meta_reader.specs.Laws.{ReadsOneExpression, ReadsOneGrammar};
+
+/// Trees are read as one expression at most.
+pub fn reads_one_expression()
+    ensures { ReadsOneExpression }
+{}
+
+/// The trees of a grammar's text are read as one list of rules at most.
+pub fn reads_one_grammar()
+    ensures { ReadsOneGrammar }
+{}

@@ -1,0 +1,5 @@
+// From the trees of a grammar's text to its rules.
+#![tactic(auto)]
+
+pub mod laws;
+pub mod parser;

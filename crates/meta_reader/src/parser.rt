@@ -1,0 +1,186 @@
+// From the trees of a grammar's text to its rules.
+ghost use Rattle.std.specs.Prelude.{◌≡◌, IfErr, IfOk, MatchResult, OnOk, option_map};
+ghost use Rattle.meta_base.specs.Pairs.{pairs_text};
+ghost use Rattle.meta_base.specs.NamedTrees.{named_trees_of};
+ghost use Rattle.meta_reader.specs.Faults.{first_fault};
+ghost use Rattle.meta_syntax.specs.Parses.{AreSpelled, ParseRefuses};
+ghost use Rattle.meta_reader.specs.Refusals.{AreOfAGrammar, AreReadAs, IsRefusal, first_fault_of};
+ghost use Rattle.meta_reader.specs.Pieces.{StandIn};
+ghost use Rattle.meta_reader.specs.Reading.{ReadsRule, ReadsRules};
+ghost use Rattle.meta_syntax.specs.Shape.{IsGrammar, IsRule};
+ghost use Rattle.meta_reader.specs.Views.{Answers, MayBeModifier, TakesModifier};
+ghost use Rattle.meta_reader.specs.Nodes.{rule_view, rule_views, type_of};
+
+mod cloned;
+mod compared;
+mod faults;
+mod filter;
+mod literal;
+mod node;
+mod operators;
+mod pieces;
+mod reading;
+mod shown;
+mod terminals;
+
+use crate::parser::faults::{ReadError, refusal};
+pub use crate::parser::filter::filter_internal;
+pub use crate::parser::node::{ParserExpr, ParserNode, ParserRule};
+use crate::parser::pieces::{span_at, written};
+use crate::parser::reading::expression;
+pub use crate::parser::shown::rename_meta_rule;
+use meta_base::ast::RuleType;
+pub use meta_base::grammar::Rule;
+use meta_base::runtime::{Fault, FirstTree, Pairs, TokenTree};
+pub use meta_syntax::grammar::PestParser;
+use meta_syntax::laws::trees_of_a_grammar_have_their_shape;
+use meta_syntax::trees::first_tree;
+use std::alloc::Global;
+
+/// The type that a rule's modifier gives, and what follows the modifier; Normal where there is none.
+fn modifier(trees: &[TokenTree<Rule>]) -> (RuleType, &[TokenTree<Rule>])
+    requires { MayBeModifier (named_trees_of trees.now) }
+    ensures { TakesModifier (named_trees_of trees.entry.now) (type_of result.0) (named_trees_of result.1.now) }
+{
+    let Some(FirstTree { rule, others, .. }) = first_tree(trees) else {
+        unreachable!()
+    };
+    match rule {
+        Rule::silent_modifier => (RuleType::Silent, others),
+        Rule::atomic_modifier => (RuleType::Atomic, others),
+        Rule::compound_atomic_modifier => (RuleType::CompoundAtomic, others),
+        Rule::non_atomic_modifier => (RuleType::NonAtomic, others),
+        _ => (RuleType::Normal, trees),
+    }
+}
+
+/// A rule, by the trees in it, or its first fault; none for a comment that documents one.
+fn rule<'i>(
+    alloc: Global,
+    text: &'i str,
+    trees: &[TokenTree<Rule>],
+) -> Result<Option<ParserRule<'i>>, ReadError<'i>>
+    requires shape { IsRule text.now (named_trees_of trees.now) }
+    requires nested { StandIn text.now (named_trees_of trees.now) }
+    ensures { Answers (first_fault text.entry.now (named_trees_of trees.now)) result (λ o. ReadsRule text.entry.now (named_trees_of trees.now) (option_map rule_view o)) }
+{
+    let Some(
+        FirstTree {
+            rule,
+            start,
+            end,
+            others,
+            ..
+        },
+    ) = first_tree(trees)
+    else {
+        unreachable!()
+    };
+    let Rule::identifier = rule else {
+        return Ok(None);
+    };
+    let Some(FirstTree { others, .. }) = first_tree(others) else {
+        unreachable!()
+    };
+    let (ty, rest) = modifier(others);
+    let Some(FirstTree { others, .. }) = first_tree(rest) else {
+        unreachable!()
+    };
+    let Some(FirstTree { inner, .. }) = first_tree(others) else {
+        unreachable!()
+    };
+    let node = expression(alloc, text, inner)?;
+    let name = String::from_str(alloc, written(text, start, end))?;
+    let span = span_at(text, start, end);
+    Ok(Some(ParserRule {
+        name,
+        span,
+        ty,
+        node,
+    }))
+}
+
+/// The rules that all trees of a grammar's text spell, in their order, or the first fault in it.
+/// `trees` are those of a parse of `text` by `grammar_rules`; places count bytes.
+fn rules<'i>(
+    alloc: Global,
+    text: &'i str,
+    trees: &[TokenTree<Rule>],
+) -> Result<Vec<ParserRule<'i>>, ReadError<'i>>
+    requires shape { IsGrammar text.now (named_trees_of trees.now) }
+    requires nested { StandIn text.now (named_trees_of trees.now) }
+    ensures { Answers (first_fault text.entry.now (named_trees_of trees.now)) result (λ rs. ReadsRules text.entry.now (named_trees_of trees.now) (rule_views rs.items)) }
+{
+    let mut read = Vec::new(alloc);
+    let mut rest = trees;
+    while let Some(
+        FirstTree {
+            rule: token,
+            inner,
+            others,
+            ..
+        },
+    ) = first_tree(rest)
+    {
+        if let Rule::grammar_rule = token {
+            if let Some(one) = rule(alloc, text, inner)? {
+                read.push(one)?;
+            }
+        }
+        rest = others;
+    }
+    Ok(read)
+}
+
+/// The pairs that the text spells for a rule of the meta-grammar, from its start on, as
+/// `PestParser::parse` answers them; those of a whole grammar are the pairs for `grammar_rules`.
+///
+/// Places in pairs and errors count bytes. Where the rule fails, the fault holds one
+/// `ParsingError`, at the greatest position at which a rule that gives a token, or `EOI`, was called
+/// and failed, in a mode other than Atomic and in any branch; at 0 where there is none. Any other
+/// fault is a want of memory.
+pub fn parse<'i>(alloc: Global, rule: Rule, text: &'i str) -> Result<Pairs<'i, Rule>, Fault>
+    ensures text { IfOk result (λ pairs. pairs_text pairs ≡ text.entry.now) }
+    ensures spelled { MatchResult result (AreSpelled rule) (ParseRefuses rule text.entry.now) }
+{
+    PestParser::parse(alloc, rule, text)
+}
+
+/// The rules that the pairs of a grammar's text spell, in their order, or its first fault. `pairs`
+/// are all those of a parse of a text by `grammar_rules`. All places count bytes of that text.
+///
+/// A choice splits at its last `|` and a sequence at its last `~`, which binds tighter. The postfix
+/// operators behind a node apply one after another, and a `!` or `&` before it takes all that
+/// follows in its term. A bar before the first alternative, a tag and a comment that documents say
+/// nothing. A slice without its first number starts at 0, and one without its second has no end.
+///
+/// A rule stands where its name does, and a node without operands where it is written. A choice or
+/// a sequence reaches from the start of its left operand to the end of its right one, and a postfix
+/// operator from the start of its operand to its own end. A predicate and `PUSH` begin where they
+/// are written, and end where their operand does. An expression in parentheses ends with the second
+/// of them; and with all postfix operators behind them it begins with the first.
+///
+/// The fault of the text is the first in it, reading from left to right and a tree before those in
+/// it. It holds one error with a message of its own, at the span of the piece that is wrong:
+/// - `PUSH_LITERAL requires feature grammar-extras`, at the call;
+/// - `escape is not a Unicode scalar value`, at the whole literal: an escape names no character;
+/// - `number cannot overflow i32`, at a number of a slice;
+/// - `number cannot overflow u32`, at a number in braces;
+/// - `cannot repeat 0 times`, at the number that says how often at most, or exactly.
+///
+/// Any other fault is a want of memory.
+pub fn consume_rules_with_spans<'i>(
+    alloc: Global,
+    pairs: Pairs<'i, Rule>,
+) -> Result<Vec<ParserRule<'i>>, Fault>
+    requires { AreOfAGrammar pairs }
+    ensures rules { IfOk result (λ rules. AreReadAs pairs.entry (rule_views rules.items)) }
+    ensures faultless { OnOk result (first_fault_of pairs.entry ≡ None) }
+    ensures refused { IfErr result (IsRefusal (first_fault_of pairs.entry)) }
+{
+    trees_of_a_grammar_have_their_shape();
+    match rules(alloc, pairs.get_input(), pairs.trees()) {
+        Ok(rules) => Ok(rules),
+        Err(error) => Err(refusal(alloc, error)),
+    }
+}
