@@ -1,4 +1,5 @@
 pub mod EntryLists
+pub mod FirstCharacters
 pub mod LeafLemmas
 pub mod Lookup
 pub mod Making
@@ -9,6 +10,7 @@ pub mod Numerals
 pub mod Parsing
 pub mod Quiet
 pub mod ShapeOfTrees
+pub mod SingleCharacters
 pub mod Steps
 pub mod Taken
 pub mod Yielding

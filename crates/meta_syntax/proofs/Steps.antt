@@ -69,10 +69,10 @@ module _ {classes : Classes} where
   ran_not_end m sees e h n = ran_eoi m e (rw (← h) n)
 
   -- the skipping's own calls
-  ran_whitespace : {s : State} {o : Outcome} {p q : ℕ} → Ran meta_grammar classes (Run NonAtomicMode (Ident (name_of is.WHITESPACE))) s o p q → Ran meta_grammar classes (Run Between (Ident whitespace)) s o p q
+  pub ran_whitespace : {s : State} {o : Outcome} {p q : ℕ} → Ran meta_grammar classes (Run NonAtomicMode (Ident (name_of is.WHITESPACE))) s o p q → Ran meta_grammar classes (Run Between (Ident whitespace)) s o p q
   ran_whitespace x = let y = ran_blank (defined_rule is.WHITESPACE refl) x in rw whitespace_name at y
 
-  ran_comment : {s : State} {o : Outcome} {p q : ℕ} → Ran meta_grammar classes (Run NonAtomicMode (Ident (name_of is.COMMENT))) s o p q → Ran meta_grammar classes (Run Between (Ident comment)) s o p q
+  pub ran_comment : {s : State} {o : Outcome} {p q : ℕ} → Ran meta_grammar classes (Run NonAtomicMode (Ident (name_of is.COMMENT))) s o p q → Ran meta_grammar classes (Run Between (Ident comment)) s o p q
   ran_comment x = let y = ran_blank (defined_rule is.COMMENT refl) x in rw comment_name at y
 
   module _ (rule : Rule) (m mode : Mode) (body : Expression) (kind : RuleType) (defined : is_defined rule ≡ true) (same_mode : mode ≡ body_mode (rule_at rule) m) (same_body : body ≡ body_of rule) (same_kind : kind ≡ type_of_rule rule) where

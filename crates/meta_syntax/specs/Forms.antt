@@ -122,7 +122,7 @@ cost (form.Opt' p a) = 2 + cost a
 cost (form.Rep' p a) = 2 + cost a
 cost (form.RepOnce' p a) = 3 + cost a
 cost (form.NegPred' p a) = 2 + cost a
-cost (form.RepMinMax' p a i j q b) = 1 + cost b
+cost (form.RepMinMax' p a i j q b) = 2 + cost b
 
 -- no body of a repetition may succeed without input, and costs are below their limit
 abbrev pub good : Form → Bool

@@ -1,5 +1,6 @@
 pub mod Building
 pub mod Entries
+pub mod Firsts
 pub mod Forms
 pub mod MetaGrammar
 pub mod Parses

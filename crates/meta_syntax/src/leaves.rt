@@ -5,6 +5,7 @@ ghost use Rattle.meta_syntax.specs.Forms.{decoded};
 ghost use Rattle.meta_syntax.specs.Runs.{IsLeft, Progress, at, leaving};
 
 /// Matches the text itself.
+#[inline(always)]
 pub fn literal<'i>(text: &str, rest: &'i str) -> Option<&'i str>
     ensures goes_on { (whole : List ℕ) → IsLeft whole rest.entry.now
         → Progress whole rest.entry.now (nat_eq (length text.now) 0) result }
@@ -15,6 +16,7 @@ pub fn literal<'i>(text: &str, rest: &'i str) -> Option<&'i str>
 }
 
 /// Matches one character from `low` to `high`.
+#[inline(always)]
 pub fn character<'i>(low: char, high: char, rest: &'i str) -> Option<&'i str>
     ensures goes_on { (whole : List ℕ) → IsLeft whole rest.entry.now
         → Progress whole rest.entry.now false result }
@@ -35,6 +37,7 @@ pub fn character<'i>(low: char, high: char, rest: &'i str) -> Option<&'i str>
 }
 
 /// Matches any one character.
+#[inline(always)]
 pub fn any<'i>(rest: &'i str) -> Option<&'i str>
     ensures goes_on { (whole : List ℕ) → IsLeft whole rest.entry.now
         → Progress whole rest.entry.now false result }

@@ -2,6 +2,7 @@
 #![tactic(auto)]
 
 pub mod entries;
+mod firsts;
 pub mod grammar;
 pub mod laws;
 mod leaves;

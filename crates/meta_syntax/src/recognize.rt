@@ -1,15 +1,18 @@
 // The recognizer: an interpreter of the table.
-ghost use Rattle.std.specs.Prelude.{◌≡◌, ◌<◌, ◌&&◌, ◌||◌, ℕ, List, IfOk, OnOk, [], true, false, codes};
-ghost use Rattle.meta_base.specs.State.{Between};
+ghost use Rattle.std.specs.Prelude.{◌≡◌, ◌<◌, ◌≤◌, ◌&&◌, ◌||◌, ℕ, List, IfOk, IfSome, OnOk, [], true, false, codes};
+ghost use Rattle.meta_base.specs.State.{Between, Classes, Failure};
 ghost use Rattle.meta_base.specs.Expression.{Choice, Ident, NegPred, Opt, Rep, RepOnce, Seq, comment, whitespace};
 ghost use Rattle.meta_base.specs.Meaning.{Run, Skipping, Turns};
+ghost use Rattle.meta_base.specs.Ran.{Ran};
 ghost use Rattle.meta_base.specs.MetaRules.{name_of};
 ghost use Rattle.meta_base.specs.declared.grammar.Rule.TheVariants.{block_comment};
 ghost use Rattle.meta_syntax.specs.Entries.{seen};
 ghost use Rattle.meta_syntax.specs.Forms.{IsGood, IsSpelled, cost, expression_of, null, nullable};
-ghost use Rattle.meta_syntax.specs.Runs.{FailsWithin, GoesOn, IsLeft, IsSound, Progress, Reaches, Runs, mode_of};
+ghost use Rattle.meta_syntax.specs.MetaGrammar.{meta_grammar};
+ghost use Rattle.meta_syntax.specs.Runs.{at, FailsWithin, GoesOn, IsLeft, IsSound, Progress, Reaches, Runs, mode_of};
 
 use crate::entries::{Entry, close, cut, open, written};
+use crate::firsts::{is_left_alone, is_noted_at_once, may_begin, one};
 use crate::leaves::{any, character, literal};
 use crate::modes::{Mode, body_mode, call_counts, gives_token, is_seen_from, noted};
 use crate::table::{Form, row_of};
@@ -62,6 +65,23 @@ impl Recognizer {
             failed_in_non_atomic: _,
         } = self;
         entries
+    }
+
+    /// The furthest failure after a call that fails by the next character alone, or `None` where
+    /// that character does not tell, or there is none.
+    fn rejection(&self, text: &str, rule: Rule, mode: Mode, rest: &str) -> Option<usize>
+        requires left { IsLeft text.now rest.now }
+        ensures further { IfSome result (λ furthest. self.now.furthest ≤ furthest) }
+        ensures fails { IfSome result (λ furthest. (classes : Classes)
+            → Ran meta_grammar classes (Run (mode_of mode) (Ident (name_of rule)))
+            (at text.now rest.now) Failure self.now.furthest furthest) }
+    {
+        let first = rest.chars().next()?;
+        if may_begin(rule, first) {
+            return None;
+        }
+        let place = text.len() - rest.len();
+        Some(noted(is_noted_at_once(rule, mode), place, self.furthest))
     }
 
     /// Whether it is remembered that a call fails here. Nothing is then noted that was not noted
@@ -133,6 +153,7 @@ impl Recognizer {
 
     /// Runs a form on what is left of the text. The answer is what is left after it, or `None`
     /// where it fails. The entries of its trees are then written, or none.
+    #[inline(always)]
     #[cycle(recognize)]
     fn run<'i>(
         &mut self,
@@ -172,8 +193,31 @@ impl Recognizer {
             }
             Form::RepOnce(body) => self.once_or_more(text, body, mode, rest),
             Form::NegPred(body) => self.negation(text, body, mode, rest),
-            Form::RepMinMax(_, _, _, spelled) => self.run(text, spelled, mode, rest),
+            Form::RepMinMax(_, _, _, spelled) => self.copies(text, spelled, mode, rest),
         }
+    }
+
+    /// The copies of a counted repetition, spelled out.
+    #[inline(never)]
+    #[cycle(recognize)]
+    fn copies<'i>(
+        &mut self,
+        text: &str,
+        spelled: &'static Form,
+        mode: Mode,
+        rest: &'i str,
+    ) -> Result<Option<&'i str>, AllocError>
+        requires good { IsGood spelled.now }
+        requires spelled { IsSpelled spelled.now }
+        requires left { IsLeft text.now rest.now }
+        requires sound { IsSound text.now self.old }
+        ensures goes_on { IfOk result (Progress text.now rest.entry.now (null spelled.now)) }
+        ensures sound { OnOk result (IsSound text.now self.new) }
+        ensures means { IfOk result
+            (Runs (Run (mode_of mode) (expression_of spelled.now))
+            text.now rest.entry.now self.old self.new) }
+    {
+        self.run(text, spelled, mode, rest)
     }
 
     /// One form, or the other.
@@ -416,6 +460,13 @@ impl Recognizer {
             (Runs (Run (mode_of mode) (Ident (name_of rule)))
             text.now rest.entry.now self.old self.new) }
     {
+        if let Some(after) = one(rule, rest) {
+            return Ok(Some(after));
+        }
+        if let Some(furthest) = self.rejection(text, rule, mode, rest) {
+            self.furthest = furthest;
+            return Ok(None);
+        }
         let Some(row) = row_of(rule) else {
             return self.end_of_input(text, mode, rest);
         };
@@ -443,7 +494,7 @@ impl Recognizer {
     }
 
     /// The implicit skipping.
-    #[inline(never)]
+    #[inline(always)]
     #[cycle(recognize)]
     fn skip<'i>(&mut self, text: &str, mode: Mode, from: &'i str) -> Result<&'i str, AllocError>
         requires left { IsLeft text.now from.now }
@@ -456,6 +507,9 @@ impl Recognizer {
     {
         match mode {
             Mode::NonAtomic => {
+                if is_left_alone(from) {
+                    return Ok(from);
+                }
                 let after = self.blanks(text, from)?;
                 let last = self.comments(text, after)?;
                 Ok(last)

@@ -1,9 +1,10 @@
 use Rattle.std.proofs.Common.{rules, ap, ◌∙◌}
+use Rattle.meta_base.specs.State.{None'}
 use Rattle.meta_base.proofs.Steps.{ran_str, ran_range}
 use Rattle.meta_syntax.specs.Entries.{seen}
 use Rattle.meta_syntax.specs.Forms.{IsSpelled}
 use Rattle.meta_syntax.specs.Runs.{IsLeft, IsSound}
-use Rattle.meta_syntax.proofs.EntryLists.{adds_tree}
+use Rattle.meta_syntax.proofs.EntryLists.{adds_tree, not_grown}
 use Rattle.meta_syntax.proofs.Memory.{failed_within, fails_again, sound_on}
 use Rattle.meta_syntax.proofs.Steps.{call_failed, call_found, copies_if_ok, cut_opened, fails_first, fails_not, fails_once, fails_second, fails_start, finds_blanks, finds_comments, finds_left, finds_no_opt, finds_no_rep, finds_no_skipping, finds_not, finds_once, finds_opt, finds_rep, finds_seq, finds_skipped, finds_start, finds_turns, gives_leaving, ran_any, right_if_ok, so_far_blank, so_far_comment, so_far_turn}
 use Rattle.meta_syntax.proofs.recognize.Recognizer.+recognize.Goals as goal
@@ -36,7 +37,7 @@ pub run-returns-in-RepMinMax-clause-means : goal.run-returns-in-RepMinMax-clause
 run-returns-in-RepMinMax-clause-means t c =
     let h : IsSpelled c.args.form.now = search rules in
     let k = rw c.in-RepMinMax.is at h in
-    rw c.in-RepMinMax.is (copies_if_ok _ _ _ _ _ _ _ _ _ _ _ _ k.0 c.run.ensures.means)
+    rw c.in-RepMinMax.is (copies_if_ok _ _ _ _ _ _ _ _ _ _ _ _ k.0 c.copies.ensures.means)
 
 pub choice-returns-in-Some-clause-means : goal.choice-returns-in-Some-clause-means
 choice-returns-in-Some-clause-means t c = let x = rw c.in-Some.is at c.in_ok-after.ensures.means in finds_left x
@@ -139,6 +140,14 @@ comments-loop-after-preserved t c =
 pub comments-returns-in-None-clause-means : goal.comments-returns-in-None-clause-means
 comments-returns-in-None-clause-means t c = let x = rw c.in-None.is at c.in_ok-after.ensures.means in finds_comments c.loop-after.invariant.means x
 
+pub skip-returns-then-is_left_alone-clause-means : goal.skip-returns-then-is_left_alone-clause-means
+skip-returns-then-is_left_alone-clause-means t c =
+    rw c.in-NonAtomic.is (record {
+      trees = None';
+      added = not_grown (seen c.args.self.now.entries.items);
+      ran = λ classes. c.is_left_alone.ensures c.if-is_left_alone.true c.args.text.now classes c.args.self.now.furthest;
+    })
+
 pub skip-returns-in_ok-last-in-NonAtomic-clause-means : goal.skip-returns-in_ok-last-in-NonAtomic-clause-means
 skip-returns-in_ok-last-in-NonAtomic-clause-means t c =
     rw c.in-NonAtomic.is (finds_skipped c.in_ok-after-in-NonAtomic.ensures.means c.in_ok-last-in-NonAtomic.ensures.means)
@@ -150,6 +159,20 @@ skip-returns-in-Atomic t c = record {
   means = finds_no_skipping c.args.mode _ _ _ _ c.in-Atomic.is;
 }
 
+pub call-returns-in-Some-clause-means : goal.call-returns-in-Some-clause-means
+call-returns-in-Some-clause-means t c =
+    let l : IsLeft c.args.text.now c.args.rest.now = search rules in
+    record {
+      trees = None';
+      added = not_grown (seen c.args.self.now.entries.items);
+      ran = λ classes. c.in-Some.ensures.means c.args.text.now l classes c.args.mode c.args.self.now.furthest;
+    }
+
+pub call-returns-in-Some-rejection-clause-sound : goal.call-returns-in-Some-rejection-clause-sound
+call-returns-in-Some-rejection-clause-sound t c =
+    let s : IsSound c.args.text.now c.args.self.now = search rules in
+    sound_on c.args.text.now c.args.self.now c.in-Some-rejection.furthest s c.in-Some-rejection.ensures.further
+
 pub call-returns-then-has_failed-clause-means : goal.call-returns-then-has_failed-clause-means
 call-returns-then-has_failed-clause-means t c =
     let l : IsLeft c.args.text.now c.args.rest.now = search rules in
@@ -159,7 +182,7 @@ call-returns-then-has_failed-clause-means t c =
 pub call-returns-in_ok-close-in-Some-2-clause-means : goal.call-returns-in_ok-close-in-Some-2-clause-means
 call-returns-in_ok-close-in-Some-2-clause-means t c =
     let x = rw c.in-Some-2.is at c.in_ok-after.ensures.means in
-    let r = c.in-Some.ensures in
+    let r = c.in-Some-row_of.ensures in
     record {
       trees = _;
       added = adds_tree _ _ _ _ _ c.args.self.now.entries.items c.open.new.entries.items c.run.new.self.entries.items c.close.new.entries.items x.trees c.in_ok-open.ensures x.added c.written-first.ensures c.in_ok-close-in-Some-2.ensures;
@@ -169,7 +192,7 @@ call-returns-in_ok-close-in-Some-2-clause-means t c =
 pub call-returns-in_ok-remember-in-None-clause-sound : goal.call-returns-in_ok-remember-in-None-clause-sound
 call-returns-in_ok-remember-in-None-clause-sound t c =
     let x = rw c.in-None.is at c.in_ok-after.ensures.means in
-    let r = c.in-Some.ensures in
+    let r = c.in-Some-row_of.ensures in
     let l : IsLeft c.args.text.now c.args.rest.now = search rules in
     c.in_ok-remember-in-None.ensures.sound c.args.text.now
     (sound_on c.args.text.now c.run.new.self c.noted-self.result c.in_ok-after.ensures.sound c.noted-self.ensures.further) l
@@ -178,7 +201,7 @@ call-returns-in_ok-remember-in-None-clause-sound t c =
 pub call-returns-in_ok-remember-in-None-clause-means : goal.call-returns-in_ok-remember-in-None-clause-means
 call-returns-in_ok-remember-in-None-clause-means t c =
     let x = rw c.in-None.is at c.in_ok-after.ensures.means in
-    let r = c.in-Some.ensures in
+    let r = c.in-Some-row_of.ensures in
     let m = c.in_ok-remember-in-None.ensures in
     record {
       kept = ap (λ v. seen v.items) m.entries ∙ cut_opened c.args.self.now.entries.items c.open.new.entries.items c.run.new.self.entries.items c.cut.new.entries.items c.written-first.result _ c.in_ok-open.ensures x.kept c.cut.ensures c.written-first.ensures;

@@ -13,6 +13,9 @@ decreases-call l = measure l.rest.now (skips_in_call l.rule l.mode) (rank_of l.r
 abbrev pub decreases-run : goal.decreases-run
 decreases-run l = measure l.rest.now (skips_in l.mode) (cost l.form.now)
 
+abbrev pub decreases-copies : goal.decreases-copies
+decreases-copies l = measure l.rest.now (skips_in l.mode) (1 + cost l.spelled.now)
+
 abbrev pub decreases-choice : goal.decreases-choice
 decreases-choice l = measure l.rest.now (skips_in l.mode) (1 + max (cost l.first.now) (cost l.second.now))
 

@@ -1,0 +1,107 @@
+// With which characters the rules begin.
+ghost use Rattle.std.specs.Prelude.{◌≡◌, ℕ, List, IfSome, true, false};
+ghost use Rattle.meta_base.specs.State.{Classes, None', NonAtomicMode, Success};
+ghost use Rattle.meta_base.specs.Expression.{Ident};
+ghost use Rattle.meta_base.specs.Meaning.{Run, Skipping};
+ghost use Rattle.meta_base.specs.MetaRules.{name_of};
+ghost use Rattle.meta_base.specs.Ran.{Ran};
+ghost use Rattle.meta_syntax.specs.Firsts.{is_noted_at_once, may_begin, takes_one};
+ghost use Rattle.meta_syntax.specs.MetaGrammar.{meta_grammar};
+ghost use Rattle.meta_syntax.specs.Runs.{GoesOn, IsLeft, at, mode_of};
+
+use crate::modes::{Mode, is_seen_from};
+use meta_base::grammar::Rule;
+
+/// Whether what a rule matches may begin with a character: `false` only where it cannot.
+pub fn may_begin(rule: Rule, first: char) -> bool
+    ensures { result ≡ may_begin rule first }
+{
+    match rule {
+        Rule::WHITESPACE => matches!(first, ' ' | '\t' | '\n' | '\r'),
+        Rule::newline => matches!(first, '\n' | '\r'),
+        Rule::COMMENT
+        | Rule::line_comment
+        | Rule::block_comment
+        | Rule::grammar_doc
+        | Rule::line_doc => first == '/',
+        Rule::prefix_operator => matches!(first, '&' | '!'),
+        Rule::infix_operator => matches!(first, '~' | '|'),
+        Rule::postfix_operator => matches!(first, '?' | '*' | '+' | '{'),
+        Rule::modifier => matches!(first, '_' | '@' | '$' | '!'),
+        Rule::tag_id | Rule::node_tag => first == '#',
+        Rule::_push | Rule::_push_literal | Rule::peek_slice => first == 'P',
+        Rule::string | Rule::quote => first == '"',
+        Rule::insensitive_string => first == '^',
+        Rule::range | Rule::character | Rule::single_quote => first == '\'',
+        Rule::escape => first == '\\',
+        Rule::opening_paren => first == '(',
+        Rule::closing_paren => first == ')',
+        Rule::sequence_operator => first == '~',
+        Rule::choice_operator => first == '|',
+        Rule::optional_operator => first == '?',
+        Rule::repeat_operator => first == '*',
+        Rule::repeat_once_operator => first == '+',
+        _ => true,
+    }
+}
+
+/// Whether a call that fails by the first character is noted as a failure there: the call itself,
+/// or one that it makes.
+pub fn is_noted_at_once(rule: Rule, mode: Mode) -> bool
+    ensures { result ≡ is_noted_at_once rule mode }
+{
+    match rule {
+        Rule::WHITESPACE
+        | Rule::newline
+        | Rule::COMMENT
+        | Rule::line_comment
+        | Rule::block_comment => false,
+        Rule::string | Rule::range | Rule::character => true,
+        _ => is_seen_from(mode),
+    }
+}
+
+/// Whether a silent rule matches a character, and nothing more: `true` only where it does.
+fn takes_one(rule: Rule, first: char) -> bool
+    ensures { result ≡ takes_one rule first }
+{
+    match rule {
+        Rule::WHITESPACE => matches!(first, ' ' | '\t' | '\n'),
+        Rule::newline => first == '\n',
+        Rule::space => matches!(first, ' ' | '\t'),
+        Rule::alpha => matches!(first, 'a'..='z' | 'A'..='Z'),
+        Rule::alpha_num => matches!(first, 'a'..='z' | 'A'..='Z' | '0'..='9'),
+        _ => false,
+    }
+}
+
+/// What is left after the next character, where a silent rule matches just that one.
+pub fn one<'i>(rule: Rule, rest: &'i str) -> Option<&'i str>
+    ensures goes_on { IfSome result (λ after. (whole : List ℕ) → IsLeft whole rest.entry.now
+        → GoesOn whole rest.entry.now false after.now) }
+    ensures means { IfSome result (λ after. (whole : List ℕ) → IsLeft whole rest.entry.now
+        → (classes : Classes) (mode : Mode) (furthest : ℕ)
+        → Ran meta_grammar classes (Run (mode_of mode) (Ident (name_of rule))) (at whole rest.entry.now)
+        (Success (at whole after.now) None') furthest furthest) }
+{
+    let mut characters = rest.chars();
+    let first = characters.next()?;
+    if takes_one(rule, first) {
+        Some(characters.as_str())
+    } else {
+        None
+    }
+}
+
+/// Whether the next character shows that there is nothing to skip: it begins neither white space
+/// nor a comment.
+pub fn is_left_alone(rest: &str) -> bool
+    ensures { result ≡ true → (whole : List ℕ) (classes : Classes) (furthest : ℕ)
+        → Ran meta_grammar classes (Skipping NonAtomicMode) (at whole rest.now)
+        (Success (at whole rest.now) None') furthest furthest }
+{
+    match rest.chars().next() {
+        Some(first) => !may_begin(Rule::WHITESPACE, first) && !may_begin(Rule::COMMENT, first),
+        None => false,
+    }
+}
