@@ -10,12 +10,12 @@ use Rattle.meta_reader.specs.Reading as reading
 use Rattle.meta_reader.specs.Reading.{Reads, AnExpression, Alternatives, ASequence, ATerm, both}
 use Rattle.meta_base.specs.MetaRules.{name_of}
 use Rattle.meta_syntax.specs.Shape.{Mark, IsExpression, IsChain, IsMore, IsTerm, barred, unbarred, chain, infix_operator, tilde, bar}
-use Rattle.meta_reader.specs.Spanned.{Span, Spanned, Binary, Seq, Choice}
+use Rattle.meta_nodes.specs.Spanned.{Span, Spanned, Binary, Seq, Choice}
 use Rattle.meta_reader.specs.Views.{IsBehindBar, IsRest, at_bar, GoesOn, goes_on, count_of, ReadsFront}
-use Rattle.meta_reader.specs.Nodes.{view}
+use Rattle.meta_nodes.specs.Nodes.{view}
 use Rattle.meta_base.specs.declared.grammar.Rule.{Rule}
 use Rattle.meta_base.specs.declared.grammar.Rule.TheVariants as rule_is
-use Rattle.meta_reader.specs.declared.parser.node.ParserNode.{ParserNode}
+use Rattle.meta_nodes.specs.declared.node.ParserNode.{ParserNode}
 use Rattle.meta_reader.proofs.Nodes.{span_of-view, start_of-view, end_of-view}
 use Rattle.meta_reader.proofs.Pieces.{stand_inner, stand_behind}
 use Rattle.meta_base.proofs.MetaNames.{name_of-injective}

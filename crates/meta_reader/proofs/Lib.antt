@@ -10,5 +10,3 @@ pub mod Terminals
 pub mod Terms
 pub mod Within
 pub mod Uniqueness
-pub mod NodeTests
-pub mod Walks

@@ -5,13 +5,13 @@ use Rattle.meta_base.specs.Text.{Text}
 use Rattle.meta_base.specs.State.{Trees, Tree}
 use Rattle.meta_reader.specs.Pieces.{IsPiece}
 use Rattle.meta_reader.specs.Reading.{piece, Postfixed, more, both}
-use Rattle.meta_reader.specs.Spanned as spanned
-use Rattle.meta_reader.specs.Spanned.{Spanned, span_of, start_of, end_of, placed, One, Two, Binary}
+use Rattle.meta_nodes.specs.Spanned as spanned
+use Rattle.meta_nodes.specs.Spanned.{Spanned, span_of, start_of, end_of, placed, One, Two, Binary}
 use Rattle.meta_reader.specs.Views.{StandsBefore, IsPostfixOf}
-use Rattle.meta_reader.specs.Nodes.{view, view_at, piece_of}
-use Rattle.meta_reader.specs.declared.parser.node.ParserExpr as expr
-use Rattle.meta_reader.specs.declared.parser.node.ParserExpr.TheVariants as is
-use Rattle.meta_reader.specs.declared.parser.node.ParserNode.{ParserNode}
+use Rattle.meta_nodes.specs.Nodes.{view, view_at, piece_of}
+use Rattle.meta_nodes.specs.declared.node.ParserExpr as expr
+use Rattle.meta_nodes.specs.declared.node.ParserExpr.TheVariants as is
+use Rattle.meta_nodes.specs.declared.node.ParserNode.{ParserNode}
 use Rattle.meta_reader.proofs.Pieces.{nested_order}
 
 pub span_of-view_at : (t : spanned.Span) (e : expr.ParserExpr) → span_of (view_at t e) ≡ t

@@ -10,10 +10,10 @@ use Rattle.meta_reader.specs.Reading as reading
 use Rattle.meta_reader.specs.Reading.{Reads, AnExpression, ReadsRule, ReadsRules, Modifies, written, piece}
 use Rattle.meta_base.specs.MetaRules.{name_of}
 use Rattle.meta_syntax.specs.Shape.{Mark, IsRule, IsGrammar, IsExpression, line_doc, normal, modified, silent, atomic, compound_atomic, non_atomic, end_of_input, grammar_doc, grammar_rule}
-use Rattle.meta_reader.specs.Spanned.{Spanned, SpannedRule}
-use Rattle.meta_reader.specs.declared.parser.node.ParserRule.{ParserRule}
+use Rattle.meta_nodes.specs.Spanned.{Spanned, SpannedRule}
+use Rattle.meta_nodes.specs.declared.node.ParserRule.{ParserRule}
 use Rattle.meta_reader.specs.Views.{MayBeModifier, a_modifier, the_brace, TakesModifier, a_type, no_type}
-use Rattle.meta_reader.specs.Nodes.{rule_view, rule_views}
+use Rattle.meta_nodes.specs.Nodes.{rule_view, rule_views}
 use Rattle.meta_base.specs.declared.grammar.Rule.{Rule}
 use Rattle.meta_base.specs.declared.grammar.Rule.TheVariants as rule_is
 use Rattle.meta_reader.proofs.Answers.{or_none}

@@ -10,13 +10,13 @@ use Rattle.meta_reader.specs.Reading as reading
 use Rattle.meta_reader.specs.Reading.{Reads, Postfixed, AnExpression, ATerm, ANode, piece}
 use Rattle.meta_base.specs.MetaRules.{name_of}
 use Rattle.meta_syntax.specs.Shape.{Mark, IsExpression, IsTerm, IsNode, IsTerminal, ArePostfixes, tagged, predicate, grouped, bare, terminal, pushed, positive, negative, identifier, string, insensitive, range, slice, push_literal}
-use Rattle.meta_reader.specs.Spanned as spanned
-use Rattle.meta_reader.specs.Spanned.{Spanned, One, PosPred, NegPred, Push, span_of, start_of, end_of, placed, starting, ending}
+use Rattle.meta_nodes.specs.Spanned as spanned
+use Rattle.meta_nodes.specs.Spanned.{Spanned, One, PosPred, NegPred, Push, span_of, start_of, end_of, placed, starting, ending}
 use Rattle.meta_reader.specs.Views.{StandsBefore, count_of}
-use Rattle.meta_reader.specs.Nodes.{view, piece_of}
+use Rattle.meta_nodes.specs.Nodes.{view, piece_of}
 use Rattle.meta_base.specs.declared.grammar.Rule.{Rule}
 use Rattle.meta_base.specs.declared.grammar.Rule.TheVariants as rule_is
-use Rattle.meta_reader.specs.declared.parser.node.ParserNode.{ParserNode}
+use Rattle.meta_nodes.specs.declared.node.ParserNode.{ParserNode}
 use Rattle.meta_reader.proofs.Answers.{or_none, or_assoc}
 use Rattle.meta_reader.proofs.Chains.{same_text}
 use Rattle.meta_reader.proofs.Nodes.{span_of-view, start_of-view, end_of-view, view_at-placed}

@@ -3,7 +3,7 @@ use Rattle.std.specs.Prelude.{ℕ, ℤ, pos, negsuc, List, ◌^◌, Option, Some
 use Rattle.std.specs.Str.{all_scalars}
 use Rattle.meta_base.specs.Text.{Text}
 use Rattle.meta_base.specs.State.{Trees, None', Tree}
-use Rattle.meta_reader.specs.Spanned.{Span}
+use Rattle.meta_nodes.specs.Spanned.{Span}
 use Rattle.meta_reader.specs.Reading.{piece, number, integer, literal}
 
 pub data Cause : Type 0 where

@@ -2,7 +2,7 @@
 use Rattle.std.specs.Prelude.{◌≡◌, ℕ, List}
 use Rattle.meta_base.specs.State.{Trees}
 use Rattle.meta_reader.specs.Reading.{Part, Reads, ReadsRules}
-use Rattle.meta_reader.specs.Spanned.{Spanned, SpannedRule}
+use Rattle.meta_nodes.specs.Spanned.{Spanned, SpannedRule}
 
 -- trees are read as one expression at most
 abbrev pub ReadsOneExpression : Type 0

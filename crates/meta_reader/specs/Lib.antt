@@ -1,12 +1,8 @@
-pub mod Spanned
-pub mod Nodes
-pub mod NodeEquality
 pub mod Literal
 pub mod Reading
 pub mod Faults
 pub mod Refusals
 pub mod Pieces
 pub mod Views
-pub mod Walk
 pub mod ShownNames
 pub mod Laws

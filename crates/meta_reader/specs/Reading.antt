@@ -6,7 +6,7 @@ use Rattle.meta_base.specs.Text.{Text}
 use Rattle.meta_base.specs.Expression.{Expression, Str, Insens, Range, Ident, PeekSlice, RuleType, Normal, Silent, Atomic, CompoundAtomic, NonAtomic}
 use Rattle.meta_base.specs.State.{Trees, None', Tree, joined}
 use Rattle.meta_syntax.specs.Shape.{Mark, Braced}
-use Rattle.meta_reader.specs.Spanned.{Span, Spanned, Leaf, One, Two, Unary, PosPred, NegPred, Opt, Rep, RepOnce, RepExact, RepMin, RepMax, RepMinMax, Push, Binary, Seq, Choice, start_of, end_of, starting, ending, SpannedRule}
+use Rattle.meta_nodes.specs.Spanned.{Span, Spanned, Leaf, One, Two, Unary, PosPred, NegPred, Opt, Rep, RepOnce, RepExact, RepMin, RepMax, RepMinMax, Push, Binary, Seq, Choice, start_of, end_of, starting, ending, SpannedRule}
 use Rattle.meta_reader.specs.Literal.{unescaped}
 
 -- what a list of trees may be read as

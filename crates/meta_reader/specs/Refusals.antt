@@ -17,7 +17,7 @@ use Rattle.meta_base.specs.declared.runtime.tokens.Pairs.{Pairs}
 use Rattle.meta_syntax.specs.Parses.{AreSpelled}
 use Rattle.meta_reader.specs.Faults.{Cause, PushLiteralCalled, NoScalarValue, PastI32, PastU32, ZeroTimes, Fault, first_fault}
 use Rattle.meta_reader.specs.Reading.{ReadsRules}
-use Rattle.meta_reader.specs.Spanned.{SpannedRule}
+use Rattle.meta_nodes.specs.Spanned.{SpannedRule}
 
 -- what the error of a fault says
 abbrev pub message_of : Cause → List ℕ

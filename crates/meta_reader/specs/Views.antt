@@ -7,11 +7,11 @@ use Rattle.meta_base.specs.State as state
 use Rattle.meta_base.specs.Text.{Text}
 use Rattle.meta_base.specs.State.{joined}
 use Rattle.meta_base.specs.Span.{span_text, span_end}
-use Rattle.meta_reader.specs.Spanned as spanned
+use Rattle.meta_nodes.specs.Spanned as spanned
 use Rattle.meta_reader.specs.Pieces.{StandBehind, StandIn}
 use Rattle.meta_syntax.specs.Shape.{Mark, IsChain, IsMore, IsTerm, IsModifier}
-use Rattle.meta_reader.specs.Spanned.{Spanned, One, Unary}
-use Rattle.meta_reader.specs.Nodes.{piece_of, view}
+use Rattle.meta_nodes.specs.Spanned.{Spanned, One, Unary}
+use Rattle.meta_nodes.specs.Nodes.{piece_of, view}
 use Rattle.meta_base.specs.NamedTrees.{named_trees_of}
 use Rattle.meta_reader.specs.Reading.{Modifies, Part, AnExpression, Alternatives, ASequence, Reads, Postfix, integer}
 use Rattle.meta_reader.specs.Literal.{unescaped}
@@ -19,7 +19,7 @@ use Rattle.meta_reader.specs.Faults as faults
 use Rattle.meta_reader.specs.Faults.{first_fault}
 use Rattle.meta_base.specs.declared.grammar.Rule.{Rule}
 use Rattle.meta_base.specs.declared.runtime.trees.TokenTree.{TokenTree}
-use Rattle.meta_reader.specs.declared.parser.node.ParserNode.{ParserNode}
+use Rattle.meta_nodes.specs.declared.node.ParserNode.{ParserNode}
 use Rattle.meta_reader.specs.declared.parser.faults.Cause as code_cause
 use Rattle.meta_reader.specs.declared.parser.faults.Cause.TheVariants as cause_is
 use Rattle.meta_reader.specs.declared.parser.faults.Finding.{Finding}

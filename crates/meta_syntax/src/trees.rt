@@ -29,9 +29,28 @@ struct Pending {
     others: Vec<TokenTree<Rule>>,
 }
 
-/// The trees with one more entry before those that were met.
+/// How many whole pairs stand one behind another at the end of a list.
+fn siblings(entries: &[Entry]) -> usize {
+    let mut count = 0;
+    let mut left = entries.len();
+    while left > 0 {
+        let last = entries[left - 1];
+        match last {
+            Entry::End { partner, .. } if partner < left => {
+                count += 1;
+                left = partner;
+            }
+            _ => break,
+        }
+    }
+    count
+}
+
+/// The trees with one more entry before those that were met, `before` being those that are still to
+/// come. In a tree that the entry ends there is room for the trees inside it, and for no more.
 fn with_entry(
     alloc: Global,
+    before: &[Entry],
     entry: Entry,
     trees: Vec<TokenTree<Rule>>,
     waiting: &mut Vec<Pending>,
@@ -45,7 +64,7 @@ fn with_entry(
                 end: pos,
                 others: trees,
             })?;
-            Ok(Vec::new(alloc))
+            Vec::with_capacity(alloc, siblings(before))
         }
         Entry::Start { rule, pos, .. } => match waiting.pop() {
             Some(Pending { end, mut others }) => {
@@ -67,7 +86,7 @@ pub fn from_entries(alloc: Global, entries: &[Entry]) -> Result<Vec<TokenTree<Ru
     let mut left = entries.len();
     while left > 0 {
         left -= 1;
-        trees = with_entry(alloc, entries[left], trees, &mut waiting)?;
+        trees = with_entry(alloc, &entries[..left], entries[left], trees, &mut waiting)?;
     }
     Ok(trees)
 }

@@ -177,3 +177,14 @@ fn entries(rt: HostRuntime) -> Result<(), Fail> {
     assert_eq!(rt; entries.as_slice(), expected.as_slice());
     Ok(())
 }
+
+/// `EOI` is the least of the rules, and the others stand in the order in which they are listed.
+#[test]
+fn rules_are_in_order(rt: HostRuntime) {
+    let mut before = Rule::EOI;
+    for rule in Rule::all_rules() {
+        assert!(rt; before < *rule, "{before:?} and {rule:?}");
+        before = *rule;
+    }
+    assert_eq!(rt; before, Rule::inner_doc);
+}

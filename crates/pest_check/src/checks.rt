@@ -1,5 +1,5 @@
 //! What the program does once its input is read.
-ghost use Rattle.std.specs.Prelude.{◌≡◌, ◌≤◌, IfNone, IfSome};
+ghost use Rattle.std.specs.Prelude.{◌≡◌, ◌≤◌, ◌↔◌, IfNone, IfSome, IsUtf8};
 ghost use Rattle.meta_base.specs.Expression.{Grammar};
 ghost use Rattle.pest_meta.specs.Spelling.{Spells};
 
@@ -29,6 +29,7 @@ const UNWRITABLE: u8 = 4;
 pub fn run<W: Write, E: Write>(alloc: Global, input: Option<&[u8]>, out: &mut W, err: &mut E) -> u8
     ensures known { result ≤ 4 }
     ensures unread { IfNone input.entry (result ≡ UNREADABLE) }
+    ensures decoded { IfSome input.entry (λ bytes. result ≡ UNREADABLE ↔ ¬ (IsUtf8 bytes.now)) }
     ensures refused { IfSome input.entry (λ bytes. result ≡ REFUSED → (g : Grammar) → Spells bytes.now g → ⊥) }
     ensures printed { IfSome input.entry (λ bytes. result ≡ PRINTED → (g : Grammar) × Spells bytes.now g) }
 {

@@ -175,6 +175,38 @@ fn equal_parts_are_equal(rt: HostRuntime) -> Result<(), Fail> {
     );
     assert_ne!(rt; span, Span::new("a b", 1, 1).ok_or("no span")?);
     assert_ne!(rt; span, Span::new("a c", 0, 1).ok_or("no span")?);
+    assert_eq!(rt; span.end_pos(), Position::new("a b", 1).ok_or("none")?);
+    assert_ne!(rt; span.end_pos(), Position::new("a b", 2).ok_or("none")?);
+    assert_ne!(rt; span.end_pos(), Position::new("a c", 1).ok_or("none")?);
+    Ok(())
+}
+
+/// The error of a position of a text, with a message where there is one.
+fn error_at(
+    alloc: Global,
+    text: &str,
+    pos: usize,
+    message: Option<&str>,
+) -> Result<Error<Rule>, Fail> {
+    let position = Position::new(text, pos).ok_or("none")?;
+    let variant = match message {
+        Some(message) => ErrorVariant::CustomError {
+            message: String::from_str(alloc, message)?,
+        },
+        None => ErrorVariant::ParsingError,
+    };
+    Ok(Error::new_from_pos(alloc, variant, position)?)
+}
+
+#[test]
+fn errors_are_equal_where_all_their_parts_are(rt: HostRuntime) -> Result<(), Fail> {
+    let alloc = rt.alloc();
+    let error = error_at(alloc, "a b", 1, None)?;
+    assert!(rt; error == error_at(alloc, "a b", 1, None)?);
+    // At another place, of another line, and with another cause.
+    assert!(rt; error != error_at(alloc, "a b", 2, None)?);
+    assert!(rt; error != error_at(alloc, "a c", 1, None)?);
+    assert!(rt; error != error_at(alloc, "a b", 1, Some("m"))?);
     Ok(())
 }
 

@@ -7,15 +7,15 @@ ghost use Rattle.meta_reader.specs.Pieces.{StandIn};
 ghost use Rattle.meta_reader.specs.Reading.{Postfix, Postfixed};
 ghost use Rattle.meta_base.specs.MetaRules.{name_of};
 ghost use Rattle.meta_syntax.specs.Shape.{ArePostfixes, IsCounted, IsPostfix};
-ghost use Rattle.meta_reader.specs.Spanned.{RepExact, RepMax, RepMin, RepMinMax};
+ghost use Rattle.meta_nodes.specs.Spanned.{RepExact, RepMax, RepMin, RepMinMax};
 ghost use Rattle.meta_reader.specs.Views.{Answers, IsPostfixOf, StandsBefore};
-ghost use Rattle.meta_reader.specs.Nodes.{piece_of, view};
+ghost use Rattle.meta_nodes.specs.Nodes.{piece_of, view};
 
 use crate::parser::faults::ReadError;
-use crate::parser::node::{ParserExpr, ParserNode};
 use crate::parser::pieces::{count, number, span_at};
 use meta_base::grammar::Rule;
 use meta_base::runtime::{FirstTree, Span, TokenTree};
+use meta_nodes::{ParserExpr, ParserNode};
 use meta_syntax::trees::first_tree;
 use std::alloc::Global;
 

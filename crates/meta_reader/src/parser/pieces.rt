@@ -5,7 +5,7 @@ ghost use Rattle.meta_reader.specs.Pieces.{IsPiece};
 ghost use Rattle.meta_reader.specs.Reading.{number, integer, piece};
 ghost use Rattle.meta_syntax.specs.Shape.{IsNumber, IsInteger};
 ghost use Rattle.meta_reader.specs.Views.{Answers};
-ghost use Rattle.meta_reader.specs.Nodes.{piece_of};
+ghost use Rattle.meta_nodes.specs.Nodes.{piece_of};
 ghost use Rattle.meta_reader.specs.declared.parser.faults.ReadError.TheVariants.{Found};
 
 use crate::parser::faults::{Cause, Finding, ReadError};

@@ -7,17 +7,17 @@ ghost use Rattle.meta_reader.specs.Pieces.{IsPiece, StandIn};
 ghost use Rattle.meta_reader.specs.Reading.{ANode, ATerm, AnExpression, both};
 ghost use Rattle.meta_base.specs.MetaRules.{name_of};
 ghost use Rattle.meta_syntax.specs.Shape.{Mark, IsChain, IsExpression, IsMore, IsNode, IsTerm};
-ghost use Rattle.meta_reader.specs.Spanned.{Choice, Seq};
+ghost use Rattle.meta_nodes.specs.Spanned.{Choice, Seq};
 ghost use Rattle.meta_reader.specs.Views.{AnswersFront, GoesOn, IsBehindBar, IsRest, ReadsAs};
-ghost use Rattle.meta_reader.specs.Nodes.{view};
+ghost use Rattle.meta_nodes.specs.Nodes.{view};
 
 use crate::parser::faults::ReadError;
-use crate::parser::node::{ParserExpr, ParserNode};
 use crate::parser::operators::postfixed;
 use crate::parser::pieces::span_at;
 use crate::parser::terminals::terminal;
 use meta_base::grammar::Rule;
 use meta_base::runtime::{FirstTree, TokenTree};
+use meta_nodes::{ParserExpr, ParserNode};
 use meta_syntax::trees::first_tree;
 use std::alloc::{AllocError, Global};
 

@@ -19,7 +19,7 @@ pub fn rename_meta_rule(alloc: Global, rule: &Rule) -> Result<String, Fault>
     String::from_str(alloc, shown(*rule)).map_err(Fault::Memory)
 }
 
-// What errors call a rule.
+/// What errors call a rule.
 fn shown(rule: Rule) -> &'static str
     ensures { result.now ≡ shown_name rule }
 {
@@ -56,7 +56,7 @@ fn shown(rule: Rule) -> &'static str
     }
 }
 
-// A rule's own name.
+/// A rule's own name.
 fn name(rule: Rule) -> &'static str
     ensures { result.now ≡ name_of rule }
 {

@@ -10,10 +10,10 @@ ghost use Rattle.meta_reader.specs.Views.{AnswersBound, ReadsAs};
 
 use crate::parser::faults::{Cause, ReadError};
 use crate::parser::literal::literal;
-use crate::parser::node::{ParserExpr, ParserNode};
 use crate::parser::pieces::{refused, slice_number, span_at, written};
 use meta_base::grammar::Rule;
 use meta_base::runtime::{FirstTree, TokenTree};
+use meta_nodes::{ParserExpr, ParserNode};
 use meta_syntax::trees::first_tree;
 use std::alloc::Global;
 

@@ -3,9 +3,9 @@ use Rattle.meta_base.specs.NamedTrees.{named_trees_of}
 use Rattle.meta_reader.specs.Faults.{first_fault}
 use Rattle.meta_reader.specs.Pieces.{StandIn}
 use Rattle.meta_reader.specs.Reading.{ReadsRules}
-use Rattle.meta_reader.specs.Spanned.{SpannedRule}
+use Rattle.meta_nodes.specs.Spanned.{SpannedRule}
 use Rattle.meta_reader.specs.Views.{count_of}
-use Rattle.meta_reader.specs.Nodes.{rule_views}
+use Rattle.meta_nodes.specs.Nodes.{rule_views}
 use Rattle.meta_reader.proofs.Rules.{IsLeft, ReadsLeft}
 use Rattle.meta_reader.proofs.parser.rules.Given as goal
 

@@ -1,6 +1,6 @@
 use Rattle.std.proofs.Common.{refl, rules}
 use Rattle.meta_reader.specs.Reading.{opt, rep, rep_once}
-use Rattle.meta_reader.specs.Spanned.{Opt, Rep, RepOnce}
+use Rattle.meta_nodes.specs.Spanned.{Opt, Rep, RepOnce}
 use Rattle.meta_reader.proofs.Operators.{postfix_rule, opt_trees, rep_trees, rep_once_trees}
 use Rattle.meta_reader.proofs.parser.operators.postfix.Goals as goal
 

@@ -3,9 +3,9 @@ use Rattle.meta_base.specs.NamedTrees.{named_trees_of}
 use Rattle.meta_reader.specs.Faults.{first_fault}
 use Rattle.meta_reader.specs.Reading.{Postfixed}
 use Rattle.meta_syntax.specs.Shape.{ArePostfixes}
-use Rattle.meta_reader.specs.Spanned.{Spanned}
+use Rattle.meta_nodes.specs.Spanned.{Spanned}
 use Rattle.meta_reader.specs.Views.{StandsBefore, count_of}
-use Rattle.meta_reader.specs.Nodes.{view}
+use Rattle.meta_nodes.specs.Nodes.{view}
 use Rattle.meta_reader.proofs.parser.operators.postfixed.Given as goal
 
 abbrev pub invariant-loop-rule : goal.invariant-loop-rule

@@ -7,7 +7,7 @@ use Rattle.meta_reader.specs.Pieces.{StandIn}
 use Rattle.meta_reader.specs.Reading.{bare}
 use Rattle.meta_syntax.specs.Shape.{Mark, IsExpression, IsChain, IsTerm, IsNode}
 use Rattle.meta_reader.specs.Views.{count_of}
-use Rattle.meta_reader.specs.Nodes.{view}
+use Rattle.meta_nodes.specs.Nodes.{view}
 use Rattle.meta_reader.proofs.Answers.{first_in, answers_as}
 use Rattle.meta_reader.proofs.Chains.{expression_start, expression_step, expression_piece, expression_end, sequence_start, went, chain_tree, rest_tree, stand_rest, quiet_bar, quiet_term, no_chain}
 use Rattle.meta_reader.proofs.Nodes.{end_of-view}

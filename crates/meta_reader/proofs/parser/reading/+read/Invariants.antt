@@ -4,7 +4,7 @@ use Rattle.meta_reader.specs.Faults.{first_fault}
 use Rattle.meta_reader.specs.Pieces.{StandIn}
 use Rattle.meta_syntax.specs.Shape.{IsMore}
 use Rattle.meta_reader.specs.Views.{IsRest, count_of}
-use Rattle.meta_reader.specs.Nodes.{view}
+use Rattle.meta_nodes.specs.Nodes.{view}
 use Rattle.meta_reader.proofs.Chains.{InFront, SplitOff}
 use Rattle.meta_reader.proofs.parser.reading.+read.Given as goal
 

@@ -1,0 +1,2 @@
+pub mod NodeTests
+pub mod Walks

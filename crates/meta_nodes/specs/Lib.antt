@@ -1,0 +1,4 @@
+pub mod Spanned
+pub mod Nodes
+pub mod NodeEquality
+pub mod Walk

@@ -1,0 +1,107 @@
+// Equality of nodes, expressions and rules: by structure and place, and exactly that.
+ghost use Rattle.std.specs.Prelude.{◌≡◌, ◌↔◌, IsTrue};
+ghost use Rattle.std.specs.Cmp.{on_equiv, partial_equiv_from_equiv};
+ghost use Rattle.meta_nodes.specs.NodeEquality.{rule_eq, rule_eq_equiv, span_eq, spanned_eq, spanned_eq_equiv};
+ghost use Rattle.meta_nodes.specs.Nodes.{piece_of, rule_view, unplaced, view, IsSameExpression};
+
+use crate::node::{ParserExpr, ParserNode, ParserRule};
+use meta_base::runtime::Span;
+use meta_base::texts::same_text;
+
+impl<'i> PartialEq for ParserRule<'i> {
+    ghost eq = { λ a b. rule_eq (rule_view a) (rule_view b) };
+
+    ghost laws = { partial_equiv_from_equiv (on_equiv rule_view rule_eq_equiv) };
+
+    fn eq(&self, other: &ParserRule<'i>) -> bool
+        ensures computed { result ≡ rule_eq (rule_view self.now) (rule_view other.now) }
+        ensures exact { IsTrue result ↔ (rule_view self.now ≡ rule_view other.now) }
+    {
+        same_text(&self.name, &other.name)
+            && same_span(&self.span, &other.span)
+            && self.ty == other.ty
+            && self.node == other.node
+    }
+}
+
+impl<'i> Eq for ParserRule<'i> {
+    ghost laws = { on_equiv rule_view rule_eq_equiv };
+}
+
+impl<'i> PartialEq for ParserNode<'i> {
+    ghost eq = { λ a b. spanned_eq (view a) (view b) };
+
+    ghost laws = { partial_equiv_from_equiv (on_equiv view spanned_eq_equiv) };
+
+    fn eq(&self, other: &ParserNode<'i>) -> bool
+        ensures computed { result ≡ spanned_eq (view self.now) (view other.now) }
+        ensures exact { IsTrue result ↔ (view self.now ≡ view other.now) }
+    {
+        same(self, other)
+    }
+}
+
+impl<'i> Eq for ParserNode<'i> {
+    ghost laws = { on_equiv view spanned_eq_equiv };
+}
+
+impl<'i> PartialEq for ParserExpr<'i> {
+    ghost eq = { λ a b. spanned_eq (unplaced a) (unplaced b) };
+
+    ghost laws = { partial_equiv_from_equiv (on_equiv unplaced spanned_eq_equiv) };
+
+    fn eq(&self, other: &ParserExpr<'i>) -> bool
+        ensures computed { result ≡ spanned_eq (unplaced self.now) (unplaced other.now) }
+        ensures exact { IsTrue result ↔ IsSameExpression self.now other.now }
+    {
+        same_expr(self, other)
+    }
+}
+
+impl<'i> Eq for ParserExpr<'i> {
+    ghost laws = { on_equiv unplaced spanned_eq_equiv };
+}
+
+/// Whether two spans are of the same text, with the same start and end.
+fn same_span(a: &Span<'_>, b: &Span<'_>) -> bool
+    ensures { result ≡ span_eq (piece_of a.now) (piece_of b.now) }
+{
+    a == b
+}
+
+/// Whether two nodes are equal, where they stand and what they say.
+#[cycle(same)]
+fn same(a: &ParserNode<'_>, b: &ParserNode<'_>) -> bool
+    ensures { result ≡ spanned_eq (view a.now) (view b.now) }
+{
+    same_span(&a.span, &b.span) && same_expr(&a.expr, &b.expr)
+}
+
+/// Whether two expressions are of one variant, with equal parts.
+#[cycle(same)]
+fn same_expr(a: &ParserExpr<'_>, b: &ParserExpr<'_>) -> bool
+    ensures { result ≡ spanned_eq (unplaced a.now) (unplaced b.now) }
+{
+    match (a, b) {
+        (ParserExpr::Str(s), ParserExpr::Str(t)) => same_text(s, t),
+        (ParserExpr::Insens(s), ParserExpr::Insens(t)) => same_text(s, t),
+        (ParserExpr::Range(s, u), ParserExpr::Range(t, v)) => same_text(s, t) && same_text(u, v),
+        (ParserExpr::Ident(s), ParserExpr::Ident(t)) => same_text(s, t),
+        (ParserExpr::PeekSlice(i, j), ParserExpr::PeekSlice(k, l)) => i == k && j == l,
+        (ParserExpr::PosPred(x), ParserExpr::PosPred(y)) => same(x, y),
+        (ParserExpr::NegPred(x), ParserExpr::NegPred(y)) => same(x, y),
+        (ParserExpr::Seq(x, y), ParserExpr::Seq(z, w)) => same(x, z) && same(y, w),
+        (ParserExpr::Choice(x, y), ParserExpr::Choice(z, w)) => same(x, z) && same(y, w),
+        (ParserExpr::Opt(x), ParserExpr::Opt(y)) => same(x, y),
+        (ParserExpr::Rep(x), ParserExpr::Rep(y)) => same(x, y),
+        (ParserExpr::RepOnce(x), ParserExpr::RepOnce(y)) => same(x, y),
+        (ParserExpr::RepExact(x, m), ParserExpr::RepExact(y, n)) => m == n && same(x, y),
+        (ParserExpr::RepMin(x, m), ParserExpr::RepMin(y, n)) => m == n && same(x, y),
+        (ParserExpr::RepMax(x, m), ParserExpr::RepMax(y, n)) => m == n && same(x, y),
+        (ParserExpr::RepMinMax(x, k, m), ParserExpr::RepMinMax(y, l, n)) => {
+            k == l && m == n && same(x, y)
+        }
+        (ParserExpr::Push(x), ParserExpr::Push(y)) => same(x, y),
+        _ => false,
+    }
+}
