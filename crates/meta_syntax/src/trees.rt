@@ -1,5 +1,5 @@
 // Token trees from the list of their entries.
-ghost use Rattle.std.specs.Prelude.{◌≡◌, IfOk, MatchOption};
+ghost use Rattle.std.specs.Prelude.{◌≡◌, ◌≤◌, IfOk, MatchOption, length};
 ghost use Rattle.meta_base.specs.State as spec;
 ghost use Rattle.meta_base.specs.MetaRules.{name_of};
 ghost use Rattle.meta_base.specs.NamedTrees.{named_trees_of};
@@ -30,7 +30,9 @@ struct Pending {
 }
 
 /// How many whole pairs stand one behind another at the end of a list.
-fn siblings(entries: &[Entry]) -> usize {
+fn siblings(entries: &[Entry]) -> usize
+    ensures { result ≤ length entries.now }
+{
     let mut count = 0;
     let mut left = entries.len();
     while left > 0 {
