@@ -6,7 +6,7 @@ use Rattle.meta_base.specs.Text.{Text}
 use Rattle.meta_base.specs.Builtins.{builtin_of, Builtin, One, Property, Newline, Soi, Eoi, Peek, Pop, Drop, PeekAll, PopAll}
 use Rattle.meta_base.specs.Matching.{other_outcome, named_outcome, builtin_outcome}
 use Rattle.meta_base.specs.Meaning.{Does, Task, Run, Turns, Skipping, str, insens, range, slice, skip, call, other, pos_pred, neg_pred, push, restore, seq, seq_first, seq_second, left, right, opt, opt_none, rep_none, turn, turn_none, rep_exact, rep_max, rep_min_max, skips, atomic, compound_atomic, between, body_mode, mode_in, in_sequence, skipped, rep, rep_once, rep_min}
-use Rattle.meta_base.specs.WellFormed.{IsNullable, LeftCalls, left_name, left_first, left_second, left_pos_pred, left_neg_pred, left_left, left_right, left_opt, left_rep, left_rep_once, left_rep_exact, left_rep_min, left_rep_max, left_rep_min_max, left_push, left_restore, HasReadableCounts, IsWellFormed, IsPlainBuiltin, HasOutcome, InRules, IsPlainName, of_rule, of_builtin, IsSkipped, is_whitespace, is_comment, Reaches, itself, onward, nullable_seq, IsPlain}
+use Rattle.meta_base.specs.WellFormed.{IsNullable, LeftCalls, left_name, left_first, left_second, left_pos_pred, left_neg_pred, left_left, left_right, left_opt, left_rep, left_rep_once, left_rep_exact, left_rep_min, left_rep_max, left_rep_min_max, left_push, left_restore, NamesHaveReadableCounts, IsWellFormed, IsPlainBuiltin, HasOutcome, InRules, IsPlainName, of_rule, of_builtin, IsSkipped, is_whitespace, is_comment, Reaches, itself, onward, nullable_seq, IsPlain}
 use Rattle.meta_base.proofs.Grounding.{Grounded, grounded, all_grounded}
 use Rattle.meta_base.proofs.Moving.{Goes, goes, goes_down, left_of, moves, Calm, CalmHere, Each', no_more, also, calm_seq, calm_opt, calm_rep, calm_empty, calm_skipped, each_copy, each_of_both, in_all, some_builtin}
 use Rattle.meta_base.proofs.Deterministic.{same_rule}
@@ -256,7 +256,7 @@ is_skipped : (g : Grammar) (n : Text) (r : Rule) → IsSkipped n → rule_of g n
 is_skipped g _ r is_whitespace h = ap (λ b. b || bytes_eq r.name comment) (rule_name g whitespace r h)
 is_skipped g _ r is_comment h = ap (λ b. bytes_eq r.name whitespace || b) (rule_name g comment r h) ∙ or_true (bytes_eq r.name whitespace)
 
-module _ (g : Grammar) (classes : Classes) (counted : HasReadableCounts g) (w : IsWellFormed g) (p : IsPlain g) where
+module _ (g : Grammar) (classes : Classes) (counted : NamesHaveReadableCounts g) (w : IsWellFormed g) (p : IsPlain g) where
   plain_builtin : {n : Text} {b : Builtin} → IsPlainName g n → rule_of g n ≡ None → builtin_of n ≡ Some b → IsPlainBuiltin b
   plain_builtin (of_rule h) e f = cc
   plain_builtin (of_builtin h i) e f = subst IsPlainBuiltin (some_builtin (sym h ∙ f)) i
@@ -394,5 +394,5 @@ module _ (g : Grammar) (classes : Classes) (counted : HasReadableCounts g) (w : 
       ok : (q : Expression) → Part (Ident n) q → CalmHere g classes q × OkHere g classes calm_body Allowed₂ Callable₂ m q
       ok q whole = ((λ e b f. cc), callable m n (of_rule h))
 
-pub ends : (g : Grammar) (classes : Classes) (n : Text) (r : Rule) (m : Mode) (s : State) → HasReadableCounts g → IsWellFormed g → IsPlain g → rule_of g n ≡ Some r → HasOutcome g classes (Ident n) m s
+pub ends : (g : Grammar) (classes : Classes) (n : Text) (r : Rule) (m : Mode) (s : State) → NamesHaveReadableCounts g → IsWellFormed g → IsPlain g → rule_of g n ≡ Some r → HasOutcome g classes (Ident n) m s
 ends g classes n r m s c w p h = rule_ends g classes c w p n r m s h

@@ -4,13 +4,13 @@ use Rattle.meta_base.specs.Expression.{Grammar, Expression, Ident, RuleType, Rul
 use Rattle.meta_base.specs.State.{Classes, Mode, State, Outcome, Success, Failure}
 use Rattle.meta_base.specs.Text.{Text}
 use Rattle.meta_base.specs.Meaning.{Does, Task, Run, str, insens, range, slice, skip, call, other, pos_pred, neg_pred, push, restore, seq, seq_first, seq_second, left, right, opt, opt_none, rep_none, turn, turn_none, rep_exact, rep_max, rep_min_max, skips, atomic, compound_atomic, between, body_mode, with_token, rep, rep_once, rep_min}
-use Rattle.meta_base.specs.Rewriting.{by_joining, by_skipping, by_unrolling, by_rotating, by_factoring, Strings, one, named, more, rotate_choice, factor_prefix, factor_optional, factor_optional_compound, factor_absorbed, Within, here, in_choice_left, in_choice_right, Changed, this, later, Step, Chain, done, step, KeepsAny, SameOutcomes, Rewrites, EachBody, no_rules, also_rule, Many, Rotates, rotate_sequence}
+use Rattle.meta_base.specs.Rewriting.{by_joining, by_skipping, by_unrolling, by_rotating, by_factoring, Strings, one, named, more, rotate_choice, factor_prefix, factor_optional, factor_optional_compound, factor_absorbed, Within, here, in_choice_left, in_choice_right, Changed, this, later, Step, Chain, done, step, KeepsAny, SameOutcomes, Rewrites, EachBody, no_rules, also_rule, Many, Rotates, Unrolls, Joins, Factors}
 use Rattle.meta_base.proofs.Deterministic.{same_rule}
 use Rattle.meta_base.proofs.Congruence as same
 use Rattle.meta_base.proofs.Congruence.{Implies}
 use Rattle.meta_base.proofs.Anywhere as anywhere
 use Rattle.meta_base.proofs.Anywhere.{Alike}
-use Rattle.meta_base.proofs.Local.{RunsIn, runs_in, forth, back, rotate_seq_forth, rotate_seq_back, rotate_choice_forth, rotate_choice_back}
+use Rattle.meta_base.proofs.Local.{RunsIn, runs_in, forth, back, rotates_forth, rotates_back, unrolls_forth, unrolls_back, joins_forth, joins_back, factors_forth, factors_back}
 
 -- 1. any place of a body, over any grammar f in which names stand for the same strings
 module _ (g f : Grammar) (classes : Classes) (free : KeepsAny f) (known : (c : Expression) (ts : List Text) → Strings g c ts → Strings f c ts) where
@@ -164,7 +164,7 @@ keeps g h a (step {h = i} c d) =
 
 -- a pass whose rewritings keep what an expression does over every grammar keeps what every expression does
 module _ (P : RuleType → Expression → Expression → Type 0) where
-  each_pair : {g h : Grammar} → EachBody P g h → (n : Text) → Matched P (rule_of g n) (rule_of h n)
+  pub each_pair : {g h : Grammar} → EachBody P g h → (n : Text) → Matched P (rule_of g n) (rule_of h n)
   each_pair no_rules n = neither
   each_pair (also_rule {r = r} x e) n = pair_if P (bytes_eq r.name n) r x (each_pair e n)
 
@@ -181,12 +181,19 @@ each_keeps P alike g h e = λ classes e' m s o. (
   carried h g classes (λ n. turned (Back g classes) (each_pair (Back g classes) (each_body P (Back g classes) (λ y a b x m r. (alike g classes y m a b r x).1) e) n)),
 )
 
-rotated_alike : (f : Grammar) (classes : Classes) (m : Mode) (a b : Expression) → Rotates a b → Alike f classes m a b
-rotated_alike f classes m a b rotate_sequence = (rotate_seq_forth f classes m, rotate_seq_back f classes m)
-rotated_alike f classes m a b rotate_choice = (rotate_choice_forth f classes m, rotate_choice_back f classes m)
+-- passes that look no name up
+module _ (R : RuleType → Expression → Expression → Type 0) (alike : (f : Grammar) (classes : Classes) (y : RuleType) (m : Mode) → RunsIn y m → (a b : Expression) → R y a b → Alike f classes m a b) where
+  pub steps_keep : (g h : Grammar) → EachBody (λ y. Many (R y)) g h → SameOutcomes g h
+  steps_keep = each_keeps (λ y. Many (R y)) (λ f classes y m a b r x. anywhere.along f classes m (R y) (alike f classes y m r) x)
 
-abbrev Rotated : RuleType → Expression → Expression → Type 0
-Rotated y = Many Rotates
+pub rotations_keep : (g h : Grammar) → EachBody (λ y. Many Rotates) g h → SameOutcomes g h
+rotations_keep = steps_keep (λ y. Rotates) (λ f classes y m r a b w. (rotates_forth f classes w, rotates_back f classes w))
 
-pub rotations_keep : (g h : Grammar) → EachBody Rotated g h → SameOutcomes g h
-rotations_keep = each_keeps Rotated (λ f classes y m a b r x. anywhere.along f classes m Rotates (rotated_alike f classes m) x)
+pub unrollings_keep : (g h : Grammar) → EachBody (λ y. Many Unrolls) g h → SameOutcomes g h
+unrollings_keep = steps_keep (λ y. Unrolls) (λ f classes y m r a b w. (unrolls_forth f classes w, unrolls_back f classes w))
+
+pub joinings_keep : (g h : Grammar) → EachBody (λ y. Many (Joins y)) g h → SameOutcomes g h
+joinings_keep = steps_keep Joins (λ f classes y m r a b w. (joins_forth f classes w r, joins_back f classes w r))
+
+pub factorings_keep : (g h : Grammar) → EachBody (λ y. Many (Factors y)) g h → SameOutcomes g h
+factorings_keep = steps_keep Factors (λ f classes y m r a b w. (factors_forth f classes w r, factors_back f classes w r))

@@ -10,7 +10,7 @@ use Rattle.meta_base.specs.Text.{Text}
 use Rattle.meta_base.specs.Matching.{begins, any_begins, distance, text_outcome, character_outcome}
 use Rattle.meta_base.specs.Builtins.{builtins}
 use Rattle.meta_base.specs.Meaning.{Does, Task, Run, Turns, Skipping, str, insens, skip, call, other, neg_pred, seq, seq_first, seq_second, left, right, opt, opt_none, rep_none, turn, turn_none, rep_exact, rep_max, rep_min_max, atomic, compound_atomic, with_token, body_mode, mode_in, rep, rep_once, rep_min}
-use Rattle.meta_base.specs.Rewriting.{by_rotating, by_unrolling, by_skipping, by_joining, by_factoring, Strings, one, named, more, Rewrites, rotate_sequence, rotate_choice, unroll_once, unroll_exact, unroll_min, unroll_max, unroll_min_max, skip_until, join_literals, join_insensitive, factor_prefix, factor_optional, factor_optional_compound, factor_absorbed, KeepsAny}
+use Rattle.meta_base.specs.Rewriting.{by_rotating, by_unrolling, by_skipping, by_joining, by_factoring, Strings, one, named, more, Rewrites, rotate_sequence, rotate_choice, unroll_once, unroll_exact, unroll_min, unroll_max, unroll_min_max, skip_until, join_literals, join_insensitive, factor_prefix, factor_optional, factor_optional_compound, factor_absorbed, KeepsAny, Rotates, Unrolls, Joins, Factors}
 use Rattle.meta_base.proofs.Deterministic.{same, same_state, same_trees, from}
 use Rattle.meta_base.proofs.Congruence.{Implies}
 
@@ -260,36 +260,62 @@ module _ (g : Grammar) (classes : Classes) where
     pub skip_does : (s : State) → Does g classes (Run AtomicMode (Rep (turn_of c))) s (Success (moved (distance ts s.rest) s) None')
     skip_does s = rep_of_turns (turns_do s.rest s.position s.stack)
 
+-- the rewritings that look no name up
+module _ (f : Grammar) (classes : Classes) where
+  pub rotates_forth : {m : Mode} {a b : Expression} → Rotates a b → Implies f classes m a b
+  rotates_forth {m = m} rotate_sequence s o d = rotate_seq_forth f classes m s o d
+  rotates_forth {m = m} rotate_choice s o d = rotate_choice_forth f classes m s o d
+
+  pub rotates_back : {m : Mode} {a b : Expression} → Rotates a b → Implies f classes m b a
+  rotates_back {m = m} rotate_sequence s o d = rotate_seq_back f classes m s o d
+  rotates_back {m = m} rotate_choice s o d = rotate_choice_back f classes m s o d
+
+  pub unrolls_forth : {m : Mode} {a b : Expression} → Unrolls a b → Implies f classes m a b
+  unrolls_forth unroll_once s o (rep_once d) = d
+  unrolls_forth unroll_exact s o (rep_exact d) = d
+  unrolls_forth unroll_min s o (rep_min d) = d
+  unrolls_forth unroll_max s o (rep_max d) = d
+  unrolls_forth unroll_min_max s o (rep_min_max d) = d
+
+  pub unrolls_back : {m : Mode} {a b : Expression} → Unrolls a b → Implies f classes m b a
+  unrolls_back unroll_once s o d = rep_once d
+  unrolls_back unroll_exact s o d = rep_exact d
+  unrolls_back unroll_min s o d = rep_min d
+  unrolls_back unroll_max s o d = rep_max d
+  unrolls_back unroll_min_max s o d = rep_min_max d
+
+  pub joins_forth : {y : RuleType} {m : Mode} {a b : Expression} → Joins y a b → RunsIn y m → Implies f classes m a b
+  joins_forth (join_literals {a = a} {b = b}) atomic_only s o d = both_do f classes _ (pair_does f classes nat_eq Str (λ t s. str) a b) (λ s. str) s o d
+  joins_forth (join_insensitive {a = a} {b = b}) atomic_only s o d = both_do f classes _ (pair_does f classes eq_ignore_ascii_case Insens (λ t s. insens) a b) (λ s. insens) s o d
+
+  pub joins_back : {y : RuleType} {m : Mode} {a b : Expression} → Joins y a b → RunsIn y m → Implies f classes m b a
+  joins_back (join_literals {a = a} {b = b}) atomic_only s o d = both_do f classes _ (λ s. str) (pair_does f classes nat_eq Str (λ t s. str) a b) s o d
+  joins_back (join_insensitive {a = a} {b = b}) atomic_only s o d = both_do f classes _ (λ s. insens) (pair_does f classes eq_ignore_ascii_case Insens (λ t s. insens) a b) s o d
+
+  pub factors_forth : {y : RuleType} {m : Mode} {a b : Expression} → Factors y a b → RunsIn y m → Implies f classes m a b
+  factors_forth {m = m} factor_prefix r s o d = factor_forth f classes m s o d
+  factors_forth {m = m} factor_optional atomic_only s o d = optional_forth f classes m (λ s. atomic) s o d
+  factors_forth {m = m} factor_optional_compound compound_only s o d = optional_forth f classes m (λ s. compound_atomic) s o d
+  factors_forth {m = m} factor_absorbed r s o d = unreachable_forth f classes m s o d
+
+  pub factors_back : {y : RuleType} {m : Mode} {a b : Expression} → Factors y a b → RunsIn y m → Implies f classes m b a
+  factors_back {m = m} factor_prefix r s o d = factor_back f classes m s o d
+  factors_back {m = m} factor_optional atomic_only s o d = optional_back f classes m (λ s. atomic) s o d
+  factors_back {m = m} factor_optional_compound compound_only s o d = optional_back f classes m (λ s. compound_atomic) s o d
+  factors_back {m = m} factor_absorbed r s o d = unreachable_back f classes m s o d
+
 -- all rewritings, over any grammar f in which names stand for the same strings
 module _ (g f : Grammar) (classes : Classes) (free : KeepsAny f) (known : (c : Expression) (ts : List Text) → Strings g c ts → Strings f c ts) where
   pub forth : {y : RuleType} {m : Mode} {a b : Expression} → Rewrites g y a b → RunsIn y m → Implies f classes m a b
-  forth {m = m} (by_rotating rotate_sequence) r s o d = rotate_seq_forth f classes m s o d
-  forth {m = m} (by_rotating rotate_choice) r s o d = rotate_choice_forth f classes m s o d
-  forth (by_unrolling unroll_once) r s o (rep_once d) = d
-  forth (by_unrolling unroll_exact) r s o (rep_exact d) = d
-  forth (by_unrolling unroll_min) r s o (rep_min d) = d
-  forth (by_unrolling unroll_max) r s o (rep_max d) = d
-  forth (by_unrolling unroll_min_max) r s o (rep_min_max d) = d
+  forth (by_rotating w) r s o d = rotates_forth f classes w s o d
+  forth (by_unrolling w) r s o d = unrolls_forth f classes w s o d
   forth (by_skipping (skip_until {c = c} {ts = ts} h)) atomic_only s o d = both_do f classes _ (skip_does f classes free (known c ts h)) (λ s. skip) s o d
-  forth (by_joining (join_literals {a = a} {b = b})) atomic_only s o d = both_do f classes _ (pair_does f classes nat_eq Str (λ t s. str) a b) (λ s. str) s o d
-  forth (by_joining (join_insensitive {a = a} {b = b})) atomic_only s o d = both_do f classes _ (pair_does f classes eq_ignore_ascii_case Insens (λ t s. insens) a b) (λ s. insens) s o d
-  forth {m = m} (by_factoring factor_prefix) r s o d = factor_forth f classes m s o d
-  forth {m = m} (by_factoring factor_optional) atomic_only s o d = optional_forth f classes m (λ s. atomic) s o d
-  forth {m = m} (by_factoring factor_optional_compound) compound_only s o d = optional_forth f classes m (λ s. compound_atomic) s o d
-  forth {m = m} (by_factoring factor_absorbed) r s o d = unreachable_forth f classes m s o d
+  forth (by_joining w) r s o d = joins_forth f classes w r s o d
+  forth (by_factoring w) r s o d = factors_forth f classes w r s o d
 
   pub back : {y : RuleType} {m : Mode} {a b : Expression} → Rewrites g y a b → RunsIn y m → Implies f classes m b a
-  back {m = m} (by_rotating rotate_sequence) r s o d = rotate_seq_back f classes m s o d
-  back {m = m} (by_rotating rotate_choice) r s o d = rotate_choice_back f classes m s o d
-  back (by_unrolling unroll_once) r s o d = rep_once d
-  back (by_unrolling unroll_exact) r s o d = rep_exact d
-  back (by_unrolling unroll_min) r s o d = rep_min d
-  back (by_unrolling unroll_max) r s o d = rep_max d
-  back (by_unrolling unroll_min_max) r s o d = rep_min_max d
+  back (by_rotating w) r s o d = rotates_back f classes w s o d
+  back (by_unrolling w) r s o d = unrolls_back f classes w s o d
   back (by_skipping (skip_until {c = c} {ts = ts} h)) atomic_only s o d = both_do f classes _ (λ s. skip) (skip_does f classes free (known c ts h)) s o d
-  back (by_joining (join_literals {a = a} {b = b})) atomic_only s o d = both_do f classes _ (λ s. str) (pair_does f classes nat_eq Str (λ t s. str) a b) s o d
-  back (by_joining (join_insensitive {a = a} {b = b})) atomic_only s o d = both_do f classes _ (λ s. insens) (pair_does f classes eq_ignore_ascii_case Insens (λ t s. insens) a b) s o d
-  back {m = m} (by_factoring factor_prefix) r s o d = factor_back f classes m s o d
-  back {m = m} (by_factoring factor_optional) atomic_only s o d = optional_back f classes m (λ s. atomic) s o d
-  back {m = m} (by_factoring factor_optional_compound) compound_only s o d = optional_back f classes m (λ s. compound_atomic) s o d
-  back {m = m} (by_factoring factor_absorbed) r s o d = unreachable_back f classes m s o d
+  back (by_joining w) r s o d = joins_back f classes w r s o d
+  back (by_factoring w) r s o d = factors_back f classes w r s o d

@@ -1,15 +1,16 @@
 -- Where wrappers stand, the two meanings agree.
-use Rattle.std.proofs.Common.{◌≡◌, List, Option, Some, None, refl, sym, ◌∙◌, ap, subst, nat_eq}
+use Rattle.std.proofs.Common.{◌≡◌, ℕ, zero, suc, ◌-◌, min, List, [], Option, Some, None, refl, sym, ◌∙◌, ap, subst, nat_eq}
 use Rattle.std.specs.Char.{eq_ignore_ascii_case}
 use Rattle.meta_base.specs.Text.{Text}
-use Rattle.meta_base.specs.Expression.{Grammar, Expression, Ident, PosPred, NegPred, Seq, Choice, Opt, Rep, Push, RestoreOnErr, Rule, rule_of, whole, of_pos_pred, of_neg_pred, of_seq_left, of_seq_right, of_choice_left, of_choice_right, of_opt, of_rep, of_push, of_restore}
+use Rattle.meta_base.specs.Expression.{Grammar, Expression, Str, Ident, PosPred, NegPred, Seq, Choice, Opt, Rep, RepOnce, RepExact, RepMin, RepMax, RepMinMax, Push, RestoreOnErr, Rule, rule_of, whole, of_pos_pred, of_neg_pred, of_seq_left, of_seq_right, of_choice_left, of_choice_right, of_opt, of_rep, of_rep_once, of_rep_exact, of_rep_min, of_rep_max, of_rep_min_max, of_push, of_restore}
 use Rattle.meta_base.specs.State.{Classes, Mode, NonAtomicMode, AtomicMode, CompoundAtomicMode, Between, State, Trees, None', Outcome, Success, Failure}
 use Rattle.meta_base.specs.Matching.{text_outcome, character_outcome, range_set, slice_outcome}
 use Rattle.meta_base.specs.Builtins.{builtin_of, Builtin, One, Property, Newline, Soi, Eoi, Peek, Pop, Drop, PeekAll, PopAll}
-use Rattle.meta_base.specs.Meaning.{Does, Task, Run, Turns, Skipping, str, insens, range, slice, skip, call, other, pos_pred, neg_pred, push, restore, seq, seq_first, seq_second, left, right, opt, opt_none, rep_none, turn, turn_none, rep_exact, rep_max, rep_min_max, skips, atomic, compound_atomic, between, ahead, not_ahead, pushed, with_token, body_mode, skipped, rep, rep_once, rep_min}
+use Rattle.meta_base.specs.Meaning.{Does, Task, Run, Turns, Skipping, str, insens, range, slice, skip, call, other, pos_pred, neg_pred, push, restore, seq, seq_first, seq_second, left, right, opt, opt_none, rep_none, turn, turn_none, rep_exact, rep_max, rep_min_max, skips, atomic, compound_atomic, between, ahead, not_ahead, pushed, with_token, body_mode, once_or_more, exactly, at_least, at_most, from_to, in_sequence, skipped, rep, rep_once, rep_min}
 use Rattle.meta_base.specs.WellFormed.{is_whitespace}
-use Rattle.meta_base.specs.LooseMeaning.{Ending, Done, Lost, leaving, left_by, with_left, called, looked, not_looked, pushing, restoring, behind_turn, DoesLoosely, loose_str, loose_insens, loose_range, loose_slice, loose_skip, loose_call, loose_other, loose_pos_pred, loose_neg_pred, loose_push, loose_restore, loose_seq, loose_seq_first, loose_seq_second, loose_left, loose_right, loose_opt, loose_opt_none, loose_rep, loose_rep_none, loose_turn, loose_turn_none, loose_skips, loose_atomic, loose_compound_atomic, loose_between, Pops, pops, pops_all, pops_rule, pops_left, pops_right, pops_push, Safe, wrapped, keeps, IsSafe, Restored, SameEndings}
+use Rattle.meta_base.specs.LooseMeaning.{Ending, Done, Lost, leaving, left_by, with_left, called, looked, not_looked, pushing, restoring, behind_turn, DoesLoosely, loose_str, loose_insens, loose_range, loose_slice, loose_skip, loose_call, loose_other, loose_pos_pred, loose_neg_pred, loose_push, loose_restore, loose_seq, loose_seq_first, loose_seq_second, loose_left, loose_right, loose_opt, loose_opt_none, loose_rep, loose_rep_none, loose_turn, loose_turn_none, loose_rep_once, loose_rep_exact, loose_rep_min, loose_rep_max, loose_rep_min_max, loose_skips, loose_atomic, loose_compound_atomic, loose_between, Pops, pops, pops_all, pops_rule, pops_left, pops_right, pops_push, pops_rep_exact, pops_rep_min_max, Safe, wrapped, keeps, IsSafe, Restored, SameEndings}
 use Rattle.meta_base.proofs.Deterministic.{from}
+use Rattle.meta_base.proofs.Moving.{Each', no_more, also, each_copy, each_of_both, in_all}
 
 -- a failure has left the stack as it was
 data Kept (s : State) : Ending → Type 0 where
@@ -69,6 +70,17 @@ module _ (g : Grammar) (classes : Classes) where
       go (Some Drop) e = refl
       go (Some PeekAll) e = refl
 
+  -- copies that end in a repetition, and optional ones, lose nothing
+  at_least_keeps : (e : Expression) (i : ℕ) → Pops g (at_least e i) → ⊥
+  at_least_keeps e zero x = elim x [ ]
+  at_least_keeps e (suc zero) x = elim x [ ]
+  at_least_keeps e (suc (suc i)) x = elim x [ ]
+
+  at_most_keeps : (e : Expression) (i : ℕ) → Pops g (at_most e i) → ⊥
+  at_most_keeps e zero x = elim x [ ]
+  at_most_keeps e (suc zero) x = elim x [ ]
+  at_most_keeps e (suc (suc i)) x = elim x [ ]
+
   kept : {k : Task} {s : State} {o : Ending} → DoesLoosely g classes k s o → NoPop k → Kept s o
   kept (loose_str {t = t} {s = s}) c = kept_leaving (text_outcome nat_eq t s) refl
   kept (loose_insens {t = t} {s = s}) c = kept_leaving (text_outcome eq_ignore_ascii_case t s) refl
@@ -92,6 +104,11 @@ module _ (g : Grammar) (classes : Classes) where
   kept (loose_rep_none a) c = done
   kept (loose_turn k a b) c = done
   kept (loose_turn_none k a) c = done
+  kept (loose_rep_once d) c = kept d (λ x. elim x [ ])
+  kept (loose_rep_exact d) c = kept d (λ x. c (pops_rep_exact x))
+  kept (loose_rep_min {e = e} {i = i} d) c = kept d (at_least_keeps e i)
+  kept (loose_rep_max {e = e} {i = i} d) c = kept d (at_most_keeps e i)
+  kept (loose_rep_min_max d) c = kept d (λ x. c (pops_rep_min_max x))
   kept (loose_skips d) c = kept d (λ x. elim x [ ])
   kept loose_atomic c = done
   kept loose_compound_atomic c = done
@@ -103,6 +120,45 @@ module _ (g : Grammar) (classes : Classes) where
   kept_safe : {m : Mode} {e : Expression} {s : State} {o : Ending} → Safe g e → DoesLoosely g classes (Run m e) s o → Kept s o
   kept_safe (keeps c) d = kept d c
   kept_safe {m} {s = s} {o = o} (wrapped x e) d = kept_wrapped (subst (λ e. DoesLoosely g classes (Run m e) s o) e d)
+
+  -- copies are safe as what they are copies of
+  safe_empty : IsSafe g (Str [])
+  safe_empty q whole = tt
+
+  safe_seq : (a b : Expression) → IsSafe g a → IsSafe g b → IsSafe g (Seq a b)
+  safe_seq a b i j q whole = tt
+  safe_seq a b i j q (of_seq_left h) = i q h
+  safe_seq a b i j q (of_seq_right h) = j q h
+
+  safe_opt : {e : Expression} → Safe g e → IsSafe g e → IsSafe g (Opt e)
+  safe_opt c i q whole = c
+  safe_opt c i q (of_opt h) = i q h
+
+  safe_rep : {e : Expression} → Safe g e → IsSafe g e → IsSafe g (Rep e)
+  safe_rep c i q whole = c
+  safe_rep c i q (of_rep h) = i q h
+
+  safe_all : {es : List Expression} → Each' (IsSafe g) es → IsSafe g (in_sequence es)
+  safe_all e = in_all (IsSafe g) safe_empty safe_seq e
+
+  safe_once_or_more : {e : Expression} → IsSafe g (RepOnce e) → IsSafe g (once_or_more e)
+  safe_once_or_more {e} c = let i : IsSafe g e = λ p h. c p (of_rep_once h) in safe_seq e (Rep e) i (safe_rep (c _ whole) i)
+
+  safe_exactly : {e : Expression} {i : ℕ} → IsSafe g (RepExact e i) → IsSafe g (exactly e i)
+  safe_exactly {i = i} c = safe_all (each_copy (IsSafe g) i (λ p h. c p (of_rep_exact h)))
+
+  safe_at_least : {e : Expression} {i : ℕ} → IsSafe g (RepMin e i) → IsSafe g (at_least e i)
+  safe_at_least {e} {i} c =
+      let s : IsSafe g e = λ p h. c p (of_rep_min h) in
+      safe_all (each_of_both (IsSafe g) (each_copy (IsSafe g) i s) (also (safe_rep (c _ whole) s) no_more))
+
+  safe_at_most : {e : Expression} {i : ℕ} → IsSafe g (RepMax e i) → IsSafe g (at_most e i)
+  safe_at_most {i = i} c = safe_all (each_copy (IsSafe g) i (safe_opt (c _ whole) (λ p h. c p (of_rep_max h))))
+
+  safe_from_to : {e : Expression} {i j : ℕ} → IsSafe g (RepMinMax e i j) → IsSafe g (from_to e i j)
+  safe_from_to {e} {i} {j} c =
+      let s : IsSafe g e = λ p h. c p (of_rep_min_max h) in
+      safe_all (each_of_both (IsSafe g) (each_copy (IsSafe g) (min i j) s) (each_copy (IsSafe g) (j - i) (safe_opt (c _ whole) s)))
 
   module _ (restored : Restored g) where
     abbrev IsOk : Task → Type 0
@@ -151,6 +207,26 @@ module _ (g : Grammar) (classes : Classes) where
     tried_restore : {m : Mode} {e : Expression} {s : State} {o : Outcome} → Tried (Run m e) s o → Tried (Run m (RestoreOnErr e)) s o
     tried_restore (tried_done d) = tried_done (loose_restore d)
     tried_restore (tried_lost d) = tried_lost (loose_restore d)
+
+    tried_once : {m : Mode} {e : Expression} {s : State} {o : Outcome} → Tried (Run m (once_or_more e)) s o → Tried (Run m (RepOnce e)) s o
+    tried_once (tried_done d) = tried_done (loose_rep_once d)
+    tried_once (tried_lost d) = tried_lost (loose_rep_once d)
+
+    tried_exact : {m : Mode} {e : Expression} {i : ℕ} {s : State} {o : Outcome} → Tried (Run m (exactly e i)) s o → Tried (Run m (RepExact e i)) s o
+    tried_exact (tried_done d) = tried_done (loose_rep_exact d)
+    tried_exact (tried_lost d) = tried_lost (loose_rep_exact d)
+
+    tried_min : {m : Mode} {e : Expression} {i : ℕ} {s : State} {o : Outcome} → Tried (Run m (at_least e i)) s o → Tried (Run m (RepMin e i)) s o
+    tried_min (tried_done d) = tried_done (loose_rep_min d)
+    tried_min (tried_lost d) = tried_lost (loose_rep_min d)
+
+    tried_max : {m : Mode} {e : Expression} {i : ℕ} {s : State} {o : Outcome} → Tried (Run m (at_most e i)) s o → Tried (Run m (RepMax e i)) s o
+    tried_max (tried_done d) = tried_done (loose_rep_max d)
+    tried_max (tried_lost d) = tried_lost (loose_rep_max d)
+
+    tried_min_max : {m : Mode} {e : Expression} {i j : ℕ} {s : State} {o : Outcome} → Tried (Run m (from_to e i j)) s o → Tried (Run m (RepMinMax e i j)) s o
+    tried_min_max (tried_done d) = tried_done (loose_rep_min_max d)
+    tried_min_max (tried_lost d) = tried_lost (loose_rep_min_max d)
 
     tried_skips : {s : State} {o : Outcome} → Tried (Run Between skipped) s o → Tried (Skipping NonAtomicMode) s o
     tried_skips (tried_done d) = tried_done (loose_skips d)
@@ -214,11 +290,11 @@ module _ (g : Grammar) (classes : Classes) where
     to_second (rep_none a) c = tried_rep (c _ whole) (to_second a (λ p h. c p (of_rep h)))
     to_second (turn k a b) c = tried_done (loose_turn (won (to_second k tt)) (won (to_second a (λ p h. c p (of_rep h)))) (won (to_second b c)))
     to_second (turn_none k a) c = tried_turn (c _ whole) (won (to_second k tt)) (to_second a (λ p h. c p (of_rep h)))
-    to_second (rep_once d) c = absurd (c _ whole)
-    to_second (rep_exact d) c = absurd (c _ whole)
-    to_second (rep_min d) c = absurd (c _ whole)
-    to_second (rep_max d) c = absurd (c _ whole)
-    to_second (rep_min_max d) c = absurd (c _ whole)
+    to_second (rep_once d) c = tried_once (to_second d (safe_once_or_more c))
+    to_second (rep_exact d) c = tried_exact (to_second d (safe_exactly c))
+    to_second (rep_min d) c = tried_min (to_second d (safe_at_least c))
+    to_second (rep_max d) c = tried_max (to_second d (safe_at_most c))
+    to_second (rep_min_max d) c = tried_min_max (to_second d (safe_from_to c))
     to_second (skips d) c = tried_skips (to_second d safe_skipped)
     to_second atomic c = tried_done loose_atomic
     to_second compound_atomic c = tried_done loose_compound_atomic
@@ -256,6 +332,26 @@ module _ (g : Grammar) (classes : Classes) where
     did_restore : {m : Mode} {e : Expression} {s : State} {o : Ending} → Did (Run m e) s o → Did (Run m (RestoreOnErr e)) s (restoring s o)
     did_restore (did_done d) = did_done (restore d)
     did_restore (did_lost d) = did_lost (restore d)
+
+    did_once : {m : Mode} {e : Expression} {s : State} {o : Ending} → Did (Run m (once_or_more e)) s o → Did (Run m (RepOnce e)) s o
+    did_once (did_done d) = did_done (rep_once d)
+    did_once (did_lost d) = did_lost (rep_once d)
+
+    did_exact : {m : Mode} {e : Expression} {i : ℕ} {s : State} {o : Ending} → Did (Run m (exactly e i)) s o → Did (Run m (RepExact e i)) s o
+    did_exact (did_done d) = did_done (rep_exact d)
+    did_exact (did_lost d) = did_lost (rep_exact d)
+
+    did_min : {m : Mode} {e : Expression} {i : ℕ} {s : State} {o : Ending} → Did (Run m (at_least e i)) s o → Did (Run m (RepMin e i)) s o
+    did_min (did_done d) = did_done (rep_min d)
+    did_min (did_lost d) = did_lost (rep_min d)
+
+    did_max : {m : Mode} {e : Expression} {i : ℕ} {s : State} {o : Ending} → Did (Run m (at_most e i)) s o → Did (Run m (RepMax e i)) s o
+    did_max (did_done d) = did_done (rep_max d)
+    did_max (did_lost d) = did_lost (rep_max d)
+
+    did_min_max : {m : Mode} {e : Expression} {i j : ℕ} {s : State} {o : Ending} → Did (Run m (from_to e i j)) s o → Did (Run m (RepMinMax e i j)) s o
+    did_min_max (did_done d) = did_done (rep_min_max d)
+    did_min_max (did_lost d) = did_lost (rep_min_max d)
 
     did_skips : {s : State} {o : Ending} → Did (Run Between skipped) s o → Did (Skipping NonAtomicMode) s o
     did_skips (did_done d) = did_done (skips d)
@@ -297,6 +393,11 @@ module _ (g : Grammar) (classes : Classes) where
     to_first (loose_rep_none a) c = did_stay (unmoved (lost_stack (kept_safe (c _ whole) a))) (rep_none (missed (to_first a (λ p h. c p (of_rep h)))))
     to_first (loose_turn k a b) c = did_done (turn (got (to_first k tt)) (got (to_first a (λ p h. c p (of_rep h)))) (got (to_first b c)))
     to_first (loose_turn_none {m = m} k a) c = did_stay (unmoved (behind m k (lost_stack (kept_safe (c _ whole) a)))) (turn_none (got (to_first k tt)) (missed (to_first a (λ p h. c p (of_rep h)))))
+    to_first (loose_rep_once d) c = did_once (to_first d (safe_once_or_more c))
+    to_first (loose_rep_exact d) c = did_exact (to_first d (safe_exactly c))
+    to_first (loose_rep_min d) c = did_min (to_first d (safe_at_least c))
+    to_first (loose_rep_max d) c = did_max (to_first d (safe_at_most c))
+    to_first (loose_rep_min_max d) c = did_min_max (to_first d (safe_from_to c))
     to_first (loose_skips d) c = did_skips (to_first d safe_skipped)
     to_first loose_atomic c = did_done atomic
     to_first loose_compound_atomic c = did_done compound_atomic

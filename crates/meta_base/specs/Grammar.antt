@@ -3,7 +3,7 @@ use Rattle.std.specs.Prelude.{◌≡◌, ◌<◌, ◌^◌, [], ◌∷◌, List, 
 use Rattle.meta_base.specs.Text.{Text, IsText}
 use Rattle.meta_base.specs.Expression.{Expression, Str, Insens, Range, Ident, PeekSlice, RepExact, RepMin, RepMax, RepMinMax, Skip, Grammar, rule_of}
 use Rattle.meta_base.specs.Builtins.{is_one_of}
-use Rattle.meta_base.specs.WellFormed.{HasReadableCounts, InRules}
+use Rattle.meta_base.specs.WellFormed.{HasReadableCounts, InSomeRule}
 
 -- the names that no rule may have
 unfoldable pub keywords : List Text
@@ -44,4 +44,4 @@ pub record IsGrammar (g : Grammar) : Type 0 where
   pub no_keyword : All (λ r. is_one_of keywords r.name ≡ false) g
   pub names : All (λ r. IsText r.name) g
   pub readable : HasReadableCounts g
-  pub fits : (p : Expression) → InRules g p → FitsItsTypes p
+  pub fits : (p : Expression) → InSomeRule g p → FitsItsTypes p

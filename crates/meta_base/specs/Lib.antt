@@ -7,15 +7,15 @@ pub mod Meaning
 pub mod FurthestFailure
 pub mod Rewriting
 pub mod Listing
+pub mod Erased
 pub mod WellFormed
 pub mod Grammar
 pub mod LooseMeaning
-pub mod Ast
+pub mod Wrapping
 pub mod Equality
 pub mod Places
 pub mod Ran
 pub mod MetaRules
-pub mod Printing
 pub mod Replacing
 pub mod Span
 pub mod LineColumn
@@ -24,3 +24,4 @@ pub mod TokenTrees
 pub mod TreeViews
 pub mod NamedTrees
 pub mod Pairs
+pub mod Saying

@@ -3,6 +3,7 @@ use Rattle.std.specs.Prelude.{◌≡◌, ◌⊎◌, if◌then◌else◌}
 use Rattle.meta_base.specs.Expression.{Expression, PosPred, NegPred, Seq, Choice, Opt, Rep, RepOnce, RepExact, RepMin, RepMax, RepMinMax, Push, RestoreOnErr, Grammar}
 use Rattle.meta_base.specs.State.{AtomicMode, Classes, CompoundAtomicMode, Mode, State, Success, Trees}
 use Rattle.meta_base.specs.Meaning.{Matches}
+use Rattle.meta_base.specs.Rewriting.{EachBody}
 use Rattle.meta_base.specs.Equality.{expression_eq}
 
 -- `(x ~ y)* ~ x` becomes `x ~ (y ~ x)*`, and any other sequence stays
@@ -26,6 +27,10 @@ listed (RepMinMax e i j) = RepMinMax (listed e) i j
 listed (Push e) = Push (listed e)
 listed (RestoreOnErr e) = RestoreOnErr (listed e)
 listed e = e
+
+-- every body is listed; names, types and order stay
+abbrev pub EachListed : Grammar → Grammar → Type 0
+EachListed = EachBody (λ y a b. b ≡ listed a)
 
 -- in Atomic and CompoundAtomic, what `(x ~ y)* ~ x` matches its listing matches, where there is nothing to list within it
 abbrev pub ListingKeeps : Type 0

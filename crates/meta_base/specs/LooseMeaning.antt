@@ -1,12 +1,12 @@
 -- A second meaning, in which a failure leaves a stack, from which what is tried next goes on.
-use Rattle.std.specs.Prelude.{◌≡◌, ◌↔◌, ◌-◌, List, [], ◌∷◌, Option, Some, None, if◌then◌else◌, nat_eq, length, take, drop, ⊤, ℤ}
+use Rattle.std.specs.Prelude.{◌≡◌, ◌↔◌, ◌-◌, ℕ, List, [], ◌∷◌, Option, Some, None, if◌then◌else◌, nat_eq, length, take, drop, ⊤, ℤ}
 use Rattle.std.specs.Char.{eq_ignore_ascii_case}
 use Rattle.meta_base.specs.Text.{Text}
 use Rattle.meta_base.specs.Expression.{Expression, Str, Insens, Range, Ident, PeekSlice, PosPred, NegPred, Seq, Choice, Opt, Rep, RepOnce, RepExact, RepMin, RepMax, RepMinMax, Skip, Push, RestoreOnErr, Rule, Grammar, rule_of, Part}
 use Rattle.meta_base.specs.State.{Mode, NonAtomicMode, AtomicMode, CompoundAtomicMode, Between, State, Trees, None', Tree, joined, Outcome, Success, Failure, Classes, moved}
 use Rattle.meta_base.specs.Matching.{text_outcome, character_outcome, range_set, slice_outcome, distance, other_outcome, begins}
 use Rattle.meta_base.specs.Builtins.{builtin_of, Builtin, Pop, PopAll}
-use Rattle.meta_base.specs.Meaning.{Task, Run, Turns, Skipping, body_mode, gives_token, skipped, Matches}
+use Rattle.meta_base.specs.Meaning.{Task, Run, Turns, Skipping, body_mode, gives_token, once_or_more, exactly, at_least, at_most, from_to, skipped, Matches}
 use Rattle.meta_base.specs.WellFormed.{IsSkipped}
 
 -- a success, or a failure with the stack that it leaves
@@ -82,6 +82,11 @@ module _ (g : Grammar) (classes : Classes) where
     loose_rep_none : {m : Mode} {e : Expression} {s : State} {ts : List Text} → DoesLoosely (Run m e) s (Lost ts) → DoesLoosely (Run m (Rep e)) s (Done (with_left ts s) None')
     loose_turn : {m : Mode} {e : Expression} {s t u v : State} {us vs ws : Trees} → DoesLoosely (Skipping m) s (Done t us) → DoesLoosely (Run m e) t (Done u vs) → DoesLoosely (Turns m e) u (Done v ws) → DoesLoosely (Turns m e) s (Done v (joined us (joined vs ws)))
     loose_turn_none : {m : Mode} {e : Expression} {s t : State} {us : Trees} {ts : List Text} → DoesLoosely (Skipping m) s (Done t us) → DoesLoosely (Run m e) t (Lost ts) → DoesLoosely (Turns m e) s (Done (with_left (behind_turn m s ts) s) None')
+    loose_rep_once : {m : Mode} {e : Expression} {s : State} {o : Ending} → DoesLoosely (Run m (once_or_more e)) s o → DoesLoosely (Run m (RepOnce e)) s o
+    loose_rep_exact : {m : Mode} {e : Expression} {i : ℕ} {s : State} {o : Ending} → DoesLoosely (Run m (exactly e i)) s o → DoesLoosely (Run m (RepExact e i)) s o
+    loose_rep_min : {m : Mode} {e : Expression} {i : ℕ} {s : State} {o : Ending} → DoesLoosely (Run m (at_least e i)) s o → DoesLoosely (Run m (RepMin e i)) s o
+    loose_rep_max : {m : Mode} {e : Expression} {i : ℕ} {s : State} {o : Ending} → DoesLoosely (Run m (at_most e i)) s o → DoesLoosely (Run m (RepMax e i)) s o
+    loose_rep_min_max : {m : Mode} {e : Expression} {i j : ℕ} {s : State} {o : Ending} → DoesLoosely (Run m (from_to e i j)) s o → DoesLoosely (Run m (RepMinMax e i j)) s o
     loose_skips : {s : State} {o : Ending} → DoesLoosely (Run Between skipped) s o → DoesLoosely (Skipping NonAtomicMode) s o
     loose_atomic : {s : State} → DoesLoosely (Skipping AtomicMode) s (Done s None')
     loose_compound_atomic : {s : State} → DoesLoosely (Skipping CompoundAtomicMode) s (Done s None')
@@ -90,7 +95,7 @@ module _ (g : Grammar) (classes : Classes) where
 abbrev pub MatchesLoosely : Grammar → Classes → Expression → Mode → State → Ending → Type 0
 MatchesLoosely g classes e m s o = DoesLoosely g classes (Run m e) s o
 
--- a failure may have lost an entry
+-- a failure may have lost an entry; of the repetitions only a single required copy may fail so
 pub data Pops (g : Grammar) : Expression → Type 0 where
   pops : {n : Text} → builtin_of n ≡ Some Pop → Pops g (Ident n)
   pops_all : {n : Text} → builtin_of n ≡ Some PopAll → Pops g (Ident n)
@@ -98,21 +103,22 @@ pub data Pops (g : Grammar) : Expression → Type 0 where
   pops_left : {a b : Expression} → Pops g a → Pops g (Choice a b)
   pops_right : {a b : Expression} → Pops g b → Pops g (Choice a b)
   pops_push : {e : Expression} → Pops g e → Pops g (Push e)
+  pops_rep_exact : {e : Expression} {i : ℕ} → Pops g (exactly e i) → Pops g (RepExact e i)
+  pops_rep_min_max : {e : Expression} {i j : ℕ} → Pops g (from_to e i j) → Pops g (RepMinMax e i j)
 
 pub data Safe (g : Grammar) (e : Expression) : Type 0 where
   wrapped : (x : Expression) → e ≡ RestoreOnErr x → Safe g e
   keeps : (Pops g e → ⊥) → Safe g e
 
--- wrappers stand where they are needed, and the repetitions other than `*` are unrolled
+-- where something is tried next from what a failure left, that failure loses nothing
 abbrev pub SafeHere : Grammar → Expression → Type 0
 SafeHere g (Choice a b) = Safe g a × Safe g b
 SafeHere g (Opt e) = Safe g e
 SafeHere g (Rep e) = Safe g e
-SafeHere g (RepOnce e) = ⊥
-SafeHere g (RepExact e i) = ⊥
-SafeHere g (RepMin e i) = ⊥
-SafeHere g (RepMax e i) = ⊥
-SafeHere g (RepMinMax e i j) = ⊥
+SafeHere g (RepOnce e) = Safe g e
+SafeHere g (RepMin e i) = Safe g e
+SafeHere g (RepMax e i) = Safe g e
+SafeHere g (RepMinMax e i j) = Safe g e
 SafeHere g _ = ⊤
 
 abbrev pub IsSafe : Grammar → Expression → Type 0

@@ -1,5 +1,5 @@
 -- Where a match stands, and what it comes to.
-use Rattle.std.specs.Prelude.{ℕ, List, Bool, ◌+◌, take, drop}
+use Rattle.std.specs.Prelude.{ℕ, List, Bool, ◌+◌, take, drop, ⊤}
 use Rattle.meta_base.specs.Text.{Text, size_of}
 
 -- the atomicity; `Between` is that of the implicit skipping itself: nothing is skipped between its parts, its calls are as in NonAtomic, and one of its names that is not defined fails
@@ -8,6 +8,15 @@ pub data Mode : Type 0 where
   AtomicMode : Mode
   CompoundAtomicMode : Mode
   Between : Mode
+
+-- the modes in which the bodies of rules run, whatever the caller's: all but `Between`. There each name that is no
+-- rule's fails, PEEK and POP on an empty stack too, which in these three have no outcome: so a claim that a start has
+-- no outcome, as one on what reads an empty stack, is made of these modes alone
+abbrev pub IsRuleMode : Mode → Type 0
+IsRuleMode NonAtomicMode = ⊤
+IsRuleMode AtomicMode = ⊤
+IsRuleMode CompoundAtomicMode = ⊤
+IsRuleMode Between = ⊥
 
 -- the position in bytes, the characters from here on, and the stack, its top first
 pub record State : Type 0 where

@@ -1,5 +1,6 @@
 -- Which grammars are well-formed, and which are plain.
 use Rattle.std.specs.Prelude.{◌≡◌, ℕ, ◌<◌, List, [], Option, Some, ℤ, codes, ⊤}
+use Rattle.std.specs.List.{Contains}
 use Rattle.meta_base.specs.Text.{Text}
 use Rattle.meta_base.specs.Expression.{Expression, Str, Insens, Ident, PeekSlice, PosPred, NegPred, Seq, Choice, Opt, Rep, RepOnce, RepExact, RepMin, RepMax, RepMinMax, Skip, Push, RestoreOnErr, NonAtomic, Rule, Grammar, rule_of, whitespace, comment, Part}
 use Rattle.meta_base.specs.State.{Mode, State, Outcome, Classes}
@@ -85,9 +86,13 @@ module _ (g : Grammar) where
     itself : {n : Text} → Reaches n n
     onward : {n j k : Text} {r : Rule} → Reaches n j → rule_of g j ≡ Some r → Part r.body (Ident k) → Reaches n k
 
--- it stands in the body of a rule
+-- it stands in the body of a rule that a name means
 abbrev pub InRules : Grammar → Expression → Type 0
 InRules g p = (n : Text) × (r : Rule) × (rule_of g n ≡ Some r) × Part r.body p
+
+-- it stands in the body of some rule of the list, be it one that a later rule of its name hides
+abbrev pub InSomeRule : Grammar → Expression → Type 0
+InSomeRule g p = (r : Rule) × Contains g r × Part r.body p
 
 pub data IsSkipped : Text → Type 0 where
   is_whitespace : IsSkipped whitespace
@@ -129,11 +134,21 @@ CountIsReadable (RepMax e i) = 0 < i
 CountIsReadable (RepMinMax e i j) = 0 < j
 CountIsReadable _ = ⊤
 
+-- in every rule of the list
 abbrev pub HasReadableCounts : Grammar → Type 0
-HasReadableCounts g = (p : Expression) → InRules g p → CountIsReadable p
+HasReadableCounts g = (p : Expression) → InSomeRule g p → CountIsReadable p
+
+-- in every rule that a name means
+abbrev pub NamesHaveReadableCounts : Grammar → Type 0
+NamesHaveReadableCounts g = (p : Expression) → InRules g p → CountIsReadable p
 
 abbrev pub HasOutcome : Grammar → Classes → Expression → Mode → State → Type 0
 HasOutcome g classes e m s = (o : Outcome) × Matches g classes e m s o
+
+-- there is an outcome, and every outcome is that one
+abbrev pub HasOneOutcome : Grammar → Classes → Expression → Mode → State → Type 0
+HasOneOutcome g classes e m s =
+    (o : Outcome) × Matches g classes e m s o × ((p : Outcome) → Matches g classes e m s p → p ≡ o)
 
 -- where a grammar may be started: a defined rule, a mode, and a state (a text, a position in it and a stack)
 pub record Start (g : Grammar) : Type 0 where
@@ -144,4 +159,4 @@ pub record Start (g : Grammar) : Type 0 where
   pub state : State
 
 abbrev pub EndsFrom : (g : Grammar) → Classes → Start g → Type 0
-EndsFrom g classes start = HasOutcome g classes (Ident start.name) start.mode start.state
+EndsFrom g classes start = HasOneOutcome g classes (Ident start.name) start.mode start.state

@@ -1,13 +1,16 @@
 // Laws over the definitions alone.
-ghost use Rattle.std.specs.Prelude.{◌≡◌};
-ghost use Rattle.meta_base.specs.Expression.{Grammar, Expression};
-ghost use Rattle.meta_base.specs.State.{Classes, Mode, State, Outcome};
-ghost use Rattle.meta_base.specs.Meaning.{Matches, Does, Task};
-ghost use Rattle.meta_base.specs.Listing.{ListingKeeps};
+ghost use Rattle.std.specs.Prelude.{◌≡◌, ◌↔◌};
+ghost use Rattle.meta_base.specs.Expression.{Grammar, Expression, Rule};
+ghost use Rattle.meta_base.specs.State.{Classes, Mode, IsRuleMode, State, Outcome};
+ghost use Rattle.meta_base.specs.Meaning.{Matches, Does, Task, body_mode};
+ghost use Rattle.meta_base.specs.Listing.{EachListed, ListingKeeps};
+ghost use Rattle.meta_base.specs.Wrapping.{EachRestored};
 ghost use Rattle.meta_base.specs.Rewriting.{KeepsAny, Chain, SameOutcomes, EachRewritten, EachBody, Many, Rotates};
 ghost use Rattle.meta_base.specs.FurthestFailure.{furthest};
 ghost use Rattle.meta_base.specs.LooseMeaning.{Restored, IsSafe, SameEndings};
-ghost use Rattle.meta_base.specs.WellFormed.{HasReadableCounts, IsWellFormed, IsPlain, Start, EndsFrom};
+ghost use Rattle.meta_base.specs.WellFormed.{IsNullable, CannotFail, HasReadableCounts, NamesHaveReadableCounts};
+ghost use Rattle.meta_base.specs.WellFormed.{InRules, InSomeRule, IsWellFormed, IsPlain, Start, EndsFrom};
+ghost use Rattle.meta_base.specs.Grammar.{HasDistinctNames, IsGrammar};
 ghost use Rattle.meta_base.specs.Places.{FitsIn, Stands};
 ghost use Rattle.meta_base.specs.Text.{IsPosition, Text};
 
@@ -22,15 +25,67 @@ pub fn keeps_outcomes()
     ensures { (g h : Grammar) → KeepsAny g → Chain g h → SameOutcomes g h }
 {}
 
-/// In a well-formed plain grammar with readable counts each rule has an outcome from every start.
+/// In a well-formed plain grammar with readable counts each rule has exactly one outcome from every start.
 pub fn terminates()
     ensures { (g : Grammar) (classes : Classes) (start : Start g)
-        → HasReadableCounts g → IsWellFormed g → IsPlain g → EndsFrom g classes start }
+        → NamesHaveReadableCounts g → IsWellFormed g → IsPlain g → EndsFrom g classes start }
 {}
 
-/// Steps keep a grammar well-formed and plain.
-pub fn stays_well_formed()
-    ensures { (g h : Grammar) → Chain g h → HasReadableCounts g → IsWellFormed g → IsPlain g → HasReadableCounts h × IsWellFormed h × IsPlain h }
+/// Where names are distinct, what stands in some rule of the list stands in the rule that a name means, and
+/// the other way round; and readable counts are the same by the rules of the list and by the rules that names
+/// mean.
+pub fn distinct_names_hide_no_rule()
+    ensures parts { (g : Grammar) (p : Expression) → HasDistinctNames g → InSomeRule g p ↔ InRules g p }
+    ensures counts { (g : Grammar) → HasDistinctNames g → HasReadableCounts g ↔ NamesHaveReadableCounts g }
+{}
+
+/// Steps keep a grammar well-formed, plain or not, if no count is 0 where it should not be: `{1,0}` is the
+/// empty literal once it is unrolled.
+pub fn steps_keep_well_formed()
+    ensures { (g h : Grammar) → Chain g h → NamesHaveReadableCounts g → IsWellFormed g → IsWellFormed h }
+{}
+
+/// Steps keep a grammar plain.
+pub fn steps_keep_plain()
+    ensures { (g h : Grammar) → Chain g h → IsPlain g → IsPlain h }
+{}
+
+/// What steps make of a grammar is a grammar, and counts stay readable in every list of rules.
+pub fn steps_keep_grammars()
+    ensures grammar { (g h : Grammar) → Chain g h → IsGrammar g → IsGrammar h }
+    ensures counts { (g h : Grammar) → Chain g h → HasReadableCounts g → HasReadableCounts h }
+    ensures counts_by_name { (g h : Grammar)
+        → Chain g h → NamesHaveReadableCounts g → NamesHaveReadableCounts h }
+{}
+
+/// The listing of every body keeps a grammar well-formed, keeps it plain, and keeps it a grammar.
+pub fn listing_keeps_grammars()
+    ensures well_formed { (g h : Grammar) → EachListed g h → IsWellFormed g → IsWellFormed h }
+    ensures plain { (g h : Grammar) → EachListed g h → IsPlain g → IsPlain h }
+    ensures grammar { (g h : Grammar) → EachListed g h → IsGrammar g → IsGrammar h }
+    ensures counts { (g h : Grammar) → EachListed g h → HasReadableCounts g → HasReadableCounts h }
+    ensures counts_by_name { (g h : Grammar)
+        → EachListed g h → NamesHaveReadableCounts g → NamesHaveReadableCounts h }
+{}
+
+/// So do the wrappers, put where the restorer puts them.
+pub fn wrappers_keep_grammars()
+    ensures well_formed { (g h : Grammar) → EachRestored g h → IsWellFormed g → IsWellFormed h }
+    ensures plain { (g h : Grammar) → EachRestored g h → IsPlain g → IsPlain h }
+    ensures grammar { (g h : Grammar) → EachRestored g h → IsGrammar g → IsGrammar h }
+    ensures counts { (g h : Grammar) → EachRestored g h → HasReadableCounts g → HasReadableCounts h }
+    ensures counts_by_name { (g h : Grammar)
+        → EachRestored g h → NamesHaveReadableCounts g → NamesHaveReadableCounts h }
+{}
+
+/// Whatever cannot fail is nullable: it may succeed without taking anything.
+pub fn what_cannot_fail_is_nullable()
+    ensures { (g : Grammar) (e : Expression) → CannotFail g e → IsNullable g e }
+{}
+
+/// The body of a rule runs in NonAtomic, Atomic or CompoundAtomic, whatever mode the rule is called in.
+pub fn bodies_run_in_rule_modes()
+    ensures { (r : Rule) (m : Mode) → IsRuleMode (body_mode r m) }
 {}
 
 /// A failure has one place.

@@ -14,6 +14,3 @@ pub use faults::Fault;
 pub use places::{Position, Span};
 pub use tokens::{FlatPairs, Pair, Pairs};
 pub use trees::{FirstTree, TokenTree, first_tree};
-
-#[cfg(test)]
-mod tests;

@@ -1,1 +1,4 @@
 pub mod WhatTheyDo
+pub mod WhatIsNullable
+pub mod HowTheyAreRewritten
+pub mod LooseOnes

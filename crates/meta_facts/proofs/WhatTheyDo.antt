@@ -1,12 +1,12 @@
 -- The facts on small grammars and single parts of the meaning.
 use Rattle.std.proofs.Common.{[], ◌≡◌, Some, None, refl, sym, subst, codes}
-use Rattle.meta_base.specs.State.{Classes, Mode, NonAtomicMode, Between, State, Outcome}
+use Rattle.meta_base.specs.State.{Classes, Mode, NonAtomicMode, AtomicMode, CompoundAtomicMode, Between, IsRuleMode, State, Outcome}
 use Rattle.meta_base.specs.Expression.{Str, Ident, Seq, Opt, Rep, Rule, whitespace, comment, rule_of}
 use Rattle.meta_base.specs.Text.{Text}
-use Rattle.meta_base.specs.Meaning.{slice, push, skip, range, Does, Task, Run, Skipping, str, call, other, seq, seq_first, seq_second, opt_none, rep_none, turn_none, skips, compound_atomic, between, skipped, body_mode, rep, rep_once, Matches, atomic, insens, pos_pred, rep_min_max}
-use Rattle.meta_facts.specs.SmallGrammars.{endless, start, ListingDiffers, BlankIsTaken, HasNone, BlankGivesToken, LastRuleIsMeant, NegativeSlices, Newlines, NonAtomicInside, OrdersOfTheStack, OtherReadings, PredicateRestores, PushPushes, RangesThatFail, ReadsEmptyStack, Skips, TokensOfAtomicRules}
+use Rattle.meta_base.specs.Meaning.{slice, push, skip, range, Does, Task, Run, Skipping, str, call, other, seq, seq_first, seq_second, opt_none, rep_none, turn_none, skips, compound_atomic, between, skipped, body_mode, rep, rep_once, Matches, atomic, insens, pos_pred, neg_pred, left, right, turn, rep_min_max}
+use Rattle.meta_facts.specs.SmallGrammars.{Alternatives, CommentsAreSkipped, EmptiesTheStack, LoudBlanks, NegativePredicates, ReadsTheTop, SlicesPastTheLength, TokensOfTheEnd, UndefinedNames, endless, at_start, ListingDiffers, BlankIsTaken, HasNone, BlankGivesToken, LastRuleIsMeant, NegativeSlices, Newlines, NonAtomicInside, OrdersOfTheStack, OtherReadings, PredicateRestores, PushPushes, RangesThatFail, ReadsEmptyStack, Skips, TokensOfAtomicRules}
 use Rattle.meta_base.proofs.Deterministic.{same, same_state, same_rule, from}
-use Rattle.meta_base.specs.Builtins.{builtins, property_names}
+use Rattle.meta_base.specs.Builtins.{builtins, property_names, general_categories, binary_properties, scripts}
 use Rattle.meta_base.specs.Matching.{other_outcome}
 
 pub differs : ListingDiffers
@@ -42,7 +42,7 @@ module _ (classes : Classes) where
   has_rule of_rule h = cc
   has_rule of_blank h = cc
 
-  never : {k : Task} {s : State} {o : Outcome} → Does endless classes k s o → s ≡ start (codes "y") → Endless k → ⊥
+  never : {k : Task} {s : State} {o : Outcome} → Does endless classes k s o → s ≡ at_start (codes "y") → Endless k → ⊥
   never (call h d) e k = never d e (body_of k h)
   never (other h c) e k = has_rule k h
   never (seq a k b) e of_body = never k (sym (same_state (same endless classes (opt_none str) (from endless classes (sym e) a)))) of_skipping
@@ -61,7 +61,7 @@ none_at_all classes m o d = never classes d refl of_rule
 
 -- the facts on single parts of the meaning
 module _ (classes : Classes) where
-  no_outcome : {n : Text} {s : State} {o : Outcome} → other_outcome classes NonAtomicMode n s ≡ None → Matches [] classes (Ident n) NonAtomicMode s o → ⊥
+  no_outcome : {m : Mode} {n : Text} {s : State} {o : Outcome} → other_outcome classes m n s ≡ None → Matches [] classes (Ident n) m s o → ⊥
   no_outcome h (call e d) = cc
   no_outcome h (other e d) = cc
 
@@ -70,6 +70,8 @@ module _ (classes : Classes) where
   reads_empty_stack = record {
     peek = λ o d. no_outcome refl d;
     pop = λ o d. no_outcome refl d;
+    peek_between = other refl refl;
+    pop_between = other refl refl;
     drop = other refl refl;
     peek_all = other refl refl;
     pop_all = other refl refl;
@@ -120,3 +122,52 @@ module _ (classes : Classes) where
     one_is_missing = rep_min_max (seq_second str atomic str);
     insensitive = insens;
   }
+
+  pub reads_the_top : ReadsTheTop classes
+  unfolding builtins
+  reads_the_top = record { peek = other refl refl; peek_fails = other refl refl; pop = other refl refl; pop_fails = other refl refl; drop = other refl refl }
+
+  pub empties_the_stack : EmptiesTheStack classes
+  unfolding builtins
+  empties_the_stack = record { pop_all = other refl refl; pop_all_fails = other refl refl }
+
+  pub negative_predicates : NegativePredicates classes
+  negative_predicates = record { holds = neg_pred str; fails = neg_pred str }
+
+  pub alternatives : Alternatives classes
+  alternatives = record { second = right (seq_second str atomic str) str; first = left str; neither = right str str }
+
+  pub comments_are_skipped : CommentsAreSkipped classes
+  unfolding whitespace comment
+  comments_are_skipped =
+      call refl (seq str
+      (skips (seq (rep (call refl str) (turn_none between (call refl str))) between
+      (rep (seq (call refl str) between (rep (call refl str) (turn_none between (call refl str))))
+      (turn between (seq (call refl str) between (rep (call refl str) (turn_none between (call refl str))))
+      (turn_none between (seq_first (call refl str)))))))
+      str)
+
+  undefined : (m : Mode) (s : State) → IsRuleMode m → other_outcome classes m (codes "a") s ≡ None
+  unfolding builtins property_names general_categories binary_properties scripts
+  undefined NonAtomicMode s h = refl
+  undefined AtomicMode s h = refl
+  undefined CompoundAtomicMode s h = refl
+  undefined Between s h = absurd h
+
+  pub undefined_names : UndefinedNames classes
+  undefined_names = record { none = λ m s o h d. no_outcome (undefined m s h) d; between_fails = λ s. other refl refl }
+
+  pub blanks_of_loud : LoudBlanks classes
+  unfolding whitespace comment
+  blanks_of_loud = record {
+    runs_atomic = call refl (seq str (skips (seq (rep (call refl (seq str atomic str)) (turn_none between (call refl (seq_first str)))) between (rep_none (seq_first (other refl refl))))) str);
+    skips_nothing = call refl (seq_second str atomic str);
+    token_in_atomic = call refl (call refl (seq str atomic str));
+  }
+
+  pub slices_past_the_length : SlicesPastTheLength classes
+  slices_past_the_length = record { start_past = slice; end_past = slice; end_below = slice; at_length = slice }
+
+  pub tokens_of_the_end : TokensOfTheEnd classes
+  unfolding builtins
+  tokens_of_the_end = record { in_non_atomic = other refl refl; in_compound_atomic = other refl refl; in_atomic = other refl refl; before_the_end = other refl refl }

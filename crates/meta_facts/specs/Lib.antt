@@ -1,1 +1,4 @@
 pub mod SmallGrammars
+pub mod NullableExpressions
+pub mod SmallRewritings
+pub mod LooseRuns

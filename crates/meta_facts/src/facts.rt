@@ -1,6 +1,9 @@
 // Facts on small grammars: what they do, tied to the definitions.
 ghost use Rattle.meta_base.specs.State.{Classes};
-ghost use Rattle.meta_facts.specs.SmallGrammars.{ListingDiffers, BlankIsTaken, HasNone, ReadsEmptyStack, OrdersOfTheStack, NegativeSlices, TokensOfAtomicRules, PredicateRestores, PushPushes, Skips, Newlines, RangesThatFail, BlankGivesToken, NonAtomicInside, LastRuleIsMeant, OtherReadings};
+ghost use Rattle.meta_facts.specs.SmallGrammars.{ListingDiffers, BlankIsTaken, HasNone, ReadsEmptyStack, OrdersOfTheStack, NegativeSlices, TokensOfAtomicRules, PredicateRestores, PushPushes, Skips, Newlines, RangesThatFail, BlankGivesToken, NonAtomicInside, LastRuleIsMeant, OtherReadings, ReadsTheTop, EmptiesTheStack, NegativePredicates, Alternatives, CommentsAreSkipped, UndefinedNames, LoudBlanks, SlicesPastTheLength, TokensOfTheEnd};
+ghost use Rattle.meta_facts.specs.NullableExpressions.{NullableOrNot, CannotFailOrMay, LeftCalledOrNot};
+ghost use Rattle.meta_facts.specs.SmallRewritings.{ListingIsComputed, StringsOfNames};
+ghost use Rattle.meta_facts.specs.LooseRuns.{FailuresLose, GoesOnFromWhatIsLeft, RepeatsInBoth};
 
 /// `r = ${ ("a" ~ "b")* ~ "a" }` and its listed form differ on `ab`: the first fails, the second ends at 1.
 pub fn listing_differs()
@@ -17,7 +20,8 @@ pub fn has_none()
     ensures { HasNone }
 {}
 
-/// On an empty stack `PEEK` and `POP` have no outcome, `DROP` fails, and `PEEK_ALL` and `POP_ALL` match nothing.
+/// On an empty stack `PEEK` and `POP` have no outcome, `DROP` fails, and `PEEK_ALL` and `POP_ALL` match
+/// nothing; in the mode of the implicit skipping itself `PEEK` and `POP` fail.
 pub fn reads_empty_stack()
     ensures { (classes : Classes) → ReadsEmptyStack classes }
 {}
@@ -27,7 +31,8 @@ pub fn orders_of_the_stack()
     ensures { (classes : Classes) → OrdersOfTheStack classes }
 {}
 
-/// A negative number of a slice counts from the stack's length; one below the stack fails; an end before the start matches nothing.
+/// A negative number of a slice counts from the stack's length; one below the stack fails; an
+/// end before the start matches nothing.
 pub fn negative_slices()
     ensures { (classes : Classes) → NegativeSlices classes }
 {}
@@ -80,4 +85,94 @@ pub fn last_rule_is_meant()
 /// `"x"{3,2}` is two required copies, and a case-insensitive literal matches up to ASCII case.
 pub fn other_readings()
     ensures { (classes : Classes) → OtherReadings classes }
+{}
+
+/// On a stack with entries `PEEK` matches the top, `POP` also removes it, and `DROP` removes it
+/// and takes nothing.
+pub fn reads_the_top()
+    ensures { (classes : Classes) → ReadsTheTop classes }
+{}
+
+/// `POP_ALL` matches all entries from the top down, and then the stack is empty.
+pub fn empties_the_stack()
+    ensures { (classes : Classes) → EmptiesTheStack classes }
+{}
+
+/// `!e` succeeds where `e` fails and takes nothing, and fails where `e` succeeds.
+pub fn negative_predicates()
+    ensures { (classes : Classes) → NegativePredicates classes }
+{}
+
+/// A second alternative is taken after the first has failed, from the same place, and only then.
+pub fn alternatives()
+    ensures { (classes : Classes) → Alternatives classes }
+{}
+
+/// With `WHITESPACE` and `COMMENT`, comments are skipped with blanks before, between and behind them.
+pub fn comments_are_skipped()
+    ensures { (classes : Classes) → CommentsAreSkipped classes }
+{}
+
+/// A name that is neither a rule's nor a builtin's has no outcome where rules run.
+pub fn undefined_names()
+    ensures { (classes : Classes) → UndefinedNames classes }
+{}
+
+/// A `WHITESPACE` declared `!` runs Atomic all the same, and gives its token to an atomic caller too.
+pub fn loud_blanks()
+    ensures { (classes : Classes) → LoudBlanks classes }
+{}
+
+/// A slice one of whose numbers is past the length of the stack fails.
+pub fn slices_past_the_length()
+    ensures { (classes : Classes) → SlicesPastTheLength classes }
+{}
+
+/// `EOI` gives a token in NonAtomic and CompoundAtomic, and none in Atomic.
+pub fn tokens_of_the_end()
+    ensures { (classes : Classes) → TokensOfTheEnd classes }
+{}
+
+/// Empty literals, predicates and repetitions from 0 are nullable, and of the builtins `SOI` and `EOI`;
+/// `"x"{2,1}` is not, nor is a builtin that reads the stack.
+pub fn nullable_or_not()
+    ensures { NullableOrNot }
+{}
+
+/// Empty literals, `&` of one and repetitions from 0 cannot fail; a `!`, a builtin and `"x"{2,1}` may.
+pub fn cannot_fail_or_may()
+    ensures { CannotFailOrMay }
+{}
+
+/// A name is left-called below a predicate and behind a nullable left side, and not behind a literal or `PEEK`.
+pub fn left_called_or_not()
+    ensures { LeftCalledOrNot }
+{}
+
+/// The listing of `("a" ~ "b")* ~ "a"` is `"a" ~ ("b" ~ "a")*`, and that of its grammar the
+/// listed one of `listing_differs`.
+pub fn listing_is_computed()
+    ensures { ListingIsComputed }
+{}
+
+/// A choice of two names stands for the strings of both, in order.
+pub fn strings_of_names()
+    ensures { StringsOfNames }
+{}
+
+/// Where a failure leaves a stack, a failed `POP` has removed its entry, and a failed `POP_ALL` those down
+/// to and with the one that did not match.
+pub fn failures_lose()
+    ensures { (classes : Classes) → FailuresLose classes }
+{}
+
+/// On `a`, with "b" above "a", `POP | PEEK` then matches where it fails in the strict meaning; a wrapper
+/// round `POP` lets it fail again.
+pub fn goes_on_from_what_is_left()
+    ensures { (classes : Classes) → GoesOnFromWhatIsLeft classes }
+{}
+
+/// `a = { "x"+ }` on `x` ends at 1 in both meanings.
+pub fn repeats_in_both()
+    ensures { (classes : Classes) → RepeatsInBoth classes }
 {}

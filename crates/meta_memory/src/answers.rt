@@ -1,7 +1,8 @@
 //! What a text answers, beside what it is to answer.
-use crate::texts::{Expected, Place, Text};
+use crate::texts::{Expected, GrammarText, Place, Read, Text};
 use meta_base::grammar::Rule;
 use meta_base::runtime::{Error, ErrorVariant, Fault, InputLocation, Pairs};
+use meta_reader::parser::consume_rules_with_spans;
 use meta_syntax::grammar::PestParser;
 use std::alloc::Global;
 use std::fmt;
@@ -17,6 +18,18 @@ pub enum Answer {
     OutOfMemoryLater(usize),
     /// Anything else.
     Other,
+}
+
+impl Answer {
+    /// Whether memory was refused.
+    pub fn is_refused(&self) -> bool {
+        matches!(self, Answer::OutOfMemory | Answer::OutOfMemoryLater(_))
+    }
+
+    /// Whether it is neither the text's own nor a want of memory.
+    pub fn is_wrong(&self) -> bool {
+        matches!(self, Answer::Other)
+    }
 }
 
 impl fmt::Display for Answer {
@@ -78,6 +91,34 @@ fn flattened(alloc: Global, pairs: Pairs<'_, Rule>, expected: &[Place]) -> Answe
     } else {
         Answer::Other
     }
+}
+
+/// What a grammar answers when it is read, and each of its rules is copied.
+pub fn read_of(alloc: Global, grammar: &GrammarText) -> Answer {
+    let is_own = match (copied(alloc, grammar.text), &grammar.expected) {
+        (Ok(count), Read::Rules(rules)) => count == *rules,
+        (Err(Fault::Grammar(errors)), Read::Error(span)) => match errors.as_slice() {
+            [error] => error.location == InputLocation::Span(*span),
+            _ => false,
+        },
+        (Err(Fault::Memory(_)), _) => return Answer::OutOfMemory,
+        _ => false,
+    };
+    if is_own { Answer::Own } else { Answer::Other }
+}
+
+/// How many rules of a grammar equal their copies.
+fn copied(alloc: Global, text: &str) -> Result<usize, Fault> {
+    let pairs = PestParser::parse(alloc, Rule::grammar_rules, text)?;
+    let rules = consume_rules_with_spans(alloc, pairs)?;
+    let mut count = 0usize;
+    for rule in &rules {
+        let copy = rule.clone()?;
+        if copy == *rule {
+            count = count.saturating_add(1);
+        }
+    }
+    Ok(count)
 }
 
 /// Whether these are one syntax error at a place.

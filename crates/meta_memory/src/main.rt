@@ -1,4 +1,4 @@
-//! Reads some texts and says of each whether its answer is its own.
+//! Reads some texts, and some grammars, and says of each whether its answer is its own.
 //!
 //! Run where requests for memory are refused, it shows that `out of memory` is the only other answer. What
 //! it prints takes no memory. It ends with status 0 where each answer was the text's own, with 3 where
@@ -8,10 +8,10 @@
 mod answers;
 mod texts;
 
-use answers::{Answer, answer_of};
+use answers::{answer_of, read_of};
 use std::io;
 use std::process::ExitCode;
-use texts::TEXTS;
+use texts::{GRAMMARS, TEXTS};
 
 fn main(rt: HostRuntime) -> io::Result<ExitCode> {
     let mut refused = false;
@@ -19,11 +19,14 @@ fn main(rt: HostRuntime) -> io::Result<ExitCode> {
     for text in &TEXTS {
         let answer = answer_of(rt.alloc(), text);
         println!(rt; "{}: {answer}", text.name)?;
-        match answer {
-            Answer::Own => {}
-            Answer::OutOfMemory | Answer::OutOfMemoryLater(_) => refused = true,
-            Answer::Other => wrong = true,
-        }
+        refused = refused || answer.is_refused();
+        wrong = wrong || answer.is_wrong();
+    }
+    for grammar in &GRAMMARS {
+        let answer = read_of(rt.alloc(), grammar);
+        println!(rt; "{}: {answer}", grammar.name)?;
+        refused = refused || answer.is_refused();
+        wrong = wrong || answer.is_wrong();
     }
     Ok(if wrong {
         ExitCode::from(1)

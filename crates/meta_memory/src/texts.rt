@@ -20,6 +20,34 @@ pub struct Text {
     pub expected: Expected,
 }
 
+/// What a text is to answer that is read as a grammar.
+pub enum Read {
+    /// So many rules.
+    Rules(usize),
+    /// One error, at this span.
+    Error((usize, usize)),
+}
+
+/// A text that is read as a grammar.
+pub struct GrammarText {
+    pub name: &'static str,
+    pub text: &'static str,
+    pub expected: Read,
+}
+
+pub static GRAMMARS: [GrammarText; 2] = [
+    GrammarText {
+        name: "rules that are read and copied",
+        text: "a = @{ (b ~ ^\"c\\n\" | !'d'..'e'){2, 3} }\nb = _{ PUSH(\"f\")+ ~ PEEK[1..] }",
+        expected: Read::Rules(2),
+    },
+    GrammarText {
+        name: "a rule repeated no times",
+        text: "a = { b{0} }",
+        expected: Read::Error((8, 9)),
+    },
+];
+
 pub static TEXTS: [Text; 4] = [
     Text {
         name: "a rule",

@@ -1,2 +1,3 @@
 pub mod NodeTests
 pub mod Walks
+pub mod Erasing

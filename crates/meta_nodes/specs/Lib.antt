@@ -2,3 +2,5 @@ pub mod Spanned
 pub mod Nodes
 pub mod NodeEquality
 pub mod Walk
+pub mod Erasure
+pub mod Sides

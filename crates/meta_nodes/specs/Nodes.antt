@@ -1,20 +1,15 @@
 -- What nodes and rules of code say: expressions with their pieces of the text, which forget memory.
 use Rattle.std.specs.Prelude.{◌≡◌, List, [], map}
 use Rattle.meta_base.specs.Expression as plain
-use Rattle.meta_base.specs.Ast.{text_of, rule_type_of}
-use Rattle.meta_base.specs.Span.{span_text, span_start, span_end}
-use Rattle.meta_base.specs.declared.ast.RuleType as code_type
-use Rattle.meta_base.specs.declared.runtime.places.Span as code_span
+use Rattle.meta_ast.specs.Ast.{text_of, rule_type_of}
+pub use Rattle.meta_base.specs.Saying.{piece_of}
+use Rattle.meta_ast.specs.declared.ast.RuleType as code_type
 use Rattle.meta_nodes.specs.Spanned as spanned
 use Rattle.meta_nodes.specs.Spanned.{Spanned, Span, Leaf, One, Two, SpannedRule}
 use Rattle.meta_nodes.specs.declared.node.ParserExpr as code
 use Rattle.meta_nodes.specs.declared.node.ParserExpr.TheVariants as is
 use Rattle.meta_nodes.specs.declared.node.ParserNode.{ParserNode}
 use Rattle.meta_nodes.specs.declared.node.ParserRule.{ParserRule}
-
--- the piece of the text that a span of code is
-abbrev pub piece_of : code_span.Span → Span
-piece_of s = record { text = span_text s; start = span_start s; end = span_end s }
 
 -- an expression of code that stands at a place; the `p` and `q` are where its boxes lie
 abbrev pub view_at : Span → code.ParserExpr → Spanned

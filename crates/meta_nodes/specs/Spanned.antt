@@ -2,12 +2,7 @@
 use Rattle.std.specs.Prelude.{ℕ, List}
 use Rattle.meta_base.specs.Text.{Text}
 use Rattle.meta_base.specs.Expression.{Expression, RuleType}
-
--- the piece of a text from the byte `start` to the byte `end`
-pub record Span : Type 0 where
-  pub text : List ℕ
-  pub start : ℕ
-  pub end : ℕ
+pub use Rattle.meta_base.specs.Saying.{Span}
 
 -- what stands round one operand
 pub data Unary : Type 0 where

@@ -5,8 +5,8 @@ ghost use Rattle.meta_nodes.specs.NodeEquality.{rule_eq, rule_eq_equiv, span_eq,
 ghost use Rattle.meta_nodes.specs.Nodes.{piece_of, rule_view, unplaced, view, IsSameExpression};
 
 use crate::node::{ParserExpr, ParserNode, ParserRule};
+use meta_ast::texts::same_text;
 use meta_base::runtime::Span;
-use meta_base::texts::same_text;
 
 impl<'i> PartialEq for ParserRule<'i> {
     ghost eq = { λ a b. rule_eq (rule_view a) (rule_view b) };

@@ -3,8 +3,10 @@
 
 mod cloned;
 mod compared;
+mod erasure;
 mod filter;
 mod node;
 
+pub use crate::erasure::erase_spans;
 pub use crate::filter::filter_internal;
 pub use crate::node::{ParserExpr, ParserNode, ParserRule};

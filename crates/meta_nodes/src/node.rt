@@ -1,5 +1,5 @@
 // What is read: rules, and expressions with the pieces of the text that they stand for.
-use meta_base::ast::RuleType;
+use meta_ast::ast::RuleType;
 use meta_base::runtime::Span;
 
 /// A rule: `name = { node }`, with the modifier of its type before the brace.

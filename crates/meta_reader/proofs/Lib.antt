@@ -10,3 +10,4 @@ pub mod Terminals
 pub mod Terms
 pub mod Within
 pub mod Uniqueness
+pub mod ReadableCounts

@@ -1,5 +1,5 @@
 // Laws over the definitions alone.
-ghost use Rattle.meta_reader.specs.Laws.{ReadsOneExpression, ReadsOneGrammar};
+ghost use Rattle.meta_reader.specs.Laws.{ReadsOneExpression, ReadsOneGrammar, ReadsReadableCounts};
 
 /// Trees are read as one expression at most.
 pub fn reads_one_expression()
@@ -9,4 +9,9 @@ pub fn reads_one_expression()
 /// The trees of a grammar's text are read as one list of rules at most.
 pub fn reads_one_grammar()
     ensures { ReadsOneGrammar }
+{}
+
+/// What is read from trees without a fault has readable counts: nothing is repeated 0 times at most.
+pub fn reads_readable_counts()
+    ensures { ReadsReadableCounts }
 {}

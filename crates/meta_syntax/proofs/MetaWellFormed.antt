@@ -2,12 +2,13 @@
 use Rattle.std.proofs.Common.{◌≡◌, refl, sym, ◌∙◌, ap, ℕ, ◌<◌, List, [], ◌∷◌, Bool, true, false, not, ◌&&◌, ◌||◌, Option, Some, None, is_some, if◌then◌else◌, bytes_eq, nat_lt, map, codes, arith}
 use Rattle.std.proofs.lemmas.Bool.{ltb-true}
 use Rattle.std.proofs.lemmas.Slice.Eq.{bytes_eq-Decides}
-use Rattle.std.specs.List.{list_all}
+use Rattle.std.proofs.lemmas.List.Elements.{All-nil, All-cons, All-contains}
+use Rattle.std.specs.List.{All, list_all}
 use Rattle.meta_base.specs.Expression as spec
 use Rattle.meta_base.specs.Text.{Text}
 use Rattle.meta_base.specs.Expression.{Expression, Str, Range, Ident, PeekSlice, PosPred, NegPred, Seq, Choice, Opt, Rep, RepOnce, RepMin, RepMinMax, RuleType, NonAtomic, Grammar, rule_of, whitespace, comment, Part, whole, of_pos_pred, of_neg_pred, of_seq_left, of_seq_right, of_choice_left, of_choice_right, of_opt, of_rep, of_rep_once, of_rep_exact, of_rep_min, of_rep_max, of_rep_min_max, of_push, of_restore, RepExact, RepMax, or_else}
 use Rattle.meta_base.specs.Builtins.{builtin_of}
-use Rattle.meta_base.specs.WellFormed.{IsNullable, nullable_str, nullable_insens, nullable_soi, nullable_eoi, nullable_call, nullable_pos_pred, nullable_neg_pred, nullable_opt, nullable_rep, nullable_rep_max, nullable_seq, nullable_left, nullable_right, nullable_rep_once, nullable_push, nullable_exact_zero, nullable_exact, nullable_min_zero, nullable_min, nullable_min_max_zero, nullable_min_max, nullable_skip, nullable_restore, LeftCalls, left_name, left_first, left_second, left_pos_pred, left_neg_pred, left_left, left_right, left_opt, left_rep, left_rep_once, left_rep_exact, left_rep_min, left_rep_max, left_rep_min_max, left_push, left_restore, Leads, at_once, by_way, InRules, IsSkipped, is_whitespace, is_comment, IsWellFormed, IsPlain, IsPlainName, of_rule, of_builtin, HasReadableCounts}
+use Rattle.meta_base.specs.WellFormed.{IsNullable, nullable_str, nullable_insens, nullable_soi, nullable_eoi, nullable_call, nullable_pos_pred, nullable_neg_pred, nullable_opt, nullable_rep, nullable_rep_max, nullable_seq, nullable_left, nullable_right, nullable_rep_once, nullable_push, nullable_exact_zero, nullable_exact, nullable_min_zero, nullable_min, nullable_min_max_zero, nullable_min_max, nullable_skip, nullable_restore, LeftCalls, left_name, left_first, left_second, left_pos_pred, left_neg_pred, left_left, left_right, left_opt, left_rep, left_rep_once, left_rep_exact, left_rep_min, left_rep_max, left_rep_min_max, left_push, left_restore, Leads, at_once, by_way, InRules, InSomeRule, IsSkipped, is_whitespace, is_comment, IsWellFormed, IsPlain, IsPlainName, of_rule, of_builtin, HasReadableCounts}
 use Rattle.meta_base.specs.MetaRules.{name_of, meta_rules}
 use Rattle.meta_base.specs.declared.grammar.Rule.{Rule}
 use Rattle.meta_base.specs.declared.grammar.Rule.TheVariants as is
@@ -321,8 +322,20 @@ plain = record {
   skipping = λ n k r s d h e. let f = (fine k r h).atomic in cc;
 }
 
+-- also in a rule that a later one would hide
+abbrev IsSoundRule : spec.Rule → Type 0
+IsSoundRule q = is_sound q.body ≡ true
+
+all_sound : (rs : List Rule) → list_all is_defined rs ≡ true → All IsSoundRule (map rule_at rs)
+all_sound [] d = All-nil IsSoundRule
+all_sound (r ∷ rs) d = All-cons IsSoundRule (rule_at r) (map rule_at rs) (fine_at r (all_fine r (and-first _ _ d))).sound (all_sound rs (and-second _ _ d))
+
+sound_in_some : (p : Expression) → InSomeRule meta_grammar p → is_sound p ≡ true
+unfolding meta_grammar
+sound_in_some p i = sound_part i.2 (All-contains IsSoundRule meta_grammar i.0 (all_sound meta_rules all_defined) i.1)
+
 pub counted : HasReadableCounts meta_grammar
-counted (RepExact e i) p = let h = sound_in (RepExact e i) p in cc
-counted (RepMax e i) p = let h = sound_in (RepMax e i) p in cc
-counted (RepMinMax e i j) p = ltb-true 0 j (and-first _ _ (sound_in (RepMinMax e i j) p))
+counted (RepExact e i) p = let h = sound_in_some (RepExact e i) p in cc
+counted (RepMax e i) p = let h = sound_in_some (RepMax e i) p in cc
+counted (RepMinMax e i j) p = ltb-true 0 j (and-first _ _ (sound_in_some (RepMinMax e i j) p))
 counted _ p = tt

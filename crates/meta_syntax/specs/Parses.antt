@@ -6,6 +6,7 @@ use Rattle.meta_base.specs.Meaning.{Matches}
 use Rattle.meta_base.specs.FurthestFailure.{furthest}
 use Rattle.meta_base.specs.MetaRules.{name_of}
 use Rattle.meta_base.specs.declared.grammar.Rule.{Rule}
+use Rattle.meta_base.specs.declared.grammar.Rule.TheVariants as rule_is
 use Rattle.meta_syntax.specs.declared.entries.Entry.{Entry}
 use Rattle.meta_base.specs.NamedTrees.{named}
 use Rattle.meta_base.specs.Pairs.{pairs_text, pairs_trees}
@@ -40,6 +41,10 @@ TokensGive rule text es = (us : Trees) × Spells rule text us × (seen es ≡ en
 -- the pairs are all those that their text spells for the rule
 abbrev pub AreSpelled : Rule → Pairs Rule → Type 0
 AreSpelled rule pairs = Spells rule (pairs_text pairs) (named (pairs_trees pairs))
+
+-- the pairs are all those of a parse of a grammar
+abbrev pub AreOfAGrammar : Pairs Rule → Type 0
+AreOfAGrammar pairs = AreSpelled rule_is.grammar_rules pairs
 
 -- the rule fails, whatever the classes are, and this is the place of the failure
 abbrev pub FailsAt : Rule → List ℕ → ℕ → Type 0

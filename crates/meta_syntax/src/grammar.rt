@@ -5,7 +5,7 @@ ghost use Rattle.meta_base.specs.Pairs.{pairs_text};
 ghost use Rattle.meta_syntax.specs.Entries.{IsWhole, seen};
 ghost use Rattle.meta_syntax.specs.Parses.{AreSpelled, IsSyntaxError, IsSyntaxErrorOrMemory, ParseRefuses, TokensGive};
 
-use crate::entries::Entry;
+pub use crate::entries::Entry;
 use crate::modes::Mode;
 use crate::recognize::Recognizer;
 use crate::trees::from_entries;

@@ -1,5 +1,5 @@
-//! Tests of the layers below, over their public calls: what texts spell for the rules of the meta-grammar, and
-//! what they are read as.
+//! Tests of the layers below, over their public calls: what texts spell for the rules of the meta-grammar, what they
+//! are read as, and what is said of them. Those of values stand in `value_tests`.
 #![tactic(auto)]
 
 #[cfg(test)]
@@ -7,7 +7,13 @@ mod accepted;
 #[cfg(test)]
 mod depth;
 #[cfg(test)]
+mod erased;
+#[cfg(test)]
+mod names;
+#[cfg(test)]
 mod nodes;
+#[cfg(test)]
+mod printed;
 #[cfg(test)]
 mod read;
 #[cfg(test)]
@@ -16,3 +22,5 @@ mod refused;
 mod rows;
 #[cfg(test)]
 mod spelled;
+#[cfg(test)]
+mod validated;

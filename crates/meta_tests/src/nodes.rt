@@ -2,7 +2,7 @@
 ghost use Rattle.std.specs.Prelude.{◌≡◌, IfSome};
 ghost use Rattle.meta_base.specs.Span.{span_end, span_start};
 
-use meta_base::ast::RuleType;
+use meta_ast::ast::RuleType;
 use meta_base::grammar::Rule;
 use meta_base::runtime::Span;
 use meta_reader::parser::{ParserExpr, ParserNode, ParserRule, filter_internal, rename_meta_rule};

@@ -1,18 +1,16 @@
 //! What the program does once its input is read.
-ghost use Rattle.std.specs.Prelude.{◌≡◌, ◌≤◌, ◌↔◌, IfNone, IfSome, IsUtf8};
-ghost use Rattle.meta_base.specs.Expression.{Grammar};
-ghost use Rattle.pest_meta.specs.Spelling.{Spells};
+ghost use Rattle.std.specs.Prelude.{◌≡◌, ◌≤◌, ◌⊎◌, ◌↔◌, IfNone, IfSome, IsErr, IsOk, IsUtf8};
+ghost use Rattle.pest_meta.specs.Spelling.{HasAnswer, HasRefusal};
 
 use pest_meta::ast::RuleType;
 use pest_meta::optimizer::OptimizedRule;
-use pest_meta::parse_and_optimize;
-use pest_meta::runtime::Fault;
+use pest_meta::{Report, parse_and_optimize, unwrap_or_report};
 use std::alloc::Global;
 use std::io::{self, Write};
 
 /// The grammar was read, and its rules were printed.
 const PRINTED: u8 = 0;
-/// The text is no grammar.
+/// The text is no grammar, or one that is refused.
 const REFUSED: u8 = 1;
 /// Memory was refused.
 const OUT_OF_MEMORY: u8 = 2;
@@ -23,15 +21,16 @@ const UNWRITABLE: u8 = 4;
 
 /// Prints the rules of a grammar to `out`, a line each as `name = modifier{ expr }`, and answers 0.
 ///
-/// Otherwise one line goes to `err`: `grammar error` (1) for a text that is refused, `out of memory` (2), `cannot read`
-/// (3) where there is no input or it isn't UTF-8, `cannot write` (4) where `out` refuses a write. A write that `err`
-/// refuses changes no answer.
+/// Otherwise one text with a line break behind it goes to `err`: the report of a text that is refused (1), `out of
+/// memory` (2), `cannot read` where there is no input or it isn't UTF-8 (3), `cannot write` where `out` refuses a write
+/// (4). A write that `err` refuses changes no answer.
 pub fn run<W: Write, E: Write>(alloc: Global, input: Option<&[u8]>, out: &mut W, err: &mut E) -> u8
     ensures known { result ≤ 4 }
-    ensures unread { IfNone input.entry (result ≡ UNREADABLE) }
-    ensures decoded { IfSome input.entry (λ bytes. result ≡ UNREADABLE ↔ ¬ (IsUtf8 bytes.now)) }
-    ensures refused { IfSome input.entry (λ bytes. result ≡ REFUSED → (g : Grammar) → Spells bytes.now g → ⊥) }
-    ensures printed { IfSome input.entry (λ bytes. result ≡ PRINTED → (g : Grammar) × Spells bytes.now g) }
+    ensures unread { IfNone input.entry (result ≡ 3) }
+    ensures decoded { IfSome input.entry (λ bytes. result ≡ 3 ↔ ¬ (IsUtf8 bytes.now)) }
+    ensures refused { IfSome input.entry (λ bytes. result ≡ 1 → HasRefusal bytes.now) }
+    ensures printed { IfSome input.entry (λ bytes. result ≡ 0 → HasAnswer bytes.now) }
+    ensures unwritten { IfSome input.entry (λ bytes. result ≡ 4 → HasAnswer bytes.now) }
 {
     let Some(bytes) = input else {
         return told(err, "cannot read", UNREADABLE);
@@ -39,21 +38,30 @@ pub fn run<W: Write, E: Write>(alloc: Global, input: Option<&[u8]>, out: &mut W,
     let Ok(grammar) = str::from_utf8(bytes) else {
         return told(err, "cannot read", UNREADABLE);
     };
-    match parse_and_optimize(alloc, grammar) {
-        Ok((_, rules)) => match print(out, &rules) {
-            Ok(()) => PRINTED,
-            Err(_) => told(err, "cannot write", UNWRITABLE),
-        },
-        Err(Fault::Memory(_)) => told(err, "out of memory", OUT_OF_MEMORY),
-        Err(Fault::Grammar(_)) => told(err, "grammar error", REFUSED),
+    match unwrap_or_report(alloc, parse_and_optimize(alloc, grammar)) {
+        Ok((_, rules)) => written(err, print(out, &rules)),
+        Err(Report::Memory) => told(err, "out of memory", OUT_OF_MEMORY),
+        Err(Report::Text(text)) => told(err, text.as_str(), REFUSED),
     }
 }
 
-/// Writes a line to `err`, and answers the status.
-fn told<E: Write>(err: &mut E, line: &str, status: u8) -> u8
+/// The status where the rules were printed or a write of them was refused, which is told.
+fn written<E: Write>(err: &mut E, outcome: io::Result<()>) -> u8
+    ensures known { (result ≡ 0) ⊎ (result ≡ 4) }
+    ensures printed { IsOk outcome → result ≡ 0 }
+    ensures unwritten { IsErr outcome → result ≡ 4 }
+{
+    match outcome {
+        Ok(()) => PRINTED,
+        Err(_) => told(err, "cannot write", UNWRITABLE),
+    }
+}
+
+/// Writes a text and a line break to `err`, and answers the status.
+fn told<E: Write>(err: &mut E, text: &str, status: u8) -> u8
     ensures { result ≡ status }
 {
-    let _ = writeln!(err, "{line}");
+    let _ = writeln!(err, "{text}");
     status
 }
 

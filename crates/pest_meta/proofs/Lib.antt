@@ -1,8 +1,2 @@
-pub mod Reading
-pub mod ReadingRules
-pub mod Rotations
-pub mod Weight
-pub mod Printing
-pub mod Unrolled
-pub mod Passes
-pub mod FirstPath
+pub mod Spelled
+pub mod Reporting

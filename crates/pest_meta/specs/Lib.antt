@@ -1,6 +1,3 @@
-pub mod FirstReading
-pub mod ReadTrees
-pub mod Optimized
-pub mod Unrolled
+pub mod Laws
+pub mod Reports
 pub mod Spelling
-pub mod Faults

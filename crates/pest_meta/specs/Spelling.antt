@@ -1,39 +1,113 @@
--- What a text spells, and what the answer for it is.
-use Rattle.std.specs.Prelude.{◌≡◌, ℕ, List, [], ◌∷◌, ⊤}
+-- What a text spells, and what is answered for it.
+use Rattle.std.specs.Prelude.{◌≡◌, ◌≢◌, ◌⊎◌, ℕ, List, [], Some, None, ⊤}
+use Rattle.std.specs.Borrow.{Bor}
 use Rattle.meta_base.specs.Expression.{Grammar}
-use Rattle.meta_base.specs.State.{Classes, State, Success, Trees}
-use Rattle.meta_base.specs.Rewriting.{Chain, EachBody, IsDone, Rotates, SameOutcomes}
-use Rattle.meta_base.specs.declared.grammar.Rule as rule
+use Rattle.meta_base.specs.Saying.{Complaint, Tell}
+use Rattle.meta_base.specs.State.{Trees}
+use Rattle.meta_base.specs.WellFormed.{IsWellFormed}
+use Rattle.meta_base.specs.declared.grammar.Rule.{Rule}
 use Rattle.meta_base.specs.declared.grammar.Rule.TheVariants as rule_is
 use Rattle.meta_base.specs.declared.runtime.errors.Error.{Error}
-use Rattle.meta_base.specs.declared.runtime.faults.Fault.{Fault}
+use Rattle.meta_base.specs.declared.runtime.faults.Fault as code
 use Rattle.meta_base.specs.declared.runtime.faults.Fault.TheVariants as fault_is
+use Rattle.meta_ast.specs.Optimized.{optimized_rules_of}
+use Rattle.meta_ast.specs.declared.optimized.OptimizedRule.{OptimizedRule}
+use Rattle.meta_names.specs.GrammarNames.{AreWrittenAt, calls, definitions, first_calls, name_complaints}
+use Rattle.meta_nodes.specs.Erasure.{rules_without_spans}
+use Rattle.meta_nodes.specs.Spanned.{SpannedRule}
+use Rattle.meta_optimizer.specs.Passes.{IsOptimized}
+use Rattle.meta_reader.specs.Faults.{Fault, first_fault}
+use Rattle.meta_reader.specs.Reading.{ReadsRules}
+use Rattle.meta_reader.specs.Refusals.{TellsOf}
 use Rattle.meta_syntax.specs.Parses as parsed
-use Rattle.meta_syntax.specs.Parses.{IsRefused, IsSyntaxError, Recognizes}
-use Rattle.pest_meta.specs.FirstReading.{ReadsRules}
-use Rattle.pest_meta.specs.Optimized.{optimized_rules_of}
-use Rattle.pest_meta.specs.declared.optimizer.OptimizedRule.{OptimizedRule}
+use Rattle.meta_syntax.specs.Parses.{IsRefused}
+use Rattle.meta_validator.specs.Reported.{AreReported}
 
--- the whole text is a grammar of the meta-grammar, whose token trees are read as these rules
-pub record Spells (text : List ℕ) (g : Grammar) : Type 0 where
+-- the trees of a text: those that the meta-grammar gives for the whole of it
+abbrev pub HasTrees : List ℕ → Trees → Type 0
+HasTrees text trees = parsed.Spells rule_is.grammar_rules text trees
+
+-- trees of a text have no fault and are read as these rules, spans left out
+pub record Give (text : List ℕ) (trees : Trees) (rules : Grammar) : Type 0 where
+  pub faultless : first_fault text trees ≡ None
+  pub read : List SpannedRule
+  pub reads : ReadsRules text trees read
+  pub same : rules ≡ rules_without_spans read
+
+-- the text spells these rules: its trees give them
+pub record Spells (text : List ℕ) (rules : Grammar) : Type 0 where
   pub trees : Trees
-  pub recognized : (classes : Classes) → (t : State) × Recognizes rule_is.grammar_rules text classes (Success t trees)
-  pub read : ReadsRules text trees g
+  pub of_text : HasTrees text trees
+  pub give : Give text trees rules
 
--- the rules are those that the text spells, rotated as far as they can be, and mean the same
-pub record IsAnswer (text : List ℕ) (answer : List OptimizedRule) : Type 0 where
+-- the text spells no rules
+abbrev pub SpellsNone : List ℕ → Type 0
+SpellsNone text = (rules : Grammar) → Spells text rules → ⊥
+
+-- trees of a text give these rules, nothing is found in them, and they are well-formed
+pub record AreAccepted (text : List ℕ) (trees : Trees) (rules : Grammar) : Type 0 where
+  pub give : Give text trees rules
+  pub nothing_found : AreReported give.read []
+  pub well_formed : IsWellFormed rules
+
+-- trees of a text have a fault, and one error tells of the first
+pub record AreFaulty (text : List ℕ) (trees : Trees) (errors : List (Error Rule)) : Type 0 where
+  pub fault : Fault
+  pub first : first_fault text trees ≡ Some fault
+  pub tells : TellsOf fault errors
+
+-- trees of a text give rules in which something is found, and the errors tell of it
+pub record HaveFindings (text : List ℕ) (trees : Trees) (errors : List (Error Rule)) : Type 0 where
+  pub rules : Grammar
+  pub give : Give text trees rules
+  pub some : errors ≢ []
+  pub tell : AreReported give.read errors
+
+-- why trees of a text are not accepted: memory is wanting, or they have a fault, or something is found in their rules
+abbrev pub AreRejected : List ℕ → Trees → code.Fault → Type 0
+AreRejected text trees (fault_is.Memory e) = ⊤
+AreRejected text trees (fault_is.Grammar errors) = AreFaulty text trees errors.items ⊎ HaveFindings text trees errors.items
+
+-- what there is to say of the names in trees of a text: keywords, names defined twice, undefined names
+abbrev pub complaints_in : List ℕ → Trees → List Complaint
+complaints_in text trees = name_complaints (definitions text trees) (calls text trees)
+
+-- the rules that the text spells are accepted, and optimized; its names are in order, and the builtins are those that
+-- it calls, each once, in the order of their first calls
+pub record IsAnswer (text : List ℕ) (builtins : List (Bor (List ℕ))) (answer : List OptimizedRule) : Type 0 where
+  pub trees : Trees
+  pub of_text : HasTrees text trees
+  pub well_named : complaints_in text trees ≡ []
+  pub uses : AreWrittenAt (first_calls (definitions text trees) (calls text trees)) builtins
   pub spelled : Grammar
-  pub spells : Spells text spelled
-  pub rotated : EachBody (λ _. IsDone Rotates) spelled (optimized_rules_of answer)
-  pub chain : Chain spelled (optimized_rules_of answer)
-  pub outcomes : SameOutcomes spelled (optimized_rules_of answer)
+  pub accepted : AreAccepted text trees spelled
+  pub optimized : IsOptimized spelled (optimized_rules_of answer)
 
--- one syntax error: where the text is refused by the meta-grammar, or at its start where it is a grammar that is not read so far
-pub data SaysSyntaxError (text : List ℕ) (errors : List (Error rule.Rule)) : Type 0 where
-  unrecognized : IsRefused rule_is.grammar_rules text errors → SaysSyntaxError text errors
-  unread : (trees : Trees) → parsed.Spells rule_is.grammar_rules text trees → IsSyntaxError text 0 errors → SaysSyntaxError text errors
+-- the text is no grammar: one syntax error says so, at the furthest place of a failure
+pub record IsNoGrammar (text : List ℕ) (errors : List (Error Rule)) : Type 0 where
+  pub says : IsRefused rule_is.grammar_rules text errors
+  pub none : SpellsNone text
 
--- memory is wanting, or the text spells no grammar
-abbrev pub IsRefusal : List ℕ → Fault → Type 0
+-- the errors tell of the names of a text's trees
+pub record IsMisnamed (text : List ℕ) (trees : Trees) (errors : List (Error Rule)) : Type 0 where
+  pub some : complaints_in text trees ≢ []
+  pub tell : Tell (complaints_in text trees) errors
+
+-- the text is a grammar that is refused: for its names, or else for what its trees give
+pub record IsRefusedGrammar (text : List ℕ) (errors : List (Error Rule)) : Type 0 where
+  pub trees : Trees
+  pub of_text : HasTrees text trees
+  pub why : IsMisnamed text trees errors ⊎ (AreFaulty text trees errors ⊎ HaveFindings text trees errors)
+
+-- why a text has no answer: memory is wanting, or it is no grammar, or a grammar that is refused
+abbrev pub IsRefusal : List ℕ → code.Fault → Type 0
 IsRefusal text (fault_is.Memory e) = ⊤
-IsRefusal text (fault_is.Grammar errors) = SaysSyntaxError text errors.items × ((g : Grammar) → Spells text g → ⊥)
+IsRefusal text (fault_is.Grammar errors) = IsNoGrammar text errors.items ⊎ IsRefusedGrammar text errors.items
+
+-- there is an answer for the text
+abbrev pub HasAnswer : List ℕ → Type 0
+HasAnswer text = (builtins : List (Bor (List ℕ))) × (answer : List OptimizedRule) × IsAnswer text builtins answer
+
+-- there is a reason to refuse the text
+abbrev pub HasRefusal : List ℕ → Type 0
+HasRefusal text = (errors : List (Error Rule)) × (IsNoGrammar text errors ⊎ IsRefusedGrammar text errors)

@@ -1,43 +1,46 @@
 //! The front end: from a grammar's text to its optimized rules.
 #![tactic(auto)]
 
-pub mod optimizer;
-mod reader;
+pub mod laws;
+pub mod parser;
+mod report;
+pub mod validator;
 
-ghost use Rattle.std.specs.Prelude.{◌≡◌, [], IfErr, IfOk};
+ghost use Rattle.std.specs.Prelude.{IfErr, IfOk};
 ghost use Rattle.pest_meta.specs.Spelling.{IsAnswer, IsRefusal};
 
+pub use meta_ast::ast;
 use meta_base::grammar::Rule;
-pub use meta_base::{ast, runtime};
-use meta_syntax::grammar::{PestParser, syntax_error};
+pub use meta_base::runtime;
+pub use meta_optimizer as optimizer;
+pub use meta_syntax::grammar;
 use optimizer::OptimizedRule;
+use parser::{PestParser, consume_rules};
+pub use report::{Report, unwrap_or_report};
 use runtime::Fault;
 use std::alloc::Global;
+use validator::validate_pairs;
 
 /// The builtins that a grammar uses, and its optimized rules.
 ///
-/// So far the text is read where its rules have bodies of names, strings without a backslash, `~`, `|` and
-/// parentheses; comments and blanks are skipped. The rules are those that the text spells, in order, with `~` and `|`
-/// nested to the right, and have the same outcomes from every start. Names are not validated yet, so the list of
-/// builtins is empty.
+/// The builtins are the names that it calls and doesn't define, each once, in the order of their first calls, each as
+/// it is written there. The rules are those that the text spells, in order, with their names and types.
 ///
-/// Refused with one syntax error where the text spells no such grammar, unless memory is wanting: at the place where
-/// `PestParser::parse` refuses it, or at position 0 where it is a grammar with something that is not read so far.
+/// Refused where memory is; where the text is no grammar, with one syntax error; where its names are not in order, with
+/// the errors of `validator::validate_pairs`; and where its rules are not, with those of `parser::consume_rules`.
 pub fn parse_and_optimize<'i>(
     alloc: Global,
     grammar: &'i str,
 ) -> Result<(Vec<&'i str>, Vec<OptimizedRule>), Fault>
-    ensures builtins { IfOk result (λ answer. answer.0.items ≡ []) }
-    ensures rules { IfOk result (λ answer. IsAnswer grammar.entry.now answer.1.items) }
+    ensures answer { IfOk result (λ answer. IsAnswer grammar.entry.now answer.0.items answer.1.items) }
     ensures refused { IfErr result (IsRefusal grammar.entry.now) }
 {
     let pairs = PestParser::parse(alloc, Rule::grammar_rules, grammar)?;
-    match reader::rules(alloc, grammar, pairs.trees()) {
-        Ok(Some(rules)) => match optimizer::optimized(alloc, rules) {
-            Ok(rules) => Ok((Vec::new(alloc), rules)),
-            Err(error) => Err(Fault::Memory(error)),
-        },
-        Ok(None) => Err(syntax_error(alloc, grammar, 0)),
-        Err(error) => Err(Fault::Memory(error)),
-    }
+    let copy = match pairs.clone() {
+        Ok(copy) => copy,
+        Err(error) => return Err(Fault::Memory(error)),
+    };
+    let builtins = validate_pairs(alloc, copy)?;
+    let rules = consume_rules(alloc, pairs)?;
+    Ok((builtins, optimizer::optimize(alloc, rules)?))
 }

@@ -48,12 +48,31 @@ fn grammars_are_printed(rt: HostRuntime) {
             "a = { (\"x\" ~ \"y\") ~ \"z\" | \"c\" }",
             "a = { ((\"x\" ~ \"y\" ~ \"z\") | \"c\") }\n",
         ),
-        ("a = @{ \"x\" ~ \"y\" }", "a = @{ (\"x\" ~ \"y\") }\n"),
+        ("a = @{ \"x\" ~ \"y\" }", "a = @{ \"xy\" }\n"),
         (
             "a = _{ (((\"x\"))) } b = ${ a } c = !{ \"é\" ~ \"\t\" }",
             "a = _{ \"x\" }\nb = ${ a }\nc = !{ (\"é\" ~ \"\\t\") }\n",
         ),
         ("a = { /* c */ \"x\" // d\n}", "a = { \"x\" }\n"),
+        ("a = { !e? } e = { \"e\" }", "a = { !e? }\ne = { \"e\" }\n"),
+        (
+            "a = { (!e)? } e = { \"e\" }",
+            "a = { (!e)? }\ne = { \"e\" }\n",
+        ),
+        (
+            "a = { PUSH(\"a\") ~ PEEK[0..-1] ~ POP }",
+            "a = { (PUSH(\"a\") ~ PEEK[0..-1] ~ POP) }\n",
+        ),
+        (
+            "a = { (\"x\"{2,3} ~ ^\"y\")* }",
+            "a = { ((\"x\" ~ \"x\" ~ \"x\"?) ~ ^\"y\")* }\n",
+        ),
+        ("a = { '\\''..'\"' }", "a = { ('\\''..'\"') }\n"),
+        (
+            "a = { \"\\u{85}é\\u{2028}\" }",
+            "a = { \"\\u{85}é\\u{2028}\" }\n",
+        ),
+        ("//! d\n/// e\na = { | \"x\"{0,} }", "a = { \"x\"* }\n"),
         ("", ""),
     ];
     for (text, printed) in rows {
@@ -64,22 +83,77 @@ fn grammars_are_printed(rt: HostRuntime) {
     }
 }
 
+/// Where an error stands, the place as `line:column`, its line, what is under that, and its message.
+fn report(alloc: Global, rows: [&str; 4]) -> Result<String, AllocError> {
+    let [place, line, under, message] = rows;
+    format!(in alloc;
+        "grammar error\n\n --> {place}\n  |\n1 | {line}\n  | {under}\n  |\n  = {message}\n"
+    )
+}
+
 #[test]
-fn other_texts_are_refused(rt: HostRuntime) {
+fn other_texts_are_refused(rt: HostRuntime) -> Result<(), Fail> {
     let rows = [
-        "a = { \"x\"",
-        "a = { }",
-        "PUSHx = { \"a\" }",
-        "a = { \"x\" } b",
-        "a = { \"x\"* }",
-        "a = { \"\\n\" }",
+        [
+            "1:10",
+            "a = { \"x\"",
+            "         ^---",
+            "unknown parsing error",
+        ],
+        [
+            "1:13",
+            "a = { \"x\" ~ }",
+            "            ^---",
+            "unknown parsing error",
+        ],
+        ["1:1", "PUSHx = { \"a\" }", "^---", "unknown parsing error"],
+        [
+            "1:11",
+            "a = { \"x\"{0} }",
+            "          ^",
+            "cannot repeat 0 times",
+        ],
+        [
+            "1:11",
+            "a = { \"x\"{4294967296} }",
+            "          ^--------^",
+            "number cannot overflow u32",
+        ],
+        [
+            "1:15",
+            "a = { PEEK[0..2147483648] }",
+            "              ^--------^",
+            "number cannot overflow i32",
+        ],
+        [
+            "1:7",
+            "a = { \"\\u{d800}\" }",
+            "      ^--------^",
+            "escape is not a Unicode scalar value",
+        ],
+        ["1:7", "a = { b }", "      ^", "rule b is undefined"],
+        [
+            "1:14",
+            "a = { \"x\"? ~ a }",
+            "             ^",
+            "rule a is left-recursive (a -> a); pest::pratt_parser might be useful in this case",
+        ],
+        [
+            "1:7",
+            "a = { PUSH_LITERAL(\"x\") }",
+            "      ^---------------^",
+            "PUSH_LITERAL requires feature grammar-extras",
+        ],
     ];
-    for text in rows {
+    for row in rows {
+        let [_, text, _, _] = row;
         let (status, out, err) = checked(rt.alloc(), text);
+        let wanted = report(rt.alloc(), row)?;
         assert_eq!(rt; status, 1, "at {text}");
         assert!(rt; out.is_empty(), "at {text}");
-        assert!(rt; err.as_slice() == "grammar error\n".as_bytes(), "at {text}");
+        assert!(rt; err.as_slice() == wanted.as_str().as_bytes(), "at {text}");
     }
+    Ok(())
 }
 
 #[test]
@@ -154,12 +228,17 @@ fn a_deep_grammar_is_printed(rt: HostRuntime) -> Result<(), Fail> {
 
 #[test]
 fn a_long_grammar_is_printed(rt: HostRuntime) -> Result<(), Fail> {
-    let rule =
-        "a_rule_of_a_hundred_bytes = { another_rule_of_the_grammar ~ \"a string, and a second\" | yet_another }\n";
-    let long = repeated(rt.alloc(), rule, 1000)?;
+    let mut long = String::new(rt.alloc());
+    for number in 0..1000u32 {
+        write!(
+            long,
+            "rule_{number} = {{ ASCII_DIGIT ~ \"a string, and a second\" | rule_0_{number} }}\n"
+        )?;
+        write!(long, "rule_0_{number} = {{ \"x\" }}\n")?;
+    }
     let (status, out, _) = checked(rt.alloc(), long.as_str());
     assert_eq!(rt; status, 0);
     let lines = out.as_slice().iter().filter(|byte| **byte == b'\n').count();
-    assert_eq!(rt; lines, 1000);
+    assert_eq!(rt; lines, 2000);
     Ok(())
 }

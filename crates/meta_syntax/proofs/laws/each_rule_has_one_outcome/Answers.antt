@@ -1,5 +1,6 @@
 use Rattle.meta_base.specs.Expression.{Ident}
 use Rattle.meta_base.specs.MetaRules.{name_of}
+use Rattle.meta_base.proofs.SomeRule.{names_readable}
 use Rattle.meta_syntax.specs.MetaGrammar.{meta_grammar}
 use Rattle.meta_syntax.proofs.Lookup.{each_ends}
 use Rattle.meta_syntax.proofs.laws.each_rule_has_one_outcome.Goals as goal
@@ -8,6 +9,9 @@ pub returns : goal.returns
 returns c = record {
   has_one = λ classes r m s.
       let w = c.meta_grammar_is_well_formed.ensures in
-      each_ends classes m s (λ n q h. c.terminates.ensures meta_grammar classes (record { name = n; rule = q; defined = h; mode = m; state = s }) w.counts w.well_formed w.plain) r;
+      each_ends classes m s (λ n q h.
+      let counts = names_readable meta_grammar w.counts in
+      let d = c.terminates.ensures meta_grammar classes (record { name = n; rule = q; defined = h; mode = m; state = s }) counts w.well_formed w.plain in
+      (d.0, d.1)) r;
   only_one = λ classes r m s o p x y. c.one_outcome.ensures meta_grammar classes (Ident (name_of r)) m s o p x y;
 }

@@ -1,9 +1,13 @@
-use Rattle.meta_base.specs.Expression.{Grammar}
-use Rattle.pest_meta.specs.Spelling.{Spells}
+use Rattle.std.proofs.Common.{Err, ap, ◌∙◌}
+use Rattle.pest_meta.specs.Spelling.{HasRefusal}
+use Rattle.pest_check.proofs.Reported.{reason}
 use Rattle.pest_check.proofs.checks.run.Goals as goal
 
 pub returns-clause-refused : goal.returns-clause-refused
 returns-clause-refused g c =
-    let refused = rw c.in-Err-Grammar.field-0-is at c.in-Err-Grammar.ensures.refused in
-    let no_grammar : (g : Grammar) → Spells c.in-Some.bytes.now g → ⊥ = rw (← c.in-Ok.ensures.cases.0) refused.1 in
-    rw c.in-Some.is (λ status. no_grammar)
+    let said = c.in-Err-Text.is ∙ ap Err c.in-Err-Text.field-0-is in
+    let parsed = c.parse_and_optimize in
+    let reported = c.unwrap_or_report in
+    let why = reason c.in-Ok.grammar.now parsed.result reported.result c.in-Err-Text.text parsed.ensures.refused reported.ensures.value reported.ensures.report said in
+    let here : HasRefusal c.in-Some.bytes.now = rw (← c.in-Ok.ensures.cases.0) why in
+    rw c.in-Some.is (λ status. here)

@@ -8,8 +8,10 @@ returns-in-Ok-clause-one c =
     record {
       error = c.in_ok-error.error;
       one = c.in-Ok.ensures.items;
-      variant = rw (e.variant, m) c.message.ensures;
-      location = e.location;
-      line_col = e.line_col;
-      line = e.line;
+      says = record {
+        variant = rw (e.variant, m) c.message.ensures;
+        location = e.location;
+        line_col = e.line_col;
+        line = e.line;
+      };
     }

@@ -1,0 +1,4 @@
+pub mod Characters
+pub mod Literals
+pub mod Weight
+pub mod WrittenBytes

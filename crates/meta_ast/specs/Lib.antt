@@ -1,0 +1,4 @@
+pub mod Ast
+pub mod Optimized
+pub mod Printing
+pub mod PrintedBytes

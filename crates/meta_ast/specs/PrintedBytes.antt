@@ -1,0 +1,121 @@
+-- What is written of the code's expressions, in bytes, put together in the order in which it is written.
+use Rattle.std.specs.Prelude.{ℕ, ℤ, Option, List, [], ◌∷◌, ◌++◌, codes, string_bytes, encode_utf8_all}
+use Rattle.std.specs.List.{flat_map}
+use Rattle.std.specs.declared.string.String.{String}
+use Rattle.std.specs.declared.alloc.Global.{Global}
+use Rattle.std.specs.Fmt.{decimal, signed_decimal}
+use Rattle.meta_base.specs.Text.{Text}
+use Rattle.meta_ast.specs.Ast.{text_of}
+use Rattle.meta_ast.specs.Printing.{literal, bound_literal, slice_end}
+use Rattle.meta_ast.specs.declared.ast.Expr as plain
+use Rattle.meta_ast.specs.declared.optimized.OptimizedExpr as optimized
+
+-- an expression by itself, on the right of a `~` and of a `|`, and before a postfix operator
+pub record ByPlace : Type 0 where
+  pub alone : List ℕ
+  pub after_tilde : List ℕ
+  pub after_bar : List ℕ
+  pub before_postfix : List ℕ
+
+-- the same at each place
+abbrev pub everywhere : List ℕ → ByPlace
+everywhere t = record { alone = t; after_tilde = t; after_bar = t; before_postfix = t }
+
+-- between parentheses
+abbrev pub enclosed : List ℕ → List ℕ
+enclosed t = codes "(" ++ t ++ codes ")"
+
+-- a text as a literal
+abbrev pub literal_bytes : String Global → List ℕ
+literal_bytes s = encode_utf8_all (literal 34 (text_of s))
+
+-- a bar and a literal
+abbrev pub one_more : String Global → List ℕ
+one_more s = codes " | " ++ literal_bytes s
+
+-- literals with bars between them
+abbrev pub alternatives_bytes : List (String Global) → List ℕ
+alternatives_bytes [] = []
+alternatives_bytes (s ∷ ss) = literal_bytes s ++ flat_map one_more ss
+
+-- a forward search for one of the texts
+abbrev pub skip_bytes : List (String Global) → List ℕ
+skip_bytes ss = codes "(!(" ++ alternatives_bytes ss ++ codes ") ~ ANY)*"
+
+-- from the first character of one text to that of the other
+abbrev pub range_bytes : Text → Text → List ℕ
+range_bytes t u =
+    enclosed (encode_utf8_all (bound_literal t) ++ codes ".." ++ encode_utf8_all (bound_literal u))
+
+-- a slice of the stack
+abbrev pub slice_bytes : ℤ → Option ℤ → List ℕ
+slice_bytes i j = codes "PEEK[" ++ signed_decimal i ++ codes ".." ++ slice_end j ++ codes "]"
+
+-- a predicate of that sign
+abbrev pub predicate_bytes : List ℕ → ByPlace → ByPlace
+predicate_bytes sign x =
+    let t = sign ++ x.alone in
+    record { alone = t; after_tilde = t; after_bar = t; before_postfix = enclosed t }
+
+-- one after another, and one or the other
+abbrev pub sequence_bytes : ByPlace → ByPlace → ByPlace
+sequence_bytes x y =
+    let t = x.alone ++ codes " ~ " ++ y.after_tilde in
+    record { alone = enclosed t; after_tilde = t; after_bar = enclosed t; before_postfix = enclosed t }
+
+abbrev pub choice_bytes : ByPlace → ByPlace → ByPlace
+choice_bytes x y =
+    let t = x.alone ++ codes " | " ++ y.after_bar in
+    record { alone = enclosed t; after_tilde = enclosed t; after_bar = t; before_postfix = enclosed t }
+
+-- a postfix operator
+abbrev pub postfix_bytes : ByPlace → List ℕ → ByPlace
+postfix_bytes x sign = everywhere (x.before_postfix ++ sign)
+
+-- what a wrapper holds
+abbrev pub wrapper_bytes : ByPlace → ByPlace
+wrapper_bytes x =
+    record { alone = x.alone; after_tilde = x.alone; after_bar = x.alone; before_postfix = x.before_postfix }
+
+-- an expression; the `p` and `q` are where its boxes lie
+abbrev pub written_bytes : plain.Expr → ByPlace
+written_bytes (plain.Str s) = everywhere (literal_bytes s)
+written_bytes (plain.Insens s) = everywhere (codes "^" ++ literal_bytes s)
+written_bytes (plain.Range s u) = everywhere (range_bytes (text_of s) (text_of u))
+written_bytes (plain.Ident s) = everywhere (string_bytes s)
+written_bytes (plain.PeekSlice i j) = everywhere (slice_bytes i j)
+written_bytes (plain.PosPred' p x) = predicate_bytes (codes "&") (written_bytes x)
+written_bytes (plain.NegPred' p x) = predicate_bytes (codes "!") (written_bytes x)
+written_bytes (plain.Seq' p x q y) = sequence_bytes (written_bytes x) (written_bytes y)
+written_bytes (plain.Choice' p x q y) = choice_bytes (written_bytes x) (written_bytes y)
+written_bytes (plain.Opt' p x) = postfix_bytes (written_bytes x) (codes "?")
+written_bytes (plain.Rep' p x) = postfix_bytes (written_bytes x) (codes "*")
+written_bytes (plain.RepOnce' p x) = postfix_bytes (written_bytes x) (codes "+")
+written_bytes (plain.RepExact' p x n) =
+    everywhere ((written_bytes x).before_postfix ++ codes "{" ++ decimal n ++ codes "}")
+written_bytes (plain.RepMin' p x m) =
+    everywhere ((written_bytes x).before_postfix ++ codes "{" ++ decimal m ++ codes ",}")
+written_bytes (plain.RepMax' p x n) =
+    everywhere ((written_bytes x).before_postfix ++ codes "{," ++ decimal n ++ codes "}")
+written_bytes (plain.RepMinMax' p x m n) =
+    everywhere ((written_bytes x).before_postfix
+    ++ codes "{" ++ decimal m ++ codes ", " ++ decimal n ++ codes "}")
+written_bytes (plain.Skip ss) = everywhere (skip_bytes ss.items)
+written_bytes (plain.Push' p x) = everywhere (codes "PUSH(" ++ (written_bytes x).alone ++ codes ")")
+
+-- an optimized expression
+abbrev pub optimized_bytes : optimized.OptimizedExpr → ByPlace
+optimized_bytes (optimized.Str s) = everywhere (literal_bytes s)
+optimized_bytes (optimized.Insens s) = everywhere (codes "^" ++ literal_bytes s)
+optimized_bytes (optimized.Range s u) = everywhere (range_bytes (text_of s) (text_of u))
+optimized_bytes (optimized.Ident s) = everywhere (string_bytes s)
+optimized_bytes (optimized.PeekSlice i j) = everywhere (slice_bytes i j)
+optimized_bytes (optimized.PosPred' p x) = predicate_bytes (codes "&") (optimized_bytes x)
+optimized_bytes (optimized.NegPred' p x) = predicate_bytes (codes "!") (optimized_bytes x)
+optimized_bytes (optimized.Seq' p x q y) = sequence_bytes (optimized_bytes x) (optimized_bytes y)
+optimized_bytes (optimized.Choice' p x q y) = choice_bytes (optimized_bytes x) (optimized_bytes y)
+optimized_bytes (optimized.Opt' p x) = postfix_bytes (optimized_bytes x) (codes "?")
+optimized_bytes (optimized.Rep' p x) = postfix_bytes (optimized_bytes x) (codes "*")
+optimized_bytes (optimized.Skip ss) = everywhere (skip_bytes ss.items)
+optimized_bytes (optimized.Push' p x) = everywhere (codes "PUSH(" ++ (optimized_bytes x).alone ++ codes ")")
+optimized_bytes (optimized.RestoreOnErr' p x) = wrapper_bytes (optimized_bytes x)

@@ -1,0 +1,78 @@
+//! Grammars as values: rules, their types and their expressions.
+//!
+//! A string field is a text, and two values are equal where they are of the same variant with equal
+//! fields. Neither an allocator nor a capacity counts.
+mod cloned;
+mod compared;
+mod printed;
+
+/// A rule of a grammar: `name = { expr }`, with the modifier of its type before the brace.
+#[derive(Debug, Drop)]
+pub struct Rule {
+    /// The name that calls it.
+    pub name: String,
+    /// How its body is run, and whether it gives a token.
+    pub ty: RuleType,
+    /// Its body.
+    pub expr: Expr,
+}
+
+/// How a rule's body is run, and whether the rule gives a token.
+///
+/// A rule named `WHITESPACE` or `COMMENT` runs as an Atomic one, unless it is CompoundAtomic.
+#[derive(Clone, Copy, Debug, Eq, PartialEq)]
+pub enum RuleType {
+    /// Runs as its caller does, and gives a token: `a = { .. }`.
+    Normal,
+    /// Runs as its caller does, and gives no token: `a = _{ .. }`.
+    Silent,
+    /// Runs with no implicit skipping and no tokens inside, and gives a token: `a = @{ .. }`.
+    Atomic,
+    /// Runs with no implicit skipping, and gives a token: `a = ${ .. }`.
+    CompoundAtomic,
+    /// Runs with the implicit skipping, and gives a token: `a = !{ .. }`.
+    NonAtomic,
+}
+
+/// An expression of a grammar.
+#[derive(Debug, Drop)]
+pub enum Expr {
+    /// The text itself: `"a"`.
+    Str(String),
+    /// The text up to the case of ASCII letters: `^"a"`.
+    Insens(String),
+    /// One character from the first of one text to the first of the other, both included:
+    /// `'a'..'z'`.
+    Range(String, String),
+    /// A call of the rule or the builtin of that name.
+    Ident(String),
+    /// The texts from one place of the stack up to another, from its bottom. A negative place
+    /// counts from the stack's length, which is also the end where none is given: `PEEK[0..-1]`.
+    PeekSlice(i32, Option<i32>),
+    /// Succeeds in place where the expression succeeds: `&e`.
+    PosPred(Box<Expr>),
+    /// Succeeds in place where the expression fails: `!e`.
+    NegPred(Box<Expr>),
+    /// One expression after another: `a ~ b`.
+    Seq(Box<Expr>, Box<Expr>),
+    /// The first expression, or the second where that fails: `a | b`.
+    Choice(Box<Expr>, Box<Expr>),
+    /// The expression, or nothing where it fails: `e?`.
+    Opt(Box<Expr>),
+    /// The expression as often as it succeeds: `e*`.
+    Rep(Box<Expr>),
+    /// The same, at least once: `e+`.
+    RepOnce(Box<Expr>),
+    /// So many times: `e{2}`.
+    RepExact(Box<Expr>, u32),
+    /// At least so many times: `e{2,}`.
+    RepMin(Box<Expr>, u32),
+    /// At most so many times: `e{,2}`.
+    RepMax(Box<Expr>, u32),
+    /// From the first number of times to the second: `e{2, 3}`.
+    RepMinMax(Box<Expr>, u32, u32),
+    /// Goes on to the next place where one of the texts stands, or to the end.
+    Skip(Vec<String>),
+    /// The expression, whose text then lies on the stack: `PUSH(e)`.
+    Push(Box<Expr>),
+}

@@ -1,0 +1,7 @@
+//! Rules and expressions as values: as they are read, and as they are optimized.
+#![tactic(auto)]
+
+pub mod ast;
+pub mod optimized;
+pub mod printing;
+pub mod texts;

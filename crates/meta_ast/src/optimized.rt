@@ -1,0 +1,52 @@
+//! Optimized rules as values: what the passes make of rules.
+use crate::ast::RuleType;
+
+mod cloned;
+mod compared;
+mod printed;
+
+/// An optimized rule of a grammar.
+#[derive(Debug, Drop)]
+pub struct OptimizedRule {
+    /// The name that calls it.
+    pub name: String,
+    /// How its body is run, and whether it gives a token.
+    pub ty: RuleType,
+    /// Its body.
+    pub expr: OptimizedExpr,
+}
+
+/// An optimized expression of a grammar: of repetitions there is `*` alone.
+#[derive(Debug, Drop)]
+pub enum OptimizedExpr {
+    /// The text itself: `"a"`.
+    Str(String),
+    /// The text up to the case of ASCII letters: `^"a"`.
+    Insens(String),
+    /// One character from the first of one text to the first of the other, both included:
+    /// `'a'..'z'`.
+    Range(String, String),
+    /// A call of the rule or the builtin of that name.
+    Ident(String),
+    /// The texts from one place of the stack up to another, from its bottom. A negative place
+    /// counts from the stack's length, which is also the end where none is given: `PEEK[0..-1]`.
+    PeekSlice(i32, Option<i32>),
+    /// Succeeds in place where the expression succeeds: `&e`.
+    PosPred(Box<OptimizedExpr>),
+    /// Succeeds in place where the expression fails: `!e`.
+    NegPred(Box<OptimizedExpr>),
+    /// One expression after another: `a ~ b`.
+    Seq(Box<OptimizedExpr>, Box<OptimizedExpr>),
+    /// The first expression, or the second where that fails: `a | b`.
+    Choice(Box<OptimizedExpr>, Box<OptimizedExpr>),
+    /// The expression, or nothing where it fails: `e?`.
+    Opt(Box<OptimizedExpr>),
+    /// The expression as often as it succeeds: `e*`.
+    Rep(Box<OptimizedExpr>),
+    /// Goes on to the next place where one of the texts stands, or to the end.
+    Skip(Vec<String>),
+    /// The expression, whose text then lies on the stack: `PUSH(e)`.
+    Push(Box<OptimizedExpr>),
+    /// The expression; where it fails, the stack is as it was before.
+    RestoreOnErr(Box<OptimizedExpr>),
+}

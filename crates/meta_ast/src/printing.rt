@@ -1,0 +1,122 @@
+//! Texts as literals, and what expressions without parts print.
+ghost use Rattle.std.specs.Prelude.{◌<◌, encode_utf8_all};
+ghost use Rattle.std.specs.Fmt.{WritesOnOk};
+ghost use Rattle.std.specs.Str.{chars};
+ghost use Rattle.meta_ast.specs.Printing.{bound_literal, escaped, literal, numbered};
+ghost use Rattle.meta_ast.specs.PrintedBytes.{alternatives_bytes, range_bytes, skip_bytes, slice_bytes};
+
+use std::fmt;
+
+/// Writes a text as a literal: between two quotes `quote`, which is `"` or `'`.
+///
+/// Escaped are the quote itself by a backslash, a backslash, the characters of `\0`, `\t`, `\n` and
+/// `\r` by those, and U+2028, U+2029 and the other control characters by their number, as
+/// `\u{1f}`, in two digits or more of lower case. The other quote and all else stand as they are.
+pub fn fmt_literal<W: fmt::Write>(f: &mut fmt::Formatter<W>, text: &str, quote: char) -> fmt::Result
+    ensures { WritesOnOk W.write_str_gives f.old result
+        (encode_utf8_all (literal quote (chars text.now))) f.new }
+{
+    f.write_char(quote)?;
+    for c in text.chars() {
+        fmt_escaped(f, c, quote)?;
+    }
+    f.write_char(quote)
+}
+
+// Writes a character of a literal.
+fn fmt_escaped<W: fmt::Write>(f: &mut fmt::Formatter<W>, c: char, quote: char) -> fmt::Result
+    ensures { WritesOnOk W.write_str_gives f.old result (encode_utf8_all (escaped quote c)) f.new }
+{
+    match c {
+        _ if c == quote => {
+            f.write_str("\\")?;
+            f.write_char(c)
+        }
+        '\0' => f.write_str("\\0"),
+        '\t' => f.write_str("\\t"),
+        '\n' => f.write_str("\\n"),
+        '\r' => f.write_str("\\r"),
+        '\\' => f.write_str("\\\\"),
+        '\u{1}'..='\u{1f}' | '\u{7f}'..='\u{9f}' => fmt_numbered(f, c),
+        '\u{2028}' => f.write_str("\\u{2028}"),
+        '\u{2029}' => f.write_str("\\u{2029}"),
+        _ => f.write_char(c),
+    }
+}
+
+// Writes a character below U+0100 by its number.
+fn fmt_numbered<W: fmt::Write>(f: &mut fmt::Formatter<W>, c: char) -> fmt::Result
+    requires { c < 256 }
+    ensures { WritesOnOk W.write_str_gives f.old result (encode_utf8_all (numbered c)) f.new }
+{
+    write!(f, "\\u{{{:02x}}}", u32::from(c))
+}
+
+// Writes a range: `('a'..'z')`.
+pub(crate) fn fmt_range<W: fmt::Write>(
+    f: &mut fmt::Formatter<W>,
+    low: &str,
+    high: &str,
+) -> fmt::Result
+    ensures { WritesOnOk W.write_str_gives f.old result (range_bytes (chars low.now) (chars high.now)) f.new }
+{
+    f.write_str("(")?;
+    fmt_bound(f, low)?;
+    f.write_str("..")?;
+    fmt_bound(f, high)?;
+    f.write_str(")")
+}
+
+// Writes the first character of a range's bound as a literal; of an empty one the quotes alone.
+fn fmt_bound<W: fmt::Write>(f: &mut fmt::Formatter<W>, text: &str) -> fmt::Result
+    ensures { WritesOnOk W.write_str_gives f.old result
+        (encode_utf8_all (bound_literal (chars text.now))) f.new }
+{
+    match text.chars().next() {
+        Some(c) => {
+            f.write_str("'")?;
+            fmt_escaped(f, c, '\'')?;
+            f.write_str("'")
+        }
+        None => f.write_str("''"),
+    }
+}
+
+// Writes a slice of the stack: `PEEK[0..-1]`, or `PEEK[0..]`.
+pub(crate) fn fmt_slice<W: fmt::Write>(
+    f: &mut fmt::Formatter<W>,
+    start: i32,
+    end: Option<i32>,
+) -> fmt::Result
+    ensures { WritesOnOk W.write_str_gives f.old result (slice_bytes start end) f.new }
+{
+    write!(f, "PEEK[{start}..")?;
+    if let Some(end) = end {
+        write!(f, "{end}")?;
+    }
+    f.write_str("]")
+}
+
+// Writes the search for one of the texts: `(!("a" | "bc") ~ ANY)*`.
+pub(crate) fn fmt_skip<W: fmt::Write>(f: &mut fmt::Formatter<W>, texts: &[String]) -> fmt::Result
+    ensures { WritesOnOk W.write_str_gives f.old result (skip_bytes texts.now) f.new }
+{
+    f.write_str("(!(")?;
+    fmt_alternatives(f, texts)?;
+    f.write_str(") ~ ANY)*")
+}
+
+// Writes texts as literals with bars between them.
+fn fmt_alternatives<W: fmt::Write>(f: &mut fmt::Formatter<W>, texts: &[String]) -> fmt::Result
+    ensures { WritesOnOk W.write_str_gives f.old result (alternatives_bytes texts.now) f.new }
+{
+    let Some((first, others)) = texts.split_first() else {
+        return Ok(());
+    };
+    fmt_literal(f, first.as_str(), '"')?;
+    for text in others {
+        f.write_str(" | ")?;
+        fmt_literal(f, text.as_str(), '"')?;
+    }
+    Ok(())
+}

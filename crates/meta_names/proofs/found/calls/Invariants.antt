@@ -1,0 +1,17 @@
+use Rattle.std.proofs.Common.{◌≡◌, ◌++◌, map}
+use Rattle.meta_base.specs.NamedTrees.{named_trees_of}
+use Rattle.meta_base.specs.TreeViews.{trees_of}
+use Rattle.meta_base.specs.Saying.{piece_of}
+use Rattle.meta_names.specs.GrammarNames.{calls}
+use Rattle.meta_names.specs.Standing.{StandIn}
+use Rattle.meta_names.proofs.Trees.{count_of}
+use Rattle.meta_names.proofs.found.calls.Given as goal
+
+abbrev pub invariant-loop-token : goal.invariant-loop-token
+invariant-loop-token l = record {
+  stand : StandIn l.text (trees_of l.rest);
+  split : calls l.text (named_trees_of l.trees) ≡ map piece_of l.found.items ++ calls l.text (named_trees_of l.rest);
+}
+
+abbrev pub decreases-loop-token : goal.decreases-loop-token
+decreases-loop-token l = count_of (named_trees_of l.rest)

@@ -1,0 +1,13 @@
+use Rattle.std.proofs.Common.{◌≡◌, [], map, rules, arith}
+use Rattle.std.proofs.lemmas.Grind.{common_steps}
+use Rattle.meta_base.specs.Saying.{piece_of}
+use Rattle.meta_names.specs.GrammarNames.{definitions_of, calls_of}
+use Rattle.meta_names.proofs.Places.{on_ok, tell_none}
+use Rattle.meta_names.proofs.validate.validate_pairs.Goals as goal
+
+pub returns-clause-faultless : goal.returns-clause-faultless
+returns-clause-faultless c =
+    let d : map piece_of c.in_ok-definitions.definitions.items ≡ definitions_of c.args.pairs = search rules in
+    let e : map piece_of c.in_ok-calls.calls.items ≡ calls_of c.args.pairs = search rules in
+    let none : c.in_ok-errors.errors.items ≡ [] = first_of (search rules, grind (arith, common_steps)) in
+    on_ok c.map_err-3.result _ (tell_none _ c.in_ok-errors.errors.items (rw (d, e) at c.in_ok-errors.ensures.told) none)

@@ -1,0 +1,4 @@
+pub mod Names
+pub mod NameSets
+pub mod GrammarNames
+pub mod Standing

@@ -1,0 +1,72 @@
+-- The names that no rule may have, and the names that some places write.
+use Rattle.std.specs.Prelude.{List, [], ◌∷◌, ◌++◌, Bool, not, ◌&&◌, if◌then◌else◌, is_some, map, filter, codes}
+use Rattle.meta_base.specs.Text.{Text}
+use Rattle.meta_base.specs.Builtins.{is_one_of, builtin_of}
+use Rattle.meta_base.specs.Grammar.{keywords}
+use Rattle.meta_base.specs.Saying.{Span, written, Complaint}
+
+-- the words that Rust keeps for itself
+unfoldable pub rust_keywords : List Text
+rust_keywords =
+    codes "abstract" ∷ codes "alignof" ∷ codes "as" ∷ codes "become" ∷ codes "box" ∷ codes "break"
+    ∷ codes "const" ∷ codes "continue" ∷ codes "crate" ∷ codes "do" ∷ codes "else" ∷ codes "enum"
+    ∷ codes "extern" ∷ codes "false" ∷ codes "final" ∷ codes "fn" ∷ codes "for" ∷ codes "if"
+    ∷ codes "impl" ∷ codes "in" ∷ codes "let" ∷ codes "loop" ∷ codes "macro" ∷ codes "match"
+    ∷ codes "mod" ∷ codes "move" ∷ codes "mut" ∷ codes "offsetof" ∷ codes "override" ∷ codes "priv"
+    ∷ codes "proc" ∷ codes "pure" ∷ codes "pub" ∷ codes "ref" ∷ codes "return" ∷ codes "Self"
+    ∷ codes "self" ∷ codes "sizeof" ∷ codes "static" ∷ codes "struct" ∷ codes "super" ∷ codes "trait"
+    ∷ codes "true" ∷ codes "type" ∷ codes "typeof" ∷ codes "unsafe" ∷ codes "unsized" ∷ codes "use"
+    ∷ codes "virtual" ∷ codes "where" ∷ codes "while" ∷ codes "yield" ∷ []
+
+-- a grammar need not define it
+abbrev pub is_builtin : Text → Bool
+is_builtin name = is_some (builtin_of name)
+
+-- the places whose names are among these
+abbrev pub places_of : List Text → List Span → List Span
+places_of names places = filter (λ place. is_one_of names (written place)) places
+
+-- the places whose names stand at a place before them, or are among these
+abbrev pub later_places : List Text → List Span → List Span
+later_places before [] = []
+later_places before (place ∷ places) =
+    if is_one_of before (written place) then place ∷ later_places (written place ∷ before) places
+    else later_places (written place ∷ before) places
+
+-- the other places: the first of each name that is not among these
+abbrev pub first_places : List Text → List Span → List Span
+first_places before [] = []
+first_places before (place ∷ places) =
+    if is_one_of before (written place) then first_places (written place ∷ before) places
+    else place ∷ first_places (written place ∷ before) places
+
+-- the calls that are neither a definition's name nor a builtin
+abbrev pub undefined_calls : List Span → List Span → List Span
+undefined_calls definitions calls =
+    filter (λ call. not (is_one_of (map written definitions) (written call)) && not (is_builtin (written call)))
+    calls
+
+-- the same of the name at each place, between two words
+abbrev pub said : Text → Text → List Span → List Complaint
+said before after places =
+    map (λ place. record { message = before ++ written place ++ after; span = place }) places
+
+-- definitions that are keywords of Rust
+abbrev pub rust_keyword_complaints : List Span → List Complaint
+rust_keyword_complaints definitions =
+    said [] (codes " is a rust keyword") (places_of rust_keywords definitions)
+
+-- definitions that are keywords of pest
+abbrev pub pest_keyword_complaints : List Span → List Complaint
+pest_keyword_complaints definitions =
+    said [] (codes " is a pest keyword") (places_of keywords definitions)
+
+-- definitions with an equal name before them
+abbrev pub duplicate_complaints : List Span → List Complaint
+duplicate_complaints definitions =
+    said (codes "rule ") (codes " already defined") (later_places [] definitions)
+
+-- calls of what is neither defined nor a builtin
+abbrev pub undefined_complaints : List Span → List Span → List Complaint
+undefined_complaints definitions calls =
+    said (codes "rule ") (codes " is undefined") (undefined_calls definitions calls)

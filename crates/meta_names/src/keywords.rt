@@ -1,0 +1,83 @@
+// Names that no rule may have, and names that are defined twice.
+ghost use Rattle.std.specs.Prelude.{[], ◌≡◌, IfErr, IfOk, alloc_error, map};
+ghost use Rattle.meta_base.specs.Saying.{Tell, piece_of};
+ghost use Rattle.meta_names.specs.Names.{duplicate_complaints, later_places, pest_keyword_complaints, places_of, rust_keyword_complaints};
+
+use crate::said::errors;
+use crate::tables::{is_among, pest_keywords, rust_keywords};
+use meta_base::grammar::Rule;
+use meta_base::runtime::{Error, Fault, Span};
+use std::alloc::{AllocError, Global};
+use std::collections::HashSet;
+
+/// An error `NAME is a rust keyword` at each of these definitions whose name Rust keeps for itself, in
+/// their order. The only fault is a want of memory.
+pub fn validate_rust_keywords(
+    alloc: Global,
+    definitions: &Vec<Span<'_>>,
+) -> Result<Vec<Error<Rule>>, Fault>
+    ensures told { let places = map piece_of definitions.now.items in
+        IfOk result (λ errors. Tell (rust_keyword_complaints places) errors.items) }
+    ensures memory { IfErr result (λ fault. fault ≡ Fault.Memory alloc_error) }
+{
+    let words = places_of(alloc, rust_keywords(), definitions).map_err(Fault::Memory)?;
+    errors(alloc, "", " is a rust keyword", &words)
+}
+
+/// An error `NAME is a pest keyword` at each of these definitions whose name pest keeps for itself, in
+/// their order. The only fault is a want of memory.
+pub fn validate_pest_keywords(
+    alloc: Global,
+    definitions: &Vec<Span<'_>>,
+) -> Result<Vec<Error<Rule>>, Fault>
+    ensures told { let places = map piece_of definitions.now.items in
+        IfOk result (λ errors. Tell (pest_keyword_complaints places) errors.items) }
+    ensures memory { IfErr result (λ fault. fault ≡ Fault.Memory alloc_error) }
+{
+    let words = places_of(alloc, pest_keywords(), definitions).map_err(Fault::Memory)?;
+    errors(alloc, "", " is a pest keyword", &words)
+}
+
+/// An error `rule NAME already defined` at each of these definitions that has one of its name before it,
+/// in their order. The only fault is a want of memory.
+pub fn validate_already_defined(
+    alloc: Global,
+    definitions: &Vec<Span<'_>>,
+) -> Result<Vec<Error<Rule>>, Fault>
+    ensures told { let places = map piece_of definitions.now.items in
+        IfOk result (λ errors. Tell (duplicate_complaints places) errors.items) }
+    ensures memory { IfErr result (λ fault. fault ≡ Fault.Memory alloc_error) }
+{
+    let again = later(alloc, definitions).map_err(Fault::Memory)?;
+    errors(alloc, "rule ", " already defined", &again)
+}
+
+/// Those of these places whose name stands at a place before them, in their order.
+fn later<'i>(alloc: Global, places: &[Span<'i>]) -> Result<Vec<Span<'i>>, AllocError>
+    ensures { IfOk result (λ later. map piece_of later.items ≡ later_places [] (map piece_of places.now)) }
+{
+    let mut known = HashSet::new(alloc);
+    let mut later = Vec::new(alloc);
+    for place in places {
+        if !known.insert(place.as_str())? {
+            later.push(*place)?;
+        }
+    }
+    Ok(later)
+}
+
+/// Those of these places whose name is among `names`, in their order.
+fn places_of<'i>(
+    alloc: Global,
+    names: &[&str],
+    places: &[Span<'i>],
+) -> Result<Vec<Span<'i>>, AllocError>
+    ensures { IfOk result (λ found. map piece_of found.items
+        ≡ places_of (map (λ name. name.now) names.now) (map piece_of places.now)) }
+{
+    places
+        .iter()
+        .copied()
+        .filter(|place| is_among(names, place.as_str()))
+        .collect(alloc)
+}

@@ -1,0 +1,15 @@
+//! The names of a grammar: which are defined and which are called, and the errors that tell of names that
+//! no rule may have, that are defined twice or not at all.
+#![tactic(auto)]
+
+mod found;
+mod keywords;
+mod said;
+mod tables;
+mod undefined;
+mod validate;
+
+pub use keywords::{validate_already_defined, validate_pest_keywords, validate_rust_keywords};
+pub use tables::unicode_property_names;
+pub use undefined::validate_undefined;
+pub use validate::validate_pairs;

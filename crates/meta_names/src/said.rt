@@ -1,0 +1,33 @@
+// The errors that say the same of several names.
+ghost use Rattle.std.specs.Prelude.{◌≡◌, IfErr, IfOk, alloc_error, map};
+ghost use Rattle.meta_base.specs.Saying.{Tell, piece_of};
+ghost use Rattle.meta_names.specs.Names.{said};
+
+use meta_base::grammar::Rule;
+use meta_base::runtime::{Error, ErrorVariant, Fault, Span};
+use std::alloc::{AllocError, Global};
+
+/// An error at each of these places, in their order: it says the name that is written there, between
+/// `before` and `after`. The only fault is a want of memory.
+pub(crate) fn errors(
+    alloc: Global,
+    before: &str,
+    after: &str,
+    places: &[Span<'_>],
+) -> Result<Vec<Error<Rule>>, Fault>
+    ensures told { IfOk result (λ errors.
+        Tell (said before.now after.now (map piece_of places.now)) errors.items) }
+    ensures memory { IfErr result (λ fault. fault ≡ Fault.Memory alloc_error) }
+{
+    let mut errors = Vec::new(alloc);
+    for place in places {
+        let name = place.as_str();
+        let message = format!(in alloc; "{before}{name}{after}").map_err(Fault::Memory)?;
+        let variant = ErrorVariant::CustomError { message };
+        let error = Error::new_from_span(alloc, variant, *place)?;
+        if errors.push(error).is_err() {
+            return Err(Fault::Memory(AllocError));
+        }
+    }
+    Ok(errors)
+}

@@ -1,0 +1,204 @@
+// The tables of names.
+ghost use Rattle.std.specs.Prelude.{◌≡◌, map};
+ghost use Rattle.meta_base.specs.Builtins.{builtins, is_one_of, property_names};
+ghost use Rattle.meta_base.specs.Grammar.{keywords};
+ghost use Rattle.meta_names.specs.Names as spec;
+
+/// The names that pest keeps for itself.
+static PEST_KEYWORDS: [&str; 10] = [
+    "_", "ANY", "DROP", "EOI", "PEEK", "PEEK_ALL", "POP", "POP_ALL", "PUSH", "SOI",
+];
+
+/// The words that Rust keeps for itself.
+static RUST_KEYWORDS: [&str; 52] = [
+    "abstract", "alignof", "as", "become", "box", "break", "const", "continue", "crate", "do",
+    "else", "enum", "extern", "false", "final", "fn", "for", "if", "impl", "in", "let", "loop",
+    "macro", "match", "mod", "move", "mut", "offsetof", "override", "priv", "proc", "pure", "pub",
+    "ref", "return", "Self", "self", "sizeof", "static", "struct", "super", "trait", "true",
+    "type", "typeof", "unsafe", "unsized", "use", "virtual", "where", "while", "yield",
+];
+
+/// The builtins other than property names.
+static BUILTINS: [&str; 19] = [
+    "ANY",
+    "SOI",
+    "EOI",
+    "PEEK",
+    "POP",
+    "DROP",
+    "PEEK_ALL",
+    "POP_ALL",
+    "NEWLINE",
+    "ASCII_DIGIT",
+    "ASCII_NONZERO_DIGIT",
+    "ASCII_BIN_DIGIT",
+    "ASCII_OCT_DIGIT",
+    "ASCII_HEX_DIGIT",
+    "ASCII_ALPHA_LOWER",
+    "ASCII_ALPHA_UPPER",
+    "ASCII_ALPHA",
+    "ASCII_ALPHANUMERIC",
+    "ASCII",
+];
+
+/// The names of Unicode properties: general categories, binary properties and scripts.
+static PROPERTY_NAMES: [&str; 115] = [
+    "LETTER",
+    "CASED_LETTER",
+    "UPPERCASE_LETTER",
+    "LOWERCASE_LETTER",
+    "TITLECASE_LETTER",
+    "MODIFIER_LETTER",
+    "OTHER_LETTER",
+    "MARK",
+    "NONSPACING_MARK",
+    "SPACING_MARK",
+    "ENCLOSING_MARK",
+    "NUMBER",
+    "DECIMAL_NUMBER",
+    "LETTER_NUMBER",
+    "OTHER_NUMBER",
+    "PUNCTUATION",
+    "CONNECTOR_PUNCTUATION",
+    "DASH_PUNCTUATION",
+    "OPEN_PUNCTUATION",
+    "CLOSE_PUNCTUATION",
+    "INITIAL_PUNCTUATION",
+    "FINAL_PUNCTUATION",
+    "OTHER_PUNCTUATION",
+    "SYMBOL",
+    "MATH_SYMBOL",
+    "CURRENCY_SYMBOL",
+    "MODIFIER_SYMBOL",
+    "OTHER_SYMBOL",
+    "SEPARATOR",
+    "SPACE_SEPARATOR",
+    "LINE_SEPARATOR",
+    "PARAGRAPH_SEPARATOR",
+    "OTHER",
+    "CONTROL",
+    "FORMAT",
+    "SURROGATE",
+    "PRIVATE_USE",
+    "UNASSIGNED",
+    "ALPHABETIC",
+    "BIDI_CONTROL",
+    "CASED",
+    "CASE_IGNORABLE",
+    "CHANGES_WHEN_CASEFOLDED",
+    "CHANGES_WHEN_CASEMAPPED",
+    "CHANGES_WHEN_LOWERCASED",
+    "CHANGES_WHEN_TITLECASED",
+    "CHANGES_WHEN_UPPERCASED",
+    "DASH",
+    "DEFAULT_IGNORABLE_CODE_POINT",
+    "DEPRECATED",
+    "DIACRITIC",
+    "EXTENDER",
+    "GRAPHEME_BASE",
+    "GRAPHEME_EXTEND",
+    "HEX_DIGIT",
+    "HYPHEN",
+    "IDEOGRAPHIC",
+    "ID_CONTINUE",
+    "ID_START",
+    "JOIN_CONTROL",
+    "LOWERCASE",
+    "MATH",
+    "NONCHARACTER_CODE_POINT",
+    "PATTERN_SYNTAX",
+    "PATTERN_WHITE_SPACE",
+    "QUOTATION_MARK",
+    "RADICAL",
+    "REGIONAL_INDICATOR",
+    "SENTENCE_TERMINAL",
+    "SOFT_DOTTED",
+    "TERMINAL_PUNCTUATION",
+    "UNIFIED_IDEOGRAPH",
+    "UPPERCASE",
+    "VARIATION_SELECTOR",
+    "WHITE_SPACE",
+    "XID_CONTINUE",
+    "XID_START",
+    "ARABIC",
+    "ARMENIAN",
+    "BENGALI",
+    "BOPOMOFO",
+    "BRAILLE",
+    "CHEROKEE",
+    "COPTIC",
+    "CYRILLIC",
+    "DEVANAGARI",
+    "ETHIOPIC",
+    "GEORGIAN",
+    "GOTHIC",
+    "GREEK",
+    "GUJARATI",
+    "GURMUKHI",
+    "HAN",
+    "HANGUL",
+    "HEBREW",
+    "HIRAGANA",
+    "KANNADA",
+    "KATAKANA",
+    "KHMER",
+    "LAO",
+    "LATIN",
+    "MALAYALAM",
+    "MONGOLIAN",
+    "MYANMAR",
+    "OGHAM",
+    "ORIYA",
+    "RUNIC",
+    "SINHALA",
+    "SYRIAC",
+    "TAMIL",
+    "TELUGU",
+    "THAANA",
+    "THAI",
+    "TIBETAN",
+    "YI",
+];
+
+/// The names of the properties of Unicode that a grammar may call: the general categories, the binary
+/// properties and the scripts, in this order.
+pub fn unicode_property_names() -> &'static [&'static str]
+    ensures { map (λ name. name.now) result.now ≡ property_names }
+{
+    &PROPERTY_NAMES
+}
+
+/// The builtins other than property names.
+fn other_builtins() -> &'static [&'static str]
+    ensures { map (λ name. name.now) result.now ≡ map (λ b. b.name) builtins }
+{
+    &BUILTINS
+}
+
+/// The names that pest keeps for itself.
+pub(crate) fn pest_keywords() -> &'static [&'static str]
+    ensures { map (λ name. name.now) result.now ≡ keywords }
+{
+    &PEST_KEYWORDS
+}
+
+/// The words that Rust keeps for itself.
+pub(crate) fn rust_keywords() -> &'static [&'static str]
+    ensures { map (λ name. name.now) result.now ≡ spec.rust_keywords }
+{
+    &RUST_KEYWORDS
+}
+
+/// Whether `name` is among `names`.
+pub(crate) fn is_among(names: &[&str], name: &str) -> bool
+    ensures { result ≡ is_one_of (map (λ n. n.now) names.now) name.now }
+{
+    names.contains(&name)
+}
+
+/// Whether a grammar need not define `name`.
+pub(crate) fn is_builtin(name: &str) -> bool
+    ensures { result ≡ spec.is_builtin name.now }
+{
+    is_among(other_builtins(), name) || is_among(unicode_property_names(), name)
+}

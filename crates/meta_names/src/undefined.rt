@@ -1,0 +1,75 @@
+// Calls of what is not defined.
+ghost use Rattle.std.specs.Prelude.{◌≡◌, IfErr, IfOk, alloc_error, filter, map};
+ghost use Rattle.meta_base.specs.Saying.{Tell, piece_of, written};
+ghost use Rattle.meta_names.specs.NameSets.{HasNames, is_outside, is_unknown};
+ghost use Rattle.meta_names.specs.Names.{undefined_calls, undefined_complaints};
+
+use crate::said::errors;
+use crate::tables::is_builtin;
+use meta_base::grammar::Rule;
+use meta_base::runtime::{Error, Fault, Span};
+use std::alloc::{AllocError, Global};
+use std::collections::HashSet;
+
+/// An error `rule NAME is undefined` at each of these calls whose name is neither that of a definition nor
+/// a builtin's, in the order of the calls. The only fault is a want of memory.
+pub fn validate_undefined<'i>(
+    alloc: Global,
+    definitions: &Vec<Span<'i>>,
+    called: &Vec<Span<'i>>,
+) -> Result<Vec<Error<Rule>>, Fault>
+    ensures told { IfOk result (λ errors.
+        Tell (undefined_complaints (map piece_of definitions.now.items) (map piece_of called.now.items)) errors.items) }
+    ensures memory { IfErr result (λ fault. fault ≡ Fault.Memory alloc_error) }
+{
+    let undefined = undefined(alloc, definitions, called).map_err(Fault::Memory)?;
+    errors(alloc, "rule ", " is undefined", &undefined)
+}
+
+/// Those of the calls whose name is neither that of a definition nor a builtin's, in their order.
+fn undefined<'i>(
+    alloc: Global,
+    definitions: &[Span<'i>],
+    called: &[Span<'i>],
+) -> Result<Vec<Span<'i>>, AllocError>
+    ensures { IfOk result (λ calls. map piece_of calls.items
+        ≡ undefined_calls (map piece_of definitions.now) (map piece_of called.now)) }
+{
+    let defined = names(alloc, definitions)?;
+    let calls = calls_outside(alloc, &defined, called)?;
+    Ok(calls)
+}
+
+/// Those of the calls whose name is neither in a set of names nor a builtin's, in their order.
+fn calls_outside<'i>(
+    alloc: Global,
+    defined: &HashSet<&str>,
+    called: &[Span<'i>],
+) -> Result<Vec<Span<'i>>, AllocError>
+    ensures { IfOk result (λ calls. calls.items
+        ≡ filter (λ call. is_outside defined.now (piece_of call)) called.now) }
+{
+    called
+        .iter()
+        .copied()
+        .filter(|call| is_undefined(defined, call.as_str()))
+        .collect(alloc)
+}
+
+/// Whether `name` is neither in a set of names nor a builtin's.
+fn is_undefined(defined: &HashSet<&str>, name: &str) -> bool
+    ensures { result ≡ is_unknown defined.now name.now }
+{
+    !defined.contains(&name) && !is_builtin(name)
+}
+
+/// The names that are written at these places.
+pub(crate) fn names<'i>(alloc: Global, places: &[Span<'i>]) -> Result<HashSet<&'i str>, AllocError>
+    ensures { IfOk result (HasNames (map written (map piece_of places.now))) }
+{
+    let mut names = HashSet::with_capacity(alloc, places.len())?;
+    for place in places {
+        names.insert(place.as_str())?;
+    }
+    Ok(names)
+}

@@ -1,0 +1,77 @@
+// The names of a whole grammar.
+ghost use Rattle.std.specs.Prelude.{[], ◌≡◌, IfErr, IfOk, OnOk, alloc_error, map};
+ghost use Rattle.meta_base.specs.Saying.{Tell, piece_of};
+ghost use Rattle.meta_names.specs.GrammarNames.{AreWrittenAt, IsRefusal, complaints_of, first_calls, first_calls_of, name_complaints};
+
+use crate::found;
+use crate::keywords::{validate_already_defined, validate_pest_keywords};
+use crate::undefined::{names, validate_undefined};
+use meta_base::grammar::Rule;
+use meta_base::runtime::{Error, Fault, Pairs, Span};
+use std::alloc::{AllocError, Global};
+
+/// The names that a grammar calls and does not define, each once, in the order of their first calls, each
+/// as it is written at that call. All of them are builtins. `pairs` are those of a parse of a text by
+/// `grammar_rules`; of any others it is answered by the same rule: what a `grammar_rule` begins with is
+/// its definition, where that is an `identifier`, and all `identifier`s behind it are calls.
+///
+/// Where names are at fault there is an error at each of these places, in this order:
+/// - `NAME is a pest keyword`, at each definition whose name pest keeps for itself;
+/// - `rule NAME already defined`, at each definition that has one of its name before it;
+/// - `rule NAME is undefined`, at each call of what is neither defined nor a builtin.
+///
+/// Any other fault is a want of memory.
+pub fn validate_pairs<'i>(alloc: Global, pairs: Pairs<'i, Rule>) -> Result<Vec<&'i str>, Fault>
+    ensures faultless { OnOk result (complaints_of pairs.entry ≡ []) }
+    ensures builtins { IfOk result (λ names. AreWrittenAt (first_calls_of pairs.entry) names.items) }
+    ensures refused { IfErr result (IsRefusal (complaints_of pairs.entry)) }
+{
+    let text = pairs.get_input();
+    let trees = pairs.trees();
+    let definitions = found::definitions(alloc, text, trees).map_err(Fault::Memory)?;
+    let calls = found::calls(alloc, text, trees).map_err(Fault::Memory)?;
+    let errors = name_errors(alloc, &definitions, &calls)?;
+    if !errors.is_empty() {
+        return Err(Fault::Grammar(errors));
+    }
+    first_calls(alloc, &definitions, &calls).map_err(Fault::Memory)
+}
+
+/// The errors that tell of the names of these definitions and calls: of keywords, then of duplicates, then
+/// of undefined names. The only fault is a want of memory.
+fn name_errors<'i>(
+    alloc: Global,
+    definitions: &Vec<Span<'i>>,
+    calls: &Vec<Span<'i>>,
+) -> Result<Vec<Error<Rule>>, Fault>
+    ensures told { IfOk result (λ errors.
+        Tell (name_complaints (map piece_of definitions.now.items) (map piece_of calls.now.items)) errors.items) }
+    ensures memory { IfErr result (λ fault. fault ≡ Fault.Memory alloc_error) }
+{
+    let mut errors = validate_pest_keywords(alloc, definitions)?;
+    let mut duplicates = validate_already_defined(alloc, definitions)?;
+    let mut undefined = validate_undefined(alloc, definitions, calls)?;
+    errors.append(&mut duplicates).map_err(Fault::Memory)?;
+    errors.append(&mut undefined).map_err(Fault::Memory)?;
+    Ok(errors)
+}
+
+/// The names of the calls that are no definition's, each once, in the order of their first calls.
+fn first_calls<'i>(
+    alloc: Global,
+    definitions: &[Span<'i>],
+    calls: &[Span<'i>],
+) -> Result<Vec<&'i str>, AllocError>
+    ensures { IfOk result (λ names.
+        AreWrittenAt (first_calls (map piece_of definitions.now) (map piece_of calls.now)) names.items) }
+{
+    let mut known = names(alloc, definitions)?;
+    let mut first = Vec::new(alloc);
+    for call in calls {
+        let name = call.as_str();
+        if known.insert(name)? {
+            first.push(name)?;
+        }
+    }
+    Ok(first)
+}

@@ -1,0 +1,64 @@
+-- What is factored at each node from the root down.
+use Rattle.std.proofs.Common.{◌≡◌, refl, ℕ, ◌+◌, ◌≤◌, subst, Bool, true, false, if◌then◌else◌, arith, Result, Ok, Err, IfOk}
+use Rattle.std.specs.declared.alloc.AllocError.{AllocError}
+use Rattle.meta_ast.specs.declared.ast.Expr.{Expr}
+use Rattle.meta_ast.specs.Ast.{expression_of}
+use Rattle.meta_base.specs.Expression.{Expression, Seq, Choice, Opt, RuleType, Atomic, CompoundAtomic}
+use Rattle.meta_base.specs.Equality.{expression_eq, expression_eq-Decides}
+use Rattle.meta_base.specs.Rewriting.{Many, no_step, one_step, here, Factors, factor_prefix, factor_optional, factor_optional_compound, factor_absorbed}
+use Rattle.meta_optimizer.specs.Size.{size}
+use Rattle.meta_optimizer.specs.Here.{factored_here, factored_choice, with_optional, absorbed}
+use Rattle.meta_optimizer.specs.Traversals.{TopDown}
+use Rattle.meta_optimizer.proofs.Chains as chains
+
+abbrev pub Factored : RuleType → Expression → Expression → Type 0
+Factored y a b = factored_here y a ≡ b
+
+tested : {J : Expression → Expression → Type 0} (t : Bool) {a b : Expression} → (t ≡ true → Many J a b) → Many J a (if t then b else a)
+tested true f = f refl
+tested false f = no_step
+
+equal : (l k : Expression) → expression_eq l k ≡ true → l ≡ k
+equal l k h = (expression_eq-Decides l k).0 h
+
+absorbs : (y : RuleType) (a b : Expression) → Many (Factors y) (Choice a b) (absorbed a b)
+absorbs y a (Seq l r) = tested (expression_eq a l) (λ h. subst (λ z. Many (Factors y) (Choice a (Seq z r)) a) (equal a l h) (one_step (here factor_absorbed) no_step))
+absorbs y a _ = no_step
+
+optional : (y : RuleType) → ((l r : Expression) → Factors y (Choice (Seq l r) l) (Seq l (Opt r))) → (l r k : Expression) → Many (Factors y) (Choice (Seq l r) k) (with_optional l r k)
+optional y f l r k = tested (expression_eq l k) (λ h. subst (λ z. Many (Factors y) (Choice (Seq l r) z) (Seq l (Opt r))) (equal l k h) (one_step (here (f l r)) no_step))
+
+chosen : (y : RuleType) (a b : Expression) → Many (Factors y) (Choice a b) (factored_choice y a b)
+chosen y (Seq l r) (Seq k q) = tested (expression_eq l k) (λ h. subst (λ z. Many (Factors y) (Choice (Seq l r) (Seq z q)) (Seq l (Choice r q))) (equal l k h) (one_step (here factor_prefix) no_step))
+chosen Atomic (Seq l r) k = optional Atomic (λ x z. factor_optional) l r k
+chosen CompoundAtomic (Seq l r) k = optional CompoundAtomic (λ x z. factor_optional_compound) l r k
+chosen y a b = absorbs y a b
+
+steps_here : (y : RuleType) (a : Expression) → Many (Factors y) a (factored_here y a)
+steps_here y (Choice a b) = chosen y a b
+steps_here y _ = no_step
+
+pub reached : (y : RuleType) {a b : Expression} → TopDown (Factored y) a b → Many (Factors y) a b
+reached y d = chains.top_down_many (Factors y) (Factored y) (λ a b h. subst (Many (Factors y) a) h (steps_here y a)) d
+
+-- it makes no expression larger
+tested_size : (t : Bool) (a b : Expression) {n : ℕ} → size a ≤ n → size b ≤ n → size (if t then a else b) ≤ n
+tested_size true a b h k = h
+tested_size false a b h k = k
+
+absorbed_size : (a b : Expression) → size (absorbed a b) ≤ size a + size b + 1
+absorbed_size a (Seq l r) = tested_size (expression_eq a l) a (Choice a (Seq l r)) (omega arith) (omega arith)
+absorbed_size a _ = omega arith
+
+optional_size : (l r k : Expression) → size (with_optional l r k) ≤ size l + size r + 1 + size k + 1
+optional_size l r k = tested_size (expression_eq l k) (Seq l (Opt r)) (Choice (Seq l r) k) (omega arith) (omega arith)
+
+pub smaller : (y : RuleType) (a b : Expression) → size (factored_choice y a b) ≤ size a + size b + 1
+smaller y (Seq l r) (Seq k q) = tested_size (expression_eq l k) (Seq l (Choice r q)) (Choice (Seq l r) (Seq k q)) (omega arith) (omega arith)
+smaller Atomic (Seq l r) k = optional_size l r k
+smaller CompoundAtomic (Seq l r) k = optional_size l r k
+smaller y a b = absorbed_size a b
+
+pub shrunk : (y : RuleType) (a b : Expression) (r : Result Expr AllocError) → IfOk r (λ x. expression_of x ≡ factored_choice y a b) → IfOk r (λ x. size (expression_of x) ≤ size a + size b + 1)
+shrunk y a b (Ok x) h = rw h (smaller y a b)
+shrunk y a b (Err x) h = h

@@ -1,0 +1,27 @@
+-- A pass over all rules.
+use Rattle.std.proofs.Common.{◌≡◌, [], ◌∷◌, ◌++◌, refl, sym, ap, ap₂, subst, append_assoc}
+use Rattle.meta_base.specs.Expression.{Expression, RuleType, Rule, Grammar}
+use Rattle.meta_base.specs.Rewriting.{EachBody, no_rules, also_rule}
+
+pub same_parts : (r q : Rule) → q.name ≡ r.name → q.type_of ≡ r.type_of → q ≡ record r { body = q.body }
+same_parts r q e f = ap₂ (λ n t. record { name = n; type_of = t; body = q.body }) e f
+
+-- the rules so far, and those that are left
+pub record SoFar (P : RuleType → Expression → Expression → Type 0) (all done rest : Grammar) : Type 0 where
+  pub finished : (qs : Grammar) → EachBody P rest qs → EachBody P all (done ++ qs)
+
+module _ (P : RuleType → Expression → Expression → Type 0) where
+  pub none_so_far : (all : Grammar) → SoFar P all [] all
+  none_so_far all = record { finished = λ qs e. e }
+
+  pub one_more : {all done rest : Grammar} {r : Rule} {b : Expression} → SoFar P all done (r ∷ rest) → P r.type_of r.body b → SoFar P all (done ++ (record r { body = b } ∷ [])) rest
+  one_more {all} {done} {rest} {r} {b} s x = record {
+    finished = λ qs e. subst (EachBody P all) (sym (append_assoc done (record r { body = b } ∷ []) qs)) (s.finished (record r { body = b } ∷ qs) (also_rule x e));
+  }
+
+  append-none : (g : Grammar) → g ++ [] ≡ g
+  append-none [] = refl
+  append-none (r ∷ g) = ap (λ h. r ∷ h) (append-none g)
+
+  pub all_done : {all done : Grammar} → SoFar P all done [] → EachBody P all done
+  all_done {all} {done} s = subst (EachBody P all) (append-none done) (s.finished [] no_rules)

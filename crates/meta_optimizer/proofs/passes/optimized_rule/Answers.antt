@@ -1,0 +1,30 @@
+use Rattle.std.proofs.Common.{◌≡◌, ◌∙◌, ap}
+use Rattle.meta_base.specs.Erased.{erased}
+use Rattle.meta_base.specs.Expression.{Rule}
+use Rattle.meta_ast.specs.Ast.{expression_of}
+use Rattle.meta_optimizer.proofs.Erased.{no_wrapper}
+use Rattle.meta_optimizer.proofs.Unrolled.{by_joins, by_factors, by_listing}
+use Rattle.meta_optimizer.proofs.passes.optimized_rule.Goals as goal
+
+pub rule_to_optimized_rule-requires : goal.rule_to_optimized_rule-requires
+rule_to_optimized_rule-requires c =
+    rw c.in_ok-rule-6.ensures.listed
+    (by_listing (expression_of c.in_ok-rule-5.rule.expr) (by_factors c.in_ok-rule-5.ensures.steps (by_joins c.in_ok-rule-4.ensures.done.reached c.in_ok-rule-3.ensures.unrolled)))
+
+pub returns-in-Ok-clause-body : goal.returns-in-Ok-clause-body
+returns-in-Ok-clause-body c = λ g h.
+    let of_unrolled : c.in_ok-rule-3.rule.ty ≡ c.args.rule.ty = c.in_ok-rule-3.ensures.ty ∙ (c.in_ok-rule-2.ensures.ty ∙ c.in_ok-rule.ensures.ty) in
+    let of_joined : c.in_ok-rule-4.rule.ty ≡ c.args.rule.ty = c.in_ok-rule-4.ensures.ty ∙ of_unrolled in
+    record {
+      rotated = expression_of c.in_ok-rule.rule.expr;
+      skipped = expression_of c.in_ok-rule-2.rule.expr;
+      unrolled = expression_of c.in_ok-rule-3.rule.expr;
+      joined = expression_of c.in_ok-rule-4.rule.expr;
+      factored = expression_of c.in_ok-rule-5.rule.expr;
+      rotates = c.in_ok-rule.ensures.done;
+      skips = rw c.in_ok-rule.ensures.ty at c.in_ok-rule-2.ensures.done g h;
+      unrolls = record { steps = c.in_ok-rule-3.ensures.steps; unrolled = c.in_ok-rule-3.ensures.unrolled };
+      joins = rw of_unrolled at c.in_ok-rule-4.ensures.done;
+      factors = record { steps = rw of_joined at c.in_ok-rule-5.ensures.steps; each_once = rw of_joined at c.in_ok-rule-5.ensures.factored };
+      lists = ap (λ (r : Rule). erased r.body) c.in-Ok.ensures ∙ (no_wrapper c.in_ok-rule-6.rule.expr ∙ c.in_ok-rule-6.ensures.listed);
+    }

@@ -1,0 +1,16 @@
+use Rattle.std.proofs.Common.{◌≡◌, ◌+◌}
+use Rattle.meta_base.specs.Expression.{Expression, Seq}
+use Rattle.meta_ast.specs.Ast.{expression_of}
+use Rattle.meta_base.specs.Rewriting.{Rotates}
+use Rattle.meta_optimizer.specs.Here.{Exhausted}
+use Rattle.meta_optimizer.specs.Size.{size}
+use Rattle.meta_optimizer.proofs.rotator.sequence.Given as goal
+
+abbrev pub invariant-turn : goal.invariant-turn
+invariant-turn l =
+    ((b : Expression) → Exhausted Rotates (Seq (expression_of l.left.value) (expression_of l.right.value)) b
+    → Exhausted Rotates (Seq (expression_of l.fn.left.value) (expression_of l.fn.right.value)) b)
+    × (size (expression_of l.left.value) + size (expression_of l.right.value) ≡ size (expression_of l.fn.left.value) + size (expression_of l.fn.right.value))
+
+abbrev pub decreases-turn : goal.decreases-turn
+decreases-turn l = size (expression_of l.left.value)

@@ -1,0 +1,10 @@
+use Rattle.meta_ast.specs.Ast.{expression_of}
+use Rattle.meta_optimizer.specs.Size.{size}
+use Rattle.meta_optimizer.proofs.Following.{Follows}
+use Rattle.meta_optimizer.proofs.strings.next_name.Given as goal
+
+abbrev pub invariant-along : goal.invariant-along
+invariant-along l = Follows l.met (expression_of l.fn.expr) (expression_of l.rest)
+
+abbrev pub decreases-along : goal.decreases-along
+decreases-along l = size (expression_of l.rest)

@@ -1,0 +1,18 @@
+use Rattle.std.proofs.Common.{◌≡◌, ◌∙◌, replicate, ◌-◌}
+use Rattle.meta_base.specs.Expression.{Opt}
+use Rattle.meta_base.specs.Meaning.{exactly}
+use Rattle.meta_ast.specs.Ast.{expression_of}
+use Rattle.meta_optimizer.proofs.Walks.{carried}
+use Rattle.meta_optimizer.proofs.Unrolling.{few, more, first_optional}
+use Rattle.meta_optimizer.proofs.unroller.between.Goals as goal
+
+pub returns-then-max-min : goal.returns-then-max-min
+returns-then-max-min c = carried c.exact.result (λ e h. h ∙ few _ _ _ c.if-max-min.true) c.exact.ensures
+
+pub returns : goal.returns
+returns c =
+    let x = expression_of c.args.expr in
+    let others : expression_of c.in_ok-others.others ≡ exactly (Opt (expression_of c.args.expr)) (c.args.max - c.args.min) = rw (c.in_ok-new.ensures.ok, c.in_ok-clone.ensures.cases) at c.in_ok-others.ensures in
+    carried c.repeated.result
+    (λ e h. h (Opt x) (replicate (c.args.max - c.args.min - 1) (Opt x)) (others ∙ first_optional x c.args.min c.args.max c.if-max-min.false) ∙ more x c.args.min c.args.max c.if-max-min.false)
+    c.repeated.ensures

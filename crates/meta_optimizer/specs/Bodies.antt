@@ -1,0 +1,98 @@
+-- What `skip` looks up and finds.
+use Rattle.std.specs.Prelude.{◌≡◌, ℕ, ◌<◌, List, [], ◌∷◌, ◌++◌, Option, Some, None, Bool, true, false, MatchOption, map, string_bytes, ⊤}
+use Rattle.std.specs.Option.{option_map}
+use Rattle.std.specs.Str.{chars, bytes_eq}
+use Rattle.std.specs.HashMap.{HashMap, get_by, get_by_text}
+use Rattle.std.specs.declared.alloc.Global.{Global}
+use Rattle.std.specs.declared.string.String.{String}
+use Rattle.std.specs.declared.vec.Vec.{Vec}
+use denote.Ref.{Bor}
+use Rattle.meta_base.specs.Text.{Text}
+use Rattle.meta_base.specs.Expression.{Expression, Str, Ident, Choice, Rep, Skip, Atomic, Rule, Grammar, rule_of}
+use Rattle.meta_base.specs.Rewriting.{IsLeaf, SkipsUntil, Strings}
+use Rattle.meta_ast.specs.Ast.{expression_of, text_of}
+use Rattle.meta_ast.specs.declared.ast.Expr.{Expr}
+use Rattle.meta_optimizer.specs.declared.strings.Found.{Found}
+use Rattle.meta_optimizer.specs.declared.strings.Found.TheVariants as found
+
+-- at each name the map holds the body of the rule that the name means
+abbrev pub HoldsBodies : {S : Type 0} → HashMap (String Global) Expr S → Grammar → Type 0
+HoldsBodies m g = (n : String Global) → option_map expression_of (get_by_text m (string_bytes n)) ≡ option_map (λ (r : Rule). r.body) (rule_of g (text_of n))
+
+-- the step once at a node, where it applies
+pub data SkippedHere (g : Grammar) : Expression → Expression → Type 0 where
+  skipped : {a b : Expression} → SkipsUntil g Atomic a b → SkippedHere g a b
+  stays : {a : Expression} → ((q : Expression) → SkipsUntil g Atomic a q → ⊥) → SkippedHere g a a
+
+-- a name whose strings an expression needs
+pub data Needs : Expression → Text → Type 0 where
+  the_name : {n : Text} → Needs (Ident n) n
+  in_first : {x e : Expression} {n : Text} → Needs x n → Needs (Choice x e) n
+  in_others : {x e : Expression} {n : Text} → Needs e n → Needs (Choice x e) n
+
+module _ (g : Grammar) where
+  -- the strings that an expression stands for, by way of fewer than so many names below one another
+  pub data StringsWithin : ℕ → Expression → List Text → Type 0 where
+    one : {k : ℕ} {t : Text} → StringsWithin k (Str t) (t ∷ [])
+    named : {j k : ℕ} {n : Text} {r : Rule} {ts : List Text} → j < k → rule_of g n ≡ Some r → StringsWithin j r.body ts → StringsWithin k (Ident n) ts
+    more : {k : ℕ} {x e : Expression} {ts us : List Text} → IsLeaf x → StringsWithin k x ts → StringsWithin k e us → StringsWithin k (Choice x e) (ts ++ us)
+
+  pub record HasStrings (k : ℕ) (e : Expression) : Type 0 where
+    pub strings : List Text
+    pub within : StringsWithin k e strings
+
+  abbrev pub HasNoStrings : Expression → Type 0
+  HasNoStrings e = (ts : List Text) → Strings g e ts → ⊥
+
+  -- what stands behind a leaf, if there is something
+  abbrev pub BehindHas : ℕ → Option (Bor Expr) → Type 0
+  BehindHas k None = ⊤
+  BehindHas k (Some e) = HasStrings k (expression_of e.now)
+
+  abbrev pub BehindHasNone : Option (Bor Expr) → Type 0
+  BehindHasNone None = ⊥
+  BehindHasNone (Some e) = HasNoStrings (expression_of e.now)
+
+abbrev pub BehindNeeds : Option (Bor Expr) → Text → Type 0
+BehindNeeds None n = ⊥
+BehindNeeds (Some e) n = Needs (expression_of e.now) n
+
+-- what is known of a name: true where its strings are known, and false where they are looked for
+abbrev pub met_at : {S : Type 0} → HashMap (Bor (List ℕ)) Bool S → List ℕ → Option Bool
+met_at m n = get_by (λ k. bytes_eq n k.now) m
+
+-- each name that is known has strings
+abbrev pub KnownHave : {S : Type 0} → HashMap (Bor (List ℕ)) Bool S → Grammar → ℕ → Type 0
+KnownHave m g k = (n : List ℕ) → met_at m n ≡ Some true → HasStrings g k (Ident (chars n))
+
+-- a name is not met yet; with its strings and those behind it, the expression has strings
+pub record FindsName {S : Type 0} (m : HashMap (Bor (List ℕ)) Bool S) (e : Expression) (n : List ℕ) (behind : Option (Bor Expr)) : Type 0 where
+  pub is_new : met_at m n ≡ None
+  pub spelled : (s : String Global) × (string_bytes s ≡ n)
+  pub needed : Needs e (chars n)
+  pub gives : (g : Grammar) (k : ℕ) → KnownHave m g k → HasStrings g k (Ident (chars n)) → BehindHas g k behind → HasStrings g k e
+  pub behind_needed : (j : Text) → BehindNeeds behind j → Needs e j
+  pub behind_fails : (g : Grammar) → BehindHasNone g behind → HasNoStrings g e
+
+-- an expression has no strings, unless names that are looked for have some; or it has strings; or a name is to be looked for
+abbrev pub FindsNext : {S : Type 0} → HashMap (Bor (List ℕ)) Bool S → Expression → Found → Type 0
+FindsNext m e found.Nothing =
+    (g : Grammar) → ((n : List ℕ) → met_at m n ≡ Some false → Needs e (chars n) → HasNoStrings g (Ident (chars n))) → HasNoStrings g e
+FindsNext m e found.Strings = (g : Grammar) (k : ℕ) → KnownHave m g k → HasStrings g k e
+FindsNext m e (found.Name n behind) = FindsName m e n.now behind
+
+-- a leaf and what stands behind it
+abbrev pub Splits : Expression → Expression → Option (Bor Expr) → Type 0
+Splits e first None = (e ≡ first) × ((a b : Expression) → e ≡ Choice a b → ⊥)
+Splits e first (Some others) = e ≡ Choice first (expression_of others.now)
+
+-- none, or so many names lie below one another at most
+abbrev pub DepthOrNone : Grammar → Expression → Option ℕ → Type 0
+DepthOrNone g e found = MatchOption found (HasNoStrings g e) (λ k. HasStrings g k e)
+
+-- none, or all of them in order
+abbrev pub StringsOrNone : Grammar → Expression → Option (Vec (String Global) Global) → Type 0
+StringsOrNone g e found = MatchOption found (HasNoStrings g e) (λ ts. Strings g e (map text_of ts.items))
+
+abbrev pub TextsUntil : Grammar → Expression → Option (Vec (String Global) Global) → Type 0
+TextsUntil g e found = MatchOption found ((q : Expression) → SkipsUntil g Atomic (Rep e) q → ⊥) (λ ts. SkipsUntil g Atomic (Rep e) (Skip (map text_of ts.items)))

@@ -1,0 +1,10 @@
+pub mod Size
+pub mod Traversals
+pub mod Sides
+pub mod Here
+pub mod Unrolled
+pub mod Counts
+pub mod Passes
+pub mod Bodies
+pub mod Skipped
+pub mod Faults

@@ -1,0 +1,58 @@
+-- What the passes one after another make of rules.
+use Rattle.std.specs.Prelude.{◌≡◌}
+use Rattle.meta_base.specs.Expression.{Expression, RuleType, Grammar}
+use Rattle.meta_base.specs.Erased.{erased}
+use Rattle.meta_base.specs.Listing.{listed}
+use Rattle.meta_base.specs.Rewriting.{Chain, EachBody, Factors, IsDone, Joins, KeepsAny, Many, Rotates, SameOutcomes, SkipsUntil, Unrolls}
+use Rattle.meta_optimizer.specs.Here.{factored_here}
+use Rattle.meta_optimizer.specs.Traversals.{TopDown}
+use Rattle.meta_optimizer.specs.Unrolled.{IsUnrolled}
+
+-- repetitions are written out, and only `*` is left of them
+pub record IsUnrolling (a b : Expression) : Type 0 where
+  pub steps : Many Unrolls a b
+  pub unrolled : IsUnrolled b
+
+-- in a rule of a type, each choice is factored once, from the root down
+pub record IsFactoring (y : RuleType) (a b : Expression) : Type 0 where
+  pub steps : Many (Factors y) a b
+  pub each_once : TopDown (λ c d. factored_here y c ≡ d) a b
+
+-- without wrappers, it is the listing
+abbrev pub IsListing : Expression → Expression → Type 0
+IsListing a b = erased b ≡ listed a
+
+-- all passes over the body of a rule of a type, `skip` looking names up in the rules
+pub record IsOptimizedBody (rules : Grammar) (y : RuleType) (a b : Expression) : Type 0 where
+  pub rotated : Expression
+  pub skipped : Expression
+  pub unrolled : Expression
+  pub joined : Expression
+  pub factored : Expression
+  pub rotates : IsDone Rotates a rotated
+  pub skips : IsDone (SkipsUntil rules y) rotated skipped
+  pub unrolls : IsUnrolling skipped unrolled
+  pub joins : IsDone (Joins y) unrolled joined
+  pub factors : IsFactoring y joined factored
+  pub lists : IsListing factored b
+
+-- the passes up to the listing, with the grammar behind each; `skip` looks names up in the rules as they were at first
+pub record Passes (rules factored : Grammar) : Type 0 where
+  pub rotated : Grammar
+  pub skipped : Grammar
+  pub unrolled : Grammar
+  pub joined : Grammar
+  pub rotates : EachBody (λ y. IsDone Rotates) rules rotated
+  pub skips : EachBody (λ y. IsDone (SkipsUntil rules y)) rotated skipped
+  pub unrolls : EachBody (λ y. IsUnrolling) skipped unrolled
+  pub joins : EachBody (λ y. IsDone (Joins y)) unrolled joined
+  pub factors : EachBody IsFactoring joined factored
+
+-- the answer, without wrappers, is the listing of a grammar to which a chain leads by way of the passes, and which has
+-- the same outcomes
+pub record IsOptimized (rules answer : Grammar) : Type 0 where
+  pub reached : Grammar
+  pub passes : Passes rules reached
+  pub chain : Chain rules reached
+  pub outcomes : KeepsAny rules → SameOutcomes rules reached
+  pub lists : EachBody (λ y. IsListing) reached answer

@@ -1,0 +1,112 @@
+//! Takes out what two alternatives have in common.
+ghost use Rattle.std.specs.Prelude.{◌≡◌, ◌≤◌, IfErr, IfOk};
+ghost use Rattle.meta_base.specs.Replacing.{KeepsOutcomes, IsChained};
+ghost use Rattle.meta_base.specs.Rewriting.{Many, Factors};
+ghost use Rattle.meta_ast.specs.Ast.{text_of, expression_of, rule_of_code, rule_type_of};
+ghost use Rattle.meta_optimizer.specs.Faults.{IsMemory};
+ghost use Rattle.meta_optimizer.specs.Here.{factored_here, factored_choice, with_optional};
+ghost use Rattle.meta_optimizer.specs.Size.{size};
+ghost use Rattle.meta_optimizer.specs.Traversals.{TopDown};
+
+use crate::Fault;
+use crate::traversal::{Shrink, top_down};
+use meta_ast::ast::{Expr, Rule, RuleType};
+use std::alloc::{AllocError, Global};
+
+/// The rule with what two alternatives have in common taken out, once at each choice, from the root
+/// down: `(l ~ r) | (l ~ q)` becomes `l ~ (r | q)`; in the two atomic types `(l ~ r) | l` becomes
+/// `l ~ r?`; `l | (l ~ r)` becomes `l`. Name and type stay, and so do the outcomes from every start,
+/// in every grammar that has the rule. Refused where memory is.
+pub fn factor(alloc: Global, rule: Rule) -> Result<Rule, Fault>
+    ensures name { IfOk result (λ r. text_of r.name ≡ text_of rule.name) }
+    ensures ty { IfOk result (λ r. r.ty ≡ rule.ty) }
+    ensures steps { IfOk result
+        (λ r. Many (Factors (rule_type_of rule.ty)) (expression_of rule.expr) (expression_of r.expr)) }
+    ensures factored { IfOk result
+        (λ r. TopDown (λ a b. factored_here (rule_type_of rule.ty) a ≡ b) (expression_of rule.expr) (expression_of r.expr)) }
+    ensures chain { IfOk result (λ r. IsChained (rule_of_code rule) (rule_of_code r)) }
+    ensures outcomes { IfOk result (λ r. KeepsOutcomes (rule_of_code rule) (rule_of_code r)) }
+    ensures memory { IfErr result IsMemory }
+{
+    let Rule { name, ty, expr } = rule;
+    match top_down(alloc, &Factorizer { ty }, expr) {
+        Ok(expr) => Ok(Rule { name, ty, expr }),
+        Err(error) => Err(Fault::Memory(error)),
+    }
+}
+
+#[derive(Drop)]
+struct Factorizer {
+    ty: RuleType,
+}
+
+impl Shrink for Factorizer {
+    ghost gives = { λ s a b. factored_here (rule_type_of s.ty) a ≡ b };
+
+    fn shrink(&self, alloc: Global, expr: Expr) -> Result<Expr, AllocError> {
+        match expr {
+            Expr::Choice(left, right) => factored(alloc, self.ty, left, right),
+            other => Ok(other),
+        }
+    }
+}
+
+// `left | right`, factored.
+fn factored(
+    alloc: Global,
+    ty: RuleType,
+    left: Box<Expr>,
+    right: Box<Expr>,
+) -> Result<Expr, AllocError>
+    ensures { IfOk result
+        (λ e. expression_of e ≡ factored_choice (rule_type_of ty) (expression_of left.value) (expression_of right.value)) }
+{
+    match Box::into_inner(left) {
+        Expr::Seq(front, back) => match (ty, Box::into_inner(right)) {
+            (_, Expr::Seq(other_front, other_back)) => {
+                if *front == *other_front {
+                    let back = Box::new(alloc, Expr::Choice(back, other_back))?;
+                    return Ok(Expr::Seq(front, back));
+                }
+                let left = Box::new(alloc, Expr::Seq(front, back))?;
+                let right = Box::new(alloc, Expr::Seq(other_front, other_back))?;
+                Ok(Expr::Choice(left, right))
+            }
+            (RuleType::Atomic | RuleType::CompoundAtomic, right) => optional(
+                alloc, front, back, right,
+            ),
+            (_, right) => {
+                let left = Box::new(alloc, Expr::Seq(front, back))?;
+                Ok(Expr::Choice(left, Box::new(alloc, right)?))
+            }
+        },
+        left => match Box::into_inner(right) {
+            Expr::Seq(front, back) => {
+                if left == *front {
+                    return Ok(left);
+                }
+                let right = Box::new(alloc, Expr::Seq(front, back))?;
+                Ok(Expr::Choice(Box::new(alloc, left)?, right))
+            }
+            right => Ok(Expr::Choice(Box::new(alloc, left)?, Box::new(alloc, right)?)),
+        },
+    }
+}
+
+// `(front ~ back) | right` in the atomic types, factored.
+fn optional(
+    alloc: Global,
+    front: Box<Expr>,
+    back: Box<Expr>,
+    right: Expr,
+) -> Result<Expr, AllocError>
+    ensures { IfOk result
+        (λ e. expression_of e ≡ with_optional (expression_of front.value) (expression_of back.value) (expression_of right)) }
+{
+    if *front == right {
+        let back = Box::new(alloc, Expr::Opt(back))?;
+        return Ok(Expr::Seq(front, back));
+    }
+    let left = Box::new(alloc, Expr::Seq(front, back))?;
+    Ok(Expr::Choice(left, Box::new(alloc, right)?))
+}

@@ -1,0 +1,27 @@
+//! The passes over rules, which make them simpler to run with the same outcomes.
+#![tactic(auto)]
+
+mod bodies;
+mod concatenator;
+mod converted;
+mod counts;
+mod factorizer;
+mod lister;
+mod passes;
+mod rotator;
+mod skipper;
+mod strings;
+mod traversal;
+mod unroller;
+
+pub use concatenator::concatenate;
+pub use converted::rule_to_optimized_rule;
+pub use counts::counts_are_readable;
+pub use factorizer::factor;
+pub use lister::list;
+pub use meta_ast::optimized::{OptimizedExpr, OptimizedRule};
+pub use meta_base::runtime::Fault;
+pub use passes::optimize;
+pub use rotator::rotate;
+pub use skipper::skip;
+pub use unroller::unroll;

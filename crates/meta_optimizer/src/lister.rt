@@ -1,0 +1,70 @@
+//! Lists: `(x ~ y)* ~ x` as `x ~ (y ~ x)*`.
+ghost use Rattle.std.specs.Prelude.{◌≡◌, IfErr, IfOk};
+ghost use Rattle.meta_base.specs.Listing.{listed, listed_sequence};
+ghost use Rattle.meta_ast.specs.Ast.{text_of, expression_of};
+ghost use Rattle.meta_optimizer.specs.Faults.{IsMemory};
+ghost use Rattle.meta_optimizer.specs.Here.{listed_here};
+
+use crate::Fault;
+use crate::traversal::{Finish, bottom_up};
+use meta_ast::ast::{Expr, Rule};
+use std::alloc::{AllocError, Global};
+
+/// The rule with each `(x ~ y)* ~ x` as `x ~ (y ~ x)*`, what stands inside first. Name and type
+/// stay. Of an Atomic or CompoundAtomic rule that is such a list, what it matched is matched still;
+/// else a listed rule may match otherwise. Refused where memory is.
+pub fn list(alloc: Global, rule: Rule) -> Result<Rule, Fault>
+    ensures name { IfOk result (λ r. text_of r.name ≡ text_of rule.name) }
+    ensures ty { IfOk result (λ r. r.ty ≡ rule.ty) }
+    ensures listed { IfOk result (λ r. expression_of r.expr ≡ listed (expression_of rule.expr)) }
+    ensures memory { IfErr result IsMemory }
+{
+    let Rule { name, ty, expr } = rule;
+    match bottom_up(alloc, &Lister, expr) {
+        Ok(expr) => Ok(Rule { name, ty, expr }),
+        Err(error) => Err(Fault::Memory(error)),
+    }
+}
+
+#[derive(Drop)]
+struct Lister;
+
+impl Finish for Lister {
+    ghost gives = { λ _ a b. listed_here a ≡ b };
+
+    fn finish(&self, alloc: Global, expr: Expr) -> Result<Expr, AllocError> {
+        match expr {
+            Expr::Seq(left, right) => sequence(
+                alloc,
+                Box::into_inner(left),
+                Box::into_inner(right),
+            ),
+            other => Ok(other),
+        }
+    }
+}
+
+// `left ~ right`, listed.
+fn sequence(alloc: Global, left: Expr, right: Expr) -> Result<Expr, AllocError>
+    ensures { IfOk result
+        (λ e. expression_of e ≡ listed_sequence (expression_of left) (expression_of right)) }
+{
+    match left {
+        Expr::Rep(inner) => match Box::into_inner(inner) {
+            Expr::Seq(x, y) => {
+                let right = Box::new(alloc, right)?;
+                if *x == *right {
+                    let more = Box::new(alloc, Expr::Seq(y, right))?;
+                    return Ok(Expr::Seq(x, Box::new(alloc, Expr::Rep(more))?));
+                }
+                let inner = Box::new(alloc, Expr::Seq(x, y))?;
+                Ok(Expr::Seq(Box::new(alloc, Expr::Rep(inner))?, right))
+            }
+            inner => {
+                let left = Expr::Rep(Box::new(alloc, inner)?);
+                Ok(Expr::Seq(Box::new(alloc, left)?, Box::new(alloc, right)?))
+            }
+        },
+        left => Ok(Expr::Seq(Box::new(alloc, left)?, Box::new(alloc, right)?)),
+    }
+}

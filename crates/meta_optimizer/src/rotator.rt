@@ -1,0 +1,88 @@
+//! Nests `~` and `|` to the right.
+ghost use Rattle.std.specs.Prelude.{◌≡◌, ◌≤◌, ◌+◌, IfErr, IfOk};
+ghost use Rattle.meta_base.specs.Expression.{Seq, Choice};
+ghost use Rattle.meta_base.specs.Replacing.{KeepsOutcomes, IsChained};
+ghost use Rattle.meta_base.specs.Rewriting.{IsDone, Rotates};
+ghost use Rattle.meta_ast.specs.Ast.{text_of, expression_of, rule_of_code};
+ghost use Rattle.meta_optimizer.specs.Faults.{IsMemory};
+ghost use Rattle.meta_optimizer.specs.Here.{Exhausted};
+ghost use Rattle.meta_optimizer.specs.Size.{size};
+
+use crate::Fault;
+use crate::traversal::{Shrink, top_down};
+use meta_ast::ast::{Expr, Rule};
+use std::alloc::{AllocError, Global};
+
+/// The rule with `~` and `|` nested to the right: `(a ~ b) ~ c` becomes `a ~ (b ~ c)`, and so for
+/// `|`, until no `~` has a `~` on its left and no `|` a `|`. Name and type stay, and in every
+/// grammar that has the rule, the rule that is given has the same outcomes from every start.
+/// Refused where memory is.
+pub fn rotate(alloc: Global, rule: Rule) -> Result<Rule, Fault>
+    ensures name { IfOk result (λ r. text_of r.name ≡ text_of rule.name) }
+    ensures ty { IfOk result (λ r. r.ty ≡ rule.ty) }
+    ensures done { IfOk result (λ r. IsDone Rotates (expression_of rule.expr) (expression_of r.expr)) }
+    ensures chain { IfOk result (λ r. IsChained (rule_of_code rule) (rule_of_code r)) }
+    ensures outcomes { IfOk result (λ r. KeepsOutcomes (rule_of_code rule) (rule_of_code r)) }
+    ensures memory { IfErr result IsMemory }
+{
+    let Rule { name, ty, expr } = rule;
+    match top_down(alloc, &Rotator, expr) {
+        Ok(expr) => Ok(Rule { name, ty, expr }),
+        Err(error) => Err(Fault::Memory(error)),
+    }
+}
+
+#[derive(Drop)]
+struct Rotator;
+
+impl Shrink for Rotator {
+    ghost gives = { λ _. Exhausted Rotates };
+
+    fn shrink(&self, alloc: Global, expr: Expr) -> Result<Expr, AllocError> {
+        match expr {
+            Expr::Seq(left, right) => sequence(alloc, left, right),
+            Expr::Choice(left, right) => choice(alloc, left, right),
+            other => Ok(other),
+        }
+    }
+}
+
+// `left ~ right`, the `~` of whose left side have moved to the right.
+fn sequence(alloc: Global, left: Box<Expr>, right: Box<Expr>) -> Result<Expr, AllocError>
+    ensures gives { IfOk result
+        (λ e. Exhausted Rotates (Seq (expression_of left.value) (expression_of right.value)) (expression_of e)) }
+    ensures smaller { IfOk result
+        (λ e. size (expression_of e) ≤ size (expression_of left.value) + size (expression_of right.value) + 1) }
+{
+    let mut left = left;
+    let mut right = right;
+    'turn: loop {
+        match Box::into_inner(left) {
+            Expr::Seq(first, second) => {
+                right = Box::new(alloc, Expr::Seq(second, right))?;
+                left = first;
+            }
+            other => return Ok(Expr::Seq(Box::new(alloc, other)?, right)),
+        }
+    }
+}
+
+// The same for `|`.
+fn choice(alloc: Global, left: Box<Expr>, right: Box<Expr>) -> Result<Expr, AllocError>
+    ensures gives { IfOk result
+        (λ e. Exhausted Rotates (Choice (expression_of left.value) (expression_of right.value)) (expression_of e)) }
+    ensures smaller { IfOk result
+        (λ e. size (expression_of e) ≤ size (expression_of left.value) + size (expression_of right.value) + 1) }
+{
+    let mut left = left;
+    let mut right = right;
+    'turn: loop {
+        match Box::into_inner(left) {
+            Expr::Choice(first, second) => {
+                right = Box::new(alloc, Expr::Choice(second, right))?;
+                left = first;
+            }
+            other => return Ok(Expr::Choice(Box::new(alloc, other)?, right)),
+        }
+    }
+}

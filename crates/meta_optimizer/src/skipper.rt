@@ -1,0 +1,83 @@
+//! Goes to the next of some texts, in place of looking for them at each character.
+ghost use Rattle.std.specs.Prelude.{◌≡◌, IfErr, IfOk};
+ghost use Rattle.meta_base.specs.Expression.{Grammar};
+ghost use Rattle.meta_base.specs.Rewriting.{IsDone, SkipsUntil};
+ghost use Rattle.meta_ast.specs.Ast.{text_of, expression_of, rule_of_code, rule_type_of};
+ghost use Rattle.meta_optimizer.specs.Bodies.{HoldsBodies, SkippedHere, TextsUntil};
+ghost use Rattle.meta_optimizer.specs.Faults.{IsMemory};
+ghost use Rattle.meta_optimizer.specs.Skipped.{IsSkipChained, SkipKeepsOutcomes};
+
+use crate::Fault;
+use crate::strings::strings_of;
+use crate::traversal::{Shrink, top_down};
+use meta_ast::ast::{Expr, Rule, RuleType};
+use std::alloc::{AllocError, Global};
+use std::collections::HashMap;
+
+/// The rule; if it is Atomic, with each `(!c ~ ANY)*` as a run to the next of the strings of `c`, or
+/// to the end. A literal stands for itself, a name for what the rule's body stands for, and
+/// `x | r`, where `x` is a literal or a name, for the strings of `x` and then those of `r`; where
+/// anything else is met, or a cycle of names, the repetition stays. Names are looked up in `bodies`,
+/// so over the grammar whose bodies they are a chain of steps leads there, and where no rule of it
+/// is named `ANY`, the outcomes from every start stay. Name and type stay. Refused where memory is.
+pub fn skip(alloc: Global, rule: Rule, bodies: &HashMap<String, Expr>) -> Result<Rule, Fault>
+    ensures name { IfOk result (λ r. text_of r.name ≡ text_of rule.name) }
+    ensures ty { IfOk result (λ r. r.ty ≡ rule.ty) }
+    ensures done { IfOk result (λ r. (g : Grammar) → HoldsBodies bodies.now g
+        → IsDone (SkipsUntil g (rule_type_of rule.ty)) (expression_of rule.expr) (expression_of r.expr)) }
+    ensures chain { IfOk result (λ r. IsSkipChained bodies.now (rule_of_code rule) (rule_of_code r)) }
+    ensures outcomes { IfOk result (λ r. SkipKeepsOutcomes bodies.now (rule_of_code rule) (rule_of_code r)) }
+    ensures memory { IfErr result IsMemory }
+{
+    let Rule { name, ty, expr } = rule;
+    match ty {
+        RuleType::Atomic => match top_down(alloc, &Skipper { bodies }, expr) {
+            Ok(expr) => Ok(Rule { name, ty, expr }),
+            Err(error) => Err(Fault::Memory(error)),
+        },
+        _ => Ok(Rule { name, ty, expr }),
+    }
+}
+
+#[derive(Drop)]
+struct Skipper<'a> {
+    bodies: &'a HashMap<String, Expr>,
+}
+
+impl Shrink for Skipper<'_> {
+    ghost gives = { λ s a b. (g : Grammar) → HoldsBodies s.bodies.now g → SkippedHere g a b };
+
+    fn shrink(&self, alloc: Global, expr: Expr) -> Result<Expr, AllocError> {
+        match expr {
+            Expr::Rep(inner) => match texts_until(alloc, self.bodies, &inner)? {
+                Some(texts) => Ok(Expr::Skip(texts)),
+                None => Ok(Expr::Rep(inner)),
+            },
+            other => Ok(other),
+        }
+    }
+}
+
+// The strings of `c`, where the expression is `!c ~ ANY`.
+fn texts_until(
+    alloc: Global,
+    bodies: &HashMap<String, Expr>,
+    expr: &Expr,
+) -> Result<Option<Vec<String>>, AllocError>
+    ensures { IfOk result (λ found. (g : Grammar) → HoldsBodies bodies.now g
+        → TextsUntil g (expression_of expr.now) found) }
+{
+    let Expr::Seq(left, right) = expr else {
+        return Ok(None);
+    };
+    let Expr::NegPred(inner) = &**left else {
+        return Ok(None);
+    };
+    let Expr::Ident(name) = &**right else {
+        return Ok(None);
+    };
+    if name.as_str() != "ANY" {
+        return Ok(None);
+    }
+    strings_of(alloc, bodies, inner)
+}

@@ -1,0 +1,98 @@
+//! Writes `+` and counted repetitions out.
+ghost use Rattle.std.specs.Prelude.{◌≡◌, ◌∷◌, ◌++◌, replicate, IfErr, IfOk, List};
+ghost use Rattle.meta_base.specs.Expression.{Expression};
+ghost use Rattle.meta_base.specs.Meaning.{in_sequence, exactly, from_to};
+ghost use Rattle.meta_base.specs.Replacing.{KeepsOutcomes, IsChained};
+ghost use Rattle.meta_base.specs.Rewriting.{Many, Unrolls};
+ghost use Rattle.meta_ast.specs.Ast.{text_of, expression_of, rule_of_code};
+ghost use Rattle.meta_optimizer.specs.Faults.{IsMemory};
+ghost use Rattle.meta_optimizer.specs.Here.{unrolled_here};
+ghost use Rattle.meta_optimizer.specs.Unrolled.{IsUnrolled};
+
+use crate::Fault;
+use crate::traversal::{Finish, bottom_up};
+use meta_ast::ast::{Expr, Rule};
+use std::alloc::{AllocError, Global};
+
+/// The rule with `+` and counted repetitions written out as the copies that they mean, nested to
+/// the right: `e+` as `e ~ e*`, `e{2,}` as `e ~ e ~ e*`, `e{,2}` as `e? ~ e?`, `e{1, 2}` as
+/// `e ~ e?`; a count of 0 leaves the empty text. Name and type stay, and so do the outcomes from
+/// every start, in every grammar that has the rule. Refused where memory is.
+pub fn unroll(alloc: Global, rule: Rule) -> Result<Rule, Fault>
+    ensures name { IfOk result (λ r. text_of r.name ≡ text_of rule.name) }
+    ensures ty { IfOk result (λ r. r.ty ≡ rule.ty) }
+    ensures steps { IfOk result (λ r. Many Unrolls (expression_of rule.expr) (expression_of r.expr)) }
+    ensures unrolled { IfOk result (λ r. IsUnrolled (expression_of r.expr)) }
+    ensures chain { IfOk result (λ r. IsChained (rule_of_code rule) (rule_of_code r)) }
+    ensures outcomes { IfOk result (λ r. KeepsOutcomes (rule_of_code rule) (rule_of_code r)) }
+    ensures memory { IfErr result IsMemory }
+{
+    let Rule { name, ty, expr } = rule;
+    match bottom_up(alloc, &Unroller, expr) {
+        Ok(expr) => Ok(Rule { name, ty, expr }),
+        Err(error) => Err(Fault::Memory(error)),
+    }
+}
+
+#[derive(Drop)]
+struct Unroller;
+
+impl Finish for Unroller {
+    ghost gives = { λ _ a b. unrolled_here a ≡ b };
+
+    fn finish(&self, alloc: Global, expr: Expr) -> Result<Expr, AllocError> {
+        match expr {
+            Expr::RepOnce(inner) => {
+                let first = Box::into_inner(inner);
+                let others = Expr::Rep(Box::new(alloc, first.clone()?)?);
+                Ok(Expr::Seq(Box::new(alloc, first)?, Box::new(alloc, others)?))
+            }
+            Expr::RepExact(inner, count) => exact(alloc, Box::into_inner(inner), count),
+            Expr::RepMin(inner, min) => {
+                let inner = Box::into_inner(inner);
+                let others = Expr::Rep(Box::new(alloc, inner.clone()?)?);
+                repeated(alloc, &inner, min, others)
+            }
+            Expr::RepMax(inner, max) => exact(alloc, Expr::Opt(inner), max),
+            Expr::RepMinMax(inner, min, max) => between(alloc, Box::into_inner(inner), min, max),
+            other => Ok(other),
+        }
+    }
+}
+
+// So many copies in sequence.
+fn exact(alloc: Global, expr: Expr, count: u32) -> Result<Expr, AllocError>
+    ensures { IfOk result (λ e. expression_of e ≡ exactly (expression_of expr) count) }
+{
+    if count == 0 {
+        return Ok(Expr::Str(String::new(alloc)));
+    }
+    let last = expr.clone()?;
+    repeated(alloc, &expr, count - 1, last)
+}
+
+// From `min` to `max` of them.
+fn between(alloc: Global, expr: Expr, min: u32, max: u32) -> Result<Expr, AllocError>
+    ensures { IfOk result (λ e. expression_of e ≡ from_to (expression_of expr) min max) }
+{
+    if max <= min {
+        return exact(alloc, expr, max);
+    }
+    let optional = Expr::Opt(Box::new(alloc, expr.clone()?)?);
+    let others = exact(alloc, optional, max - min)?;
+    repeated(alloc, &expr, min, others)
+}
+
+// So many copies, and what stands behind them.
+fn repeated(alloc: Global, expr: &Expr, count: u32, others: Expr) -> Result<Expr, AllocError>
+    ensures { IfOk result (λ r. (f : Expression) (fs : List Expression)
+        → expression_of others ≡ in_sequence (f ∷ fs)
+        → expression_of r ≡ in_sequence (replicate count (expression_of expr.now) ++ (f ∷ fs))) }
+{
+    let mut chain = others;
+    for turn in 0..count {
+        let copy = Box::new(alloc, expr.clone()?)?;
+        chain = Expr::Seq(copy, Box::new(alloc, chain)?);
+    }
+    Ok(chain)
+}

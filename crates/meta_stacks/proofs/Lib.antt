@@ -1,0 +1,9 @@
+pub mod Stacks
+pub mod Walking
+pub mod Skipping
+pub mod Sound
+pub mod Bases
+pub mod Certain
+pub mod Fuel
+pub mod MarkLemmas
+pub mod Routes

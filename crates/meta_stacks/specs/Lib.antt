@@ -1,0 +1,7 @@
+pub mod Stack
+pub mod Reading
+pub mod Reports
+pub mod Marks
+pub mod Views
+pub mod Walks
+pub mod Reported

@@ -1,0 +1,123 @@
+-- What is accepted is well-formed.
+use Rattle.std.proofs.Common.{◌≡◌, inl, inr, ℕ, List, [], ◌∷◌, Option, Some, None, Bool, true, false, if◌then◌else◌, nat_eq, bytes_eq, slice_get, refl, sym, ◌∙◌, ap, subst}
+use Rattle.std.proofs.lemmas.Slice.Eq.{bytes_eq-Decides}
+use Rattle.meta_base.specs.Text.{Text}
+use Rattle.meta_base.specs.Expression.{Expression, Rule, Grammar, rule_of, or_else, whitespace, comment, Part, whole, of_pos_pred, of_neg_pred, of_seq_left, of_seq_right, of_choice_left, of_choice_right, of_opt, of_rep, of_rep_once, of_rep_exact, of_rep_min, of_rep_max, of_rep_min_max, of_push, of_restore}
+use Rattle.meta_base.specs.WellFormed.{IsNullable, InRules, IsSkipped, is_whitespace, is_comment, Leads, IsWellFormed}
+use Rattle.meta_nodes.specs.Nodes.{view}
+use Rattle.meta_nodes.specs.declared.node.ParserRule.{ParserRule}
+use Rattle.meta_validator.specs.Names.{grammar_of, kind_in, rule_said, last_place}
+use Rattle.meta_validator.specs.Numbering.{Says, repeated, wrap_kind}
+use Rattle.meta_validator.specs.Facts.{AreFacts}
+use Rattle.meta_validator.specs.Table.{is_set_at}
+use Rattle.meta_validator.specs.Ends.{Ends, AllEnd, SkippedTake}
+use Rattle.meta_validator.specs.Findings.{is_skipped_name}
+use Rattle.meta_validator.specs.declared.facts.Facts.{Facts}
+use Rattle.meta_validator.specs.declared.numbering.Wrap.TheVariants as wraps
+use Rattle.meta_validator.specs.Reports.{Reported, endless, bad_skipped, recursive, Repeats, repeats_any, repeats_once, repeats_min}
+use Rattle.meta_validator.proofs.Certain.{sure_null}
+use Rattle.meta_validator.proofs.Tying.{says}
+use Rattle.meta_validator.proofs.Answering.{Named, absent, named, resolved, got_root, same_rule, no_rule}
+use Rattle.meta_validator.proofs.Reports.{accepted}
+use Rattle.meta_validator.proofs.Walk.{no_walk}
+
+whitespace_name : is_skipped_name whitespace ≡ true
+unfolding whitespace
+whitespace_name = refl
+
+comment_name : is_skipped_name comment ≡ true
+unfolding comment
+comment_name = refl
+
+skipped_name : (n : Text) → IsSkipped n → is_skipped_name n ≡ true
+skipped_name n is_whitespace = whitespace_name
+skipped_name n is_comment = comment_name
+
+same_some : {q r : Rule} → Some q ≡ Some r → q ≡ r
+same_some h = cc
+
+-- a rule has the name that means it
+named_so : (g : Grammar) (n : Text) (r : Rule) → rule_of g n ≡ Some r → bytes_eq r.name n ≡ true
+named_so [] n r e = cc
+named_so (q ∷ g) n r e = go (rule_of g n) refl (bytes_eq q.name n) refl e (named_so g n r)
+  where
+    go : (o : Option Rule) → rule_of g n ≡ o → (b : Bool) → bytes_eq q.name n ≡ b → or_else o (if b then Some q else None) ≡ Some r → (rule_of g n ≡ Some r → bytes_eq r.name n ≡ true) → bytes_eq r.name n ≡ true
+    go (Some z) h b f e k = k (h ∙ e)
+    go None h true f e k = subst (λ z. bytes_eq z.name n ≡ true) (same_some e) f
+    go None h false f e k = cc
+
+module _ (rules : List ParserRule) (facts : Facts) (right : AreFacts rules facts) (end : AllEnd facts) (skips : SkippedTake rules facts) (fall : (n : Text) → Leads (grammar_of rules) n n → ⊥) where
+  abbrev G : Grammar
+  G = grammar_of rules
+
+  abbrev Lies : ℕ → Expression → Type 0
+  Lies i e = Says (kind_in G) facts.table.kinds.items i e
+
+  part_lies : {e p : Expression} → Part e p → (i : ℕ) → Lies i e → (k : ℕ) × Lies k p
+  part_lies whole i s = (i, s)
+  part_lies (of_pos_pred p) i s = part_lies p s.0 s.3
+  part_lies (of_neg_pred p) i s = part_lies p s.0 s.3
+  part_lies (of_opt p) i s = part_lies p s.0 s.3
+  part_lies (of_rep p) i s = part_lies p s.0 s.3
+  part_lies (of_rep_once p) i s = part_lies p s.0 s.3
+  part_lies (of_rep_exact p) i s = part_lies p s.0 s.3
+  part_lies (of_rep_min p) i s = part_lies p s.0 s.3
+  part_lies (of_rep_max p) i s = part_lies p s.0 s.3
+  part_lies (of_rep_min_max p) i s = part_lies p s.0 s.3
+  part_lies (of_push p) i s = part_lies p s.0 s.3
+  part_lies (of_seq_left p) i s = part_lies p s.0 s.5
+  part_lies (of_seq_right p) i s = part_lies p s.1 s.6
+  part_lies (of_choice_left p) i s = part_lies p s.0 s.5
+  part_lies (of_choice_right p) i s = part_lies p s.1 s.6
+  part_lies (of_restore p) i s = absurd s
+
+  -- the rule of a name lies at a root
+  data Rooted (n : Text) (r : Rule) : Type 0 where
+    rooted : (k i : ℕ) (rule : ParserRule) → slice_get rules k ≡ Some rule → slice_get facts.table.roots.items k ≡ Some i → rule_said rule ≡ r → Lies i r.body → Rooted n r
+
+  roots : (n : Text) (r : Rule) → rule_of G n ≡ Some r → Rooted n r
+  roots n r e = go (last_place G n) (resolved rules n)
+    where
+      go : (o : Option ℕ) → Named rules n o → Rooted n r
+      go o (absent h) = absurd (no_rule (sym h ∙ e))
+      go o (named {r = k} rule at h) = let (j, got) = got_root rules facts.table.roots.items k rule at (sym right.table.alike) in
+          let same : rule_said rule ≡ r = same_rule h e in
+          rooted k j rule at got same (subst (λ z. Lies j z.body) same (says (kind_in G) facts.table.kinds.items j (view rule.node) (right.table.stand k j rule at got)))
+
+  clash : (b : Bool) → b ≡ true → b ≡ false → ⊥
+  clash b g h = let e = sym g ∙ h in cc
+
+  in_lies : (p : Expression) → InRules G p → (k : ℕ) × Lies k p
+  in_lies p (n, r, e, part) = go (roots n r e)
+    where
+      go : Rooted n r → (k : ℕ) × Lies k p
+      go (rooted k i rule at got same lies) = part_lies part i lies
+
+  null_at : (j : ℕ) (e : Expression) → Lies j e → IsNullable G e → is_set_at facts.nullable.items j ≡ true
+  null_at j e s d = (right.nullable j e s).1 d
+
+  repeated_ends : (j n : ℕ) → Ends facts (wrap_kind (repeated n) j) → is_set_at facts.nullable.items j ≡ false
+  repeated_ends j n f = go (nat_eq n 0) f
+    where
+      go : (b : Bool) → Ends facts (wrap_kind (if b then wraps.Again else wraps.OnceAgain) j) → is_set_at facts.nullable.items j ≡ false
+      go true f = f
+      go false f = f
+
+  pub well_formed : IsWellFormed G
+  well_formed = accepted G none
+    where
+      skipped_rule : (n : Text) (r : Rule) → IsSkipped n → rule_of G n ≡ Some r → IsNullable G r.body → Rooted n r → ⊥
+      skipped_rule n r s e d (rooted k i rule at got same lies) =
+          clash _ (null_at i r.body lies d) (skips k rule i at got (ap is_skipped_name (ap (λ z. z.name) same ∙ (bytes_eq-Decides r.name n).0 (named_so G n r e)) ∙ skipped_name n s))
+
+      again : (x e : Expression) → Repeats x e → InRules G x → IsNullable G e → ⊥
+      again x e repeats_any h d = let (k, s) = in_lies x h in clash _ (null_at s.0 e s.3 d) (end k _ s.2)
+      again x e repeats_once h d = let (k, s) = in_lies x h in clash _ (null_at s.0 e s.3 d) (end k _ s.2)
+      again x e (repeats_min {i = n}) h d = let (k, s) = in_lies x h in clash _ (null_at s.0 e s.3 d) (repeated_ends s.0 n (end k _ s.2))
+
+      none : Reported G → ⊥
+      none (endless {x = x} {e = e} r h (inl d)) = again x e r h (sure_null G e d)
+      none (endless {x = x} {e = e} r h (inr d)) = again x e r h d
+      none (bad_skipped {n = n} {r = r} s e (inl d)) = skipped_rule n r s e (sure_null G r.body d) (roots n r e)
+      none (bad_skipped {n = n} {r = r} s e (inr d)) = skipped_rule n r s e d (roots n r e)
+      none (recursive {n = n} e w) = no_walk G fall n w

@@ -1,0 +1,302 @@
+-- Marks that are right and closed answer the question.
+use Rattle.std.proofs.Common.{◌≡◌, ℕ, zero, suc, ◌⊎◌, inl, inr, List, [], ◌∷◌, Option, Some, None, Bool, true, false, ◌&&◌, ◌||◌, if◌then◌else◌, bytes_eq, codes, nat_eq, slice_get, length, arith, refl, sym, ◌∙◌, ap, subst}
+use Rattle.std.specs.Cmp.{unsigned_Decides}
+use Rattle.std.proofs.lemmas.Slice.Eq.{bytes_eq-Decides}
+use Rattle.meta_base.specs.Text.{Text}
+use Rattle.meta_base.specs.Expression.{Expression, Str, Insens, Range, Ident, PeekSlice, PosPred, NegPred, Seq, Choice, Opt, Rep, RepOnce, RepExact, RepMin, RepMax, RepMinMax, Skip, Push, RestoreOnErr, Rule, Grammar, rule_of, or_else}
+use Rattle.meta_base.specs.WellFormed.{IsNullable, nullable_str, nullable_insens, nullable_soi, nullable_eoi, nullable_call, nullable_pos_pred, nullable_neg_pred, nullable_opt, nullable_rep, nullable_rep_max, nullable_seq, nullable_left, nullable_right, nullable_rep_once, nullable_push, nullable_exact_zero, nullable_exact, nullable_min_zero, nullable_min, nullable_min_max_zero, nullable_min_max, nullable_skip, nullable_restore, CannotFail, cannot_fail_str, cannot_fail_insens, cannot_fail_call, cannot_fail_opt, cannot_fail_rep, cannot_fail_rep_max, cannot_fail_seq, cannot_fail_left, cannot_fail_right, cannot_fail_rep_once, cannot_fail_push, cannot_fail_pos_pred, cannot_fail_exact_zero, cannot_fail_exact, cannot_fail_min_zero, cannot_fail_min, cannot_fail_min_max_zero, cannot_fail_min_max, cannot_fail_skip, cannot_fail_restore}
+use Rattle.meta_nodes.specs.Nodes.{view}
+use Rattle.meta_nodes.specs.declared.node.ParserRule.{ParserRule}
+use Rattle.meta_validator.specs.Names.{grammar_of, kind_in, rule_said, last_place, name_kind, is_end}
+use Rattle.meta_validator.specs.Numbering.{Says, counted, repeated, wrap_kind}
+use Rattle.meta_validator.specs.Table.{is_set_at, is_of_taking, at_root, fires, Holds, holds}
+use Rattle.meta_validator.specs.Marks.{AreSound, AreClosed}
+use Rattle.meta_validator.specs.Facts.{IsTableOf, Asked, AreAnswers}
+use Rattle.meta_validator.specs.declared.table.Kind.{Kind}
+use Rattle.meta_validator.specs.declared.table.Question.{Question}
+use Rattle.meta_validator.specs.declared.table.Question.TheVariants as asks
+use Rattle.meta_validator.specs.declared.table.Table.{Table}
+use Rattle.meta_validator.specs.declared.numbering.Wrap.TheVariants as wraps
+use Rattle.meta_validator.proofs.MarkLemmas.{either}
+use Rattle.meta_validator.proofs.Tying.{says}
+
+-- 1. names
+pub data Named (rs : List ParserRule) (n : Text) : Option ℕ → Type 0 where
+  absent : rule_of (grammar_of rs) n ≡ None → Named rs n None
+  named : {r : ℕ} (rule : ParserRule) → slice_get rs r ≡ Some rule → rule_of (grammar_of rs) n ≡ Some (rule_said rule) → Named rs n (Some r)
+
+abbrev next : Bool → Option ℕ → Option ℕ
+next b q = elim q [ Some k ↦ Some (suc k) | None ↦ if b then Some 0 else None ]
+
+pub resolved : (rs : List ParserRule) (n : Text) → Named rs n (last_place (grammar_of rs) n)
+resolved [] n = absent refl
+resolved (q ∷ rs) n = go (last_place (grammar_of rs) n) (resolved rs n) (bytes_eq (rule_said q).name n) refl
+  where
+    go : (o : Option ℕ) → Named rs n o → (b : Bool) → bytes_eq (rule_said q).name n ≡ b → Named (q ∷ rs) n (next b o)
+    go o (named rule at e) b h = named rule at (ap (λ z. or_else z (if bytes_eq (rule_said q).name n then Some (rule_said q) else None)) e)
+    go o (absent e) true h = named q refl (ap (λ z. or_else z (if bytes_eq (rule_said q).name n then Some (rule_said q) else None)) e ∙ ap (λ b. or_else None (if b then Some (rule_said q) else None)) h)
+    go o (absent e) false h = absent (ap (λ z. or_else z (if bytes_eq (rule_said q).name n then Some (rule_said q) else None)) e ∙ ap (λ b. or_else None (if b then Some (rule_said q) else None)) h)
+
+pub got_root : {A : Type 0} (xs : List A) (ys : List ℕ) (k : ℕ) (n : A) → slice_get xs k ≡ Some n → length xs ≡ length ys → (i : ℕ) × (slice_get ys k ≡ Some i)
+got_root [] ys k n e l = cc
+got_root (x ∷ xs) [] k n e l = absurd (omega arith)
+got_root (x ∷ xs) (y ∷ ys) zero n e l = (y, refl)
+got_root (x ∷ xs) (y ∷ ys) (suc k) n e l = got_root xs ys k n e (omega arith)
+
+end_null : (g : Grammar) (n : Text) → is_end n ≡ true → IsNullable g (Ident n)
+end_null g n h = elim (either (bytes_eq n (codes "SOI")) (bytes_eq n (codes "EOI")) h) [
+  | inl e ↦ subst (λ t. IsNullable g (Ident t)) (sym ((bytes_eq-Decides n (codes "SOI")).0 e)) nullable_soi
+  | inr e ↦ subst (λ t. IsNullable g (Ident t)) (sym ((bytes_eq-Decides n (codes "EOI")).0 e)) nullable_eoi
+]
+
+both : (a b : Bool) → (a && b) ≡ true → (a ≡ true) × (b ≡ true)
+both true b h = (refl, h)
+both false b h = cc
+
+-- 2. what a question asks of an expression follows from its operands
+module _ (g : Grammar) where
+  call_asked : (q : Question) (n : Text) (r : Rule) → rule_of g n ≡ Some r → Asked q g r.body → Asked q g (Ident n)
+  call_asked asks.TakesNothing n r e d = nullable_call e d
+  call_asked asks.CannotFail n r e d = cannot_fail_call e d
+
+  end_asked : (q : Question) (n : Text) → is_end n ≡ true → is_of_taking q ≡ true → Asked q g (Ident n)
+  end_asked asks.TakesNothing n e h = end_null g n e
+  end_asked asks.CannotFail n e h = cc
+
+  empty_asked : (q : Question) → Asked q g (Str [])
+  empty_asked asks.TakesNothing = nullable_str
+  empty_asked asks.CannotFail = cannot_fail_str
+
+  empty_asked_too : (q : Question) → Asked q g (Insens [])
+  empty_asked_too asks.TakesNothing = nullable_insens
+  empty_asked_too asks.CannotFail = cannot_fail_insens
+
+  ahead_asked : (q : Question) (e : Expression) (b : Bool) → (is_of_taking q || b) ≡ true → (b ≡ true → Asked q g e) → Asked q g (PosPred e)
+  ahead_asked asks.TakesNothing e b h f = nullable_pos_pred
+  ahead_asked asks.CannotFail e b h f = cannot_fail_pos_pred (f h)
+
+  not_ahead_asked : (q : Question) (e : Expression) → is_of_taking q ≡ true → Asked q g (NegPred e)
+  not_ahead_asked asks.TakesNothing e h = nullable_neg_pred
+  not_ahead_asked asks.CannotFail e h = cc
+
+  opt_asked : (q : Question) (e : Expression) → Asked q g (Opt e)
+  opt_asked asks.TakesNothing e = nullable_opt
+  opt_asked asks.CannotFail e = cannot_fail_opt
+
+  rep_asked : (q : Question) (e : Expression) → Asked q g (Rep e)
+  rep_asked asks.TakesNothing e = nullable_rep
+  rep_asked asks.CannotFail e = cannot_fail_rep
+
+  max_asked : (q : Question) (e : Expression) (n : ℕ) → Asked q g (RepMax e n)
+  max_asked asks.TakesNothing e n = nullable_rep_max
+  max_asked asks.CannotFail e n = cannot_fail_rep_max
+
+  once_asked : (q : Question) (e : Expression) → Asked q g e → Asked q g (RepOnce e)
+  once_asked asks.TakesNothing e d = nullable_rep_once d
+  once_asked asks.CannotFail e d = cannot_fail_rep_once d
+
+  push_asked : (q : Question) (e : Expression) → Asked q g e → Asked q g (Push e)
+  push_asked asks.TakesNothing e d = nullable_push d
+  push_asked asks.CannotFail e d = cannot_fail_push d
+
+  seq_asked : (q : Question) (a b : Expression) → Asked q g a → Asked q g b → Asked q g (Seq a b)
+  seq_asked asks.TakesNothing a b d e = nullable_seq d e
+  seq_asked asks.CannotFail a b d e = cannot_fail_seq d e
+
+  choice_asked : (q : Question) (a b : Expression) → Asked q g a ⊎ Asked q g b → Asked q g (Choice a b)
+  choice_asked asks.TakesNothing a b (inl d) = nullable_left d
+  choice_asked asks.TakesNothing a b (inr d) = nullable_right d
+  choice_asked asks.CannotFail a b (inl d) = cannot_fail_left d
+  choice_asked asks.CannotFail a b (inr d) = cannot_fail_right d
+
+  exact_asked : (q : Question) (e : Expression) (n : ℕ) → (n ≡ 0) ⊎ Asked q g e → Asked q g (RepExact e n)
+  exact_asked asks.TakesNothing e n (inl h) = subst (λ k. IsNullable g (RepExact e k)) (sym h) nullable_exact_zero
+  exact_asked asks.TakesNothing e n (inr d) = nullable_exact d
+  exact_asked asks.CannotFail e n (inl h) = subst (λ k. CannotFail g (RepExact e k)) (sym h) cannot_fail_exact_zero
+  exact_asked asks.CannotFail e n (inr d) = cannot_fail_exact d
+
+  min_asked : (q : Question) (e : Expression) (n : ℕ) → (n ≡ 0) ⊎ Asked q g e → Asked q g (RepMin e n)
+  min_asked asks.TakesNothing e n (inl h) = subst (λ k. IsNullable g (RepMin e k)) (sym h) nullable_min_zero
+  min_asked asks.TakesNothing e n (inr d) = nullable_min d
+  min_asked asks.CannotFail e n (inl h) = subst (λ k. CannotFail g (RepMin e k)) (sym h) cannot_fail_min_zero
+  min_asked asks.CannotFail e n (inr d) = cannot_fail_min d
+
+  min_max_asked : (q : Question) (e : Expression) (m n : ℕ) → (m ≡ 0) ⊎ Asked q g e → Asked q g (RepMinMax e m n)
+  min_max_asked asks.TakesNothing e m n (inl h) = subst (λ k. IsNullable g (RepMinMax e k n)) (sym h) nullable_min_max_zero
+  min_max_asked asks.TakesNothing e m n (inr d) = nullable_min_max d
+  min_max_asked asks.CannotFail e m n (inl h) = subst (λ k. CannotFail g (RepMinMax e k n)) (sym h) cannot_fail_min_max_zero
+  min_max_asked asks.CannotFail e m n (inr d) = cannot_fail_min_max d
+
+same_kind : {k l : Kind} (o : Option Kind) → o ≡ Some k → o ≡ Some l → k ≡ l
+same_kind o e f = let h = sym e ∙ f in cc
+
+counted_fires : (q : Question) (roots : List ℕ) (p : ℕ → Bool) (n j : ℕ) → fires q roots p (wrap_kind (counted n) j) ≡ true → (n ≡ 0) ⊎ (p j ≡ true)
+counted_fires q roots p n j h = go (nat_eq n 0) refl h
+  where
+    go : (b : Bool) → nat_eq n 0 ≡ b → fires q roots p (wrap_kind (if b then wraps.Free else wraps.Inside) j) ≡ true → (n ≡ 0) ⊎ (p j ≡ true)
+    go true e h = inl ((unsigned_Decides n 0).0 e)
+    go false e h = inr h
+
+repeated_fires : (q : Question) (roots : List ℕ) (p : ℕ → Bool) (n j : ℕ) → fires q roots p (wrap_kind (repeated n) j) ≡ true → (n ≡ 0) ⊎ (p j ≡ true)
+repeated_fires q roots p n j h = go (nat_eq n 0) refl h
+  where
+    go : (b : Bool) → nat_eq n 0 ≡ b → fires q roots p (wrap_kind (if b then wraps.Again else wraps.OnceAgain) j) ≡ true → (n ≡ 0) ⊎ (p j ≡ true)
+    go true e h = inl ((unsigned_Decides n 0).0 e)
+    go false e h = inr h
+
+pub no_rule : {r : Rule} → None ≡ Some r → ⊥
+no_rule h = cc
+
+pub same_rule : {o : Option Rule} {a b : Rule} → o ≡ Some a → o ≡ Some b → a ≡ b
+same_rule e f = let h = sym e ∙ f in cc
+
+-- 3. what holds is asked
+module _ (q : Question) (rules : List ParserRule) (t : Table) (table : IsTableOf rules t) where
+  abbrev G : Grammar
+  G = grammar_of rules
+
+  abbrev Says_ : ℕ → Expression → Type 0
+  Says_ i e = Says (kind_in G) t.kinds.items i e
+
+  module _ (p : ℕ → Bool) (below : (j : ℕ) (e : Expression) → p j ≡ true → Says_ j e → Asked q G e) where
+    root_asked : (n : Text) (r : ℕ) (rule : ParserRule) → slice_get rules r ≡ Some rule → rule_of G n ≡ Some (rule_said rule) → at_root p (slice_get t.roots.items r) ≡ true → Asked q G (Ident n)
+    root_asked n r rule at e f =
+        let (i, h) = got_root rules t.roots.items r rule at (sym table.alike) in
+        let m : p i ≡ true = sym (ap (at_root p) h) ∙ f in
+        call_asked G q n (rule_said rule) e (below i (rule_said rule).body m (says (kind_in G) t.kinds.items i (view rule.node) (table.stand r i rule at h)))
+
+    name_asked : (n : Text) (o : Option ℕ) → Named rules n o → (b : Bool) → is_end n ≡ b → fires q t.roots.items p (name_kind b o) ≡ true → Asked q G (Ident n)
+    name_asked n o (absent e) true h f = end_asked G q n h f
+    name_asked n o (absent e) false h f = cc
+    name_asked n o (named {r = r} rule at e) true h f = elim (either (is_of_taking q) (at_root p (slice_get t.roots.items r)) f) [ inl z ↦ end_asked G q n h z | inr z ↦ root_asked n r rule at e z ]
+    name_asked n o (named {r = r} rule at e) false h f = root_asked n r rule at e f
+
+    step : (i : ℕ) (k : Kind) (e : Expression) → slice_get t.kinds.items i ≡ Some k → Says_ i e → fires q t.roots.items p k ≡ true → Asked q G e
+    step i k (Str []) at s f = empty_asked G q
+    step i k (Str (c ∷ u)) at s f = let h = subst (λ z. fires q t.roots.items p z ≡ true) (same_kind _ at s) f in cc
+    step i k (Insens []) at s f = empty_asked_too G q
+    step i k (Insens (c ∷ u)) at s f = let h = subst (λ z. fires q t.roots.items p z ≡ true) (same_kind _ at s) f in cc
+    step i k (Range a b) at s f = let h = subst (λ z. fires q t.roots.items p z ≡ true) (same_kind _ at s) f in cc
+    step i k (PeekSlice a b) at s f = let h = subst (λ z. fires q t.roots.items p z ≡ true) (same_kind _ at s) f in cc
+    step i k (Ident n) at s f = name_asked n (last_place G n) (resolved rules n) (is_end n) refl (subst (λ z. fires q t.roots.items p z ≡ true) (same_kind _ at s) f)
+    step i k (PosPred e) at s f = ahead_asked G q e (p s.0) (subst (λ z. fires q t.roots.items p z ≡ true) (same_kind _ at s.2) f) (λ h. below s.0 e h s.3)
+    step i k (NegPred e) at s f = not_ahead_asked G q e (subst (λ z. fires q t.roots.items p z ≡ true) (same_kind _ at s.2) f)
+    step i k (Opt e) at s f = opt_asked G q e
+    step i k (Rep e) at s f = rep_asked G q e
+    step i k (RepMax e n) at s f = max_asked G q e n
+    step i k (RepOnce e) at s f = once_asked G q e (below s.0 e (subst (λ z. fires q t.roots.items p z ≡ true) (same_kind _ at s.2) f) s.3)
+    step i k (Push e) at s f = push_asked G q e (below s.0 e (subst (λ z. fires q t.roots.items p z ≡ true) (same_kind _ at s.2) f) s.3)
+    step i k (RepExact e n) at s f = exact_asked G q e n (elim (counted_fires q t.roots.items p n s.0 (subst (λ z. fires q t.roots.items p z ≡ true) (same_kind _ at s.2) f)) [ inl h ↦ inl h | inr h ↦ inr (below s.0 e h s.3) ])
+    step i k (RepMin e n) at s f = min_asked G q e n (elim (repeated_fires q t.roots.items p n s.0 (subst (λ z. fires q t.roots.items p z ≡ true) (same_kind _ at s.2) f)) [ inl h ↦ inl h | inr h ↦ inr (below s.0 e h s.3) ])
+    step i k (RepMinMax e m n) at s f = min_max_asked G q e m n (elim (counted_fires q t.roots.items p m s.0 (subst (λ z. fires q t.roots.items p z ≡ true) (same_kind _ at s.2) f)) [ inl h ↦ inl h | inr h ↦ inr (below s.0 e h s.3) ])
+    step i k (Seq a b) at s f = let h = both (p s.0) (p s.1) (subst (λ z. fires q t.roots.items p z ≡ true) (same_kind _ at s.4) f) in seq_asked G q a b (below s.0 a h.0 s.5) (below s.1 b h.1 s.6)
+    step i k (Choice a b) at s f = choice_asked G q a b (elim (either (p s.0) (p s.1) (subst (λ z. fires q t.roots.items p z ≡ true) (same_kind _ at s.4) f)) [ inl h ↦ inl (below s.0 a h s.5) | inr h ↦ inr (below s.1 b h s.6) ])
+    step i k (Skip ts) at s f = absurd s
+    step i k (RestoreOnErr e) at s f = absurd s
+
+  pub asked : {i : ℕ} → Holds q t i → (e : Expression) → Says_ i e → Asked q G e
+  asked (holds {i = i} {k = k} p at f g) e s = step p (λ j d h z. asked (g j h) d z) i k e at s f
+
+-- 4. what is asked is marked
+end_fires : (roots : List ℕ) (p : ℕ → Bool) (b : Bool) → b ≡ true → (o : Option ℕ) → fires asks.TakesNothing roots p (name_kind b o) ≡ true
+end_fires roots p true h None = refl
+end_fires roots p true h (Some r) = refl
+end_fires roots p false h o = cc
+
+counted_holds : (q : Question) (roots : List ℕ) (p : ℕ → Bool) (n j : ℕ) → p j ≡ true → fires q roots p (wrap_kind (counted n) j) ≡ true
+counted_holds q roots p n j h = go (nat_eq n 0)
+  where
+    go : (b : Bool) → fires q roots p (wrap_kind (if b then wraps.Free else wraps.Inside) j) ≡ true
+    go true = refl
+    go false = h
+
+repeated_holds : (q : Question) (roots : List ℕ) (p : ℕ → Bool) (n j : ℕ) → p j ≡ true → fires q roots p (wrap_kind (repeated n) j) ≡ true
+repeated_holds q roots p n j h = go (nat_eq n 0)
+  where
+    go : (b : Bool) → fires q roots p (wrap_kind (if b then wraps.Again else wraps.OnceAgain) j) ≡ true
+    go true = refl
+    go false = h
+
+or_true : (a b : Bool) → b ≡ true → (a || b) ≡ true
+or_true true b h = refl
+or_true false b h = h
+
+and_true : (a b : Bool) → a ≡ true → b ≡ true → (a && b) ≡ true
+and_true true b g h = h
+and_true false b g h = cc
+
+or_first : (a b : Bool) → a ≡ true → (a || b) ≡ true
+or_first true b h = refl
+or_first false b h = cc
+
+module _ (rules : List ParserRule) (t : Table) (table : IsTableOf rules t) where
+  abbrev H : Grammar
+  H = grammar_of rules
+
+  abbrev Lies : ℕ → Expression → Type 0
+  Lies i e = Says (kind_in H) t.kinds.items i e
+
+  module _ (q : Question) (p : ℕ → Bool) (n : Text) (r : Rule) (at : rule_of H n ≡ Some r) (inner : (j : ℕ) → Lies j r.body → p j ≡ true) where
+    root_fires : (k : ℕ) (rule : ParserRule) → slice_get rules k ≡ Some rule → rule_of H n ≡ Some (rule_said rule) → at_root p (slice_get t.roots.items k) ≡ true
+    root_fires k rule got e =
+        let (j, h) = got_root rules t.roots.items k rule got (sym table.alike) in
+        let same : rule_said rule ≡ r = same_rule e at in
+        ap (at_root p) h ∙ inner j (subst (λ z. Lies j z.body) same (says (kind_in H) t.kinds.items j (view rule.node) (table.stand k j rule got h)))
+
+    call_fires : (o : Option ℕ) → Named rules n o → (b : Bool) → fires q t.roots.items p (name_kind b o) ≡ true
+    call_fires o (absent e) b = absurd (no_rule (sym e ∙ at))
+    call_fires o (named {r = k} rule got e) true = or_true (is_of_taking q) (at_root p (slice_get t.roots.items k)) (root_fires k rule got e)
+    call_fires o (named {r = k} rule got e) false = root_fires k rule got e
+
+  module _ (marks : List Bool) (closed : AreClosed asks.TakesNothing t marks) where
+    null_marked : {e : Expression} → IsNullable H e → (i : ℕ) → Lies i e → is_set_at marks i ≡ true
+    null_marked nullable_str i s = closed i _ s refl
+    null_marked nullable_insens i s = closed i _ s refl
+    null_marked nullable_soi i s = closed i _ s (end_fires t.roots.items (is_set_at marks) (is_end (codes "SOI")) refl (last_place H (codes "SOI")))
+    null_marked nullable_eoi i s = closed i _ s (end_fires t.roots.items (is_set_at marks) (is_end (codes "EOI")) refl (last_place H (codes "EOI")))
+    null_marked (nullable_call {n = n} {r = r} e d) i s = closed i _ s (call_fires asks.TakesNothing (is_set_at marks) n r e (λ j z. null_marked d j z) (last_place H n) (resolved rules n) (is_end n))
+    null_marked nullable_pos_pred i s = closed i _ s.2 refl
+    null_marked nullable_neg_pred i s = closed i _ s.2 refl
+    null_marked nullable_opt i s = closed i _ s.2 refl
+    null_marked nullable_rep i s = closed i _ s.2 refl
+    null_marked nullable_rep_max i s = closed i _ s.2 refl
+    null_marked (nullable_seq d f) i s = closed i _ s.4 (and_true (is_set_at marks s.0) (is_set_at marks s.1) (null_marked d s.0 s.5) (null_marked f s.1 s.6))
+    null_marked (nullable_left d) i s = closed i _ s.4 (or_first (is_set_at marks s.0) (is_set_at marks s.1) (null_marked d s.0 s.5))
+    null_marked (nullable_right d) i s = closed i _ s.4 (or_true (is_set_at marks s.0) (is_set_at marks s.1) (null_marked d s.1 s.6))
+    null_marked (nullable_rep_once d) i s = closed i _ s.2 (null_marked d s.0 s.3)
+    null_marked (nullable_push d) i s = closed i _ s.2 (null_marked d s.0 s.3)
+    null_marked nullable_exact_zero i s = closed i _ s.2 refl
+    null_marked (nullable_exact {i = n} d) i s = closed i _ s.2 (counted_holds asks.TakesNothing t.roots.items (is_set_at marks) n s.0 (null_marked d s.0 s.3))
+    null_marked nullable_min_zero i s = closed i _ s.2 refl
+    null_marked (nullable_min {i = n} d) i s = closed i _ s.2 (repeated_holds asks.TakesNothing t.roots.items (is_set_at marks) n s.0 (null_marked d s.0 s.3))
+    null_marked nullable_min_max_zero i s = closed i _ s.2 refl
+    null_marked (nullable_min_max {i = n} d) i s = closed i _ s.2 (counted_holds asks.TakesNothing t.roots.items (is_set_at marks) n s.0 (null_marked d s.0 s.3))
+    null_marked nullable_skip i s = absurd s
+    null_marked (nullable_restore d) i s = absurd s
+
+  module _ (marks : List Bool) (closed : AreClosed asks.CannotFail t marks) where
+    sure_marked : {e : Expression} → CannotFail H e → (i : ℕ) → Lies i e → is_set_at marks i ≡ true
+    sure_marked cannot_fail_str i s = closed i _ s refl
+    sure_marked cannot_fail_insens i s = closed i _ s refl
+    sure_marked (cannot_fail_call {n = n} {r = r} e d) i s = closed i _ s (call_fires asks.CannotFail (is_set_at marks) n r e (λ j z. sure_marked d j z) (last_place H n) (resolved rules n) (is_end n))
+    sure_marked cannot_fail_opt i s = closed i _ s.2 refl
+    sure_marked cannot_fail_rep i s = closed i _ s.2 refl
+    sure_marked cannot_fail_rep_max i s = closed i _ s.2 refl
+    sure_marked (cannot_fail_seq d f) i s = closed i _ s.4 (and_true (is_set_at marks s.0) (is_set_at marks s.1) (sure_marked d s.0 s.5) (sure_marked f s.1 s.6))
+    sure_marked (cannot_fail_left d) i s = closed i _ s.4 (or_first (is_set_at marks s.0) (is_set_at marks s.1) (sure_marked d s.0 s.5))
+    sure_marked (cannot_fail_right d) i s = closed i _ s.4 (or_true (is_set_at marks s.0) (is_set_at marks s.1) (sure_marked d s.1 s.6))
+    sure_marked (cannot_fail_rep_once d) i s = closed i _ s.2 (sure_marked d s.0 s.3)
+    sure_marked (cannot_fail_push d) i s = closed i _ s.2 (sure_marked d s.0 s.3)
+    sure_marked (cannot_fail_pos_pred d) i s = closed i _ s.2 (sure_marked d s.0 s.3)
+    sure_marked cannot_fail_exact_zero i s = closed i _ s.2 refl
+    sure_marked (cannot_fail_exact {i = n} d) i s = closed i _ s.2 (counted_holds asks.CannotFail t.roots.items (is_set_at marks) n s.0 (sure_marked d s.0 s.3))
+    sure_marked cannot_fail_min_zero i s = closed i _ s.2 refl
+    sure_marked (cannot_fail_min {i = n} d) i s = closed i _ s.2 (repeated_holds asks.CannotFail t.roots.items (is_set_at marks) n s.0 (sure_marked d s.0 s.3))
+    sure_marked cannot_fail_min_max_zero i s = closed i _ s.2 refl
+    sure_marked (cannot_fail_min_max {i = n} d) i s = closed i _ s.2 (counted_holds asks.CannotFail t.roots.items (is_set_at marks) n s.0 (sure_marked d s.0 s.3))
+    sure_marked cannot_fail_skip i s = absurd s
+    sure_marked (cannot_fail_restore d) i s = absurd s
+
+  pub answers : (q : Question) (marks : List Bool) → AreSound q t marks → AreClosed q t marks → AreAnswers rules t q marks
+  answers asks.TakesNothing marks s c = λ i e l. ((λ h. asked asks.TakesNothing rules t table (s.right i h) e l), (λ d. null_marked marks c d i l))
+  answers asks.CannotFail marks s c = λ i e l. ((λ h. asked asks.CannotFail rules t table (s.right i h) e l), (λ d. sure_marked marks c d i l))

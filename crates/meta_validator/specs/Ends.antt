@@ -1,0 +1,22 @@
+-- What may take nothing is not repeated, and not skipped.
+use Rattle.std.specs.Prelude.{◌≡◌, ℕ, List, Some, true, false, ⊤, slice_get}
+use Rattle.meta_ast.specs.Ast.{text_of}
+use Rattle.meta_nodes.specs.declared.node.ParserRule.{ParserRule}
+use Rattle.meta_validator.specs.Findings.{is_skipped_name}
+use Rattle.meta_validator.specs.Table.{is_set_at}
+use Rattle.meta_validator.specs.declared.table.Kind.{Kind}
+use Rattle.meta_validator.specs.declared.table.Kind.TheVariants as is
+use Rattle.meta_validator.specs.declared.facts.Facts.{Facts}
+
+abbrev pub Ends : Facts → Kind → Type 0
+Ends facts (is.Again j) = is_set_at facts.nullable.items j ≡ false
+Ends facts (is.OnceAgain j) = is_set_at facts.nullable.items j ≡ false
+Ends facts _ = ⊤
+
+abbrev pub AllEnd : Facts → Type 0
+AllEnd facts = (i : ℕ) (k : Kind) → slice_get facts.table.kinds.items i ≡ Some k → Ends facts k
+
+abbrev pub SkippedTake : List ParserRule → Facts → Type 0
+SkippedTake rules facts = (r : ℕ) (rule : ParserRule) (i : ℕ) → slice_get rules r ≡ Some rule
+    → slice_get facts.table.roots.items r ≡ Some i → is_skipped_name (text_of rule.name) ≡ true
+    → is_set_at facts.nullable.items i ≡ false

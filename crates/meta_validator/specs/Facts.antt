@@ -1,0 +1,51 @@
+-- Tables of rules, and what marks say of their nodes.
+use Rattle.std.specs.Prelude.{◌≡◌, ℕ, List, Some, Bool, slice_get, length}
+use Rattle.std.specs.Bool.{Decides}
+use Rattle.meta_base.specs.Expression.{Expression, Grammar}
+use Rattle.meta_base.specs.WellFormed.{IsNullable, CannotFail}
+use Rattle.meta_nodes.specs.Nodes.{view}
+use Rattle.meta_nodes.specs.declared.node.ParserRule.{ParserRule}
+use Rattle.meta_nodes.specs.Spanned.{Spanned}
+use Rattle.meta_validator.specs.Names.{grammar_of, kind_in}
+use Rattle.meta_validator.specs.Numbering.{Stands, Says, AreNodes, nodes_of}
+use Rattle.meta_validator.specs.Table.{is_set_at}
+use Rattle.meta_validator.specs.declared.table.Question.{Question}
+use Rattle.meta_validator.specs.declared.table.Question.TheVariants as asks
+use Rattle.meta_validator.specs.declared.table.Table.{Table}
+use Rattle.meta_validator.specs.declared.facts.Facts as code
+
+-- the bodies of rules lie among these nodes, at these places
+pub record AreRoots (rules : List ParserRule) (nodes : List Spanned) (roots : List ℕ) : Type 0 where
+  pub alike : length roots ≡ length rules
+  pub lie : (r i : ℕ) (rule : ParserRule) → slice_get rules r ≡ Some rule → slice_get roots r ≡ Some i
+      → slice_get nodes i ≡ Some (view rule.node)
+
+-- the table of the nodes of all bodies
+pub record AreTabled (rules : List ParserRule) (table : Table) : Type 0 where
+  pub nodes : AreNodes (kind_in (grammar_of rules)) (nodes_of rules) table.kinds.items
+  pub roots : AreRoots rules (nodes_of rules) table.roots.items
+
+-- a table in which the bodies of all rules stand
+pub record IsTableOf (rules : List ParserRule) (table : Table) : Type 0 where
+  pub alike : length table.roots.items ≡ length rules
+  pub stand : (r : ℕ) (i : ℕ) (rule : ParserRule) → slice_get rules r ≡ Some rule
+      → slice_get table.roots.items r ≡ Some i
+      → Stands (kind_in (grammar_of rules)) table.kinds.items i (view rule.node)
+
+-- what a question asks of an expression
+abbrev pub Asked : Question → Grammar → Expression → Type 0
+Asked asks.TakesNothing g e = IsNullable g e
+Asked asks.CannotFail g e = CannotFail g e
+
+-- marks answer a question for each node of each rule
+abbrev pub AreAnswers : List ParserRule → Table → Question → List Bool → Type 0
+AreAnswers rules table q marks = (i : ℕ) (e : Expression)
+    → Says (kind_in (grammar_of rules)) table.kinds.items i e
+    → Decides (is_set_at marks i) (Asked q (grammar_of rules) e)
+
+-- the facts of rules: their table, and for each node whether it may take nothing and whether it cannot fail
+pub record AreFacts (rules : List ParserRule) (facts : code.Facts) : Type 0 where
+  pub tabled : AreTabled rules facts.table
+  pub table : IsTableOf rules facts.table
+  pub nullable : AreAnswers rules facts.table asks.TakesNothing facts.nullable.items
+  pub certain : AreAnswers rules facts.table asks.CannotFail facts.certain.items

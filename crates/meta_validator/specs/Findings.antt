@@ -1,0 +1,125 @@
+-- What the validator finds in rules besides left recursion: repetitions that never end, alternatives that
+-- are never reached, and rules that are skipped although they may take nothing.
+use Rattle.std.specs.Prelude.{◌≡◌, ℕ, ◌+◌, Some, slice_get, filter, not, ◌&&◌, IsPermutation, List, [], ◌∷◌, ◌++◌, flat_map, Bool, true, false, ◌||◌, bytes_eq, codes}
+use Rattle.std.specs.Ordering.{is_lt, ordering_then, nat_cmp}
+use Rattle.std.specs.Str.{encode_utf8_all}
+use Rattle.meta_base.specs.Text.{Text}
+use Rattle.meta_base.specs.Expression.{Expression, Grammar}
+use Rattle.meta_base.specs.WellFormed.{IsNullable, CannotFail, Leads}
+use Rattle.meta_nodes.specs.Erasure.{without_spans, rules_without_spans}
+use Rattle.meta_nodes.specs.Spanned.{Span, span_of, Spanned, Leaf, One, Two, Unary, Rep, RepOnce, RepMin, Choice, SpannedRule}
+
+-- what is wrong, and where
+pub record Finding : Type 0 where
+  pub message : List ℕ
+  pub span : Span
+
+abbrev pub found_at : Span → List ℕ → Finding
+found_at place message = record { message = message; span = place }
+
+-- a node and all nodes below it, each behind those inside it, the left one before the right
+abbrev pub postorder : Spanned → List Spanned
+postorder (Leaf s e) = Leaf s e ∷ []
+postorder (One s f x) = postorder x ++ One s f x ∷ []
+postorder (Two s f x y) = (postorder x ++ postorder y) ++ Two s f x y ∷ []
+
+-- the nodes of all bodies, also of a rule that a later one of its name hides
+abbrev pub every_node : List SpannedRule → List Spanned
+every_node rules = flat_map (λ r. postorder r.body) rules
+
+-- `*`, `+` and `{n,}`
+abbrev pub is_endless : Unary → Bool
+is_endless Rep = true
+is_endless RepOnce = true
+is_endless (RepMin n) = true
+is_endless _ = false
+
+abbrev pub is_repetition : Spanned → Bool
+is_repetition (One s f x) = is_endless f
+is_repetition _ = false
+
+abbrev pub is_choice : Spanned → Bool
+is_choice (Two s Choice x y) = true
+is_choice _ = false
+
+-- of the left side of a choice the alternative that is looked at: its last one
+abbrev pub last_alternative : Spanned → Spanned
+last_alternative (Two s Choice x y) = y
+last_alternative x = x
+
+abbrev pub is_skipped_name : Text → Bool
+is_skipped_name n = bytes_eq n (codes "WHITESPACE") || bytes_eq n (codes "COMMENT")
+
+-- what is found at each of these, one after another
+pub data Reports {X : Type 0} (R : X → List Finding → Type 0) : List X → List Finding → Type 0 where
+  reports_none : Reports R [] []
+  reports_at : {x : X} {xs : List X} {fs gs : List Finding} → R x fs → Reports R xs gs
+      → Reports R (x ∷ xs) (fs ++ gs)
+
+module _ (g : Grammar) where
+  -- what is found of an expression that is repeated without end
+  pub data OfRepeated (subject : List ℕ) (place : Span) (e : Expression) : List Finding → Type 0 where
+    never_fails : CannotFail g e
+        → OfRepeated subject place e
+        (found_at place (subject ++ codes " cannot fail and will repeat infinitely") ∷ [])
+    takes_nothing : (CannotFail g e → ⊥) → IsNullable g e
+        → OfRepeated subject place e
+        (found_at place (subject ++ codes " is non-progressing and will repeat infinitely") ∷ [])
+    goes_on : (IsNullable g e → ⊥) → OfRepeated subject place e []
+
+  -- what is found of a node as a repetition
+  pub data OfRepetition : Spanned → List Finding → Type 0 where
+    repetition : {s : Span} {f : Unary} {x : Spanned} {fs : List Finding} → is_endless f ≡ true
+        → OfRepeated (codes "expression inside repetition") s (without_spans x) fs
+        → OfRepetition (One s f x) fs
+    no_repetition : {x : Spanned} → is_repetition x ≡ false → OfRepetition x []
+
+  -- what is found of a node as a choice
+  pub data OfChoice : Spanned → List Finding → Type 0 where
+    unreachable : {s : Span} {x y : Spanned} → CannotFail g (without_spans (last_alternative x))
+        → OfChoice (Two s Choice x y)
+        (found_at (span_of (last_alternative x))
+        (codes "expression cannot fail; following choices cannot be reached") ∷ [])
+    reachable : {s : Span} {x y : Spanned} → (CannotFail g (without_spans (last_alternative x)) → ⊥)
+        → OfChoice (Two s Choice x y) []
+    no_choice : {x : Spanned} → is_choice x ≡ false → OfChoice x []
+
+  -- what is found of a rule as one that is skipped
+  pub data OfSkipped : SpannedRule → List Finding → Type 0 where
+    skipped : {r : SpannedRule} {fs : List Finding} → is_skipped_name r.name ≡ true
+        → OfRepeated (encode_utf8_all r.name) (span_of r.body) (without_spans r.body) fs → OfSkipped r fs
+    not_skipped : {r : SpannedRule} → is_skipped_name r.name ≡ false → OfSkipped r []
+
+-- the first stands before the second: it starts before it, or where it does and ends before it
+abbrev pub is_before : Finding → Finding → Bool
+is_before x y = is_lt (ordering_then (nat_cmp x.span.start y.span.start) (nat_cmp x.span.end y.span.end))
+
+-- they start and end alike
+abbrev pub is_level : Finding → Finding → Bool
+is_level x y = not (is_before x y) && not (is_before y x)
+
+-- the same findings by their places; those at one place keep their order
+pub record IsSortedBySpan (found sorted : List Finding) : Type 0 where
+  pub same : IsPermutation found sorted
+  pub rising : (i : ℕ) (x y : Finding) → slice_get sorted i ≡ Some x → slice_get sorted (i + 1) ≡ Some y
+      → is_before y x ≡ false
+  pub stable : (i : ℕ) (x : Finding) → slice_get found i ≡ Some x
+      → filter (is_level x) sorted ≡ filter (is_level x) found
+
+-- what is found in rules: repetitions, then choices, then rules that are skipped, then left recursion, of
+-- which something is found exactly where left calls have a cycle
+pub record AreFound (rules : List SpannedRule) (found : List Finding) : Type 0 where
+  pub repetitions : List Finding
+  pub choices : List Finding
+  pub skips : List Finding
+  pub recursions : List Finding
+  pub of_repetitions : Reports (OfRepetition (rules_without_spans rules)) (every_node rules) repetitions
+  pub of_choices : Reports (OfChoice (rules_without_spans rules)) (every_node rules) choices
+  pub of_skips : Reports (OfSkipped (rules_without_spans rules)) rules skips
+  pub of_cycles : recursions ≡ [] → (n : Text) → Leads (rules_without_spans rules) n n → ⊥
+  pub only_of_cycles : (recursions ≡ [] → ⊥) → (n : Text) × Leads (rules_without_spans rules) n n
+  pub all : found ≡ repetitions ++ (choices ++ (skips ++ recursions))
+
+-- these are all that is found in rules, by place
+abbrev pub AreAllFound : List SpannedRule → List Finding → Type 0
+AreAllFound rules sorted = (found : List Finding) × AreFound rules found × IsSortedBySpan found sorted

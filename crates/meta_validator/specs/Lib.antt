@@ -1,0 +1,15 @@
+pub mod Table
+pub mod Marks
+pub mod Walk
+pub mod Reports
+pub mod Names
+pub mod NameMaps
+pub mod Numbering
+pub mod Facts
+pub mod Cycles
+pub mod Without
+pub mod Ends
+pub mod Findings
+pub mod Reporting
+pub mod Reported
+pub mod Leading

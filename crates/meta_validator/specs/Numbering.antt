@@ -1,0 +1,162 @@
+-- The nodes of a body, each behind those inside it.
+use Rattle.std.specs.Prelude.{◌≡◌, ℕ, suc, ◌+◌, ◌<◌, List, [], ◌∷◌, length, Some, Bool, true, false, if◌then◌else◌, slice_get, nat_eq, ⊤}
+use Rattle.meta_base.specs.Text.{Text}
+use Rattle.meta_base.specs.Expression as plain
+use Rattle.meta_base.specs.Expression.{Expression}
+use Rattle.meta_nodes.specs.Nodes.{view, view_at, rule_views}
+use Rattle.meta_nodes.specs.Spanned.{Span, Spanned, Leaf, One, Two, Unary, PosPred, NegPred, Opt, Rep, RepOnce, RepExact, RepMin, RepMax, RepMinMax, Push, Binary, Seq, Choice}
+use Rattle.meta_nodes.specs.declared.node.ParserExpr.{ParserExpr}
+use Rattle.meta_nodes.specs.declared.node.ParserExpr.TheVariants as code
+use Rattle.meta_ast.specs.Ast.{text_of}
+use Rattle.meta_nodes.specs.declared.node.ParserRule.{ParserRule}
+use Rattle.meta_validator.specs.Findings.{every_node}
+use Rattle.meta_validator.specs.declared.table.Kind.{Kind}
+use Rattle.meta_validator.specs.declared.table.Kind.TheVariants as is
+use Rattle.meta_validator.specs.declared.numbering.Operands.{Operands}
+use Rattle.meta_validator.specs.declared.numbering.Operands.TheVariants as has
+use Rattle.meta_validator.specs.declared.numbering.Wrap.{Wrap}
+use Rattle.meta_validator.specs.declared.numbering.Wrap.TheVariants as wraps
+
+abbrev pub text_kind : Text → Kind
+text_kind [] = is.Still
+text_kind (c ∷ t) = is.Taking
+
+-- what an expression without operands does, by what names do
+abbrev pub leaf_kind : (Text → Kind) → Expression → Kind
+leaf_kind kind_of (plain.Str t) = text_kind t
+leaf_kind kind_of (plain.Insens t) = text_kind t
+leaf_kind kind_of (plain.Ident n) = kind_of n
+leaf_kind kind_of _ = is.Taking
+
+-- what an expression of code without operands does
+abbrev pub kind_of_code : (Text → Kind) → ParserExpr → Kind
+kind_of_code kind_of (code.Str s) = text_kind (text_of s)
+kind_of_code kind_of (code.Insens s) = text_kind (text_of s)
+kind_of_code kind_of (code.Ident s) = kind_of (text_of s)
+kind_of_code kind_of _ = is.Taking
+
+abbrev pub counted : ℕ → Wrap
+counted n = if nat_eq n 0 then wraps.Free else wraps.Inside
+
+abbrev pub repeated : ℕ → Wrap
+repeated n = if nat_eq n 0 then wraps.Again else wraps.OnceAgain
+
+abbrev pub wrap_of : Unary → Wrap
+wrap_of PosPred = wraps.Ahead
+wrap_of NegPred = wraps.NotAhead
+wrap_of Opt = wraps.Free
+wrap_of Push = wraps.Inside
+wrap_of Rep = wraps.Again
+wrap_of RepOnce = wraps.OnceAgain
+wrap_of (RepExact n) = counted n
+wrap_of (RepMin n) = repeated n
+wrap_of (RepMax n) = wraps.Free
+wrap_of (RepMinMax m n) = counted m
+
+abbrev pub wrap_kind : Wrap → ℕ → Kind
+wrap_kind wraps.Ahead j = is.Ahead j
+wrap_kind wraps.NotAhead j = is.NotAhead j
+wrap_kind wraps.Free j = is.Free j
+wrap_kind wraps.Inside j = is.Inside j
+wrap_kind wraps.Again j = is.Again j
+wrap_kind wraps.OnceAgain j = is.OnceAgain j
+
+abbrev pub both_kind : Bool → ℕ → ℕ → Kind
+both_kind false j k = is.Seq j k
+both_kind true j k = is.Choice j k
+
+abbrev pub choice_of : Binary → Bool
+choice_of Seq = false
+choice_of Choice = true
+
+-- what is inside a node is smaller
+abbrev pub size : Spanned → ℕ
+size (Leaf s e) = 1
+size (One s f x) = suc (size x)
+size (Two s f x y) = suc (size x + size y)
+
+-- what an expression is made of is smaller than it, wherever it stands
+abbrev pub AreSmaller : ParserExpr → Operands → Type 0
+AreSmaller expr has.Nothing = (t : Span) → size (view_at t expr) ≡ 1
+AreSmaller expr (has.Inside wrap body) = (t : Span) → size (view_at t expr) ≡ size (view body.now) + 1
+AreSmaller expr (has.Both choice first second) =
+    (t : Span) → size (view_at t expr) ≡ size (view first.now) + size (view second.now) + 1
+
+-- an expression without operands
+abbrev pub IsSimple : Expression → Type 0
+IsSimple (plain.Str t) = ⊤
+IsSimple (plain.Insens t) = ⊤
+IsSimple (plain.Range t u) = ⊤
+IsSimple (plain.Ident n) = ⊤
+IsSimple (plain.PeekSlice i j) = ⊤
+IsSimple _ = ⊥
+
+-- an expression is made of these, wherever it stands
+abbrev pub IsMadeOf : ParserExpr → Operands → Type 0
+IsMadeOf expr has.Nothing = (e : Expression) × IsSimple e × ((t : Span) → view_at t expr ≡ Leaf t e)
+IsMadeOf expr (has.Inside wrap body) =
+    (f : Unary) × ((t : Span) → view_at t expr ≡ One t f (view body.now)) × (wrap ≡ wrap_of f)
+IsMadeOf expr (has.Both choice first second) =
+    (f : Binary) × ((t : Span) → view_at t expr ≡ Two t f (view first.now) (view second.now))
+    × (choice ≡ choice_of f)
+
+-- a node of a list stands for an expression, those inside it in front of it
+abbrev pub Stands : (Text → Kind) → List Kind → ℕ → Spanned → Type 0
+Stands kind_of ks i (Leaf s e) = IsSimple e × (slice_get ks i ≡ Some (leaf_kind kind_of e))
+Stands kind_of ks i (One s f x) = (j : ℕ) × (j < i) × (slice_get ks i ≡ Some (wrap_kind (wrap_of f) j))
+    × Stands kind_of ks j x
+Stands kind_of ks i (Two s f x y) = (j : ℕ) × (k : ℕ) × (j < i) × (k < i)
+    × (slice_get ks i ≡ Some (both_kind (choice_of f) j k)) × Stands kind_of ks j x × Stands kind_of ks k y
+
+-- the same, of an expression without places
+abbrev pub Says : (Text → Kind) → List Kind → ℕ → Expression → Type 0
+Says kind_of ks i (plain.Str t) = slice_get ks i ≡ Some (text_kind t)
+Says kind_of ks i (plain.Insens t) = slice_get ks i ≡ Some (text_kind t)
+Says kind_of ks i (plain.Range t u) = slice_get ks i ≡ Some is.Taking
+Says kind_of ks i (plain.Ident n) = slice_get ks i ≡ Some (kind_of n)
+Says kind_of ks i (plain.PeekSlice a b) = slice_get ks i ≡ Some is.Taking
+Says kind_of ks i (plain.PosPred e) = (j : ℕ) × (j < i) × (slice_get ks i ≡ Some (is.Ahead j))
+    × Says kind_of ks j e
+Says kind_of ks i (plain.NegPred e) = (j : ℕ) × (j < i) × (slice_get ks i ≡ Some (is.NotAhead j))
+    × Says kind_of ks j e
+Says kind_of ks i (plain.Opt e) = (j : ℕ) × (j < i) × (slice_get ks i ≡ Some (is.Free j))
+    × Says kind_of ks j e
+Says kind_of ks i (plain.Rep e) = (j : ℕ) × (j < i) × (slice_get ks i ≡ Some (is.Again j))
+    × Says kind_of ks j e
+Says kind_of ks i (plain.RepMax e n) = (j : ℕ) × (j < i) × (slice_get ks i ≡ Some (is.Free j))
+    × Says kind_of ks j e
+Says kind_of ks i (plain.RepOnce e) = (j : ℕ) × (j < i) × (slice_get ks i ≡ Some (is.OnceAgain j))
+    × Says kind_of ks j e
+Says kind_of ks i (plain.Push e) = (j : ℕ) × (j < i) × (slice_get ks i ≡ Some (is.Inside j))
+    × Says kind_of ks j e
+Says kind_of ks i (plain.RepExact e n) = (j : ℕ) × (j < i)
+    × (slice_get ks i ≡ Some (wrap_kind (counted n) j)) × Says kind_of ks j e
+Says kind_of ks i (plain.RepMin e n) = (j : ℕ) × (j < i)
+    × (slice_get ks i ≡ Some (wrap_kind (repeated n) j)) × Says kind_of ks j e
+Says kind_of ks i (plain.RepMinMax e m n) = (j : ℕ) × (j < i)
+    × (slice_get ks i ≡ Some (wrap_kind (counted m) j)) × Says kind_of ks j e
+Says kind_of ks i (plain.Seq a b) = (j : ℕ) × (k : ℕ) × (j < i) × (k < i)
+    × (slice_get ks i ≡ Some (is.Seq j k)) × Says kind_of ks j a × Says kind_of ks k b
+Says kind_of ks i (plain.Choice a b) = (j : ℕ) × (k : ℕ) × (j < i) × (k < i)
+    × (slice_get ks i ≡ Some (is.Choice j k)) × Says kind_of ks j a × Says kind_of ks k b
+Says kind_of ks i (plain.Skip ts) = ⊥
+Says kind_of ks i (plain.RestoreOnErr e) = ⊥
+
+-- what a node at a place does, by the places of those inside it
+abbrev pub Fits : (Text → Kind) → List Spanned → ℕ → Kind → Spanned → Type 0
+Fits kind_of nodes i k (Leaf s e) = IsSimple e × (k ≡ leaf_kind kind_of e)
+Fits kind_of nodes i k (One s f x) = (j : ℕ) × (j < i) × (slice_get nodes j ≡ Some x)
+    × (k ≡ wrap_kind (wrap_of f) j)
+Fits kind_of nodes i k (Two s f x y) =
+    (j : ℕ) × (l : ℕ) × (j < i) × (l < i) × (slice_get nodes j ≡ Some x) × (slice_get nodes l ≡ Some y)
+    × (k ≡ both_kind (choice_of f) j l)
+
+-- the list says of each of these nodes what it does
+pub record AreNodes (kind_of : Text → Kind) (nodes : List Spanned) (ks : List Kind) : Type 0 where
+  pub alike : length ks ≡ length nodes
+  pub fit : (i : ℕ) (x : Spanned) → slice_get nodes i ≡ Some x → (k : Kind) × (slice_get ks i ≡ Some k)
+      × Fits kind_of nodes i k x
+
+-- the nodes of all bodies
+abbrev pub nodes_of : List ParserRule → List Spanned
+nodes_of rules = every_node (rule_views rules)

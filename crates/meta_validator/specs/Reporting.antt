@@ -1,0 +1,70 @@
+-- What is reported, by the facts.
+use Rattle.std.specs.Prelude.{◌≡◌, ℕ, List, [], ◌∷◌, ◌++◌, map, Option, Some, None, if◌then◌else◌, slice_get, string_bytes, codes}
+use Rattle.meta_ast.specs.Ast.{text_of}
+use Rattle.meta_nodes.specs.Nodes.{piece_of}
+use Rattle.meta_nodes.specs.Spanned.{Span, span_of}
+use Rattle.meta_nodes.specs.declared.node.ParserRule.{ParserRule}
+use Rattle.meta_base.specs.declared.runtime.places.Span as code_span
+use Rattle.meta_validator.specs.Findings.{Finding, found_at, is_skipped_name}
+use Rattle.meta_validator.specs.Numbering.{nodes_of}
+use Rattle.meta_validator.specs.Table.{is_set_at}
+use Rattle.meta_validator.specs.declared.facts.Facts.{Facts}
+use Rattle.meta_validator.specs.declared.findings.Finding as code
+use Rattle.meta_validator.specs.declared.table.Kind.{Kind}
+use Rattle.meta_validator.specs.declared.table.Kind.TheVariants as is
+
+-- what a finding of code says
+abbrev pub finding_of : code.Finding → Finding
+finding_of f = found_at (piece_of f.span) (string_bytes f.message)
+
+abbrev pub findings_of : List code.Finding → List Finding
+findings_of fs = map finding_of fs
+
+-- the spans of the nodes
+abbrev pub AreSpans : List ParserRule → List code_span.Span → Type 0
+AreSpans rules spans = map piece_of spans ≡ map span_of (nodes_of rules)
+
+-- of what is repeated without end
+abbrev pub repeated_at : Facts → List ℕ → Span → ℕ → List Finding
+repeated_at facts subject place j =
+    if is_set_at facts.certain.items j
+    then found_at place (subject ++ codes " cannot fail and will repeat infinitely") ∷ []
+    else if is_set_at facts.nullable.items j
+    then found_at place (subject ++ codes " is non-progressing and will repeat infinitely") ∷ []
+    else []
+
+-- of a node as a repetition
+abbrev pub repetition_at : Facts → Span → Option Kind → List Finding
+repetition_at facts place (Some (is.Again j)) =
+    repeated_at facts (codes "expression inside repetition") place j
+repetition_at facts place (Some (is.OnceAgain j)) =
+    repeated_at facts (codes "expression inside repetition") place j
+repetition_at facts place _ = []
+
+-- the last alternative of the node j, if it is a choice, or else j
+abbrev pub alternative_of : Option Kind → ℕ → ℕ
+alternative_of (Some (is.Choice a b)) j = b
+alternative_of _ j = j
+
+-- of an alternative with others behind it
+abbrev pub alternative_at : Facts → ℕ → Option code_span.Span → List Finding
+alternative_at facts a None = []
+alternative_at facts a (Some s) =
+    if is_set_at facts.certain.items a
+    then found_at (piece_of s) (codes "expression cannot fail; following choices cannot be reached") ∷ [] else []
+
+abbrev pub unreachable_at : Facts → List code_span.Span → ℕ → List Finding
+unreachable_at facts spans a = alternative_at facts a (slice_get spans a)
+
+-- of a node as a choice
+abbrev pub choice_at : Facts → List code_span.Span → Option Kind → List Finding
+choice_at facts spans (Some (is.Choice j k)) =
+    unreachable_at facts spans (alternative_of (slice_get facts.table.kinds.items j) j)
+choice_at facts spans _ = []
+
+-- of a rule as one that is skipped
+abbrev pub skipped_at : Facts → ParserRule → Option ℕ → List Finding
+skipped_at facts rule None = []
+skipped_at facts rule (Some root) =
+    if is_skipped_name (text_of rule.name)
+    then repeated_at facts (string_bytes rule.name) (piece_of rule.node.span) root else []

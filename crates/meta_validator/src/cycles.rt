@@ -1,0 +1,183 @@
+// Whether some rule calls itself before anything is taken, in one pass: the nodes are ordered by a search
+// in depth, and the order is then looked over node by node. Only what is looked over counts: where each
+// left call leads down, none comes back.
+ghost use Rattle.std.specs.Prelude.{◌≡◌, ◌<◌, ◌≤◌, ◌+◌, ◌*◌, IfOk, OnOk, length, true};
+ghost use Rattle.meta_base.specs.Text.{Text};
+ghost use Rattle.meta_base.specs.WellFormed.{Leads};
+ghost use Rattle.meta_validator.specs.Marks.{unset};
+ghost use Rattle.meta_validator.specs.Facts.{AreFacts};
+ghost use Rattle.meta_validator.specs.Names.{grammar_of};
+ghost use Rattle.meta_validator.specs.Cycles.{Falls, AllFall, rank_at, IsBelowRoot};
+
+use crate::facts::Facts;
+use crate::table::{Kind, is_set};
+use meta_nodes::ParserRule;
+use std::alloc::{AllocError, Global};
+
+/// What is to be done with a node.
+#[derive(Clone, Copy, Debug, PartialEq, Eq)]
+pub enum Step {
+    Enter(usize),
+    Leave(usize),
+}
+
+fn enter_root(facts: &Facts, steps: &mut Vec<Step>, rule: usize) -> Result<(), AllocError>
+    ensures { OnOk result (steps.new.len ≤ steps.old.len + 1) }
+{
+    if let Some(root) = facts.table.roots.get(rule) {
+        steps.push(Step::Enter(*root))?;
+    }
+    Ok(())
+}
+
+/// Puts the nodes to which a node's left calls lead at once on the list of steps.
+fn enter_operands(facts: &Facts, steps: &mut Vec<Step>, kind: Kind) -> Result<(), AllocError>
+    ensures { OnOk result (steps.new.len ≤ steps.old.len + 2) }
+{
+    match kind {
+        Kind::Taking | Kind::Still | Kind::End => Ok(()),
+        Kind::Call(rule) | Kind::EndCall(rule) => enter_root(facts, steps, rule),
+        Kind::Ahead(body)
+        | Kind::NotAhead(body)
+        | Kind::Free(body)
+        | Kind::Inside(body)
+        | Kind::Again(body)
+        | Kind::OnceAgain(body) => {
+            steps.push(Step::Enter(body))?;
+            Ok(())
+        }
+        Kind::Seq(first, second) => {
+            steps.push(Step::Enter(first))?;
+            if is_set(facts.nullable.as_slice(), first) {
+                steps.push(Step::Enter(second))?;
+            }
+            Ok(())
+        }
+        Kind::Choice(first, second) => {
+            steps.push(Step::Enter(first))?;
+            steps.push(Step::Enter(second))?;
+            Ok(())
+        }
+    }
+}
+
+/// Enters a node that was not seen.
+fn enter(
+    facts: &Facts,
+    seen: &mut Vec<bool>,
+    steps: &mut Vec<Step>,
+    node: usize,
+) -> Result<(), AllocError>
+    ensures fewer { OnOk result (4 * unset seen.new.items + length steps.new.items
+        ≤ 4 * unset seen.old.items + length steps.old.items) }
+{
+    if node >= seen.len() || node >= facts.table.kinds.len() {
+        return Ok(());
+    }
+    if is_set(seen.as_slice(), node) {
+        return Ok(());
+    }
+    seen[node] = true;
+    steps.push(Step::Leave(node))?;
+    enter_operands(facts, steps, facts.table.kinds[node])?;
+    Ok(())
+}
+
+/// A number for each node: a node that was left later has a greater one.
+fn ordered(alloc: Global, facts: &Facts) -> Result<Vec<usize>, AllocError> {
+    let mut order = vec![in alloc; 0; facts.table.kinds.len()]?;
+    let mut seen = vec![in alloc; false; facts.table.kinds.len()]?;
+    let mut steps = Vec::new(alloc);
+    for node in 0..facts.table.kinds.len() {
+        steps.push(Step::Enter(node))?;
+    }
+    let mut clock: usize = 1;
+    while let Some(step) = steps.pop() {
+        match step {
+            Step::Enter(node) => enter(facts, &mut seen, &mut steps, node)?,
+            Step::Leave(node) => {
+                if let Some(place) = order.get_mut(node) {
+                    *place = clock;
+                    clock = clock.saturating_add(1);
+                }
+            }
+        }
+    }
+    Ok(order)
+}
+
+/// The number of a node.
+fn number_at(order: &[usize], node: usize) -> usize
+    ensures { result ≡ rank_at order.now node }
+{
+    match order.get(node) {
+        Some(number) => *number,
+        None => 0,
+    }
+}
+
+fn is_below(order: &[usize], low: usize, high: usize) -> bool
+    ensures { result ≡ true → rank_at order.now low < rank_at order.now high }
+{
+    number_at(order, low) < number_at(order, high)
+}
+
+fn is_root_below(facts: &Facts, order: &[usize], rule: usize, high: usize) -> bool
+    ensures { result ≡ true → IsBelowRoot facts.now order.now rule high }
+{
+    match facts.table.roots.get(rule) {
+        Some(root) => is_below(order, *root, high),
+        None => true,
+    }
+}
+
+/// Whether the nodes to which a node's left calls lead at once have lower numbers.
+fn falls(facts: &Facts, order: &[usize], node: usize, kind: Kind) -> bool
+    ensures { result ≡ true → Falls facts.now order.now node kind }
+{
+    match kind {
+        Kind::Taking => true,
+        Kind::Still => true,
+        Kind::End => true,
+        Kind::Call(rule) => is_root_below(facts, order, rule, node),
+        Kind::EndCall(rule) => is_root_below(facts, order, rule, node),
+        Kind::Ahead(body) => is_below(order, body, node),
+        Kind::NotAhead(body) => is_below(order, body, node),
+        Kind::Free(body) => is_below(order, body, node),
+        Kind::Inside(body) => is_below(order, body, node),
+        Kind::Again(body) => is_below(order, body, node),
+        Kind::OnceAgain(body) => is_below(order, body, node),
+        Kind::Seq(first, second) => {
+            is_below(order, first, node)
+                && (!is_set(facts.nullable.as_slice(), first) || is_below(order, second, node))
+        }
+        Kind::Choice(first, second) => is_below(order, first, node)
+            && is_below(order, second, node),
+    }
+}
+
+/// Whether every left call leads down.
+fn all_fall(facts: &Facts, order: &[usize]) -> bool
+    ensures { result ≡ true → AllFall facts.now order.now }
+{
+    for node in 0..facts.table.kinds.len() {
+        if !falls(facts, order, node, facts.table.kind_at(node)) {
+            return false;
+        }
+    }
+    true
+}
+
+/// Whether no rule calls itself before anything is taken; a yes is certain.
+pub fn has_no_cycle<'i>(
+    alloc: Global,
+    rules: &[ParserRule<'i>],
+    facts: &Facts,
+) -> Result<bool, AllocError>
+    requires { AreFacts rules.now facts.now }
+    ensures { IfOk result (λ yes. yes ≡ true → (n : Text) → Leads (grammar_of rules.now) n n → ⊥) }
+{
+    let order = ordered(alloc, facts)?;
+    let falls = all_fall(facts, order.as_slice());
+    Ok(falls)
+}

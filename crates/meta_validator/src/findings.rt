@@ -1,0 +1,279 @@
+// What is wrong with rules besides left recursion: repetitions that never end, alternatives that are never
+// reached, and rules that are skipped although they may take nothing.
+ghost use Rattle.std.specs.Prelude.{◌≡◌, ◌++◌, ◌∷◌, [], IfOk, OnOk, map, string_bytes, slice_get, Option};
+ghost use Rattle.meta_nodes.specs.Nodes.{piece_of, rule_views};
+ghost use Rattle.meta_validator.specs.Facts.{AreFacts};
+ghost use Rattle.meta_validator.specs.Findings.{found_at, OfRepetition, OfChoice, OfSkipped, Reports};
+ghost use Rattle.meta_validator.specs.Names.{grammar_of};
+ghost use Rattle.meta_validator.specs.Numbering.{nodes_of};
+ghost use Rattle.meta_validator.specs.Reporting.{findings_of, AreSpans, repeated_at, repetition_at, alternative_of, unreachable_at, choice_at, skipped_at};
+
+use crate::facts::Facts;
+use crate::names::is_literal;
+use crate::numbering::push_spans;
+use crate::table::{Kind, is_set};
+use meta_base::runtime::Span;
+use meta_nodes::ParserRule;
+use std::alloc::{AllocError, Global};
+
+/// What is wrong, and where.
+#[derive(Drop)]
+pub struct Finding<'i> {
+    pub message: String,
+    pub span: Span<'i>,
+}
+
+/// One text of two.
+pub fn joined(alloc: Global, first: &str, second: &str) -> Result<String, AllocError>
+    ensures { IfOk result (λ text. string_bytes text ≡ first.now ++ second.now) }
+{
+    let mut text = String::from_str(alloc, first)?;
+    text.push_str(second)?;
+    Ok(text)
+}
+
+/// Adds a finding, whose message is that of the subject and what is said of it.
+fn add<'i>(
+    alloc: Global,
+    subject: &str,
+    said: &str,
+    span: Span<'i>,
+    found: &mut Vec<Finding<'i>>,
+) -> Result<(), AllocError>
+    ensures { OnOk result (findings_of found.new.items
+        ≡ findings_of found.old.items ++ found_at (piece_of span.entry) (subject.now ++ said.now) ∷ []) }
+{
+    let message = joined(alloc, subject, said)?;
+    found.push(Finding { message, span })?;
+    Ok(())
+}
+
+/// What the node of a number does, if there is one.
+fn kind_of_node(facts: &Facts, node: usize) -> Option<Kind>
+    ensures { result ≡ slice_get facts.now.table.kinds.items node }
+{
+    facts.table.kinds.get(node).copied()
+}
+
+/// The number of a rule's body, if there is one.
+fn root_of_rule(facts: &Facts, rule: usize) -> Option<usize>
+    ensures { result ≡ slice_get facts.now.table.roots.items rule }
+{
+    facts.table.roots.get(rule).copied()
+}
+
+/// Adds what is found of a body that is repeated without end.
+fn report_repeated<'i>(
+    alloc: Global,
+    facts: &Facts,
+    subject: &str,
+    span: Span<'i>,
+    body: usize,
+    found: &mut Vec<Finding<'i>>,
+) -> Result<(), AllocError>
+    ensures { OnOk result (findings_of found.new.items
+        ≡ findings_of found.old.items ++ repeated_at facts.now subject.now (piece_of span.entry) body) }
+{
+    if is_set(facts.certain.as_slice(), body) {
+        add(
+            alloc,
+            subject,
+            " cannot fail and will repeat infinitely",
+            span,
+            found,
+        )?;
+    } else if is_set(facts.nullable.as_slice(), body) {
+        add(
+            alloc,
+            subject,
+            " is non-progressing and will repeat infinitely",
+            span,
+            found,
+        )?;
+    }
+    Ok(())
+}
+
+/// Adds what is found of a node as a repetition.
+fn report_repetition<'i>(
+    alloc: Global,
+    facts: &Facts,
+    span: Span<'i>,
+    kind: Option<Kind>,
+    found: &mut Vec<Finding<'i>>,
+) -> Result<(), AllocError>
+    ensures { OnOk result (findings_of found.new.items
+        ≡ findings_of found.old.items ++ repetition_at facts.now (piece_of span.entry) kind) }
+{
+    let body = match kind {
+        Some(Kind::Again(body)) => body,
+        Some(Kind::OnceAgain(body)) => body,
+        _ => return Ok(()),
+    };
+    report_repeated(
+        alloc,
+        facts,
+        "expression inside repetition",
+        span,
+        body,
+        found,
+    )?;
+    Ok(())
+}
+
+/// The spans of all nodes, each behind those inside it.
+pub fn spans_of<'i>(alloc: Global, rules: &[ParserRule<'i>]) -> Result<Vec<Span<'i>>, AllocError>
+    ensures { IfOk result (λ spans. AreSpans rules.now spans.items) }
+{
+    let mut spans = Vec::new(alloc);
+    for place in 0..rules.len() {
+        push_spans(&rules[place].node, &mut spans)?;
+    }
+    Ok(spans)
+}
+
+/// What is found of all nodes as repetitions.
+pub fn repetitions<'i>(
+    alloc: Global,
+    rules: &[ParserRule<'i>],
+    facts: &Facts,
+    spans: &[Span<'i>],
+) -> Result<Vec<Finding<'i>>, AllocError>
+    requires facts { AreFacts rules.now facts.now }
+    requires spans { AreSpans rules.now spans.now }
+    ensures { IfOk result (λ found. Reports (OfRepetition (grammar_of rules.now))
+        (nodes_of rules.now) (findings_of found.items)) }
+{
+    let mut found = Vec::new(alloc);
+    for node in 0..spans.len() {
+        report_repetition(
+            alloc,
+            facts,
+            spans[node],
+            kind_of_node(facts, node),
+            &mut found,
+        )?;
+    }
+    Ok(found)
+}
+
+/// Adds what is found of an alternative with others behind it.
+fn report_alternative<'i>(
+    alloc: Global,
+    facts: &Facts,
+    spans: &[Span<'i>],
+    alternative: usize,
+    found: &mut Vec<Finding<'i>>,
+) -> Result<(), AllocError>
+    ensures { OnOk result (findings_of found.new.items
+        ≡ findings_of found.old.items ++ unreachable_at facts.now spans.now alternative) }
+{
+    if alternative < spans.len() {
+        let span = spans[alternative];
+        if is_set(facts.certain.as_slice(), alternative) {
+            add(
+                alloc,
+                "expression cannot fail; ",
+                "following choices cannot be reached",
+                span,
+                found,
+            )?;
+        }
+    }
+    Ok(())
+}
+
+/// The last alternative of a node that is a choice, or else the node.
+fn last_alternative(facts: &Facts, node: usize) -> usize
+    ensures { result ≡ alternative_of (slice_get facts.now.table.kinds.items node) node }
+{
+    match facts.table.kinds.get(node) {
+        Some(Kind::Choice(_, last)) => *last,
+        _ => node,
+    }
+}
+
+/// Adds what is found of a node as a choice.
+fn report_choice<'i>(
+    alloc: Global,
+    facts: &Facts,
+    spans: &[Span<'i>],
+    kind: Option<Kind>,
+    found: &mut Vec<Finding<'i>>,
+) -> Result<(), AllocError>
+    ensures { OnOk result (findings_of found.new.items
+        ≡ findings_of found.old.items ++ choice_at facts.now spans.now kind) }
+{
+    if let Some(Kind::Choice(first, _)) = kind {
+        report_alternative(alloc, facts, spans, last_alternative(facts, first), found)?;
+    }
+    Ok(())
+}
+
+/// What is found of all nodes as choices.
+pub fn choices<'i>(
+    alloc: Global,
+    rules: &[ParserRule<'i>],
+    facts: &Facts,
+    spans: &[Span<'i>],
+) -> Result<Vec<Finding<'i>>, AllocError>
+    requires facts { AreFacts rules.now facts.now }
+    requires spans { AreSpans rules.now spans.now }
+    ensures { IfOk result (λ found. Reports (OfChoice (grammar_of rules.now))
+        (nodes_of rules.now) (findings_of found.items)) }
+{
+    let mut found = Vec::new(alloc);
+    for node in 0..spans.len() {
+        report_choice(alloc, facts, spans, kind_of_node(facts, node), &mut found)?;
+    }
+    Ok(found)
+}
+
+/// Adds what is found of a rule as one that is skipped.
+fn report_skipped<'i>(
+    alloc: Global,
+    facts: &Facts,
+    rule: &ParserRule<'i>,
+    root: Option<usize>,
+    found: &mut Vec<Finding<'i>>,
+) -> Result<(), AllocError>
+    ensures { OnOk result (findings_of found.new.items
+        ≡ findings_of found.old.items ++ skipped_at facts.now rule.now root) }
+{
+    if let Some(body) = root {
+        if is_literal(&rule.name, "WHITESPACE") || is_literal(&rule.name, "COMMENT") {
+            report_repeated(
+                alloc,
+                facts,
+                rule.name.as_str(),
+                rule.node.span,
+                body,
+                found,
+            )?;
+        }
+    }
+    Ok(())
+}
+
+/// What is found of all rules as those that are skipped.
+pub fn skips<'i>(
+    alloc: Global,
+    rules: &[ParserRule<'i>],
+    facts: &Facts,
+) -> Result<Vec<Finding<'i>>, AllocError>
+    requires { AreFacts rules.now facts.now }
+    ensures { IfOk result (λ found. Reports (OfSkipped (grammar_of rules.now))
+        (rule_views rules.now) (findings_of found.items)) }
+{
+    let mut found = Vec::new(alloc);
+    for place in 0..rules.len() {
+        report_skipped(
+            alloc,
+            facts,
+            &rules[place],
+            root_of_rule(facts, place),
+            &mut found,
+        )?;
+    }
+    Ok(found)
+}

@@ -1,0 +1,83 @@
+// All that is found in rules, as errors.
+ghost use Rattle.std.specs.Prelude.{◌≡◌, [], IfOk, IfErr, OnOk, alloc_error};
+ghost use Rattle.meta_base.specs.WellFormed.{IsWellFormed};
+ghost use Rattle.meta_nodes.specs.Nodes.{rule_views};
+ghost use Rattle.meta_validator.specs.Findings.{AreFound, AreAllFound, IsSortedBySpan};
+ghost use Rattle.meta_validator.specs.Names.{grammar_of};
+ghost use Rattle.meta_validator.specs.Reported.{Tells, AreTold};
+ghost use Rattle.meta_validator.specs.Reporting.{finding_of, findings_of};
+
+use crate::facts::facts_of;
+use crate::findings::{Finding, choices, repetitions, skips, spans_of};
+use crate::recursions::recursions;
+use meta_base::grammar::Rule;
+use meta_base::runtime::{Error, ErrorVariant, Fault};
+use meta_nodes::ParserRule;
+use std::alloc::{AllocError, Global};
+
+/// All that is found in rules: repetitions, then choices, then rules that are skipped, then left recursion.
+fn all_findings<'i>(alloc: Global, rules: &[ParserRule<'i>]) -> Result<Vec<Finding<'i>>, AllocError>
+    ensures found { IfOk result (λ found. AreFound (rule_views rules.now) (findings_of found.items)) }
+    ensures accepted { IfOk result (λ found. findings_of found.items ≡ []
+        → IsWellFormed (grammar_of rules.now)) }
+{
+    let facts = facts_of(alloc, rules)?;
+    let spans = spans_of(alloc, rules)?;
+    let mut found = repetitions(alloc, rules, &facts, spans.as_slice())?;
+    let mut choices = choices(alloc, rules, &facts, spans.as_slice())?;
+    let mut skips = skips(alloc, rules, &facts)?;
+    let mut recursions = recursions(alloc, rules, &facts, spans.as_slice())?;
+    skips.append(&mut recursions)?;
+    choices.append(&mut skips)?;
+    found.append(&mut choices)?;
+    Ok(found)
+}
+
+/// Puts findings in the order of their places.
+fn sort_by_span<'i>(found: &mut Vec<Finding<'i>>) -> Result<(), AllocError>
+    ensures { OnOk result (IsSortedBySpan (findings_of found.old.items) (findings_of found.new.items)) }
+{
+    found.sort_by_key(|finding| (finding.span.start(), finding.span.end()))?;
+    Ok(())
+}
+
+/// All that is found in rules, by place.
+pub fn sorted_findings<'i>(
+    alloc: Global,
+    rules: &[ParserRule<'i>],
+) -> Result<Vec<Finding<'i>>, AllocError>
+    ensures found { IfOk result (λ sorted. AreAllFound (rule_views rules.now) (findings_of sorted.items)) }
+    ensures accepted { IfOk result (λ sorted. findings_of sorted.items ≡ []
+        → IsWellFormed (grammar_of rules.now)) }
+{
+    let mut found = all_findings(alloc, rules)?;
+    sort_by_span(&mut found)?;
+    Ok(found)
+}
+
+/// The error that tells of a finding.
+fn error_of<'i>(alloc: Global, finding: &Finding<'i>) -> Result<Error<Rule>, Fault>
+    ensures tells { IfOk result (λ error. Tells (finding_of finding.now) error) }
+    ensures memory { IfErr result (λ fault. fault ≡ Fault.Memory alloc_error) }
+{
+    let message = String::from_str(alloc, finding.message.as_str()).map_err(Fault::Memory)?;
+    let variant = ErrorVariant::CustomError { message };
+    let error = Error::new_from_span(alloc, variant, finding.span)?;
+    Ok(error)
+}
+
+/// The errors that tell of findings, in their order.
+pub fn errors_of<'i>(alloc: Global, found: &[Finding<'i>]) -> Result<Vec<Error<Rule>>, Fault>
+    ensures told { IfOk result (λ errors. AreTold (findings_of found.now) errors.items) }
+    ensures memory { IfErr result (λ fault. fault ≡ Fault.Memory alloc_error) }
+{
+    let mut errors = Vec::new(alloc);
+    for place in 0..found.len() {
+        let error = error_of(alloc, &found[place])?;
+        match errors.push(error) {
+            Ok(()) => {}
+            Err(refused) => return Err(Fault::Memory(refused.into())),
+        }
+    }
+    Ok(errors)
+}

@@ -1,0 +1,121 @@
+// The nodes of all rules, by number.
+ghost use Rattle.std.specs.Prelude.{◌≡◌, ◌<◌, slice_get};
+ghost use Rattle.meta_validator.specs.Table.{fires, is_set_at, at_root};
+
+/// What a node does, its operands by their numbers.
+#[derive(Clone, Copy, Debug, PartialEq, Eq)]
+pub enum Kind {
+    /// It takes something, or fails.
+    Taking,
+    /// It takes nothing, and cannot fail.
+    Still,
+    /// It takes nothing, and may fail.
+    End,
+    /// A call, by the number of the rule.
+    Call(usize),
+    /// A call of a rule that is named as a builtin which takes nothing.
+    EndCall(usize),
+    /// It succeeds in place where its operand succeeds.
+    Ahead(usize),
+    /// It succeeds in place where its operand fails.
+    NotAhead(usize),
+    /// It may leave its operand out.
+    Free(usize),
+    /// It does what its operand does.
+    Inside(usize),
+    /// It repeats its operand without end, and may leave it out.
+    Again(usize),
+    /// It repeats its operand without end, once at least.
+    OnceAgain(usize),
+    Seq(usize, usize),
+    Choice(usize, usize),
+}
+
+/// What is asked of each node.
+#[derive(Clone, Copy, Debug, PartialEq, Eq)]
+pub enum Question {
+    /// Whether it may succeed without taking anything.
+    TakesNothing,
+    /// Whether it cannot fail.
+    CannotFail,
+}
+
+/// The nodes of all rules, each behind those inside it.
+#[derive(Drop)]
+pub struct Table {
+    pub kinds: Vec<Kind>,
+    /// The number of each rule's body.
+    pub roots: Vec<usize>,
+}
+
+/// Whether a flag is set.
+pub fn is_set(flags: &[bool], place: usize) -> bool
+    ensures { result ≡ is_set_at flags.now place }
+{
+    match flags.get(place) {
+        Some(flag) => *flag,
+        None => false,
+    }
+}
+
+impl Table {
+    /// What the node of a number does.
+    pub fn kind_at(&self, node: usize) -> Kind
+        requires { node < self.now.kinds.len }
+        ensures { slice_get self.now.kinds.items node ≡ Some result }
+    {
+        self.kinds[node]
+    }
+
+    /// The node of a rule's body.
+    pub fn root_at(&self, rule: usize) -> usize
+        requires { rule < self.now.roots.len }
+        ensures { slice_get self.now.roots.items rule ≡ Some result }
+    {
+        self.roots[rule]
+    }
+
+    /// Whether the flag of a rule's body is set.
+    fn is_root_set(&self, marks: &[bool], rule: usize) -> bool
+        ensures { result ≡ at_root (is_set_at marks.now) (slice_get self.now.roots.items rule) }
+    {
+        match self.roots.get(rule) {
+            Some(root) => is_set(marks, *root),
+            None => false,
+        }
+    }
+
+    /// Whether the answer for a node is yes by the answers for others.
+    pub fn fires(&self, question: Question, marks: &[bool], kind: Kind) -> bool
+        ensures { result ≡ fires question self.now.roots.items (is_set_at marks.now) kind }
+    {
+        match kind {
+            Kind::Taking => false,
+            Kind::Still => true,
+            Kind::End => question.is_of_taking(),
+            Kind::Call(rule) => self.is_root_set(marks, rule),
+            Kind::EndCall(rule) => question.is_of_taking() || self.is_root_set(marks, rule),
+            Kind::Ahead(body) => question.is_of_taking() || is_set(marks, body),
+            Kind::NotAhead(_) => question.is_of_taking(),
+            Kind::Free(_) => true,
+            Kind::Inside(body) => is_set(marks, body),
+            Kind::Again(_) => true,
+            Kind::OnceAgain(body) => is_set(marks, body),
+            Kind::Seq(first, second) => is_set(marks, first) && is_set(marks, second),
+            Kind::Choice(first, second) => is_set(marks, first) || is_set(marks, second),
+        }
+    }
+}
+
+impl Question {
+    ghost use Rattle.meta_validator.specs.Table.{is_of_taking};
+
+    fn is_of_taking(self) -> bool
+        ensures { result ≡ is_of_taking self }
+    {
+        match self {
+            Question::TakesNothing => true,
+            Question::CannotFail => false,
+        }
+    }
+}

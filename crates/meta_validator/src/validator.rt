@@ -1,0 +1,93 @@
+// What may take nothing, and what cannot fail.
+ghost use Rattle.std.specs.Prelude.{◌≡◌, ◌↔◌, [], IsTrue, IfOk, IfErr, alloc_error};
+ghost use Rattle.std.specs.Bool.{Decides};
+ghost use Rattle.meta_base.specs.WellFormed.{IsNullable, CannotFail, IsWellFormed};
+ghost use Rattle.meta_nodes.specs.Erasure.{without_spans, rules_without_spans};
+ghost use Rattle.meta_nodes.specs.Nodes.{rule_views, unplaced};
+ghost use Rattle.meta_validator.specs.Facts.{Asked};
+ghost use Rattle.meta_validator.specs.Names.{grammar_of};
+ghost use Rattle.meta_validator.specs.Reported.{AreReported};
+
+use crate::marks::{marked, who_listens};
+use crate::names::names_of;
+use crate::numbering::number;
+use crate::reported::{errors_of, sorted_findings};
+use crate::table::{Question, is_set};
+use crate::tables::tabulated;
+use meta_base::grammar::Rule;
+use meta_base::runtime::{Error, Fault};
+use meta_nodes::{ParserExpr, ParserRule};
+use std::alloc::{AllocError, Global};
+
+/// Whether an expression may succeed without taking anything, where its names mean these rules (the last of
+/// a name): empty strings, `SOI`, `EOI`, predicates, `e?`, `e*`, `e{,n}` and what is repeated from 0 times
+/// on may; a sequence where both sides may, a choice where one side may, a call where the rule's body may,
+/// and all else where its operand may. The only fault is a want of memory.
+pub fn is_non_progressing<'i>(
+    alloc: Global,
+    expr: &ParserExpr<'i>,
+    rules: &Vec<ParserRule<'i>>,
+) -> Result<bool, Fault>
+    ensures exact { IfOk result (λ yes. IsTrue yes
+        ↔ IsNullable (rules_without_spans (rule_views rules.now.items)) (without_spans (unplaced expr.now))) }
+    ensures memory { IfErr result (λ fault. fault ≡ Fault.Memory alloc_error) }
+{
+    answer(alloc, expr, rules.as_slice(), Question::TakesNothing).map_err(Fault::Memory)
+}
+
+/// Whether an expression cannot fail, where its names mean these rules (the last of a name): empty strings,
+/// `e?`, `e*`, `e{,n}` and what is repeated from 0 times on cannot; nor a sequence where both sides can't,
+/// a choice where one side can't, a call where the rule's body can't, and all else but `!e` where its
+/// operand can't. The only fault is a want of memory.
+pub fn is_non_failing<'i>(
+    alloc: Global,
+    expr: &ParserExpr<'i>,
+    rules: &Vec<ParserRule<'i>>,
+) -> Result<bool, Fault>
+    ensures exact { IfOk result (λ yes. IsTrue yes
+        ↔ CannotFail (rules_without_spans (rule_views rules.now.items)) (without_spans (unplaced expr.now))) }
+    ensures memory { IfErr result (λ fault. fault ≡ Fault.Memory alloc_error) }
+{
+    answer(alloc, expr, rules.as_slice(), Question::CannotFail).map_err(Fault::Memory)
+}
+
+/// What is wrong with rules, in the order of their places (at one place repetitions, then choices, then
+/// skipped rules, then left recursion): a repetition `e*`, `e+` or `e{n,}` whose body cannot fail or may
+/// take nothing; an alternative with others behind it that cannot fail; a rule named `WHITESPACE` or
+/// `COMMENT` that cannot fail or may take nothing; left recursion, at most one for a name. Each error
+/// stands where the fault does. The only fault is a want of memory.
+pub fn validate_ast<'i>(
+    alloc: Global,
+    rules: &Vec<ParserRule<'i>>,
+) -> Result<Vec<Error<Rule>>, Fault>
+    ensures exact { IfOk result (λ errors. AreReported (rule_views rules.now.items) errors.items) }
+    ensures accepted { IfOk result (λ errors. errors.items ≡ []
+        → IsWellFormed (rules_without_spans (rule_views rules.now.items))) }
+    ensures memory { IfErr result (λ fault. fault ≡ Fault.Memory alloc_error) }
+{
+    let found = match sorted_findings(alloc, rules.as_slice()) {
+        Ok(found) => found,
+        Err(error) => return Err(Fault::Memory(error)),
+    };
+    let errors = errors_of(alloc, found.as_slice())?;
+    Ok(errors)
+}
+
+/// The answer for an expression: its nodes are put behind those of the rules, and then marked.
+fn answer<'i>(
+    alloc: Global,
+    expr: &ParserExpr<'i>,
+    rules: &[ParserRule<'i>],
+    question: Question,
+) -> Result<bool, AllocError>
+    ensures { IfOk result (λ yes. Decides yes
+        (Asked question (grammar_of rules.now) (without_spans (unplaced expr.now)))) }
+{
+    let names = names_of(alloc, rules)?;
+    let mut table = tabulated(alloc, rules, &names)?;
+    let own = number(rules, &names, expr, &mut table.kinds)?;
+    let listeners = who_listens(alloc, &table)?;
+    let marks = marked(alloc, &table, &listeners, question)?;
+    let answer = is_set(marks.as_slice(), own);
+    Ok(answer)
+}

@@ -1,0 +1,119 @@
+-- A text has one list of trees at most, and is read in one way at most.
+use Rattle.std.proofs.Common.{◌≡◌, ◌≢◌, ℕ, List, [], Option, Some, None, MatchOption, false, alloc_error, refl, sym, ap, subst, inl, inr, ◌∙◌}
+use Rattle.std.specs.Borrow.{Bor}
+use Rattle.meta_ast.specs.Optimized.{optimized_rules_of}
+use Rattle.meta_ast.specs.declared.optimized.OptimizedRule.{OptimizedRule}
+use Rattle.meta_base.specs.Expression.{Grammar}
+use Rattle.meta_optimizer.specs.Passes.{IsOptimized}
+use Rattle.meta_base.specs.State.{Classes, State, Trees, Success, Failure}
+use Rattle.meta_base.specs.NamedTrees.{named}
+use Rattle.meta_base.specs.Saying.{Tell}
+use Rattle.meta_base.specs.Pairs.{IsSamePairs, pairs_text, pairs_trees}
+use Rattle.meta_base.specs.declared.grammar.Rule.{Rule}
+use Rattle.meta_base.specs.declared.grammar.Rule.TheVariants as rule_is
+use Rattle.meta_base.specs.declared.runtime.errors.Error.{Error}
+use Rattle.meta_base.specs.declared.runtime.faults.Fault as code
+use Rattle.meta_base.specs.declared.runtime.faults.Fault.TheVariants as fault_is
+use Rattle.meta_base.specs.declared.runtime.tokens.Pairs.{Pairs}
+use Rattle.meta_base.proofs.Deterministic.{same}
+use Rattle.meta_nodes.specs.Erasure.{rules_without_spans}
+use Rattle.meta_nodes.specs.Spanned.{SpannedRule}
+use Rattle.meta_reader.specs.Faults.{Fault, first_fault}
+use Rattle.meta_reader.specs.Reading.{ReadsRules}
+use Rattle.meta_reader.specs.Refusals.{AreReadAs, first_fault_of, IsRefusal as IsReadRefusal, TellsOf}
+use Rattle.meta_reader.proofs.Uniqueness.{rules_once}
+use Rattle.meta_syntax.specs.MetaGrammar.{meta_grammar}
+use Rattle.meta_syntax.specs.Parses.{AreOfAGrammar, FailsAt, ParseRefuses}
+use Rattle.meta_names.specs.GrammarNames.{AreWrittenAt, complaints_of, first_calls_of, IsRefusal as IsNameRefusal}
+use Rattle.pest_meta.specs.Spelling.{AreAccepted, AreFaulty, AreRejected, Give, HasTrees, IsAnswer, complaints_in, IsNoGrammar, IsRefusal, Spells}
+
+-- no property name stands for anything
+abbrev empty_classes : Classes
+empty_classes n c = false
+
+same_trees : {s t : State} {us vs : Trees} → Success s us ≡ Success t vs → us ≡ vs
+same_trees h = cc
+
+failure_is_none : {t : State} {us : Trees} → Failure ≡ Success t us → ⊥
+failure_is_none h = cc
+
+pub trees_once : (text : List ℕ) (us vs : Trees) → HasTrees text us → HasTrees text vs → us ≡ vs
+trees_once text us vs h k = same_trees (same meta_grammar empty_classes (h empty_classes).1 (k empty_classes).1)
+
+-- where the text fails, it has none
+pub fails_so : (text : List ℕ) (place : ℕ) (us : Trees) → FailsAt rule_is.grammar_rules text place → HasTrees text us → ⊥
+fails_so text place us f h = failure_is_none (same meta_grammar empty_classes (f empty_classes).0 (h empty_classes).1)
+
+-- trees with a fault give no rules
+some_is_none : (f : Fault) → Some f ≡ None → ⊥
+some_is_none f h = cc
+
+pub faulty_give_none : (text : List ℕ) (trees : Trees) (errors : List (Error Rule)) (rules : Grammar) → AreFaulty text trees errors → Give text trees rules → ⊥
+faulty_give_none text trees errors rules f g = some_is_none f.fault (sym f.first ∙ g.faultless)
+
+pub spells_once : (text : List ℕ) (rules others : Grammar) → Spells text rules → Spells text others → rules ≡ others
+spells_once text rules others s t =
+    let trees = trees_once text s.trees t.trees s.of_text t.of_text in
+    let read = rules_once (subst (λ us. ReadsRules text us s.give.read) trees s.give.reads) t.give.reads in
+    s.give.same ∙ ap rules_without_spans read ∙ sym t.give.same
+
+pub trees_or_fails : (text : List ℕ) (trees : Trees) (errors : List (Error Rule)) → HasTrees text trees → IsNoGrammar text errors → ⊥
+trees_or_fails text trees errors h n = fails_so text n.says.place trees n.says.fails h
+
+-- what is refused before anything is read is no grammar
+pub no_grammar : (text : List ℕ) (fault : code.Fault) → ParseRefuses rule_is.grammar_rules text fault → IsRefusal text fault
+no_grammar text (fault_is.Memory e) h = tt
+no_grammar text (fault_is.Grammar errors) h =
+    inl (record { says = h; none = λ rules s. fails_so text h.place s.trees h.fails s.of_text })
+
+-- what is refused when it is read has a fault
+faulty : (text : List ℕ) (us : Trees) (errors : List (Error Rule)) (o : Option Fault) → first_fault text us ≡ o → MatchOption o ⊥ (λ fault. TellsOf fault errors) → AreFaulty text us errors
+faulty text us errors None e k = absurd k
+faulty text us errors (Some fault) e k = record { fault = fault; first = e; tells = k }
+
+pub has_fault : (pairs : Pairs Rule) (fault : code.Fault) → IsReadRefusal (first_fault_of pairs) fault → AreRejected (pairs_text pairs) (named (pairs_trees pairs)) fault
+has_fault pairs (fault_is.Memory e) k = tt
+has_fault pairs (fault_is.Grammar errors) k =
+    inl (faulty (pairs_text pairs) (named (pairs_trees pairs)) errors.items (first_fault_of pairs) refl k)
+
+-- what memory alone may refuse
+pub memory_rejects : (text : List ℕ) (us : Trees) (fault : code.Fault) → fault ≡ fault_is.Memory alloc_error → AreRejected text us fault
+memory_rejects text us fault e = rw e tt
+
+-- what is read gives rules
+abbrev pub given : (pairs : Pairs Rule) (read : List SpannedRule) (rules : Grammar) → first_fault_of pairs ≡ None → AreReadAs pairs read → rules ≡ rules_without_spans read → Give (pairs_text pairs) (named (pairs_trees pairs)) rules
+given pairs read rules f r s = record { faultless = f; read = read; reads = r; same = s }
+
+-- what is refused for its names
+pub misnamed : (text : List ℕ) (pairs copy : Pairs Rule) (fault : code.Fault) → pairs_text pairs ≡ text → AreOfAGrammar pairs → IsSamePairs pairs copy → IsNameRefusal (complaints_of copy) fault → IsRefusal text fault
+misnamed text pairs copy (fault_is.Memory e) t h s k = tt
+misnamed text pairs copy (fault_is.Grammar errors) t h s k =
+    let same : complaints_in (pairs_text copy) (named (pairs_trees copy)) ≡ complaints_in text (named (pairs_trees pairs)) =
+    rw (s.0, s.1, t) refl in
+    let of_text : HasTrees text (named (pairs_trees pairs)) = subst (λ v. HasTrees v (named (pairs_trees pairs))) t h in
+    let some : complaints_in text (named (pairs_trees pairs)) ≢ [] = subst (λ cs. cs ≢ []) same k.0 in
+    let tell = subst (λ cs. Tell cs errors.items) same k.1 in
+    inr (record { trees = named (pairs_trees pairs); of_text = of_text; why = inl (record { some = some; tell = tell }) })
+
+-- what is refused for its rules
+pub rejected : (text : List ℕ) (pairs : Pairs Rule) (fault : code.Fault) → pairs_text pairs ≡ text → AreOfAGrammar pairs → AreRejected (pairs_text pairs) (named (pairs_trees pairs)) fault → IsRefusal text fault
+rejected text pairs (fault_is.Memory e) t h k = tt
+rejected text pairs (fault_is.Grammar errors) t h k =
+    subst (λ v. IsRefusal v (fault_is.Grammar errors)) t (inr (record { trees = named (pairs_trees pairs); of_text = h; why = inr k }))
+
+-- what is answered
+pub answered : (text : List ℕ) (pairs copy : Pairs Rule) (builtins : List (Bor (List ℕ))) (rules : Grammar) (answer : List OptimizedRule)
+    → pairs_text pairs ≡ text → AreOfAGrammar pairs → IsSamePairs pairs copy
+    → complaints_of copy ≡ [] → AreWrittenAt (first_calls_of copy) builtins
+    → AreAccepted (pairs_text pairs) (named (pairs_trees pairs)) rules → IsOptimized rules (optimized_rules_of answer)
+    → IsAnswer text builtins answer
+answered text pairs copy builtins rules answer t h s e u a o =
+    subst (λ v. IsAnswer v builtins answer) t (record {
+      trees = named (pairs_trees pairs);
+      of_text = h;
+      well_named = rw (s.0, s.1) at e;
+      uses = rw (s.0, s.1) at u;
+      spelled = rules;
+      accepted = a;
+      optimized = o;
+    })

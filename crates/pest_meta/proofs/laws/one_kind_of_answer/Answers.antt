@@ -1,0 +1,11 @@
+use Rattle.pest_meta.proofs.Spelled.{faulty_give_none, trees_once, trees_or_fails}
+use Rattle.pest_meta.proofs.laws.one_kind_of_answer.Goals as goal
+
+pub returns-clause-trees : goal.returns-clause-trees
+returns-clause-trees c = trees_once
+
+pub returns-clause-syntax : goal.returns-clause-syntax
+returns-clause-syntax c = trees_or_fails
+
+pub returns-clause-faults : goal.returns-clause-faults
+returns-clause-faults c = faulty_give_none

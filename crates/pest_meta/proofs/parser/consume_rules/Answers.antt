@@ -1,0 +1,39 @@
+use Rattle.std.proofs.Common.{◌≡◌, ◌≢◌, [], inr, refl, rules, subst, arith}
+use Rattle.std.proofs.lemmas.Grind.{common_steps}
+use Rattle.meta_ast.specs.Ast.{rules_of}
+use Rattle.meta_base.specs.NamedTrees.{named}
+use Rattle.meta_base.specs.Pairs.{pairs_text, pairs_trees}
+use Rattle.meta_nodes.specs.Erasure.{rules_without_spans}
+use Rattle.meta_nodes.specs.Nodes.{rule_views}
+use Rattle.meta_reader.proofs.ReadableCounts.{counts_readable}
+use Rattle.meta_validator.specs.Reported.{AreReported}
+use Rattle.pest_meta.proofs.Spelled.{given}
+use Rattle.pest_meta.proofs.parser.consume_rules.Goals as goal
+
+pub returns-then-not-is_empty-clause-refused : goal.returns-then-not-is_empty-clause-refused
+returns-then-not-is_empty-clause-refused c =
+    let read = c.in_ok-rules.ensures in
+    let views = rule_views c.in_ok-rules.rules.items in
+    let some : c.in_ok-errors.errors.items ≢ [] = first_of (search rules, grind (arith, common_steps)) in
+    inr (record {
+      rules = rules_without_spans views;
+      give = given c.args.pairs views (rules_without_spans views) read.faultless read.rules refl;
+      some = some;
+      tell = c.in_ok-errors.ensures.exact;
+    })
+
+pub returns-in-Ok-clause-rules : goal.returns-in-Ok-clause-rules
+returns-in-Ok-clause-rules c =
+    let read = c.in_ok-rules.ensures in
+    let views = rule_views c.in_ok-rules.rules.items in
+    let none : c.in_ok-errors.errors.items ≡ [] = first_of (search rules, grind (arith, common_steps)) in
+    record {
+      give = given c.args.pairs views (rules_of c.in-Ok.rules.items) read.faultless read.rules c.in-Ok.ensures;
+      nothing_found = subst (AreReported views) none c.in_ok-errors.ensures.exact;
+      well_formed = rw c.in-Ok.ensures (c.in_ok-errors.ensures.accepted none);
+    }
+
+pub returns-in-Ok-clause-counts : goal.returns-in-Ok-clause-counts
+returns-in-Ok-clause-counts c =
+    let read = c.in_ok-rules.ensures in
+    rw c.in-Ok.ensures (counts_readable (pairs_text c.args.pairs) {us = named (pairs_trees c.args.pairs)} read.rules read.faultless)

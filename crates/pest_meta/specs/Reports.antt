@@ -1,0 +1,24 @@
+-- What is said of a fault.
+use Rattle.std.specs.Prelude.{◌≡◌, ℕ, List, [], ◌∷◌, ◌++◌, codes, string_bytes, ⊤}
+use Rattle.std.specs.List.{join_by}
+use Rattle.meta_base.specs.PrintedError.{error_text}
+use Rattle.meta_base.specs.declared.grammar.Rule.{Rule}
+use Rattle.meta_base.specs.declared.runtime.errors.Error.{Error}
+use Rattle.meta_base.specs.declared.runtime.faults.Fault.{Fault}
+use Rattle.meta_base.specs.declared.runtime.faults.Fault.TheVariants as fault_is
+use Rattle.pest_meta.specs.declared.report.Report as code
+use Rattle.pest_meta.specs.declared.report.Report.TheVariants as report_is
+
+-- the end of a line and an empty line
+abbrev pub empty_line : List ℕ
+empty_line = 10 ∷ 10 ∷ []
+
+-- `grammar error`, an empty line, and the printed errors with an empty line between two of them
+abbrev pub report_text : List (Error Rule) → List ℕ
+report_text errors = codes "grammar error" ++ empty_line ++ join_by error_text empty_line errors
+
+-- a want of memory is reported as that, and errors as their text, unless memory is wanting for it
+abbrev pub IsReportOf : Fault → code.Report → Type 0
+IsReportOf (fault_is.Memory e) report = report ≡ report_is.Memory
+IsReportOf (fault_is.Grammar errors) report_is.Memory = ⊤
+IsReportOf (fault_is.Grammar errors) (report_is.Text text) = string_bytes text ≡ report_text errors.items

@@ -1,0 +1,15 @@
+//! Laws over the definitions alone.
+ghost use Rattle.pest_meta.specs.Laws.{FaultyGiveNothing, HasOneListOfTrees, HasTreesOrFails, SpellsOneGrammar};
+
+/// A text spells one list of rules at most.
+pub fn spells_one_grammar()
+    ensures { SpellsOneGrammar }
+{}
+
+/// A text has one list of trees at most. If it has one, it is not refused as no grammar; and if these have a fault,
+/// they give no rules.
+pub fn one_kind_of_answer()
+    ensures trees { HasOneListOfTrees }
+    ensures syntax { HasTreesOrFails }
+    ensures faults { FaultyGiveNothing }
+{}

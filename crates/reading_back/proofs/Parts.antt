@@ -1,0 +1,242 @@
+-- What is said of a printed part: which calls succeed on it, that their trees have no fault, and what these are read as.
+-- Throughout, p and q are places in bytes, t is what is left of the text at p, K₀ is what stands behind the part, and K is the same
+-- behind the blank that may stand there. A part doesn't say where its call ended, since a call may take that blank or leave it: it says
+-- that skipping leads on to K.
+use Rattle.std.proofs.Common.{◌≡◌, refl, ap, subst, ℕ, List, ◌∷◌, true, false, codes, None}
+use Rattle.std.specs.Str.{chars}
+use Rattle.meta_base.specs.Text.{Text}
+use Rattle.meta_base.specs.Expression as plain
+use Rattle.meta_base.specs.Expression.{Expression, Ident, Rep, Seq, Choice}
+use Rattle.meta_base.specs.State.{State, NonAtomicMode, Trees, None', Tree, Success, joined}
+use Rattle.meta_base.specs.Meaning.{Task, Run, Turns, Skipping}
+use Rattle.meta_base.specs.Places.{Stands}
+use Rattle.meta_base.specs.declared.grammar.Rule.TheVariants as is
+use Rattle.meta_base.proofs.Steps.{joined_assoc, joined_nil}
+use Rattle.meta_base.proofs.Within.{fits}
+use Rattle.meta_syntax.specs.MetaGrammar.{rule, ◌~◌}
+use Rattle.meta_syntax.specs.Firsts.{may_begin}
+use Rattle.meta_nodes.specs.Spanned as spanned
+use Rattle.meta_nodes.specs.Spanned.{Spanned, Leaf, One, Two, Span, Unary, starting, ending, placed}
+use Rattle.meta_reader.specs.Reading.{Part, AnExpression, Alternatives, ASequence, ATerm, Reads, Postfixed}
+use Rattle.meta_reader.specs.Faults.{first_fault, own_fault}
+use Rattle.meta_nodes.specs.Erasure.{without_spans, round}
+use Rattle.reading_back.specs.Nesting.{nested_right}
+use Rattle.reading_back.proofs.Deriving.{at, is_solid, Gives, Calls, Skips}
+
+-- the signs that join terms
+pub data Link : Type 0 where
+  Tilde : Link
+  Bar : Link
+
+abbrev pub sign : Link → ℕ
+sign Tilde = 126
+sign Bar = 124
+
+abbrev pub joined_by : Link → Expression → Expression → Expression
+joined_by Tilde a b = Seq a b
+joined_by Bar a b = Choice a b
+
+abbrev pub part : Link → Part
+part Tilde = ASequence
+part Bar = Alternatives
+
+-- a sign and a term
+abbrev pub linked : Expression
+linked = rule is.infix_operator ~ rule is.term
+
+-- what may stand behind a term, and what of it is left behind a blank
+pub data MayFollowTerm : Text → Text → Type 0 where
+  tilde : (K : Text) → MayFollowTerm (32 ∷ 126 ∷ 32 ∷ K) (126 ∷ 32 ∷ K)
+  bar : (K : Text) → MayFollowTerm (32 ∷ 124 ∷ 32 ∷ K) (124 ∷ 32 ∷ K)
+  brace : (K : Text) → MayFollowTerm (32 ∷ 125 ∷ K) (125 ∷ K)
+  paren : (K : Text) → MayFollowTerm (41 ∷ K) (41 ∷ K)
+
+-- what may stand behind an expression
+pub data MayFollowExpression : Text → Text → Type 0 where
+  by_brace : (K : Text) → MayFollowExpression (32 ∷ 125 ∷ K) (125 ∷ K)
+  by_paren : (K : Text) → MayFollowExpression (41 ∷ K) (41 ∷ K)
+
+pub behind : {K₀ K : Text} → MayFollowExpression K₀ K → MayFollowTerm K₀ K
+behind (by_brace K) = brace K
+behind (by_paren K) = paren K
+
+-- what may stand behind a node: a postfix operator, or what may stand behind a term
+pub data MayFollowNode : Text → Type 0 where
+  an_operator : (c : ℕ) (K : Text) → may_begin is.postfix_operator c ≡ true → MayFollowNode (c ∷ K)
+  no_operator : {K₀ K : Text} → MayFollowTerm K₀ K → MayFollowNode K₀
+
+-- how a term begins, and a node
+pub data TermStart : Text → Type 0 where
+  term_start : (c : ℕ) (K : Text) → is_solid c ≡ true → may_begin is.node_tag c ≡ false → may_begin is.choice_operator c ≡ false → TermStart (c ∷ K)
+
+pub data NodeStart : Text → Type 0 where
+  node_start : (c : ℕ) (K : Text) → is_solid c ≡ true → may_begin is.node_tag c ≡ false → may_begin is.choice_operator c ≡ false → may_begin is.prefix_operator c ≡ false → NodeStart (c ∷ K)
+
+pub term_begins : {t : Text} → NodeStart t → TermStart t
+term_begins (node_start c K h i j k) = term_start c K h i j
+
+-- a node says an expression, up to how sequences and choices are nested_right
+pub record Denotes (x : Spanned) (e : Expression) : Type 0 where
+  pub same : nested_right (without_spans x) ≡ nested_right e
+
+one_same : (f : Unary) (a b : Expression) → nested_right a ≡ nested_right b → nested_right (round f a) ≡ nested_right (round f b)
+one_same spanned.PosPred a b h = ap plain.PosPred h
+one_same spanned.NegPred a b h = ap plain.NegPred h
+one_same spanned.Opt a b h = ap plain.Opt h
+one_same spanned.Rep a b h = ap plain.Rep h
+one_same spanned.RepOnce a b h = ap plain.RepOnce h
+one_same (spanned.RepExact i) a b h = ap (λ x. plain.RepExact x i) h
+one_same (spanned.RepMin i) a b h = ap (λ x. plain.RepMin x i) h
+one_same (spanned.RepMax i) a b h = ap (λ x. plain.RepMax x i) h
+one_same (spanned.RepMinMax i j) a b h = ap (λ x. plain.RepMinMax x i j) h
+one_same spanned.Push a b h = ap plain.Push h
+
+pub one_says : {x : Spanned} {e : Expression} (s : Span) (f : Unary) → Denotes x e → Denotes (One s f x) (round f e)
+one_says s f h = record { same = one_same f _ _ h.same }
+
+pub starting_says : {x : Spanned} {e : Expression} (i : ℕ) → Denotes x e → Denotes (starting i x) e
+starting_says {x = Leaf s e} i h = record { same = h.same }
+starting_says {x = One s f x} i h = record { same = h.same }
+starting_says {x = Two s f x y} i h = record { same = h.same }
+
+pub ending_says : {x : Spanned} {e : Expression} (i : ℕ) → Denotes x e → Denotes (ending i x) e
+ending_says {x = Leaf s e} i h = record { same = h.same }
+ending_says {x = One s f x} i h = record { same = h.same }
+ending_says {x = Two s f x y} i h = record { same = h.same }
+
+module _ (text : List ℕ) where
+  -- the text is left from the position on
+  abbrev pub IsLeftAt : ℕ → Text → Type 0
+  IsLeftAt p t = Stands (chars text) (at p t)
+
+  -- trees without a fault before others without one
+  pub record IsFaultless (us : Trees) : Type 0 where
+    pub keeps : (vs : Trees) → first_fault text vs ≡ None → first_fault text (joined us vs) ≡ None
+
+  pub faultless_none : IsFaultless None'
+  faultless_none = record { keeps = λ vs h. h }
+
+  pub faultless_both : {us vs : Trees} → IsFaultless us → IsFaultless vs → IsFaultless (joined us vs)
+  faultless_both {us} {vs} h k = record { keeps = λ ws i. rw (joined_assoc us vs ws) (h.keeps (joined vs ws) (k.keeps ws i)) }
+
+  pub no_fault : {us : Trees} → IsFaultless us → first_fault text us ≡ None
+  no_fault {us} h = subst (λ x. first_fault text x ≡ None) (joined_nil us) (h.keeps None' refl)
+
+  pub faultless_tree : {r : Text} {i j : ℕ} {inner us : Trees} → ((vs : Trees) → own_fault text r i j inner (joined us vs) ≡ None) → IsFaultless inner → IsFaultless us → IsFaultless (Tree r i j inner us)
+  faultless_tree {r} {i} {j} {inner} {us} h k l = record { keeps = λ vs m. rw (h vs, no_fault k) (l.keeps vs m) }
+
+  pub still_left : {k : Task} {s : State} {q : ℕ} {K : Text} {us : Trees} → Gives k s (Success (at q K) us) → Stands (chars text) s → IsLeftAt q K
+  still_left d h = (fits (chars text) (d (λ n c. false)) h).0
+
+  -- postfix operators make b of a, up to K
+  pub record PostfixOperators (k : Task) (s : State) (a b : Expression) (K : Text) : Type 0 where
+    pub end : State
+    pub trees : Trees
+    pub does : Gives k s (Success end trees)
+    pub place : ℕ
+    pub after : Skips end place K
+    pub reads : (x : Spanned) → Denotes x a → (y : Spanned) × Postfixed text x trees y × Denotes y b
+    pub faultless : IsFaultless trees
+
+  abbrev pub postfixes : Expression
+  postfixes = rule is.postfix_operator
+
+  pub record OperatorsAt (p : ℕ) (t : Text) (a b : Expression) (K : Text) : Type 0 where
+    pub begin : State
+    pub skip : Gives (Skipping NonAtomicMode) (at p t) (Success begin None')
+    pub from_start : PostfixOperators (Run NonAtomicMode (Rep postfixes)) begin a b K
+    pub going_on : PostfixOperators (Turns NonAtomicMode postfixes) (at p t) a b K
+
+  -- a node with its postfix operators
+  pub record NodeAt (p : ℕ) (t : Text) (b : Expression) (K : Text) : Type 0 where
+    pub starts : NodeStart t
+    pub node_end : State
+    pub node_trees : Trees
+    pub node : Calls is.node (at p t) (Success node_end node_trees)
+    pub begin : State
+    pub skip : Gives (Skipping NonAtomicMode) node_end (Success begin None')
+    pub end : State
+    pub trees : Trees
+    pub loop : Gives (Run NonAtomicMode (Rep postfixes)) begin (Success end trees)
+    pub place : ℕ
+    pub after : Skips end place K
+    pub said : Spanned
+    pub reads : Reads text ATerm (joined node_trees trees) said
+    pub says : Denotes said b
+    pub faultless : IsFaultless (joined node_trees trees)
+
+  -- a term: predicates before a node
+  pub record TermAt (p : ℕ) (t : Text) (e : Expression) (K : Text) : Type 0 where
+    pub starts : TermStart t
+    pub node_place : ℕ
+    pub node_text : Text
+    pub signs : Trees
+    pub from_start : Gives (Run NonAtomicMode (Rep (rule is.prefix_operator))) (at p t) (Success (at node_place node_text) signs)
+    pub going_on : Gives (Turns NonAtomicMode (rule is.prefix_operator)) (at p t) (Success (at node_place node_text) signs)
+    pub solid : Skips (at node_place node_text) node_place node_text
+    pub node_end : State
+    pub node_trees : Trees
+    pub node : Calls is.node (at node_place node_text) (Success node_end node_trees)
+    pub begin : State
+    pub skip : Gives (Skipping NonAtomicMode) node_end (Success begin None')
+    pub end : State
+    pub trees : Trees
+    pub loop : Gives (Run NonAtomicMode (Rep postfixes)) begin (Success end trees)
+    pub place : ℕ
+    pub after : Skips end place K
+    pub said : Spanned
+    pub reads : Reads text ATerm (joined (joined signs node_trees) trees) said
+    pub says : Denotes said e
+    pub faultless : IsFaultless (joined (joined signs node_trees) trees)
+
+  -- the same as a call of `term`
+  pub record TermCall (p : ℕ) (t : Text) (e : Expression) (K : Text) : Type 0 where
+    pub starts : TermStart t
+    pub end : State
+    pub inner : Trees
+    pub does : Calls is.term (at p t) (Success end (Tree (codes "term") p end.position inner None'))
+    pub place : ℕ
+    pub after : Skips end place K
+    pub said : Spanned
+    pub reads : Reads text ATerm inner said
+    pub says : Denotes said e
+    pub faultless : IsFaultless (Tree (codes "term") p end.position inner None')
+
+  -- signs and terms behind a term
+  pub record ChainAt (l : Link) (p : ℕ) (t : Text) (e : Expression) (K : Text) : Type 0 where
+    pub middle : State
+    pub first_trees : Trees
+    pub first : Gives (Run NonAtomicMode linked) (at p t) (Success middle first_trees)
+    pub end : State
+    pub trees : Trees
+    pub others : Gives (Turns NonAtomicMode linked) middle (Success end trees)
+    pub place : ℕ
+    pub after : Skips end place K
+    pub reads : (a : Expression) (us : Trees) (x : Spanned) → Reads text (part l) us x → Denotes x a → (y : Spanned) × Reads text (part l) (joined us (joined first_trees trees)) y × Denotes y (joined_by l a e)
+    pub faultless : IsFaultless (joined first_trees trees)
+
+  -- a call of `expression`
+  pub record ExpressionAt (p : ℕ) (t : Text) (e : Expression) (K : Text) : Type 0 where
+    pub starts : TermStart t
+    pub end : State
+    pub inner : Trees
+    pub does : Calls is.expression (at p t) (Success end (Tree (codes "expression") p end.position inner None'))
+    pub place : ℕ
+    pub after : Skips end place K
+    pub said : Spanned
+    pub reads : Reads text AnExpression inner said
+    pub says : Denotes said e
+    pub faultless : IsFaultless (Tree (codes "expression") p end.position inner None')
+
+  -- what holds of an expression's text, whatever stands behind it
+  abbrev pub IsNodeText : (Text → Text) → Expression → Type 0
+  IsNodeText F e = (p : ℕ) (b : Expression) (K₀ K : Text) → IsLeftAt p (F K₀) → MayFollowNode K₀ → ((q : ℕ) → IsLeftAt q K₀ → OperatorsAt q K₀ e b K) → NodeAt p (F K₀) b K
+
+  abbrev pub IsTermText : (Text → Text) → Expression → Type 0
+  IsTermText F e = (p : ℕ) (K₀ K : Text) → IsLeftAt p (F K₀) → MayFollowTerm K₀ K → TermAt p (F K₀) e K
+
+  abbrev pub IsChainText : Link → (Text → Text) → Expression → Type 0
+  IsChainText l F e = (p : ℕ) (K₀ K : Text) → IsLeftAt p (sign l ∷ 32 ∷ F K₀) → MayFollowExpression K₀ K → ChainAt l p (sign l ∷ 32 ∷ F K₀) e K
+
+  abbrev pub IsExpressionText : (Text → Text) → Expression → Type 0
+  IsExpressionText F e = (p : ℕ) (K₀ K : Text) → IsLeftAt p (F K₀) → MayFollowExpression K₀ K → ExpressionAt p (F K₀) e K
