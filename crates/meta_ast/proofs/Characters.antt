@@ -11,7 +11,7 @@ use Rattle.std.proofs.lemmas.Slice.Eq.{slice_eq-Decides}
 use Rattle.std.proofs.Math.Utf8.{encodes}
 use lib.Pointwise.{pointwise}
 use Rattle.meta_ast.specs.Ast.{text_of}
-use Rattle.meta_base.specs.Equality.{text_eq, texts_eq, text_eq-Decides}
+use Rattle.meta_base.specs.Rewritings.Equality.{text_eq, texts_eq, text_eq-Decides}
 
 -- a string's bytes are those of its characters
 pub encodes-text_of : (s : String Global) → encodes (text_of s) ≡ string_bytes s

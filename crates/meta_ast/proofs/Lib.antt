@@ -1,4 +1,10 @@
 pub mod Characters
 pub mod Literals
-pub mod Weight
 pub mod WrittenBytes
+pub mod Frames
+pub mod Mapping
+pub mod Waiting
+pub mod Unchanged
+pub mod Rebuilding
+pub mod Sameness
+pub mod OptimizedSameness

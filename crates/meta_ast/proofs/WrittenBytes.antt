@@ -7,7 +7,7 @@ use Rattle.std.specs.List.{flat_map}
 use Rattle.std.specs.declared.string.String.{String}
 use Rattle.std.specs.declared.alloc.Global.{Global}
 use Rattle.std.specs.Fmt.{decimal, signed_decimal, digits, digits_onto, digit_glyph}
-use Rattle.meta_base.specs.Text.{Text}
+use Rattle.meta_base.specs.Language.Text.{Text}
 use Rattle.meta_ast.specs.Ast.{text_of, expression_of}
 use Rattle.meta_ast.specs.Optimized.{optimized_expression_of}
 use Rattle.meta_ast.specs.declared.ast.Expr as plain

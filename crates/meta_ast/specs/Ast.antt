@@ -3,9 +3,9 @@ use Rattle.std.specs.Prelude.{List, map, string_bytes}
 use Rattle.std.specs.Str.{chars}
 use Rattle.std.specs.declared.string.String.{String}
 use Rattle.std.specs.declared.alloc.Global.{Global}
-use Rattle.meta_base.specs.Text.{Text}
-use Rattle.meta_base.specs.Expression.{Expression, RuleType, Rule, Grammar}
-use Rattle.meta_base.specs.Expression as e
+use Rattle.meta_base.specs.Language.Text.{Text}
+use Rattle.meta_base.specs.Language.Expression.{Expression, RuleType, Rule, Grammar}
+use Rattle.meta_base.specs.Language.Expression as e
 use Rattle.meta_ast.specs.declared.ast.Expr.{Expr, Str, Insens, Range, Ident, PeekSlice, PosPred', NegPred', Seq', Choice', Opt', Rep', RepOnce', RepExact', RepMin', RepMax', RepMinMax', Skip, Push'}
 use Rattle.meta_ast.specs.declared.ast.RuleType as code
 use Rattle.meta_ast.specs.declared.ast.RuleType.TheVariants.{Normal, Silent, Atomic, CompoundAtomic, NonAtomic}

@@ -2,3 +2,15 @@ pub mod Ast
 pub mod Optimized
 pub mod Printing
 pub mod PrintedBytes
+pub mod Operands
+pub mod Maps
+pub mod Frames
+pub mod TopDownIterators
+pub mod ExprWalks
+pub mod OptimizedWalks
+pub mod Rebuilding
+pub mod Weight
+pub mod Copying
+pub mod OptimizedCopying
+pub mod Sameness
+pub mod OptimizedSameness

@@ -1,7 +1,7 @@
 -- What an optimized rule and expression say: those of the definitions, which forget memory.
 use Rattle.std.specs.Prelude.{List, map}
-use Rattle.meta_base.specs.Expression.{Expression, Rule, Grammar}
-use Rattle.meta_base.specs.Expression as e
+use Rattle.meta_base.specs.Language.Expression.{Expression, Rule, Grammar}
+use Rattle.meta_base.specs.Language.Expression as e
 use Rattle.meta_ast.specs.Ast.{text_of, rule_type_of}
 use Rattle.meta_ast.specs.declared.optimized.OptimizedExpr.{OptimizedExpr, Str, Insens, Range, Ident, PeekSlice, PosPred', NegPred', Seq', Choice', Opt', Rep', Skip, Push', RestoreOnErr'}
 use Rattle.meta_ast.specs.declared.optimized.OptimizedRule.{OptimizedRule}
@@ -25,7 +25,8 @@ optimized_expression_of (RestoreOnErr' p x) = e.RestoreOnErr (optimized_expressi
 
 -- a rule's
 abbrev pub optimized_rule_of : OptimizedRule → Rule
-optimized_rule_of r = record { name = text_of r.name; type_of = rule_type_of r.ty; body = optimized_expression_of r.expr }
+optimized_rule_of r =
+    record { name = text_of r.name; type_of = rule_type_of r.ty; body = optimized_expression_of r.expr }
 
 -- a list of rules'
 abbrev pub optimized_rules_of : List OptimizedRule → Grammar

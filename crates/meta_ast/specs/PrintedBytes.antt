@@ -4,7 +4,7 @@ use Rattle.std.specs.List.{flat_map}
 use Rattle.std.specs.declared.string.String.{String}
 use Rattle.std.specs.declared.alloc.Global.{Global}
 use Rattle.std.specs.Fmt.{decimal, signed_decimal}
-use Rattle.meta_base.specs.Text.{Text}
+use Rattle.meta_base.specs.Language.Text.{Text}
 use Rattle.meta_ast.specs.Ast.{text_of}
 use Rattle.meta_ast.specs.Printing.{literal, bound_literal, slice_end}
 use Rattle.meta_ast.specs.declared.ast.Expr as plain

@@ -5,6 +5,11 @@
 mod cloned;
 mod compared;
 mod printed;
+mod released;
+mod walked;
+
+pub use released::release;
+pub use walked::ExprTopDownIterator;
 
 /// A rule of a grammar: `name = { expr }`, with the modifier of its type before the brace.
 #[derive(Debug, Drop)]

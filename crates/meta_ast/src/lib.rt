@@ -4,4 +4,6 @@
 pub mod ast;
 pub mod optimized;
 pub mod printing;
+pub mod rebuilt;
 pub mod texts;
+mod walks;

@@ -4,6 +4,11 @@ use crate::ast::RuleType;
 mod cloned;
 mod compared;
 mod printed;
+mod released;
+mod walked;
+
+pub use released::release;
+pub use walked::OptimizedExprTopDownIterator;
 
 /// An optimized rule of a grammar.
 #[derive(Debug, Drop)]

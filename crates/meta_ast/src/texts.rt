@@ -1,7 +1,7 @@
 //! Strings as texts: a string stands for the list of its characters.
 ghost use Rattle.std.specs.Prelude.{◌≡◌, ◌↔◌, IsTrue, IfOk, map};
 ghost use Rattle.meta_ast.specs.Ast.{text_of};
-ghost use Rattle.meta_base.specs.Equality.{text_eq, texts_eq};
+ghost use Rattle.meta_base.specs.Rewritings.Equality.{text_eq, texts_eq};
 
 use std::alloc::AllocError;
 

@@ -1,7 +1,7 @@
 -- What holds of a rewriting at the root of an expression holds of it at any place, and of many of them.
-use Rattle.meta_base.specs.Expression.{Grammar, Expression}
-use Rattle.meta_base.specs.State.{Classes, Mode}
-use Rattle.meta_base.specs.Rewriting.{Within, here, in_pos_pred, in_neg_pred, in_seq_left, in_seq_right, in_choice_left, in_choice_right, in_opt, in_rep, in_rep_once, in_rep_exact, in_rep_min, in_rep_max, in_rep_min_max, in_push, in_restore, Many, no_step, one_step}
+use Rattle.meta_base.specs.Language.Expression.{Grammar, Expression}
+use Rattle.meta_base.specs.Language.State.{Classes, Mode}
+use Rattle.meta_base.specs.Rewritings.Rewriting.{Within, here, in_pos_pred, in_neg_pred, in_seq_left, in_seq_right, in_choice_left, in_choice_right, in_opt, in_rep, in_rep_once, in_rep_exact, in_rep_min, in_rep_max, in_rep_min_max, in_push, in_restore, Many, no_step, one_step}
 use Rattle.meta_base.proofs.Congruence as same
 use Rattle.meta_base.proofs.Congruence.{Implies}
 

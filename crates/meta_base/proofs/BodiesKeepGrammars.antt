@@ -2,14 +2,14 @@
 use Rattle.std.proofs.Common.{◌≡◌, ℕ, ◌<◌, List, [], ◌++◌, Option, Some, refl, subst, false}
 use Rattle.std.proofs.lemmas.List.Elements.{All-nil, All-cons, All-head, All-tail, All-append, All-contains}
 use Rattle.std.specs.List.{All}
-use Rattle.meta_base.specs.Text.{Text, IsText, IsScalarValue}
-use Rattle.meta_base.specs.Expression.{Grammar, Expression, Str, Insens, Range, Ident, PeekSlice, Rep, RepOnce, RepExact, RepMin, RepMax, RepMinMax, Skip, RuleType, Rule, rule_of, Part, Seq}
-use Rattle.meta_base.specs.Rewriting.{Strings, one, named, more, Within, here, in_pos_pred, in_neg_pred, in_seq_left, in_seq_right, in_choice_left, in_choice_right, in_opt, in_rep, in_rep_once, in_rep_exact, in_rep_min, in_rep_max, in_rep_min_max, in_push, in_restore, Many, no_step, one_step, EachBody, no_rules, also_rule}
-use Rattle.meta_base.specs.Builtins.{is_one_of}
-use Rattle.meta_base.specs.Grammar.{keywords, HasDistinctNames, FitsItsTypes, FitsUnsigned32, FitsSigned32, EndFits, IsGrammar}
-use Rattle.meta_base.specs.WellFormed.{IsNullable, nullable_str, nullable_insens, nullable_soi, nullable_eoi, nullable_call, nullable_pos_pred, nullable_neg_pred, nullable_opt, nullable_rep, nullable_rep_max, nullable_seq, nullable_left, nullable_right, nullable_rep_once, nullable_push, nullable_exact_zero, nullable_exact, nullable_min_zero, nullable_min, nullable_min_max_zero, nullable_min_max, nullable_skip, nullable_restore, LeftCalls, left_name, left_first, left_second, left_pos_pred, left_neg_pred, left_left, left_right, left_opt, left_rep, left_rep_once, left_rep_exact, left_rep_min, left_rep_max, left_rep_min_max, left_push, left_restore, Leads, at_once, by_way, Reaches, itself, onward, InRules, InSomeRule, IsWellFormed, CountIsReadable, HasReadableCounts, NamesHaveReadableCounts, IsPlainName, of_rule, of_builtin, IsPlain}
-use Rattle.meta_base.proofs.Deterministic.{same_rule}
-use Rattle.meta_base.proofs.Keeping.{Matched, neither, two, no_rule, each_pair}
+use Rattle.meta_base.specs.Language.Text.{Text, IsText, IsScalarValue}
+use Rattle.meta_base.specs.Language.Expression.{Grammar, Expression, Str, Insens, Range, Ident, PeekSlice, Rep, RepOnce, RepExact, RepMin, RepMax, RepMinMax, Skip, RuleType, Rule, rule_of, Part, Seq}
+use Rattle.meta_base.specs.Rewritings.Rewriting.{Strings, one, named, more, Within, here, in_pos_pred, in_neg_pred, in_seq_left, in_seq_right, in_choice_left, in_choice_right, in_opt, in_rep, in_rep_once, in_rep_exact, in_rep_min, in_rep_max, in_rep_min_max, in_push, in_restore, Many, no_step, one_step, EachBody, no_rules, also_rule}
+use Rattle.meta_base.specs.Language.Builtins.{is_one_of}
+use Rattle.meta_base.specs.Language.Grammar.{keywords, HasDistinctNames, FitsItsTypes, FitsUnsigned32, FitsSigned32, EndFits, IsGrammar}
+use Rattle.meta_base.specs.Language.WellFormed.{IsNullable, nullable_str, nullable_insens, nullable_soi, nullable_eoi, nullable_call, nullable_pos_pred, nullable_neg_pred, nullable_opt, nullable_rep, nullable_rep_max, nullable_seq, nullable_left, nullable_right, nullable_rep_once, nullable_push, nullable_exact_zero, nullable_exact, nullable_min_zero, nullable_min, nullable_min_max_zero, nullable_min_max, nullable_skip, nullable_restore, LeftCalls, left_name, left_first, left_second, left_pos_pred, left_neg_pred, left_left, left_right, left_opt, left_rep, left_rep_once, left_rep_exact, left_rep_min, left_rep_max, left_rep_min_max, left_push, left_restore, Leads, at_once, by_way, Reaches, itself, onward, InRules, InSomeRule, IsWellFormed, CountIsReadable, HasReadableCounts, NamesHaveReadableCounts, IsPlainName, of_rule, of_builtin, IsPlain}
+use Rattle.meta_base.proofs.OneOutcome.{same_rule}
+use Rattle.meta_base.proofs.StepsKeepOutcomes.{Matched, neither, two, no_rule, each_pair}
 use Rattle.meta_base.proofs.Everywhere.{Condition, nothing, HoldsHere, Everywhere, everywhere, at_part, weaker, kept_within, kept_along}
 use Rattle.meta_base.proofs.SomeRule.{holds_of_named, each_rule}
 

@@ -1,8 +1,8 @@
 -- Under one grammar, an expression may stand for another in any place.
 use Rattle.std.proofs.Common.{ℕ, zero, suc, ◌-◌, min, List, [], ◌∷◌, ◌++◌, replicate}
-use Rattle.meta_base.specs.Expression.{Grammar, Expression, PosPred, NegPred, Seq, Choice, Opt, Rep, RepOnce, RepExact, RepMin, RepMax, RepMinMax, Push, RestoreOnErr}
-use Rattle.meta_base.specs.State.{Classes, Mode, State, Outcome}
-use Rattle.meta_base.specs.Meaning.{Does, Run, Turns, pos_pred, neg_pred, push, restore, seq, seq_first, seq_second, left, right, opt, opt_none, rep_none, turn, turn_none, rep_exact, rep_max, rep_min_max, in_sequence, rep, rep_once, rep_min}
+use Rattle.meta_base.specs.Language.Expression.{Grammar, Expression, PosPred, NegPred, Seq, Choice, Opt, Rep, RepOnce, RepExact, RepMin, RepMax, RepMinMax, Push, RestoreOnErr}
+use Rattle.meta_base.specs.Language.State.{Classes, Mode, State, Outcome}
+use Rattle.meta_base.specs.Language.Meaning.{Does, Run, Turns, pos_pred, neg_pred, push, restore, seq, seq_first, seq_second, left, right, opt, opt_none, rep_none, turn, turn_none, rep_exact, rep_max, rep_min_max, in_sequence, rep, rep_once, rep_min}
 
 module _ (g : Grammar) (classes : Classes) (m : Mode) where
   -- what a does, b does

@@ -1,10 +1,10 @@
 -- Two derivations from one start have one place.
 use Rattle.std.proofs.Common.{◌≡◌, ℕ, max, ◌&&◌, refl, sym, ◌∙◌, ap, ap₂, subst}
-use Rattle.meta_base.specs.Expression.{Grammar, Rule}
-use Rattle.meta_base.specs.State.{Classes, Mode, State, Outcome}
-use Rattle.meta_base.specs.Meaning.{Does, Task, Run, str, insens, range, slice, skip, call, other, pos_pred, neg_pred, push, restore, seq, seq_first, seq_second, left, right, opt, opt_none, rep_none, turn, turn_none, rep_exact, rep_max, rep_min_max, skips, atomic, compound_atomic, between, body_mode, seen_from, gives_token, rep, rep_once, rep_min}
-use Rattle.meta_base.specs.FurthestFailure.{furthest, place_of, is_eoi}
-use Rattle.meta_base.proofs.Deterministic.{same, same_state, same_rule, from, with_rule}
+use Rattle.meta_base.specs.Language.Expression.{Grammar, Rule}
+use Rattle.meta_base.specs.Language.State.{Classes, Mode, State, Outcome}
+use Rattle.meta_base.specs.Language.Meaning.{Does, Task, Run, str, insens, range, slice, skip, call, other, pos_pred, neg_pred, push, restore, seq, seq_first, seq_second, left, right, opt, opt_none, rep_none, turn, turn_none, rep_exact, rep_max, rep_min_max, skips, atomic, compound_atomic, between, body_mode, seen_from, gives_token, rep, rep_once, rep_min}
+use Rattle.meta_base.specs.Language.FurthestFailure.{furthest, place_of, is_eoi}
+use Rattle.meta_base.proofs.OneOutcome.{same, same_state, same_rule, from, with_rule}
 use Rattle.meta_base.proofs.Moving.{some_outcome}
 use mathlib.Core.Path.{path_j, subst_refl}
 

@@ -1,13 +1,13 @@
 -- The place of a failure stands on a character of the text.
 use Rattle.std.proofs.Common.{◌≡◌, ◌⊎◌, inl, inr, refl, ℕ, ◌≤◌, ◌<◌, max, ◌&&◌, Bool, true, false, [], leb, arith}
 use Rattle.std.proofs.lemmas.Bool.Decides.{leb_tells}
-use Rattle.meta_base.specs.Expression.{Grammar}
-use Rattle.meta_base.specs.State.{Classes, State, Outcome, Success, Failure}
-use Rattle.meta_base.specs.Text.{Text, IsPosition}
-use Rattle.meta_base.specs.Meaning.{Does, Task, str, insens, range, slice, skip, call, other, pos_pred, neg_pred, push, restore, seq, seq_first, seq_second, left, right, opt, opt_none, rep_none, turn, turn_none, rep_exact, rep_max, rep_min_max, skips, atomic, compound_atomic, between, seen_from, gives_token, rep, rep_once, rep_min}
-use Rattle.meta_base.specs.FurthestFailure.{furthest, place_of, is_eoi}
-use Rattle.meta_base.specs.Places.{Stands}
-use Rattle.meta_base.proofs.Within.{fits}
+use Rattle.meta_base.specs.Language.Expression.{Grammar}
+use Rattle.meta_base.specs.Language.State.{Classes, State, Outcome, Success, Failure}
+use Rattle.meta_base.specs.Language.Text.{Text, IsPosition}
+use Rattle.meta_base.specs.Language.Meaning.{Does, Task, str, insens, range, slice, skip, call, other, pos_pred, neg_pred, push, restore, seq, seq_first, seq_second, left, right, opt, opt_none, rep_none, turn, turn_none, rep_exact, rep_max, rep_min_max, skips, atomic, compound_atomic, between, seen_from, gives_token, rep, rep_once, rep_min}
+use Rattle.meta_base.specs.Language.FurthestFailure.{furthest, place_of, is_eoi}
+use Rattle.meta_base.specs.Language.Places.{Stands}
+use Rattle.meta_base.proofs.TreesAreNested.{fits}
 
 module _ (text : Text) where
   at_start : IsPosition text 0

@@ -1,9 +1,9 @@
 -- Where left calls have no cycle, they end.
 use Rattle.std.proofs.Common.{◌≡◌, ◌∙◌, ◌⊎◌, inl, inr, ℕ, zero, suc, ◌≤◌, List, [], ◌∷◌, Bool, true, false, if◌then◌else◌, Option, Some, None, refl, sym, ap, subst, length, bytes_eq, arith}
 use Rattle.std.proofs.lemmas.Slice.Eq.{bytes_eq-Decides}
-use Rattle.meta_base.specs.Text.{Text}
-use Rattle.meta_base.specs.Expression.{Grammar, Rule, rule_of, or_else}
-use Rattle.meta_base.specs.WellFormed.{LeftCalls, Leads, at_once, by_way}
+use Rattle.meta_base.specs.Language.Text.{Text}
+use Rattle.meta_base.specs.Language.Expression.{Grammar, Rule, rule_of, or_else}
+use Rattle.meta_base.specs.Language.WellFormed.{LeftCalls, Leads, at_once, by_way}
 
 -- left calls from n end
 pub data Grounded (g : Grammar) : Text → Type 0 where

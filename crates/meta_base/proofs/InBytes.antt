@@ -9,11 +9,11 @@ use Rattle.std.proofs.Math.Utf8.{encodes}
 use Rattle.std.proofs.lemmas.List.{length-append}
 use Rattle.std.proofs.lemmas.List.Sums.{sum_by-cons}
 use Rattle.std.proofs.lemmas.Str.{encodes-append, encodes-chars, length-encode, scalars-chars, IsCharBoundary-at_seam}
-use Rattle.meta_base.specs.Text.{Text, IsPosition, size_of}
-use Rattle.meta_base.specs.Places.{Nested, Stands}
-use Rattle.meta_base.specs.State.{State}
-use Rattle.meta_base.specs.TokenTrees.{TokenTrees, NoTokens, Token, AreNested}
-use Rattle.meta_base.specs.NamedTrees.{named}
+use Rattle.meta_base.specs.Language.Text.{Text, IsPosition, size_of}
+use Rattle.meta_base.specs.Language.Places.{Nested, Stands}
+use Rattle.meta_base.specs.Language.State.{State}
+use Rattle.meta_base.specs.Pieces.TokenTrees.{TokenTrees, NoTokens, Token, AreNested}
+use Rattle.meta_base.specs.Pieces.NamedTrees.{named}
 use Rattle.meta_base.specs.declared.grammar.Rule.{Rule}
 
 -- the characters take as many bytes as they are written in

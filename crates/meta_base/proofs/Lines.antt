@@ -2,7 +2,7 @@
 use Rattle.std.proofs.Common.{◌≡◌, ◌≢◌, ℕ, ◌+◌, ◌-◌, ◌<◌, not, List, length, get_or, drop, ap, ◌∙◌, arith}
 use Rattle.std.proofs.lemmas.List.Sums.{suffix_len_is}
 use Rattle.std.proofs.lemmas.Bool.Decides.{nat_tests}
-use Rattle.meta_base.specs.LineColumn.{is_line_feed, last_line}
+use Rattle.meta_base.specs.Pieces.LineColumn.{is_line_feed, last_line}
 
 -- behind the last line feed, which stands at i
 pub last_line_behind : (text : List ℕ) (i : ℕ) → i < length text → get_or text i 0 ≡ 10 → ((k : ℕ) → i < k → k < length text → get_or text k 0 ≢ 10) → last_line text ≡ drop (i + 1) text

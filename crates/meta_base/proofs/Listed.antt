@@ -1,9 +1,9 @@
 -- What the listing does to a sequence with nothing to list within it.
 use Rattle.std.proofs.Common.{◌≡◌, ◌⊎◌, inl, inr, ℕ, ◌+◌, Bool, true, false, if◌then◌else◌, refl, sym, ◌∙◌, ap, ap₂, subst, arith}
-use Rattle.meta_base.specs.Expression.{Expression, PosPred, NegPred, Seq, Choice, Opt, Rep, RepOnce, RepExact, RepMin, RepMax, RepMinMax, Push, RestoreOnErr}
-use Rattle.meta_base.specs.Equality.{expression_eq, expression_eq-Decides}
-use Rattle.meta_base.specs.Listing.{listed}
-use Rattle.meta_base.specs.Listing.{listed_sequence}
+use Rattle.meta_base.specs.Language.Expression.{Expression, PosPred, NegPred, Seq, Choice, Opt, Rep, RepOnce, RepExact, RepMin, RepMax, RepMinMax, Push, RestoreOnErr}
+use Rattle.meta_base.specs.Rewritings.Equality.{expression_eq, expression_eq-Decides}
+use Rattle.meta_base.specs.Rewritings.Listing.{listed}
+use Rattle.meta_base.specs.Rewritings.Listing.{listed_sequence}
 
 -- how many nodes an expression has
 abbrev size : Expression → ℕ

@@ -1,11 +1,11 @@
 -- Where nothing is skipped, what `(x ~ y)* ~ x` matches `x ~ (y ~ x)*` matches.
 use Rattle.std.proofs.Common.{◌≡◌, ◌⊎◌, inl, inr, sym, ◌∙◌, ap, ap₂, subst}
-use Rattle.meta_base.specs.Expression.{Grammar, Expression, Seq, Rep}
-use Rattle.meta_base.specs.State.{Classes, Mode, AtomicMode, CompoundAtomicMode, State, Trees, None', joined, Outcome, Success, Failure}
-use Rattle.meta_base.specs.Meaning.{Does, Task, Run, Turns, Skipping, seq, seq_first, seq_second, rep_none, turn, turn_none, atomic, compound_atomic, rep}
-use Rattle.meta_base.proofs.Deterministic.{same, same_state, same_trees, from}
-use Rattle.meta_base.proofs.Local.{joined-assoc, joined-none}
-use Rattle.meta_base.specs.Listing.{ListingKeeps}
+use Rattle.meta_base.specs.Language.Expression.{Grammar, Expression, Seq, Rep}
+use Rattle.meta_base.specs.Language.State.{Classes, Mode, AtomicMode, CompoundAtomicMode, State, Trees, None', joined, Outcome, Success, Failure}
+use Rattle.meta_base.specs.Language.Meaning.{Does, Task, Run, Turns, Skipping, seq, seq_first, seq_second, rep_none, turn, turn_none, atomic, compound_atomic, rep}
+use Rattle.meta_base.proofs.OneOutcome.{same, same_state, same_trees, from}
+use Rattle.meta_base.proofs.RewritingsKeepOutcomes.{joined-assoc, joined-none}
+use Rattle.meta_base.specs.Rewritings.Listing.{ListingKeeps}
 use Rattle.meta_base.proofs.Listed.{listed-turns}
 
 same_joined : (us is vs ws js ks f l : Trees) → us ≡ None' → vs ≡ None' → joined js ks ≡ joined f l → joined (joined us (joined (joined is (joined vs ws)) js)) ks ≡ joined is (joined (joined ws f) l)

@@ -1,17 +1,18 @@
 -- The listing, and the wrappers of the restorer, keep a grammar well-formed and plain, and keep it a grammar.
 use Rattle.std.proofs.Common.{◌≡◌, ℕ, Bool, true, false, if◌then◌else◌, Some, sym, subst, refl}
-use Rattle.meta_base.specs.Text.{Text}
-use Rattle.meta_base.specs.Expression.{Grammar, Expression, PosPred, NegPred, Seq, Choice, Opt, Rep, RepOnce, RepExact, RepMin, RepMax, RepMinMax, Push, RestoreOnErr, RuleType, Rule, rule_of, Part}
-use Rattle.meta_base.specs.Equality.{expression_eq, expression_eq-Decides}
-use Rattle.meta_base.specs.Rewriting.{here, in_pos_pred, in_neg_pred, in_seq_left, in_seq_right, in_choice_left, in_choice_right, in_opt, in_rep, in_rep_once, in_rep_exact, in_rep_min, in_rep_max, in_rep_min_max, in_push, in_restore, Many, no_step, one_step, EachBody}
-use Rattle.meta_base.specs.Grammar.{IsGrammar}
-use Rattle.meta_base.specs.Listing.{listed, listed_sequence, EachListed}
-use Rattle.meta_base.specs.Wrapping.{Wraps, leaves, RestoresTo, restores_str, restores_insens, restores_range, restores_name, restores_slice, restores_skip, restores_pos_pred, restores_neg_pred, restores_push, restores_seq, restores_choice, restores_opt, restores_rep, EachRestored}
-use Rattle.meta_base.specs.Wrapping as spec
-use Rattle.meta_base.specs.WellFormed.{IsNullable, nullable_rep, nullable_seq, nullable_restore, LeftCalls, left_first, left_second, left_rep, left_restore, IsWellFormed, HasReadableCounts, NamesHaveReadableCounts, IsPlain}
+use Rattle.meta_base.specs.Language.Text.{Text}
+use Rattle.meta_base.specs.Language.Expression.{Grammar, Expression, Str, Insens, Range, Ident, PeekSlice, Skip, PosPred, NegPred, Seq, Choice, Opt, Rep, RepOnce, RepExact, RepMin, RepMax, RepMinMax, Push, RestoreOnErr, RuleType, Rule, rule_of, Part}
+use Rattle.meta_base.specs.Rewritings.Equality.{expression_eq, expression_eq-Decides}
+use Rattle.meta_base.specs.Rewritings.Rewriting.{here, in_pos_pred, in_neg_pred, in_seq_left, in_seq_right, in_choice_left, in_choice_right, in_opt, in_rep, in_rep_once, in_rep_exact, in_rep_min, in_rep_max, in_rep_min_max, in_push, in_restore, Many, no_step, one_step, EachBody}
+use Rattle.meta_base.specs.Language.Grammar.{IsGrammar}
+use Rattle.meta_base.specs.Rewritings.Erased.{erased}
+use Rattle.meta_base.specs.Rewritings.Listing.{listed, listed_sequence, EachListed}
+use Rattle.meta_base.specs.Rewritings.Wrapping.{Wraps, leaves, RestoresTo, restores_str, restores_insens, restores_range, restores_name, restores_slice, restores_skip, restores_pos_pred, restores_neg_pred, restores_push, restores_seq, restores_choice, restores_opt, restores_rep, EachRestored}
+use Rattle.meta_base.specs.Rewritings.Wrapping as spec
+use Rattle.meta_base.specs.Language.WellFormed.{IsNullable, nullable_rep, nullable_seq, nullable_restore, LeftCalls, left_first, left_second, left_rep, left_restore, IsWellFormed, HasReadableCounts, NamesHaveReadableCounts, IsPlain}
 use Rattle.meta_base.proofs.Everywhere.{Condition, HoldsHere, Everywhere, everywhere}
 use Rattle.meta_base.proofs.BodiesKeepGrammars.{bounding, IsClosed, KeepsAtRoot, names_still_readable, still_well_formed, still_plain, still_readable, still_grammar}
-use Rattle.meta_base.proofs.Keeping.{each_body}
+use Rattle.meta_base.proofs.StepsKeepOutcomes.{each_body}
 use Rattle.meta_base.proofs.RewritingAnywhere.{along, after}
 
 -- the listing, or a wrapper, at a root
@@ -115,6 +116,32 @@ module _ (g : Grammar) where
   restoring (restores_opt d v) = along Finishes Opt (λ x y w. in_opt w) (after Finishes (restoring d) (wrapping v))
   restoring (restores_rep d v) = along Finishes Rep (λ x y w. in_rep w) (after Finishes (restoring d) (wrapping v))
 
+-- whatever has wrappers is reached from what is left without them, by wrapping at one place after another
+reaches_wrapped : (e : Expression) → To (erased e) e
+reaches_wrapped (RestoreOnErr e) = after Finishes (reaches_wrapped e) (one_step (here wraps) no_step)
+reaches_wrapped (PosPred e) = along Finishes PosPred (λ x y w. in_pos_pred w) (reaches_wrapped e)
+reaches_wrapped (NegPred e) = along Finishes NegPred (λ x y w. in_neg_pred w) (reaches_wrapped e)
+reaches_wrapped (Seq a b) =
+    after Finishes (along Finishes (λ x. Seq x (erased b)) (λ x y w. in_seq_left w) (reaches_wrapped a))
+    (along Finishes (Seq a) (λ x y w. in_seq_right w) (reaches_wrapped b))
+reaches_wrapped (Choice a b) =
+    after Finishes (along Finishes (λ x. Choice x (erased b)) (λ x y w. in_choice_left w) (reaches_wrapped a))
+    (along Finishes (Choice a) (λ x y w. in_choice_right w) (reaches_wrapped b))
+reaches_wrapped (Opt e) = along Finishes Opt (λ x y w. in_opt w) (reaches_wrapped e)
+reaches_wrapped (Rep e) = along Finishes Rep (λ x y w. in_rep w) (reaches_wrapped e)
+reaches_wrapped (RepOnce e) = along Finishes RepOnce (λ x y w. in_rep_once w) (reaches_wrapped e)
+reaches_wrapped (RepExact e i) = along Finishes (λ x. RepExact x i) (λ x y w. in_rep_exact w) (reaches_wrapped e)
+reaches_wrapped (RepMin e i) = along Finishes (λ x. RepMin x i) (λ x y w. in_rep_min w) (reaches_wrapped e)
+reaches_wrapped (RepMax e i) = along Finishes (λ x. RepMax x i) (λ x y w. in_rep_max w) (reaches_wrapped e)
+reaches_wrapped (RepMinMax e i j) = along Finishes (λ x. RepMinMax x i j) (λ x y w. in_rep_min_max w) (reaches_wrapped e)
+reaches_wrapped (Push e) = along Finishes Push (λ x y w. in_push w) (reaches_wrapped e)
+reaches_wrapped (Str t) = no_step
+reaches_wrapped (Insens t) = no_step
+reaches_wrapped (Range t u) = no_step
+reaches_wrapped (Ident n) = no_step
+reaches_wrapped (PeekSlice i j) = no_step
+reaches_wrapped (Skip ts) = no_step
+
 abbrev pub Finished : Grammar → Grammar → Type 0
 Finished g h = EachBody (λ y. Many Finishes) g h
 
@@ -129,6 +156,14 @@ listing_finishes g h e = each_body Listed Finishing (λ y a b i. subst (To a) (s
 
 pub restoring_finishes : (g h : Grammar) → EachRestored g h → Finished g h
 restoring_finishes g h e = each_body (λ y. RestoresTo g) Finishing (λ y a b d. restoring g d) e
+
+-- a listing with wrappers wherever they stand
+abbrev pub ListsWithoutWrappers : RuleType → Expression → Expression → Type 0
+ListsWithoutWrappers y a b = erased b ≡ listed a
+
+pub wrapped_listing_finishes : (g h : Grammar) → EachBody ListsWithoutWrappers g h → Finished g h
+wrapped_listing_finishes g h e =
+    each_body ListsWithoutWrappers Finishing (λ y a b i. after Finishes (subst (To a) (sym i) (reaches_listed a)) (reaches_wrapped b)) e
 
 pub finished_well_formed : (g h : Grammar) → Finished g h → IsWellFormed g → IsWellFormed h
 finished_well_formed g h e w = still_well_formed g Finish Any (finishes g) h e (λ n r i. any_bounds r.body) w

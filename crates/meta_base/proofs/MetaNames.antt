@@ -1,7 +1,7 @@
 -- Different rules of the meta-grammar have different names.
 use Rattle.std.proofs.Common.{◌≡◌, List, [], ◌∷◌, Option, Some, None, if◌then◌else◌, bytes_eq, refl, sym, ap, ◌∙◌}
-use Rattle.meta_base.specs.Text.{Text}
-use Rattle.meta_base.specs.MetaRules.{name_of, meta_rules}
+use Rattle.meta_base.specs.Language.Text.{Text}
+use Rattle.meta_base.specs.Pieces.MetaRules.{name_of, meta_rules}
 use Rattle.meta_base.specs.declared.grammar.Rule.{Rule}
 use Rattle.meta_base.specs.declared.grammar.Rule.TheVariants.{EOI}
 

@@ -2,15 +2,15 @@
 use Rattle.std.proofs.Common.{◌≡◌, ◌⊎◌, inl, inr, ℕ, zero, suc, ◌-◌, ◌<◌, ◌≤◌, min, List, [], ◌∷◌, ◌++◌, Bool, true, false, if◌then◌else◌, Option, Some, None, refl, sym, ◌∙◌, subst, length, drop, replicate, nat_eq, bytes_eq, arith, length-drop}
 use Rattle.std.proofs.lemmas.Slice.Eq.{bytes_eq-Decides}
 use Rattle.std.specs.Char.{eq_ignore_ascii_case}
-use Rattle.meta_base.specs.Expression.{Grammar, Expression, Str, Insens, Ident, PeekSlice, Seq, Opt, Rep, RepOnce, RepExact, RepMin, RepMinMax, Rule, rule_of, whitespace, comment}
-use Rattle.meta_base.specs.State.{Classes, Mode, NonAtomicMode, AtomicMode, CompoundAtomicMode, Between, State, Trees, None', Outcome, Success, Failure, moved}
-use Rattle.meta_base.specs.Text.{Text}
-use Rattle.meta_base.specs.Matching.{begins, text_outcome, character_outcome, starts_in, newline_outcome, end_outcome, builtin_outcome, other_outcome, named_outcome, range_set, distance}
-use Rattle.meta_base.specs.Builtins.{Builtin, One, Property, Newline, Soi, Eoi, Peek, Pop, Drop, PeekAll, PopAll, builtin_of, builtins, property_names, looked_up, Named, is_one_of, binary_properties, general_categories, scripts}
-use Rattle.meta_base.specs.Meaning.{Does, Task, Run, Turns, Skipping, str, insens, range, slice, skip, call, other, pos_pred, neg_pred, push, restore, seq, seq_first, seq_second, left, right, opt, opt_none, rep_none, turn, turn_none, rep_exact, rep_max, rep_min_max, skips, atomic, compound_atomic, between, ahead, not_ahead, pushed, with_token, in_sequence, exactly, at_least, from_to, skipped, rep, rep_once, rep_min}
+use Rattle.meta_base.specs.Language.Expression.{Grammar, Expression, Str, Insens, Ident, PeekSlice, Seq, Opt, Rep, RepOnce, RepExact, RepMin, RepMinMax, Rule, rule_of, whitespace, comment}
+use Rattle.meta_base.specs.Language.State.{Classes, Mode, NonAtomicMode, AtomicMode, CompoundAtomicMode, Between, State, Trees, None', Outcome, Success, Failure, moved}
+use Rattle.meta_base.specs.Language.Text.{Text}
+use Rattle.meta_base.specs.Language.Matching.{begins, text_outcome, character_outcome, starts_in, newline_outcome, end_outcome, builtin_outcome, other_outcome, named_outcome, range_set, distance}
+use Rattle.meta_base.specs.Language.Builtins.{Builtin, One, Property, Newline, Soi, Eoi, Peek, Pop, Drop, PeekAll, PopAll, builtin_of, builtins, property_names, looked_up, Named, is_one_of, binary_properties, general_categories, scripts}
+use Rattle.meta_base.specs.Language.Meaning.{Does, Task, Run, Turns, Skipping, str, insens, range, slice, skip, call, other, pos_pred, neg_pred, push, restore, seq, seq_first, seq_second, left, right, opt, opt_none, rep_none, turn, turn_none, rep_exact, rep_max, rep_min_max, skips, atomic, compound_atomic, between, ahead, not_ahead, pushed, with_token, in_sequence, exactly, at_least, from_to, skipped, rep, rep_once, rep_min}
 use native.Mathlib.Nat.{suc-min-suc}
-use Rattle.meta_base.specs.Expression.{Part, whole, of_seq_left, of_seq_right, of_choice_left, of_choice_right, of_opt, of_rep, of_rep_once, of_rep_exact, of_rep_min, of_rep_max, of_rep_min_max, of_push, of_restore}
-use Rattle.meta_base.specs.WellFormed.{IsNullable, nullable_str, nullable_insens, nullable_soi, nullable_eoi, nullable_call, nullable_pos_pred, nullable_neg_pred, nullable_opt, nullable_rep, nullable_rep_max, nullable_seq, nullable_left, nullable_right, nullable_rep_once, nullable_push, nullable_exact_zero, nullable_exact, nullable_min_zero, nullable_min, nullable_min_max_zero, nullable_min_max, nullable_skip, nullable_restore, IsPlainBuiltin}
+use Rattle.meta_base.specs.Language.Expression.{Part, whole, of_seq_left, of_seq_right, of_choice_left, of_choice_right, of_opt, of_rep, of_rep_once, of_rep_exact, of_rep_min, of_rep_max, of_rep_min_max, of_push, of_restore}
+use Rattle.meta_base.specs.Language.WellFormed.{IsNullable, nullable_str, nullable_insens, nullable_soi, nullable_eoi, nullable_call, nullable_pos_pred, nullable_neg_pred, nullable_opt, nullable_rep, nullable_rep_max, nullable_seq, nullable_left, nullable_right, nullable_rep_once, nullable_push, nullable_exact_zero, nullable_exact, nullable_min_zero, nullable_min, nullable_min_max_zero, nullable_min_max, nullable_skip, nullable_restore, IsPlainBuiltin}
 
 -- from i characters to j: fewer, or as many and P
 abbrev pub Goes : Type 0 → ℕ → ℕ → Type 0

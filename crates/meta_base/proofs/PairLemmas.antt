@@ -3,8 +3,8 @@ use Rattle.std.proofs.Common.{◌≡◌, ℕ, ◌≤◌, Bool, true, false, cond
 use Rattle.std.specs.Option.{option_to_list}
 use Rattle.std.proofs.lemmas.List.{map_push, map-append, append-nil}
 use Rattle.std.proofs.lemmas.List.Sums.{fold_push, fold-append}
-use Rattle.meta_base.specs.TokenTrees.{TokenTrees, NoTokens, Token, followed_by, preorder, AreNested}
-use Rattle.meta_base.specs.TreeViews.{tree_of, tree_step, trees_of, in_order}
+use Rattle.meta_base.specs.Pieces.TokenTrees.{TokenTrees, NoTokens, Token, followed_by, preorder, AreNested}
+use Rattle.meta_base.specs.Pieces.TreeViews.{tree_of, tree_step, trees_of, in_order}
 use Rattle.meta_base.specs.declared.runtime.trees.TokenTree.{TokenTree}
 use Rattle.meta_base.specs.declared.runtime.trees.TokenTree.TheViews.{out-TokenTree}
 use Rattle.meta_base.specs.declared.runtime.trees.TokenTree.TheFolds.{fold_out-TokenTree}

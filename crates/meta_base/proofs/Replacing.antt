@@ -1,11 +1,11 @@
 -- A rule with steps of one kind in the place of the rule.
 use Rattle.std.proofs.Common.{[], ◌∷◌, ◌++◌}
-use Rattle.meta_base.specs.Expression.{Expression, RuleType, Rule, Grammar}
-use Rattle.meta_base.specs.Rewriting.{Rewrites, by_rotating, by_unrolling, by_joining, by_factoring, Rotates, Unrolls, Joins, Factors, Many, no_step, one_step, Within, here, in_pos_pred, in_neg_pred, in_seq_left, in_seq_right, in_choice_left, in_choice_right, in_opt, in_rep, in_rep_once, in_rep_exact, in_rep_min, in_rep_max, in_rep_min_max, in_push, in_restore, EachBody, no_rules, also_rule, SameOutcomes, Chain, done}
-use Rattle.meta_base.specs.Replacing.{KeepsOutcomes, IsChained}
-use Rattle.meta_base.proofs.Keeping as keeping
-use Rattle.meta_base.proofs.Keeping.{each_body}
-use Rattle.meta_base.proofs.Passing.{pass}
+use Rattle.meta_base.specs.Language.Expression.{Expression, RuleType, Rule, Grammar}
+use Rattle.meta_base.specs.Rewritings.Rewriting.{Rewrites, by_rotating, by_unrolling, by_joining, by_factoring, Rotates, Unrolls, Joins, Factors, Many, no_step, one_step, Within, here, in_pos_pred, in_neg_pred, in_seq_left, in_seq_right, in_choice_left, in_choice_right, in_opt, in_rep, in_rep_once, in_rep_exact, in_rep_min, in_rep_max, in_rep_min_max, in_push, in_restore, EachBody, no_rules, also_rule, SameOutcomes, Chain, done}
+use Rattle.meta_base.specs.Rewritings.Replacing.{KeepsOutcomes, IsChained}
+use Rattle.meta_base.proofs.StepsKeepOutcomes as keeping
+use Rattle.meta_base.proofs.StepsKeepOutcomes.{each_body}
+use Rattle.meta_base.proofs.PassesAreChains.{pass}
 
 abbrev pub with_body : Rule → Expression → Rule
 with_body r b = record r { body = b }

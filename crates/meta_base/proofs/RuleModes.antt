@@ -1,8 +1,8 @@
 -- The modes of the bodies of rules.
 use Rattle.std.proofs.Common.{Bool, true, false, ◌||◌, bytes_eq}
-use Rattle.meta_base.specs.Expression.{RuleType, Normal, Silent, Atomic, CompoundAtomic, NonAtomic, Rule, whitespace, comment}
-use Rattle.meta_base.specs.State.{Mode, NonAtomicMode, AtomicMode, CompoundAtomicMode, Between, IsRuleMode}
-use Rattle.meta_base.specs.Meaning.{inherited, mode_in, body_mode}
+use Rattle.meta_base.specs.Language.Expression.{RuleType, Normal, Silent, Atomic, CompoundAtomic, NonAtomic, Rule, whitespace, comment}
+use Rattle.meta_base.specs.Language.State.{Mode, NonAtomicMode, AtomicMode, CompoundAtomicMode, Between, IsRuleMode}
+use Rattle.meta_base.specs.Language.Meaning.{inherited, mode_in, body_mode}
 
 inherits_rule_mode : (blank : Bool) (m : Mode) → IsRuleMode (inherited blank m)
 inherits_rule_mode true m = tt

@@ -3,11 +3,11 @@ use Rattle.std.proofs.Common.{◌≡◌, [], ◌∷◌, Bool, true, false, if◌
 use Rattle.std.proofs.lemmas.List.Elements.{All-nil, All-cons, All-head, All-tail, All-weaker, All-contains, All-contains_itself}
 use Rattle.std.proofs.lemmas.Slice.Eq.{bytes_eq-Decides}
 use Rattle.std.specs.List.{All, Contains}
-use Rattle.meta_base.specs.Expression.{Grammar, Rule, rule_of, or_else, Expression}
-use Rattle.meta_base.specs.Text.{Text}
-use Rattle.meta_base.specs.Grammar.{HasDistinctNames}
-use Rattle.meta_base.specs.WellFormed.{HasReadableCounts, InRules, InSomeRule, NamesHaveReadableCounts}
-use Rattle.meta_base.proofs.Deterministic.{same_rule}
+use Rattle.meta_base.specs.Language.Expression.{Grammar, Rule, rule_of, or_else, Expression}
+use Rattle.meta_base.specs.Language.Text.{Text}
+use Rattle.meta_base.specs.Language.Grammar.{HasDistinctNames}
+use Rattle.meta_base.specs.Language.WellFormed.{HasReadableCounts, InRules, InSomeRule, NamesHaveReadableCounts}
+use Rattle.meta_base.proofs.OneOutcome.{same_rule}
 
 -- what holds of each rule holds of the rule that a name means
 module _ (P : Rule → Type 0) where

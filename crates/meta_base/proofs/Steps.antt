@@ -1,12 +1,12 @@
 -- What each step of a run makes of what was found, and of the furthest failure.
 use Rattle.std.proofs.Common.{◌≡◌, refl, sym, ap, ℕ, nat_eq, max, Bool, true, false, ◌&&◌, Some, None, arith, if◌then◌else◌}
-use Rattle.meta_base.specs.Expression.{Grammar, Expression, Str, Range, Ident, PosPred, NegPred, Seq, Choice, Opt, Rep, RepOnce, RepMinMax, RuleType, Normal, Silent, Atomic, CompoundAtomic, NonAtomic, Rule, rule_of}
-use Rattle.meta_base.specs.State.{Classes, Mode, NonAtomicMode, AtomicMode, CompoundAtomicMode, Between, State, Trees, None', Tree, joined, Outcome, Success, Failure}
-use Rattle.meta_base.specs.Text.{Text}
-use Rattle.meta_base.specs.Matching.{text_outcome, character_outcome, range_set, other_outcome}
-use Rattle.meta_base.specs.Meaning.{Does, Run, Turns, Skipping, str, range, call, other, pos_pred, neg_pred, seq, seq_first, seq_second, left, right, opt, opt_none, rep, rep_none, turn, turn_none, rep_once, rep_min_max, skips, atomic, compound_atomic, between, ahead, not_ahead, with_token, body_mode, mode_in, gives_token, seen_from, from_to, skipped}
-use Rattle.meta_base.specs.FurthestFailure.{furthest, place_of, is_eoi}
-use Rattle.meta_base.specs.Ran.{Ran}
+use Rattle.meta_base.specs.Language.Expression.{Grammar, Expression, Str, Range, Ident, PosPred, NegPred, Seq, Choice, Opt, Rep, RepOnce, RepMinMax, RuleType, Normal, Silent, Atomic, CompoundAtomic, NonAtomic, Rule, rule_of}
+use Rattle.meta_base.specs.Language.State.{Classes, Mode, NonAtomicMode, AtomicMode, CompoundAtomicMode, Between, State, Trees, None', Tree, joined, Outcome, Success, Failure}
+use Rattle.meta_base.specs.Language.Text.{Text}
+use Rattle.meta_base.specs.Language.Matching.{text_outcome, character_outcome, range_set, other_outcome}
+use Rattle.meta_base.specs.Language.Meaning.{Does, Run, Turns, Skipping, str, range, call, other, pos_pred, neg_pred, seq, seq_first, seq_second, left, right, opt, opt_none, rep, rep_none, turn, turn_none, rep_once, rep_min_max, skips, atomic, compound_atomic, between, ahead, not_ahead, with_token, body_mode, mode_in, gives_token, seen_from, from_to, skipped}
+use Rattle.meta_base.specs.Language.FurthestFailure.{furthest, place_of, is_eoi}
+use Rattle.meta_base.specs.Language.Ran.{Ran}
 
 -- trees before those of a success
 abbrev pub after_trees : Trees → Outcome → Outcome

@@ -1,11 +1,11 @@
 -- Steps keep a grammar well-formed and plain, and keep it a grammar.
 use Rattle.std.proofs.Common.{◌≡◌, ◌-◌, min, List, [], ◌∷◌, ◌++◌, refl, sym, subst, Some, ℕ, ◌<◌}
-use Rattle.meta_base.specs.Expression.{Grammar, Expression, Str, Insens, Seq, Opt, Rep, RuleType, Rule, RepMin, RepMinMax, rule_of}
-use Rattle.meta_base.specs.Text.{Text}
-use Rattle.meta_base.specs.Meaning.{in_sequence}
-use Rattle.meta_base.specs.Rewriting.{by_rotating, by_unrolling, by_skipping, by_joining, by_factoring, Rewrites, rotate_sequence, rotate_choice, unroll_once, unroll_exact, unroll_min, unroll_max, unroll_min_max, skip_until, join_literals, join_insensitive, factor_prefix, factor_optional, factor_optional_compound, factor_absorbed, Changed, this, later, Chain, done, step, Many, no_step, one_step, EachBody, no_rules, also_rule}
-use Rattle.meta_base.specs.Grammar.{IsGrammar}
-use Rattle.meta_base.specs.WellFormed.{IsNullable, nullable_str, nullable_insens, nullable_rep, nullable_rep_max, nullable_seq, nullable_left, nullable_right, LeftCalls, left_first, left_second, left_left, left_right, left_opt, left_rep, left_rep_once, left_rep_exact, left_rep_min, left_rep_max, left_rep_min_max, IsWellFormed, CountIsReadable, HasReadableCounts, NamesHaveReadableCounts, IsPlain}
+use Rattle.meta_base.specs.Language.Expression.{Grammar, Expression, Str, Insens, Seq, Opt, Rep, RuleType, Rule, RepMin, RepMinMax, rule_of}
+use Rattle.meta_base.specs.Language.Text.{Text}
+use Rattle.meta_base.specs.Language.Meaning.{in_sequence}
+use Rattle.meta_base.specs.Rewritings.Rewriting.{by_rotating, by_unrolling, by_skipping, by_joining, by_factoring, Rewrites, rotate_sequence, rotate_choice, unroll_once, unroll_exact, unroll_min, unroll_max, unroll_min_max, skip_until, join_literals, join_insensitive, factor_prefix, factor_optional, factor_optional_compound, factor_absorbed, Changed, this, later, Chain, done, step, Many, no_step, one_step, EachBody, no_rules, also_rule}
+use Rattle.meta_base.specs.Language.Grammar.{IsGrammar}
+use Rattle.meta_base.specs.Language.WellFormed.{IsNullable, nullable_str, nullable_insens, nullable_rep, nullable_rep_max, nullable_seq, nullable_left, nullable_right, LeftCalls, left_first, left_second, left_left, left_right, left_opt, left_rep, left_rep_once, left_rep_exact, left_rep_min, left_rep_max, left_rep_min_max, IsWellFormed, CountIsReadable, HasReadableCounts, NamesHaveReadableCounts, IsPlain}
 use Rattle.meta_base.proofs.Moving.{Each', no_more, also, each_copy, each_of_both, in_all, nullable_once, nullable_copies, nullable_at_least, nullable_from_to}
 use Rattle.meta_base.proofs.Everywhere.{Condition, HoldsHere, Everywhere, everywhere, in_sequence_too}
 use Rattle.meta_base.proofs.BodiesKeepGrammars.{bounding, IsClosed, KeepsAtRoot, names_still_readable, still_well_formed, still_plain, still_readable, still_grammar}

@@ -1,7 +1,7 @@
 // The names of the meta-grammar's rules.
 
-/// A rule of the meta-grammar, the grammar in which grammars are written; or `EOI`, the end of the text, which gives
-/// a token of its own.
+/// A rule of the meta-grammar, the grammar in which grammars are written; or `EOI`, the end of the text,
+/// which gives a token of its own.
 ///
 /// The order is that of the meta-grammar, `EOI` before all.
 #[allow(non_camel_case_types)]
@@ -77,7 +77,7 @@ pub enum Rule {
 
 impl Rule {
     ghost use Rattle.std.specs.Prelude.{◌≡◌};
-    ghost use Rattle.meta_base.specs.MetaRules.{meta_rules};
+    ghost use Rattle.meta_base.specs.Pieces.MetaRules.{meta_rules};
 
     /// All rules of the meta-grammar, in its order: 65, `EOI` not among them.
     pub fn all_rules() -> &'static [Rule]

@@ -1,18 +1,18 @@
 // Laws over the definitions alone.
 ghost use Rattle.std.specs.Prelude.{◌≡◌, ◌↔◌};
-ghost use Rattle.meta_base.specs.Expression.{Grammar, Expression, Rule};
-ghost use Rattle.meta_base.specs.State.{Classes, Mode, IsRuleMode, State, Outcome};
-ghost use Rattle.meta_base.specs.Meaning.{Matches, Does, Task, body_mode};
-ghost use Rattle.meta_base.specs.Listing.{EachListed, ListingKeeps};
-ghost use Rattle.meta_base.specs.Wrapping.{EachRestored};
-ghost use Rattle.meta_base.specs.Rewriting.{KeepsAny, Chain, SameOutcomes, EachRewritten, EachBody, Many, Rotates};
-ghost use Rattle.meta_base.specs.FurthestFailure.{furthest};
-ghost use Rattle.meta_base.specs.LooseMeaning.{Restored, IsSafe, SameEndings};
-ghost use Rattle.meta_base.specs.WellFormed.{IsNullable, CannotFail, HasReadableCounts, NamesHaveReadableCounts};
-ghost use Rattle.meta_base.specs.WellFormed.{InRules, InSomeRule, IsWellFormed, IsPlain, Start, EndsFrom};
-ghost use Rattle.meta_base.specs.Grammar.{HasDistinctNames, IsGrammar};
-ghost use Rattle.meta_base.specs.Places.{FitsIn, Stands};
-ghost use Rattle.meta_base.specs.Text.{IsPosition, Text};
+ghost use Rattle.meta_base.specs.Language.Expression.{Grammar, Expression, Rule};
+ghost use Rattle.meta_base.specs.Language.State.{Classes, Mode, IsRuleMode, State, Outcome};
+ghost use Rattle.meta_base.specs.Language.Meaning.{Matches, Does, Task, body_mode};
+ghost use Rattle.meta_base.specs.Rewritings.Listing.{EachListed, ListingKeeps};
+ghost use Rattle.meta_base.specs.Rewritings.Wrapping.{EachRestored};
+ghost use Rattle.meta_base.specs.Rewritings.Rewriting.{KeepsAny, Chain, SameOutcomes, EachRewritten, EachBody, Many, Rotates};
+ghost use Rattle.meta_base.specs.Language.FurthestFailure.{furthest};
+ghost use Rattle.meta_base.specs.Language.LooseMeaning.{Restored, IsSafe, SameEndings};
+ghost use Rattle.meta_base.specs.Language.WellFormed.{IsNullable, CannotFail, HasReadableCounts, NamesHaveReadableCounts};
+ghost use Rattle.meta_base.specs.Language.WellFormed.{InRules, InSomeRule, IsWellFormed, IsPlain, Start, EndsFrom};
+ghost use Rattle.meta_base.specs.Language.Grammar.{HasDistinctNames, IsGrammar};
+ghost use Rattle.meta_base.specs.Language.Places.{FitsIn, Stands};
+ghost use Rattle.meta_base.specs.Language.Text.{IsPosition, Text};
 
 /// An expression has at most one outcome from one start.
 pub fn one_outcome()
@@ -99,13 +99,15 @@ pub fn listing_keeps_matches()
     ensures { ListingKeeps }
 {}
 
-/// Where wrappers stand as they should, a meaning in which a failed POP keeps its removal has the same outcomes.
+/// Where wrappers stand as they should, a meaning in which a failed POP keeps its removal has the same
+/// outcomes.
 pub fn restored_agrees()
     ensures { (g : Grammar) (classes : Classes) (e : Expression) (m : Mode) (s : State)
         → Restored g → IsSafe g e → SameEndings g classes e m s }
 {}
 
-/// A pass, which rewrites in each rule and looks names up in the rules as they were at an earlier link of the chain, is a chain.
+/// A pass, which rewrites in each rule and looks names up in the rules as they were at an earlier link of the
+/// chain, is a chain.
 pub fn pass_is_a_chain()
     ensures { (g h i : Grammar) → Chain g h → EachRewritten g h i → Chain h i }
 {}
@@ -115,8 +117,8 @@ pub fn rotations_keep_outcomes()
     ensures { (g h : Grammar) → EachBody (λ _. Many Rotates) g h → SameOutcomes g h }
 {}
 
-/// What is found from a place of a text stands in that text: the trees are in order and apart, each lies around those
-/// that it holds, and each begins and ends on a character.
+/// What is found from a place of a text stands in that text: the trees are in order and apart, each lies
+/// around those that it holds, and each begins and ends on a character.
 pub fn trees_are_nested()
     ensures { (text : Text) (g : Grammar) (classes : Classes) (k : Task) (s : State) (o : Outcome)
         → Does g classes k s o → Stands text s → FitsIn text s o }

@@ -1,26 +1,28 @@
 //! How long grammars take to be read.
 //!
-//! Without arguments a small generated grammar is read, and what it has is printed. With numbers of rules
-//! as arguments there is a line of figures for a grammar of each.
+//! Without arguments a small generated grammar is read, and what it has is printed. With arguments there is a
+//! line of figures for each: a number means a generated grammar of so many rules, and anything else names a
+//! file that has a grammar.
 #![tactic(auto)]
 
 mod figures;
 mod generated;
+mod texts;
 
-use anyhow::{Context, Result};
+use anyhow::Result;
 use figures::{Figures, measured};
 use generated::grammar;
 use meta_base::grammar::Rule;
 use meta_reader::parser::consume_rules_with_spans;
 use meta_syntax::grammar::PestParser;
-use std::env::{self, Env};
-use std::time::CpuClock;
+use std::env;
+use texts::text_of;
 
 /// The rules of the grammar that is read where there are no arguments.
 const FEW: u32 = 10;
 
-/// From so many rules on a grammar is large: times a byte are compared with those of the first such.
-const MANY: u32 = 1000;
+/// From so many bytes on a text is large: times a byte are compared with those of the first such.
+const MANY: usize = 100_000;
 
 /// Prints what a small grammar has.
 fn describe<R: Print + AllocGlobal>(rt: &R) -> Result<()> {
@@ -43,21 +45,22 @@ fn describe<R: Print + AllocGlobal>(rt: &R) -> Result<()> {
     Ok(())
 }
 
-/// Prints a line of figures for a grammar of each of these numbers of rules.
-fn compare<R: Print + AllocGlobal + CpuClock>(rt: &R, sizes: &[u32]) -> Result<()> {
+/// Prints a line of figures for the text that each of these arguments means.
+fn compare(rt: &HostRuntime, arguments: &[String]) -> Result<()> {
     println!(rt;
-        "    rules      bytes | tokens ms  ns/byte    MB/s  ratio |  parse ms  ns/byte    MB/s  ratio | reader ms  ns/byte    MB/s  ratio"
+        "     text      bytes | tokens ms  ns/byte    MB/s  ratio |  parse ms  ns/byte    MB/s  ratio | reader ms  ns/byte    MB/s  ratio"
     )?;
     let mut first: Option<Figures> = None;
-    for size in sizes {
-        let text = grammar(rt.alloc(), *size)?;
+    for argument in arguments {
+        let text = text_of(rt, argument.as_str())?;
         let figures = measured(rt, text.as_str())?;
-        if first.is_none() && *size >= MANY {
+        if first.is_none() && figures.bytes >= MANY {
             first = Some(figures);
         }
         let other = first.unwrap_or(figures);
         println!(rt;
-            "{size:>9} {:>10} | {} | {} | {}",
+            "{:>9} {:>10} | {} | {} | {}",
+            argument.as_str(),
             figures.bytes,
             figures.of_tokens(&other),
             figures.of_parse(&other),
@@ -67,24 +70,14 @@ fn compare<R: Print + AllocGlobal + CpuClock>(rt: &R, sizes: &[u32]) -> Result<(
     Ok(())
 }
 
-/// The numbers of rules that the arguments give.
-fn sizes<R: Env + AllocGlobal>(rt: &R) -> Result<Vec<u32>> {
-    let mut sizes = Vec::new(rt.alloc());
-    for word in env::args(rt)?.skip(1) {
-        let size = word
-            .as_str()
-            .parse::<u32>()
-            .context(format_args!("reading {word:?}"))?;
-        sizes.push(size)?;
-    }
-    Ok(sizes)
-}
-
 fn main(rt: HostRuntime) -> Result<()> {
-    let sizes = sizes(&rt)?;
-    if sizes.is_empty() {
+    let mut arguments = Vec::new(rt.alloc());
+    for argument in env::args(&rt)?.skip(1) {
+        arguments.push(argument)?;
+    }
+    if arguments.is_empty() {
         describe(&rt)
     } else {
-        compare(&rt, &sizes)
+        compare(&rt, &arguments)
     }
 }

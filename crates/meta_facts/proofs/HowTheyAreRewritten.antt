@@ -1,6 +1,6 @@
 -- The facts on the listing and on strings.
 use Rattle.std.proofs.Common.{refl}
-use Rattle.meta_base.specs.Rewriting.{one, named, more, name}
+use Rattle.meta_base.specs.Rewritings.Rewriting.{one, named, more, name}
 use Rattle.meta_facts.specs.SmallRewritings.{ListingIsComputed, StringsOfNames}
 
 pub listing_is_computed : ListingIsComputed

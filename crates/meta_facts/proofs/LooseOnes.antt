@@ -1,10 +1,10 @@
 -- The facts on the meaning in which a failure leaves a stack.
 use Rattle.std.proofs.Common.{refl}
-use Rattle.meta_base.specs.State.{Classes}
-use Rattle.meta_base.specs.Expression.{whitespace, comment}
-use Rattle.meta_base.specs.Builtins.{builtins, property_names, general_categories, binary_properties, scripts}
-use Rattle.meta_base.specs.Meaning.{other, right, call, rep_once, seq, str, skips, rep_none, seq_first, between}
-use Rattle.meta_base.specs.LooseMeaning.{loose_other, loose_right, loose_restore, loose_rep_exact, loose_call, loose_rep_once, loose_seq, loose_str, loose_skips, loose_rep_none, loose_seq_first, loose_between}
+use Rattle.meta_base.specs.Language.State.{Classes}
+use Rattle.meta_base.specs.Language.Expression.{whitespace, comment}
+use Rattle.meta_base.specs.Language.Builtins.{builtins, property_names, general_categories, binary_properties, scripts}
+use Rattle.meta_base.specs.Language.Meaning.{other, right, restore, call, rep_once, seq, str, skips, rep_none, seq_first, between}
+use Rattle.meta_base.specs.Language.LooseMeaning.{loose_other, loose_right, loose_restore, loose_rep_exact, loose_call, loose_rep_once, loose_seq, loose_str, loose_skips, loose_rep_none, loose_seq_first, loose_between}
 use Rattle.meta_facts.specs.LooseRuns.{FailuresLose, GoesOnFromWhatIsLeft, RepeatsInBoth}
 
 module _ (classes : Classes) where
@@ -23,6 +23,7 @@ module _ (classes : Classes) where
     loosely = loose_right (loose_other refl refl) (loose_other refl refl);
     strictly = right (other refl refl) (other refl refl);
     wrapped = loose_right (loose_restore (loose_other refl refl)) (loose_other refl refl);
+    wrapped_strictly = right (restore (other refl refl)) (other refl refl);
   }
 
   pub repeats_in_both : RepeatsInBoth classes

@@ -1,9 +1,9 @@
 -- The facts on nullable expressions, on those that cannot fail, and on left calls.
 use Rattle.std.proofs.Common.{◌≡◌, ℕ, [], ◌∷◌, false, refl, codes}
-use Rattle.meta_base.specs.Text.{Text}
-use Rattle.meta_base.specs.Expression.{Str, Ident, PosPred, Seq, RepMin, RepMinMax}
-use Rattle.meta_base.specs.Builtins.{is_one_of}
-use Rattle.meta_base.specs.WellFormed.{IsNullable, nullable_str, nullable_insens, nullable_soi, nullable_eoi, nullable_call, nullable_pos_pred, nullable_neg_pred, nullable_opt, nullable_min_zero, nullable_min, nullable_min_max_zero, nullable_min_max, CannotFail, cannot_fail_str, cannot_fail_insens, cannot_fail_call, cannot_fail_pos_pred, cannot_fail_min_zero, cannot_fail_min, cannot_fail_min_max_zero, cannot_fail_min_max, LeftCalls, left_name, left_first, left_second, left_pos_pred, left_neg_pred}
+use Rattle.meta_base.specs.Language.Text.{Text}
+use Rattle.meta_base.specs.Language.Expression.{Str, Ident, PosPred, Seq, RepMin, RepMinMax}
+use Rattle.meta_base.specs.Language.Builtins.{is_one_of}
+use Rattle.meta_base.specs.Language.WellFormed.{IsNullable, nullable_str, nullable_insens, nullable_soi, nullable_eoi, nullable_call, nullable_pos_pred, nullable_neg_pred, nullable_opt, nullable_min_zero, nullable_min, nullable_min_max_zero, nullable_min_max, CannotFail, cannot_fail_str, cannot_fail_insens, cannot_fail_call, cannot_fail_pos_pred, cannot_fail_min_zero, cannot_fail_min, cannot_fail_min_max_zero, cannot_fail_min_max, LeftCalls, left_name, left_first, left_second, left_pos_pred, left_neg_pred}
 use Rattle.meta_facts.specs.NullableExpressions.{NullableOrNot, CannotFailOrMay, LeftCalledOrNot}
 
 -- a literal of at least one character is neither

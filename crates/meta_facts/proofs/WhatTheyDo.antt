@@ -1,13 +1,13 @@
 -- The facts on small grammars and single parts of the meaning.
 use Rattle.std.proofs.Common.{[], ◌≡◌, Some, None, refl, sym, subst, codes}
-use Rattle.meta_base.specs.State.{Classes, Mode, NonAtomicMode, AtomicMode, CompoundAtomicMode, Between, IsRuleMode, State, Outcome}
-use Rattle.meta_base.specs.Expression.{Str, Ident, Seq, Opt, Rep, Rule, whitespace, comment, rule_of}
-use Rattle.meta_base.specs.Text.{Text}
-use Rattle.meta_base.specs.Meaning.{slice, push, skip, range, Does, Task, Run, Skipping, str, call, other, seq, seq_first, seq_second, opt_none, rep_none, turn_none, skips, compound_atomic, between, skipped, body_mode, rep, rep_once, Matches, atomic, insens, pos_pred, neg_pred, left, right, turn, rep_min_max}
+use Rattle.meta_base.specs.Language.State.{Classes, Mode, NonAtomicMode, AtomicMode, CompoundAtomicMode, Between, IsRuleMode, State, Outcome}
+use Rattle.meta_base.specs.Language.Expression.{Str, Ident, Seq, Opt, Rep, Rule, whitespace, comment, rule_of}
+use Rattle.meta_base.specs.Language.Text.{Text}
+use Rattle.meta_base.specs.Language.Meaning.{slice, push, skip, range, Does, Task, Run, Skipping, str, call, other, seq, seq_first, seq_second, opt_none, rep_none, turn_none, skips, compound_atomic, between, skipped, body_mode, rep, rep_once, Matches, atomic, insens, pos_pred, neg_pred, left, right, turn, rep_min_max}
 use Rattle.meta_facts.specs.SmallGrammars.{Alternatives, CommentsAreSkipped, EmptiesTheStack, LoudBlanks, NegativePredicates, ReadsTheTop, SlicesPastTheLength, TokensOfTheEnd, UndefinedNames, endless, at_start, ListingDiffers, BlankIsTaken, HasNone, BlankGivesToken, LastRuleIsMeant, NegativeSlices, Newlines, NonAtomicInside, OrdersOfTheStack, OtherReadings, PredicateRestores, PushPushes, RangesThatFail, ReadsEmptyStack, Skips, TokensOfAtomicRules}
-use Rattle.meta_base.proofs.Deterministic.{same, same_state, same_rule, from}
-use Rattle.meta_base.specs.Builtins.{builtins, property_names, general_categories, binary_properties, scripts}
-use Rattle.meta_base.specs.Matching.{other_outcome}
+use Rattle.meta_base.proofs.OneOutcome.{same, same_state, same_rule, from}
+use Rattle.meta_base.specs.Language.Builtins.{builtins, property_names, general_categories, binary_properties, scripts}
+use Rattle.meta_base.specs.Language.Matching.{other_outcome}
 
 pub differs : ListingDiffers
 differs classes m = (

@@ -1,9 +1,9 @@
 -- What a few expressions do in the meaning in which a failure leaves a stack.
 use Rattle.std.specs.Prelude.{[], ◌∷◌, codes}
-use Rattle.meta_base.specs.Expression.{Str, Ident, Choice, RepOnce, RepExact, RestoreOnErr, Normal, Grammar}
-use Rattle.meta_base.specs.State.{NonAtomicMode, None', Tree, Success, Failure, Classes}
-use Rattle.meta_base.specs.Meaning.{Matches}
-use Rattle.meta_base.specs.LooseMeaning.{Done, Lost, MatchesLoosely}
+use Rattle.meta_base.specs.Language.Expression.{Str, Ident, Choice, RepOnce, RepExact, RestoreOnErr, Normal, Grammar}
+use Rattle.meta_base.specs.Language.State.{NonAtomicMode, None', Tree, Success, Failure, Classes}
+use Rattle.meta_base.specs.Language.Meaning.{Matches}
+use Rattle.meta_base.specs.Language.LooseMeaning.{Done, Lost, MatchesLoosely}
 use Rattle.meta_facts.specs.SmallGrammars.{at_start, stacked, end_of}
 
 -- a failed POP has removed its entry, a failed POP_ALL those down to and with the one that did not match
@@ -17,8 +17,8 @@ pub record FailuresLose (classes : Classes) : Type 0 where
   pub one_copy : MatchesLoosely [] classes (RepExact (Ident (codes "POP")) 1) NonAtomicMode
       (stacked (codes "a")) (Lost (codes "a" ∷ []))
 
--- `POP | PEEK` goes on from what the failed POP left: so it matches where it fails in the strict meaning
--- (with the wrapper round POP it fails in both)
+-- `POP | PEEK` goes on from what the failed POP left: so it matches where it fails in the strict meaning;
+-- with the wrapper round POP it fails in both
 pub record GoesOnFromWhatIsLeft (classes : Classes) : Type 0 where
   pub loosely : MatchesLoosely [] classes (Choice (Ident (codes "POP")) (Ident (codes "PEEK"))) NonAtomicMode
       (stacked (codes "a")) (Done (record { position = 1; rest = []; stack = codes "a" ∷ [] }) None')
@@ -26,6 +26,8 @@ pub record GoesOnFromWhatIsLeft (classes : Classes) : Type 0 where
       (stacked (codes "a")) Failure
   pub wrapped : MatchesLoosely [] classes (Choice (RestoreOnErr (Ident (codes "POP"))) (Ident (codes "PEEK")))
       NonAtomicMode (stacked (codes "a")) (Lost (codes "b" ∷ codes "a" ∷ []))
+  pub wrapped_strictly : Matches [] classes (Choice (RestoreOnErr (Ident (codes "POP"))) (Ident (codes "PEEK")))
+      NonAtomicMode (stacked (codes "a")) Failure
 
 -- a = { "x"+ }
 abbrev pub repeated : Grammar

@@ -1,8 +1,8 @@
 -- Which single expressions are nullable, which cannot fail, and which names they left-call.
 use Rattle.std.specs.Prelude.{[], codes}
-use Rattle.meta_base.specs.Text.{Text}
-use Rattle.meta_base.specs.Expression.{Expression, Str, Insens, Ident, PosPred, NegPred, Seq, Opt, RepMin, RepMinMax}
-use Rattle.meta_base.specs.WellFormed.{IsNullable, CannotFail, LeftCalls}
+use Rattle.meta_base.specs.Language.Text.{Text}
+use Rattle.meta_base.specs.Language.Expression.{Expression, Str, Insens, Ident, PosPred, NegPred, Seq, Opt, RepMin, RepMinMax}
+use Rattle.meta_base.specs.Language.WellFormed.{IsNullable, CannotFail, LeftCalls}
 
 -- by the rules of IsNullable, where no name is a rule's
 pub record NullableOrNot : Type 0 where

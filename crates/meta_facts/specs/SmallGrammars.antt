@@ -1,9 +1,9 @@
 -- Small grammars and single expressions, and what they do.
 use Rattle.std.specs.Prelude.{ℕ, Some, None, pos, negsuc, [], ◌∷◌, codes}
-use Rattle.meta_base.specs.Text.{Text}
-use Rattle.meta_base.specs.Expression.{Expression, Str, Ident, Seq, Choice, Opt, Rep, RepOnce, Normal, Silent, CompoundAtomic, NonAtomic, Grammar, Atomic, Insens, PeekSlice, PosPred, NegPred, Push, Range, RepMinMax, Skip}
-use Rattle.meta_base.specs.State.{Mode, NonAtomicMode, AtomicMode, CompoundAtomicMode, Between, IsRuleMode, State, None', Tree, Outcome, Success, Failure, Classes}
-use Rattle.meta_base.specs.Meaning.{Matches}
+use Rattle.meta_base.specs.Language.Text.{Text}
+use Rattle.meta_base.specs.Language.Expression.{Expression, Str, Ident, Seq, Choice, Opt, Rep, RepOnce, Normal, Silent, CompoundAtomic, NonAtomic, Grammar, Atomic, Insens, PeekSlice, PosPred, NegPred, Push, Range, RepMinMax, Skip}
+use Rattle.meta_base.specs.Language.State.{Mode, NonAtomicMode, AtomicMode, CompoundAtomicMode, Between, IsRuleMode, State, None', Tree, Outcome, Success, Failure, Classes}
+use Rattle.meta_base.specs.Language.Meaning.{Matches}
 
 -- ("a" ~ "b")* ~ "a"
 abbrev pub spelled_body : Expression

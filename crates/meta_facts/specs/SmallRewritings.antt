@@ -1,8 +1,8 @@
 -- The listing of one expression, and the strings of another.
 use Rattle.std.specs.Prelude.{◌≡◌, [], ◌∷◌, codes, map}
-use Rattle.meta_base.specs.Expression.{Str, Ident, Choice, Normal, Rule, Grammar}
-use Rattle.meta_base.specs.Listing.{listed}
-use Rattle.meta_base.specs.Rewriting.{Strings}
+use Rattle.meta_base.specs.Language.Expression.{Str, Ident, Choice, Normal, Rule, Grammar}
+use Rattle.meta_base.specs.Rewritings.Listing.{listed}
+use Rattle.meta_base.specs.Rewritings.Rewriting.{Strings}
 use Rattle.meta_facts.specs.SmallGrammars.{spelled_body, listed_body, spelled_grammar, listed_grammar}
 
 abbrev pub listed_rule : Rule → Rule

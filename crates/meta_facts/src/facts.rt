@@ -1,5 +1,5 @@
 // Facts on small grammars: what they do, tied to the definitions.
-ghost use Rattle.meta_base.specs.State.{Classes};
+ghost use Rattle.meta_base.specs.Language.State.{Classes};
 ghost use Rattle.meta_facts.specs.SmallGrammars.{ListingDiffers, BlankIsTaken, HasNone, ReadsEmptyStack, OrdersOfTheStack, NegativeSlices, TokensOfAtomicRules, PredicateRestores, PushPushes, Skips, Newlines, RangesThatFail, BlankGivesToken, NonAtomicInside, LastRuleIsMeant, OtherReadings, ReadsTheTop, EmptiesTheStack, NegativePredicates, Alternatives, CommentsAreSkipped, UndefinedNames, LoudBlanks, SlicesPastTheLength, TokensOfTheEnd};
 ghost use Rattle.meta_facts.specs.NullableExpressions.{NullableOrNot, CannotFailOrMay, LeftCalledOrNot};
 ghost use Rattle.meta_facts.specs.SmallRewritings.{ListingIsComputed, StringsOfNames};
@@ -144,7 +144,8 @@ pub fn cannot_fail_or_may()
     ensures { CannotFailOrMay }
 {}
 
-/// A name is left-called below a predicate and behind a nullable left side, and not behind a literal or `PEEK`.
+/// A name is left-called below a predicate and behind a nullable left side, and not behind a literal or
+/// `PEEK`.
 pub fn left_called_or_not()
     ensures { LeftCalledOrNot }
 {}
@@ -166,8 +167,8 @@ pub fn failures_lose()
     ensures { (classes : Classes) → FailuresLose classes }
 {}
 
-/// On `a`, with "b" above "a", `POP | PEEK` then matches where it fails in the strict meaning; a wrapper
-/// round `POP` lets it fail again.
+/// On `a`, with "b" above "a", `POP | PEEK` then matches where it fails in the strict meaning; with a wrapper
+/// round `POP` it fails in both.
 pub fn goes_on_from_what_is_left()
     ensures { (classes : Classes) → GoesOnFromWhatIsLeft classes }
 {}

@@ -2,8 +2,8 @@
 use Rattle.std.proofs.Common.{◌≡◌, List, [], ◌∷◌, ℕ, Bool, true, false, map, refl, ap, Bor}
 use Rattle.std.specs.Prelude.{bytes_eq, ◌||◌, is_some, if◌then◌else◌, Option, Some, None}
 use Rattle.std.specs.List.{list_any}
-use Rattle.meta_base.specs.Text.{Text}
-use Rattle.meta_base.specs.Builtins.{Builtin, Property, Named, is_one_of, looked_up, property_names}
+use Rattle.meta_base.specs.Language.Text.{Text}
+use Rattle.meta_base.specs.Language.Builtins.{Builtin, Property, Named, is_one_of, looked_up, property_names}
 
 -- a test of each name is a test of the list
 pub is_one_of-map : (names : List (Bor (List ℕ))) (name : List ℕ) → list_any (λ n. bytes_eq n.now name) names ≡ is_one_of (map (λ n. n.now) names) name

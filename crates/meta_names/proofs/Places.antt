@@ -3,9 +3,9 @@ use Rattle.std.proofs.Common.{Result, Ok, Err, OnOk, ◌≡◌, ◌<◌, ◌≤�
 use Rattle.std.specs.Prelude.{bytes_eq, ◌||◌, filter}
 use Rattle.std.specs.HashSet as bag
 use Rattle.std.proofs.lemmas.List.{map-append, drop_all}
-use Rattle.meta_base.specs.Text.{Text}
-use Rattle.meta_base.specs.Builtins.{is_one_of}
-use Rattle.meta_base.specs.Saying.{Span, Complaint, Tell, piece_of, written}
+use Rattle.meta_base.specs.Language.Text.{Text}
+use Rattle.meta_base.specs.Language.Builtins.{is_one_of}
+use Rattle.meta_base.specs.Pieces.Saying.{Span, Complaint, Tell, piece_of, written}
 use Rattle.meta_base.specs.declared.grammar.Rule.{Rule}
 use Rattle.meta_base.specs.declared.runtime.errors.Error.{Error}
 use Rattle.meta_base.specs.declared.runtime.places.Span as code

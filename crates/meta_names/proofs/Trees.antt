@@ -4,12 +4,12 @@ use Rattle.std.specs.Prelude.{⊤}
 use Rattle.std.proofs.lemmas.Bool.{false_from_ne_true}
 use Rattle.std.proofs.lemmas.Slice.Eq.{bytes_eq-Decides}
 use Rattle.std.proofs.lemmas.List.Sums.{fold_push}
-use Rattle.meta_base.specs.State.{Trees, None', Tree}
-use Rattle.meta_base.specs.MetaRules.{name_of}
-use Rattle.meta_base.specs.NamedTrees.{named, named_trees_of}
-use Rattle.meta_base.specs.TokenTrees.{TokenTrees, NoTokens, Token}
-use Rattle.meta_base.specs.TreeViews.{trees_of}
-use Rattle.meta_base.specs.Saying.{Span, piece}
+use Rattle.meta_base.specs.Language.State.{Trees, None', Tree}
+use Rattle.meta_base.specs.Pieces.MetaRules.{name_of}
+use Rattle.meta_base.specs.Pieces.NamedTrees.{named, named_trees_of}
+use Rattle.meta_base.specs.Pieces.TokenTrees.{TokenTrees, NoTokens, Token}
+use Rattle.meta_base.specs.Pieces.TreeViews.{trees_of}
+use Rattle.meta_base.specs.Pieces.Saying.{Span, piece}
 use Rattle.meta_base.specs.declared.grammar.Rule.{Rule}
 use Rattle.meta_base.specs.declared.grammar.Rule.TheVariants as rule_is
 use Rattle.meta_base.specs.declared.runtime.trees.TokenTree.{TokenTree}

@@ -1,11 +1,11 @@
 -- The names that a grammar's text defines and calls, and what is said of them.
 use Rattle.std.specs.Prelude.{◌≡◌, ◌≢◌, ℕ, List, [], ◌∷◌, ◌++◌, if◌then◌else◌, map, bytes_eq, codes, ⊤}
 use Rattle.std.specs.Borrow.{Bor}
-use Rattle.meta_base.specs.Text.{Text}
-use Rattle.meta_base.specs.State.{Trees, None', Tree}
-use Rattle.meta_base.specs.NamedTrees.{named}
-use Rattle.meta_base.specs.Pairs.{pairs_text, pairs_trees}
-use Rattle.meta_base.specs.Saying.{Span, piece, written, Complaint, Tell}
+use Rattle.meta_base.specs.Language.Text.{Text}
+use Rattle.meta_base.specs.Language.State.{Trees, None', Tree}
+use Rattle.meta_base.specs.Pieces.NamedTrees.{named}
+use Rattle.meta_base.specs.Pieces.Pairs.{pairs_text, pairs_trees}
+use Rattle.meta_base.specs.Pieces.Saying.{Span, piece, written, Complaint, Tell}
 use Rattle.meta_base.specs.declared.grammar.Rule.{Rule}
 use Rattle.meta_base.specs.declared.runtime.faults.Fault.{Fault}
 use Rattle.meta_base.specs.declared.runtime.faults.Fault.TheVariants as fault_is

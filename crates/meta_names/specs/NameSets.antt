@@ -4,9 +4,9 @@ use Rattle.std.specs.Borrow.{Bor}
 use Rattle.std.specs.HashSet.{HashSet, contains_by}
 use Rattle.std.specs.declared.hash.FoldHasher.{FoldHasher}
 use Rattle.std.specs.declared.hash.BuildHasherDefault.{BuildHasherDefault}
-use Rattle.meta_base.specs.Text.{Text}
-use Rattle.meta_base.specs.Builtins.{is_one_of}
-use Rattle.meta_base.specs.Saying.{Span, written}
+use Rattle.meta_base.specs.Language.Text.{Text}
+use Rattle.meta_base.specs.Language.Builtins.{is_one_of}
+use Rattle.meta_base.specs.Pieces.Saying.{Span, written}
 use Rattle.meta_names.specs.Names.{is_builtin}
 
 -- a set of names

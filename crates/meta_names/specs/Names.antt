@@ -1,9 +1,9 @@
 -- The names that no rule may have, and the names that some places write.
 use Rattle.std.specs.Prelude.{List, [], ◌∷◌, ◌++◌, Bool, not, ◌&&◌, if◌then◌else◌, is_some, map, filter, codes}
-use Rattle.meta_base.specs.Text.{Text}
-use Rattle.meta_base.specs.Builtins.{is_one_of, builtin_of}
-use Rattle.meta_base.specs.Grammar.{keywords}
-use Rattle.meta_base.specs.Saying.{Span, written, Complaint}
+use Rattle.meta_base.specs.Language.Text.{Text}
+use Rattle.meta_base.specs.Language.Builtins.{is_one_of, builtin_of}
+use Rattle.meta_base.specs.Language.Grammar.{keywords}
+use Rattle.meta_base.specs.Pieces.Saying.{Span, written, Complaint}
 
 -- the words that Rust keeps for itself
 unfoldable pub rust_keywords : List Text
@@ -43,7 +43,8 @@ first_places before (place ∷ places) =
 -- the calls that are neither a definition's name nor a builtin
 abbrev pub undefined_calls : List Span → List Span → List Span
 undefined_calls definitions calls =
-    filter (λ call. not (is_one_of (map written definitions) (written call)) && not (is_builtin (written call)))
+    filter (λ call. not (is_one_of (map written definitions) (written call))
+    && not (is_builtin (written call)))
     calls
 
 -- the same of the name at each place, between two words

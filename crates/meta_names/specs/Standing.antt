@@ -1,6 +1,6 @@
 -- Trees that stand in a text.
 use Rattle.std.specs.Prelude.{ℕ, List}
-use Rattle.meta_base.specs.TokenTrees.{TokenTrees, AreNested}
+use Rattle.meta_base.specs.Pieces.TokenTrees.{TokenTrees, AreNested}
 use Rattle.meta_base.specs.declared.grammar.Rule.{Rule}
 
 -- the trees stand somewhere in the text: in order and apart, on characters, each around those inside it

@@ -1,10 +1,10 @@
 // The names that a grammar's trees define and call.
 ghost use Rattle.std.specs.Prelude.{◌++◌, ◌≡◌, ◌≤◌, IfOk, map};
 ghost use Rattle.std.specs.Str.{IsCharBoundary};
-ghost use Rattle.meta_base.specs.MetaRules.{name_of};
-ghost use Rattle.meta_base.specs.NamedTrees.{named_trees_of};
-ghost use Rattle.meta_base.specs.Saying.{piece, piece_of};
-ghost use Rattle.meta_base.specs.TreeViews.{trees_of};
+ghost use Rattle.meta_base.specs.Pieces.MetaRules.{name_of};
+ghost use Rattle.meta_base.specs.Pieces.NamedTrees.{named_trees_of};
+ghost use Rattle.meta_base.specs.Pieces.Saying.{piece, piece_of};
+ghost use Rattle.meta_base.specs.Pieces.TreeViews.{trees_of};
 ghost use Rattle.meta_names.specs.GrammarNames as spec;
 ghost use Rattle.meta_names.specs.Standing.{StandIn};
 

@@ -1,7 +1,7 @@
 // The tables of names.
 ghost use Rattle.std.specs.Prelude.{◌≡◌, map};
-ghost use Rattle.meta_base.specs.Builtins.{builtins, is_one_of, property_names};
-ghost use Rattle.meta_base.specs.Grammar.{keywords};
+ghost use Rattle.meta_base.specs.Language.Builtins.{builtins, is_one_of, property_names};
+ghost use Rattle.meta_base.specs.Language.Grammar.{keywords};
 ghost use Rattle.meta_names.specs.Names as spec;
 
 /// The names that pest keeps for itself.

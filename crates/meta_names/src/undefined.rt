@@ -1,6 +1,6 @@
 // Calls of what is not defined.
 ghost use Rattle.std.specs.Prelude.{◌≡◌, IfErr, IfOk, alloc_error, filter, map};
-ghost use Rattle.meta_base.specs.Saying.{Tell, piece_of, written};
+ghost use Rattle.meta_base.specs.Pieces.Saying.{Tell, piece_of, written};
 ghost use Rattle.meta_names.specs.NameSets.{HasNames, is_outside, is_unknown};
 ghost use Rattle.meta_names.specs.Names.{undefined_calls, undefined_complaints};
 
@@ -19,7 +19,8 @@ pub fn validate_undefined<'i>(
     called: &Vec<Span<'i>>,
 ) -> Result<Vec<Error<Rule>>, Fault>
     ensures told { IfOk result (λ errors.
-        Tell (undefined_complaints (map piece_of definitions.now.items) (map piece_of called.now.items)) errors.items) }
+        Tell (undefined_complaints (map piece_of definitions.now.items) (map piece_of called.now.items))
+        errors.items) }
     ensures memory { IfErr result (λ fault. fault ≡ Fault.Memory alloc_error) }
 {
     let undefined = undefined(alloc, definitions, called).map_err(Fault::Memory)?;

@@ -1,6 +1,6 @@
 // The names of a whole grammar.
 ghost use Rattle.std.specs.Prelude.{[], ◌≡◌, IfErr, IfOk, OnOk, alloc_error, map};
-ghost use Rattle.meta_base.specs.Saying.{Tell, piece_of};
+ghost use Rattle.meta_base.specs.Pieces.Saying.{Tell, piece_of};
 ghost use Rattle.meta_names.specs.GrammarNames.{AreWrittenAt, IsRefusal, complaints_of, first_calls, first_calls_of, name_complaints};
 
 use crate::found;
@@ -45,7 +45,8 @@ fn name_errors<'i>(
     calls: &Vec<Span<'i>>,
 ) -> Result<Vec<Error<Rule>>, Fault>
     ensures told { IfOk result (λ errors.
-        Tell (name_complaints (map piece_of definitions.now.items) (map piece_of calls.now.items)) errors.items) }
+        Tell (name_complaints (map piece_of definitions.now.items) (map piece_of calls.now.items))
+        errors.items) }
     ensures memory { IfErr result (λ fault. fault ≡ Fault.Memory alloc_error) }
 {
     let mut errors = validate_pest_keywords(alloc, definitions)?;

@@ -1,6 +1,6 @@
 -- Right sides that wait, and places that don't matter to what is said.
 use Rattle.std.proofs.Common.{◌≡◌, ℕ, ◌≤◌, ◌<◌, ◌+◌, List, [], ◌∷◌, ◌++◌, refl, sym, ap, ◌∙◌, arith}
-use Rattle.meta_base.specs.Expression.{Expression}
+use Rattle.meta_base.specs.Language.Expression.{Expression}
 use Rattle.meta_nodes.specs.Erasure.{without_spans}
 use Rattle.meta_nodes.specs.Nodes.{piece_of, unplaced, view, view_at}
 use Rattle.meta_nodes.specs.Sides.{beside, enclosed, side_size, sides_size, size}

@@ -1,7 +1,7 @@
 -- Expressions and rules without their spans.
 use Rattle.std.specs.Prelude.{List, map}
-use Rattle.meta_base.specs.Expression as plain
-use Rattle.meta_base.specs.Expression.{Expression, Rule, Grammar}
+use Rattle.meta_base.specs.Language.Expression as plain
+use Rattle.meta_base.specs.Language.Expression.{Expression, Rule, Grammar}
 use Rattle.meta_nodes.specs.Spanned as spanned
 use Rattle.meta_nodes.specs.Spanned.{Spanned, Leaf, One, Two, Unary, Binary, SpannedRule}
 

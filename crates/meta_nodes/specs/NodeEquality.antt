@@ -5,9 +5,9 @@ use Rattle.std.specs.Bool.{Decides}
 use Rattle.std.specs.Cmp.{IsEquivalence, unsigned_Decides}
 use Rattle.std.proofs.Common.{ap, ap₂, subst, ◌∙◌}
 use Rattle.std.proofs.lemmas.Bool.{false≢true, and_parts, and_from}
-use Rattle.meta_base.specs.Text.{Text}
-use Rattle.meta_base.specs.Expression.{RuleType}
-use Rattle.meta_base.specs.Equality.{text_eq, text_eq-Decides, expression_eq, expression_eq-Decides, rule_type_eq, rule_type_eq-Decides, deciding_equiv}
+use Rattle.meta_base.specs.Language.Text.{Text}
+use Rattle.meta_base.specs.Language.Expression.{RuleType}
+use Rattle.meta_base.specs.Rewritings.Equality.{text_eq, text_eq-Decides, expression_eq, expression_eq-Decides, rule_type_eq, rule_type_eq-Decides, deciding_equiv}
 use Rattle.meta_nodes.specs.Spanned.{Span, Unary, PosPred, NegPred, Opt, Rep, RepOnce, RepExact, RepMin, RepMax, RepMinMax, Push, Binary, Seq, Choice, Spanned, Leaf, One, Two, SpannedRule}
 
 -- the same text, start and end
@@ -39,10 +39,12 @@ spanned_eq (Two s f x y) (Two t g z w) = span_eq s t && (binary_eq f g && (spann
 spanned_eq _ _ = false
 
 abbrev pub rule_eq : SpannedRule → SpannedRule → Bool
-rule_eq r q = text_eq r.name q.name && span_eq r.span q.span && rule_type_eq r.type_of q.type_of && spanned_eq r.body q.body
+rule_eq r q = text_eq r.name q.name && span_eq r.span q.span && rule_type_eq r.type_of q.type_of
+    && spanned_eq r.body q.body
 
 -- a test that answers `true` at equal ones alone, and there, decides equality
-module _ {A : Type 0} (test : A → A → Bool) (equal : (x y : A) → test x y ≡ true → x ≡ y) (itself : (x : A) → test x x ≡ true) where
+module _ {A : Type 0} (test : A → A → Bool) (equal : (x y : A) → test x y ≡ true → x ≡ y) (itself : (x : A)
+    → test x x ≡ true) where
   decides : (x y : A) → Decides (test x y) (x ≡ y)
   decides x y = (equal x y, (λ h. subst (λ z. test x z ≡ true) h (itself x)))
 
@@ -102,7 +104,8 @@ binary_itself Seq = refl
 binary_itself Choice = refl
 
 equal_nodes : (x y : Spanned) → spanned_eq x y ≡ true → x ≡ y
-equal_nodes (Leaf s a) (Leaf t b) h = let (p, q) = and_parts _ _ h in ap₂ Leaf (equal_spans s t p) ((expression_eq-Decides a b).0 q)
+equal_nodes (Leaf s a) (Leaf t b) h =
+    let (p, q) = and_parts _ _ h in ap₂ Leaf (equal_spans s t p) ((expression_eq-Decides a b).0 q)
 equal_nodes (One s f x) (One t g y) h =
     let (p, i) = and_parts _ _ h in
     let (q, r) = and_parts _ _ i in
@@ -111,13 +114,16 @@ equal_nodes (Two s f x y) (Two t g z w) h =
     let (p, i) = and_parts _ _ h in
     let (q, j) = and_parts _ _ i in
     let (k, l) = and_parts _ _ j in
-    ap₂ (λ u v. Two u v x y) (equal_spans s t p) (equal_binaries f g q) ∙ ap₂ (Two t g) (equal_nodes x z k) (equal_nodes y w l)
+    ap₂ (λ u v. Two u v x y) (equal_spans s t p) (equal_binaries f g q) ∙ ap₂ (Two t g) (equal_nodes x z k)
+    (equal_nodes y w l)
 equal_nodes _ _ h = absurd (false≢true h)
 
 node_itself : (x : Spanned) → spanned_eq x x ≡ true
 node_itself (Leaf s a) = and_from _ _ (span_itself s) ((expression_eq-Decides a a).1 refl)
 node_itself (One s f x) = and_from _ _ (span_itself s) (and_from _ _ (unary_itself f) (node_itself x))
-node_itself (Two s f x y) = and_from _ _ (span_itself s) (and_from _ _ (binary_itself f) (and_from _ _ (node_itself x) (node_itself y)))
+node_itself (Two s f x y) =
+    and_from _ _ (span_itself s) (and_from _ _ (binary_itself f)
+    (and_from _ _ (node_itself x) (node_itself y)))
 
 pub spanned_eq-Decides : (x y : Spanned) → Decides (spanned_eq x y) (x ≡ y)
 spanned_eq-Decides = decides spanned_eq equal_nodes node_itself
@@ -130,13 +136,16 @@ equal_rules r q h =
     let (i, m) = and_parts _ _ h in
     let (j, l) = and_parts _ _ i in
     let (n, k) = and_parts _ _ j in
-    ap₂ (λ a b. rule_with a b r.type_of r.body) ((text_eq-Decides r.name q.name).0 n) (equal_spans r.span q.span k)
-    ∙ ap₂ (rule_with q.name q.span) ((rule_type_eq-Decides r.type_of q.type_of).0 l) (equal_nodes r.body q.body m)
+    ap₂ (λ a b. rule_with a b r.type_of r.body) ((text_eq-Decides r.name q.name).0 n)
+    (equal_spans r.span q.span k)
+    ∙ ap₂ (rule_with q.name q.span) ((rule_type_eq-Decides r.type_of q.type_of).0 l)
+    (equal_nodes r.body q.body m)
 
 rule_itself : (r : SpannedRule) → rule_eq r r ≡ true
 rule_itself r =
     and_from _ _
-    (and_from _ _ (and_from _ _ (same_text r.name) (span_itself r.span)) ((rule_type_eq-Decides r.type_of r.type_of).1 refl))
+    (and_from _ _ (and_from _ _ (same_text r.name) (span_itself r.span))
+    ((rule_type_eq-Decides r.type_of r.type_of).1 refl))
     (node_itself r.body)
 
 pub rule_eq-Decides : (r q : SpannedRule) → Decides (rule_eq r q) (r ≡ q)

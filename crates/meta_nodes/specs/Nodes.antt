@@ -1,8 +1,8 @@
 -- What nodes and rules of code say: expressions with their pieces of the text, which forget memory.
 use Rattle.std.specs.Prelude.{◌≡◌, List, [], map}
-use Rattle.meta_base.specs.Expression as plain
+use Rattle.meta_base.specs.Language.Expression as plain
 use Rattle.meta_ast.specs.Ast.{text_of, rule_type_of}
-pub use Rattle.meta_base.specs.Saying.{piece_of}
+pub use Rattle.meta_base.specs.Pieces.Saying.{piece_of}
 use Rattle.meta_ast.specs.declared.ast.RuleType as code_type
 use Rattle.meta_nodes.specs.Spanned as spanned
 use Rattle.meta_nodes.specs.Spanned.{Spanned, Span, Leaf, One, Two, SpannedRule}
@@ -49,7 +49,8 @@ type_of t = rule_type_of t
 
 -- a rule of code
 abbrev pub rule_view : ParserRule → SpannedRule
-rule_view r = record { name = text_of r.name; span = piece_of r.span; type_of = type_of r.ty; body = view r.node }
+rule_view r =
+    record { name = text_of r.name; span = piece_of r.span; type_of = type_of r.ty; body = view r.node }
 
 -- the rules of code
 abbrev pub rule_views : List ParserRule → List SpannedRule

@@ -1,6 +1,6 @@
 -- The right sides of `~` and `|` that wait while their left side is dealt with, and how many nodes there are.
 use Rattle.std.specs.Prelude.{ℕ, ◌+◌, List, [], ◌∷◌}
-use Rattle.meta_base.specs.Expression.{Expression, Seq, Choice}
+use Rattle.meta_base.specs.Language.Expression.{Expression, Seq, Choice}
 use Rattle.meta_nodes.specs.Erasure.{without_spans}
 use Rattle.meta_nodes.specs.Nodes.{view}
 use Rattle.meta_nodes.specs.Spanned.{Spanned, Leaf, One, Two}

@@ -1,8 +1,8 @@
 -- Expressions with the piece of the text that each of their nodes stands for.
 use Rattle.std.specs.Prelude.{ℕ, List}
-use Rattle.meta_base.specs.Text.{Text}
-use Rattle.meta_base.specs.Expression.{Expression, RuleType}
-pub use Rattle.meta_base.specs.Saying.{Span}
+use Rattle.meta_base.specs.Language.Text.{Text}
+use Rattle.meta_base.specs.Language.Expression.{Expression, RuleType}
+pub use Rattle.meta_base.specs.Pieces.Saying.{Span}
 
 -- what stands round one operand
 pub data Unary : Type 0 where

@@ -28,8 +28,10 @@ module _ {F T : Type 0} (step : F → ParserNode → Option T → F → Type 0) 
   abbrev pub Answered : F → List Spanned → F → List T → Type 0
   Answered f [] last answers = (last ≡ f) × (answers ≡ [])
   Answered f (x ∷ xs) last answers =
-      (r : Option T) × (g : F) × (others : List T) × AnsweredAt f x r g × Answered g xs last others × (answers ≡ option_to_list r ++ others)
+      (r : Option T) × (g : F) × (others : List T) × AnsweredAt f x r g × Answered g xs last others
+      × (answers ≡ option_to_list r ++ others)
 
   -- such calls at a node and all below it, and their answers follow those that were there
   abbrev pub Appended : F → Spanned → F → List T → List T → Type 0
-  Appended f x last before after = (answers : List T) × Answered f (preorder x) last answers × (after ≡ before ++ answers)
+  Appended f x last before after = (answers : List T) × Answered f (preorder x) last answers
+      × (after ≡ before ++ answers)

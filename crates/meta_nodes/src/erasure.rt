@@ -11,10 +11,11 @@ use std::alloc::{AllocError, Global};
 
 /// The same rules, in order, without the spans of their names and nodes. Refused where memory is.
 ///
-/// Texts are handed on and not copied. Sequences and alternatives of many parts, as a reader gives them, take no more
-/// of the machine's stack than short ones.
+/// Texts are handed on and not copied. Sequences and alternatives of many parts, as a reader gives them, take
+/// no more of the machine's stack than short ones.
 pub fn erase_spans(alloc: Global, rules: Vec<ParserRule<'_>>) -> Result<Vec<Rule>, AllocError>
-    ensures { IfOk result (λ erased. rules_of erased.items ≡ rules_without_spans (rule_views rules.entry.items)) }
+    ensures { IfOk result
+        (λ erased. rules_of erased.items ≡ rules_without_spans (rule_views rules.entry.items)) }
 {
     let mut erased = Vec::new(alloc);
     for rule in rules {
@@ -63,14 +64,16 @@ fn erased_node(alloc: Global, node: ParserNode<'_>) -> Result<Expr, AllocError>
     Ok(expr)
 }
 
-/// What stands at the end of the left sides of a node, and the right sides on the way there, the outermost first.
+/// What stands at the end of the left sides of a node, and the right sides on the way there, the outermost
+/// first.
 fn left_end<'i>(
     alloc: Global,
     node: ParserNode<'i>,
 ) -> Result<(ParserExpr<'i>, Vec<Side<'i>>), AllocError>
     ensures expression { IfOk result (λ end. without_spans (view node.entry)
         ≡ enclosed end.1.items (without_spans (unplaced end.0))) }
-    ensures sizes { IfOk result (λ end. size (unplaced end.0) + sides_size end.1.items ≡ size (view node.entry)) }
+    ensures sizes { IfOk result
+        (λ end. size (unplaced end.0) + sides_size end.1.items ≡ size (view node.entry)) }
 {
     let mut sides = Vec::new(alloc);
     let mut expr = node.expr;

@@ -10,8 +10,8 @@ use std::alloc::{AllocError, Global};
 impl<'i> ParserNode<'i> {
     /// The answers of `f` at this node and at all nodes below it, where it has one.
     ///
-    /// A node comes before those inside it, and a left one before the right. `f` is called once at each, with a copy
-    /// of the node. The one fault is a want of memory.
+    /// A node comes before those inside it, and a left one before the right. `f` is called once at each, with
+    /// a copy of the node. The one fault is a want of memory.
     pub fn filter_map_top_down<T, F>(self, alloc: Global, f: F) -> Result<Vec<T>, Fault>
     where
         T: Drop,
@@ -30,8 +30,9 @@ impl<'i> ParserNode<'i> {
 
 /// Appends the answers of `f` at `node` and at all nodes below it, where it has one, to `answers`.
 ///
-/// A node comes before those inside it, and a left one before the right. `f` is called once at each, with a copy of the
-/// node, and may be called again afterwards. The one fault is a want of memory, and then `answers` is as it was.
+/// A node comes before those inside it, and a left one before the right. `f` is called once at each, with a
+/// copy of the node, and may be called again afterwards. The one fault is a want of memory, and then
+/// `answers` is as it was.
 pub fn filter_internal<'i, T, F>(
     alloc: Global,
     node: ParserNode<'i>,
@@ -42,7 +43,8 @@ where
     T: Drop,
     F: FnMut(ParserNode<'i>) -> Option<T>,
     requires { F.IsAlwaysCallable f.old }
-    ensures appended { OnOk result (Appended F.step f.old (view node.entry) f.new answers.old.items answers.new.items) }
+    ensures appended { OnOk result
+        (Appended F.step f.old (view node.entry) f.new answers.old.items answers.new.items) }
     ensures unchanged { OnErr result (answers.new.items ≡ answers.old.items) }
     ensures fault { IfErr result (λ fault. fault ≡ Fault.Memory alloc_error) }
     ensures callable { F.IsAlwaysCallable f.new }
@@ -52,7 +54,8 @@ where
     answers.append(&mut found).map_err(Fault::Memory)
 }
 
-/// Appends the answers of `f` at a node and at all below it. Refused where memory is, with some of them appended.
+/// Appends the answers of `f` at a node and at all below it. Refused where memory is, with some of them
+/// appended.
 fn walk<'i, T: Drop, F: FnMut(ParserNode<'i>) -> Option<T>>(
     alloc: Global,
     node: &ParserNode<'i>,
@@ -60,7 +63,8 @@ fn walk<'i, T: Drop, F: FnMut(ParserNode<'i>) -> Option<T>>(
     answers: &mut Vec<T>,
 ) -> Result<(), AllocError>
     requires { F.IsAlwaysCallable f.old }
-    ensures appended { OnOk result (Appended F.step f.old (view node.now) f.new answers.old.items answers.new.items) }
+    ensures appended { OnOk result
+        (Appended F.step f.old (view node.now) f.new answers.old.items answers.new.items) }
     ensures callable { F.IsAlwaysCallable f.new }
 {
     let mut stack = Vec::new(alloc);

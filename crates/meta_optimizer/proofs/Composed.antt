@@ -1,10 +1,14 @@
 -- The passes over each rule are passes over all rules, and a chain of steps that keeps the outcomes.
 use Rattle.std.proofs.Common.{◌≡◌, ◌∷◌, Result, Ok, Err, IfOk}
-use Rattle.meta_base.specs.Expression.{Expression, RuleType, Rule, Grammar}
-use Rattle.meta_base.specs.Rewriting.{EachBody, no_rules, also_rule, IsDone, Many, Rotates, SkipsUntil, Joins, Rewrites, by_skipping, Chain, done, step}
-use Rattle.meta_base.proofs.Keeping.{each_body, keeps}
-use Rattle.meta_base.proofs.Passing.{pass}
+use Rattle.meta_base.specs.Language.Expression.{Expression, RuleType, Rule, Grammar}
+use Rattle.meta_base.specs.Rewritings.Rewriting.{EachBody, no_rules, also_rule, IsDone, Many, Rotates, SkipsUntil, Joins, Rewrites, by_skipping, Chain, done, step}
+use Rattle.meta_base.proofs.StepsKeepOutcomes.{each_body, keeps}
+use Rattle.meta_base.proofs.PassesAreChains.{pass}
 use Rattle.meta_base.proofs.Replacing.{many, rotations_chain, unrollings_chain, joinings_chain, factorings_chain}
+use Rattle.meta_base.specs.Rewritings.Listing.{listed}
+use Rattle.meta_base.specs.Rewritings.Wrapping.{EachRestored}
+use Rattle.meta_restorer.specs.Restoring.{AreSameErased}
+use Rattle.meta_optimizer.proofs.Wrapped.{all_bare, erased_listing}
 use Rattle.meta_optimizer.specs.Passes.{IsUnrolling, IsFactoring, IsListing, IsOptimizedBody, Passes, IsOptimized}
 
 -- one relation and then another
@@ -46,7 +50,7 @@ abbrev Joining : RuleType → Expression → Expression → Type 0
 Joining y = IsDone (Joins y)
 
 abbrev Listing : RuleType → Expression → Expression → Type 0
-Listing y = IsListing
+Listing y a b = b ≡ listed a
 
 abbrev Behind3 : RuleType → Expression → Expression → Type 0
 Behind3 = Then IsFactoring Listing
@@ -90,8 +94,8 @@ chain {rules = rules} p =
     (and_then (joinings_chain (each_body Joining _ (λ y a b d. d.reached) p.joins))
     (factorings_chain (each_body IsFactoring _ (λ y a b d. d.steps) p.factors)))))
 
-pub optimized : (rules : Grammar) {answer : Grammar} → EachBody (IsOptimizedBody rules) rules answer → IsOptimized rules answer
-optimized rules e =
+pub optimized : (rules listing answer : Grammar) → EachBody (IsOptimizedBody rules) rules listing → EachRestored listing answer → AreSameErased listing answer → IsOptimized rules answer
+optimized rules listing answer e restores same =
     let rotated = between Rotating (Behind0 rules) (each_body (IsOptimizedBody rules) (Then Rotating (Behind0 rules)) (one_behind_another rules) e) in
     let skipped = between (Skipping rules) Behind1 rotated.second in
     let unrolled = between Unrolling Behind2 skipped.second in
@@ -110,12 +114,19 @@ optimized rules e =
     } in
     record {
       reached = factored.middle;
+      listing = listing;
       passes = passes;
       chain = chain passes;
       outcomes = λ free. keeps _ _ free (chain passes);
-      lists = factored.second;
+      listed = factored.second;
+      restored = restores;
+      lists = erased_listing factored.second (all_bare rules e) same;
     }
 
 pub answered : {A E : Type 0} {P Q : A → Type 0} (r : Result A E) → ((a : A) → P a → Q a) → IfOk r P → IfOk r Q
 answered (Ok a) f p = f a p
 answered (Err e) f p = p
+
+pub answered_both : {A E : Type 0} {P Q S : A → Type 0} (r : Result A E) → ((a : A) → P a → Q a → S a) → IfOk r P → IfOk r Q → IfOk r S
+answered_both (Ok a) f p q = f a p q
+answered_both (Err e) f p q = p

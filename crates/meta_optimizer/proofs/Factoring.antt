@@ -3,9 +3,9 @@ use Rattle.std.proofs.Common.{◌≡◌, refl, ℕ, ◌+◌, ◌≤◌, subst, B
 use Rattle.std.specs.declared.alloc.AllocError.{AllocError}
 use Rattle.meta_ast.specs.declared.ast.Expr.{Expr}
 use Rattle.meta_ast.specs.Ast.{expression_of}
-use Rattle.meta_base.specs.Expression.{Expression, Seq, Choice, Opt, RuleType, Atomic, CompoundAtomic}
-use Rattle.meta_base.specs.Equality.{expression_eq, expression_eq-Decides}
-use Rattle.meta_base.specs.Rewriting.{Many, no_step, one_step, here, Factors, factor_prefix, factor_optional, factor_optional_compound, factor_absorbed}
+use Rattle.meta_base.specs.Language.Expression.{Expression, Seq, Choice, Opt, RuleType, Atomic, CompoundAtomic}
+use Rattle.meta_base.specs.Rewritings.Equality.{expression_eq, expression_eq-Decides}
+use Rattle.meta_base.specs.Rewritings.Rewriting.{Many, no_step, one_step, here, Factors, factor_prefix, factor_optional, factor_optional_compound, factor_absorbed}
 use Rattle.meta_optimizer.specs.Size.{size}
 use Rattle.meta_optimizer.specs.Here.{factored_here, factored_choice, with_optional, absorbed}
 use Rattle.meta_optimizer.specs.Traversals.{TopDown}

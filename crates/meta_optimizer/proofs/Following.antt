@@ -4,10 +4,10 @@ use Rattle.std.specs.Str.{chars}
 use Rattle.std.specs.HashMap.{HashMap}
 use Rattle.std.specs.declared.string.String.{String}
 use denote.Ref.{Bor}
-use Rattle.meta_base.specs.Text.{Text}
-use Rattle.meta_base.specs.Expression.{Expression, Choice, Grammar}
-use Rattle.meta_base.specs.Expression as e
-use Rattle.meta_base.specs.Rewriting.{IsLeaf, literal, name, Strings}
+use Rattle.meta_base.specs.Language.Text.{Text}
+use Rattle.meta_base.specs.Language.Expression.{Expression, Choice, Grammar}
+use Rattle.meta_base.specs.Language.Expression as e
+use Rattle.meta_base.specs.Rewritings.Rewriting.{IsLeaf, literal, name, Strings}
 use Rattle.meta_ast.specs.Ast.{expression_of, text_of}
 use Rattle.meta_ast.specs.declared.ast.Expr.{Expr, Choice'}
 use Rattle.meta_ast.specs.declared.ast.Expr.TheVariants.{Str, Ident}

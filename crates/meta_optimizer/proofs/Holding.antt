@@ -5,8 +5,8 @@ use Rattle.meta_ast.specs.declared.ast.Rule as code_rule
 use Rattle.std.specs.Option.{option_map}
 use Rattle.std.specs.HashMap.{HashMap, get_by_text}
 use Rattle.std.specs.declared.string.String.{String}
-use Rattle.meta_base.specs.Text.{Text}
-use Rattle.meta_base.specs.Expression.{Expression, Rule, Grammar, rule_of, or_else}
+use Rattle.meta_base.specs.Language.Text.{Text}
+use Rattle.meta_base.specs.Language.Expression.{Expression, Rule, Grammar, rule_of, or_else}
 use Rattle.meta_ast.specs.Ast.{expression_of, text_of, rule_of_code, rules_of}
 use Rattle.meta_ast.proofs.Characters.{string_eq-text_of}
 use Rattle.meta_ast.specs.declared.ast.Expr.{Expr}

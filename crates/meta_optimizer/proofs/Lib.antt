@@ -7,7 +7,7 @@ pub mod Joining
 pub mod Factoring
 pub mod Listed
 pub mod Unrolled
-pub mod Erased
+pub mod Wrapped
 pub mod Counted
 pub mod Composed
 pub mod RuleByRule

@@ -5,9 +5,9 @@ use Rattle.std.specs.HashMap.{HashMap}
 use Rattle.std.specs.Map.{lookup}
 use Rattle.std.proofs.lemmas.Slice.Eq.{bytes_eq-Decides}
 use denote.Ref.{Bor}
-use Rattle.meta_base.specs.Text.{Text}
-use Rattle.meta_base.specs.Expression.{Expression, Ident, Rule, Grammar, rule_of}
-use Rattle.meta_base.specs.Rewriting.{Strings}
+use Rattle.meta_base.specs.Language.Text.{Text}
+use Rattle.meta_base.specs.Language.Expression.{Expression, Ident, Rule, Grammar, rule_of}
+use Rattle.meta_base.specs.Rewritings.Rewriting.{Strings}
 use Rattle.meta_ast.specs.Ast.{expression_of}
 use Rattle.meta_ast.specs.declared.ast.Expr.{Expr}
 use Rattle.meta_optimizer.specs.declared.strings.Caller.{Caller}

@@ -1,11 +1,11 @@
 -- What is rotated at each node from the root down is rotated everywhere.
 use Rattle.std.proofs.Common.{◌≡◌, refl, ℕ, Box, Global}
-use Rattle.meta_base.specs.Expression.{Expression, whole}
-use Rattle.meta_base.specs.Expression as e
+use Rattle.meta_base.specs.Language.Expression.{Expression, whole}
+use Rattle.meta_base.specs.Language.Expression as e
 use Rattle.meta_ast.specs.Ast.{expression_of}
 use Rattle.meta_ast.specs.declared.ast.Expr.{Expr, Seq', Choice'}
 use Rattle.meta_ast.specs.declared.ast.Expr.TheVariants.{Seq, Choice}
-use Rattle.meta_base.specs.Rewriting.{Rotates, rotate_sequence, rotate_choice, here, in_seq_left, in_seq_right, in_choice_left, in_choice_right, Many, no_step, one_step, Nowhere, IsDone}
+use Rattle.meta_base.specs.Rewritings.Rewriting.{Rotates, rotate_sequence, rotate_choice, here, in_seq_left, in_seq_right, in_choice_left, in_choice_right, Many, no_step, one_step, Nowhere, IsDone}
 use Rattle.meta_base.proofs.RewritingAnywhere as anywhere
 use Rattle.meta_optimizer.specs.Here.{Exhausted, stop, again}
 use Rattle.meta_optimizer.specs.Traversals.{HasNoOperands, TopDown, met, Below}

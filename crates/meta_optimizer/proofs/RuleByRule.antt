@@ -1,7 +1,7 @@
 -- A pass over all rules.
 use Rattle.std.proofs.Common.{◌≡◌, [], ◌∷◌, ◌++◌, refl, sym, ap, ap₂, subst, append_assoc}
-use Rattle.meta_base.specs.Expression.{Expression, RuleType, Rule, Grammar}
-use Rattle.meta_base.specs.Rewriting.{EachBody, no_rules, also_rule}
+use Rattle.meta_base.specs.Language.Expression.{Expression, RuleType, Rule, Grammar}
+use Rattle.meta_base.specs.Rewritings.Rewriting.{EachBody, no_rules, also_rule}
 
 pub same_parts : (r q : Rule) → q.name ≡ r.name → q.type_of ≡ r.type_of → q ≡ record r { body = q.body }
 same_parts r q e f = ap₂ (λ n t. record { name = n; type_of = t; body = q.body }) e f

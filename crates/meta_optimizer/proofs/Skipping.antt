@@ -6,11 +6,11 @@ use Rattle.std.proofs.lemmas.Slice.Eq.{bytes_eq-Decides}
 use Rattle.std.specs.declared.alloc.AllocError.{AllocError}
 use Rattle.std.specs.declared.string.String.{String}
 use Rattle.std.specs.declared.vec.Vec.{Vec}
-use Rattle.meta_base.specs.Text.{Text}
-use Rattle.meta_base.specs.Expression.{Expression, Str, Ident, NegPred, Seq, Choice, Rep, Skip, Atomic, RuleType, Rule, Grammar, Part, whole, of_pos_pred, of_neg_pred, of_seq_left, of_seq_right, of_choice_left, of_choice_right, of_opt, of_rep, of_rep_once, of_rep_exact, of_rep_min, of_rep_max, of_rep_min_max, of_push, of_restore}
-use Rattle.meta_base.specs.Rewriting.{Many, no_step, one_step, here, Strings, one, named, more, SkipsUntil, skip_until, Nowhere, IsDone, Rewrites, by_skipping, Chain, done, EachBody}
-use Rattle.meta_base.proofs.Keeping.{each_body}
-use Rattle.meta_base.proofs.Passing.{pass}
+use Rattle.meta_base.specs.Language.Text.{Text}
+use Rattle.meta_base.specs.Language.Expression.{Expression, Str, Ident, NegPred, Seq, Choice, Rep, Skip, Atomic, RuleType, Rule, Grammar, Part, whole, of_pos_pred, of_neg_pred, of_seq_left, of_seq_right, of_choice_left, of_choice_right, of_opt, of_rep, of_rep_once, of_rep_exact, of_rep_min, of_rep_max, of_rep_min_max, of_push, of_restore}
+use Rattle.meta_base.specs.Rewritings.Rewriting.{Many, no_step, one_step, here, Strings, one, named, more, SkipsUntil, skip_until, Nowhere, IsDone, Rewrites, by_skipping, Chain, done, EachBody}
+use Rattle.meta_base.proofs.StepsKeepOutcomes.{each_body}
+use Rattle.meta_base.proofs.PassesAreChains.{pass}
 use Rattle.meta_base.proofs.Replacing as replacing
 use Rattle.meta_ast.specs.Ast.{expression_of, rule_type_of, text_of}
 use Rattle.meta_ast.specs.declared.ast.Expr.{Expr, Rep'}

@@ -5,10 +5,10 @@ use Rattle.std.proofs.Common.{Result, Ok, Err, IfOk, MatchOption, map, ◌≡◌
 use Rattle.std.proofs.lemmas.List.{append-nil}
 use Rattle.std.specs.HashMap.{HashMap, get_by_text}
 use Rattle.std.specs.declared.string.String.{String}
-use Rattle.meta_base.specs.Text.{Text}
-use Rattle.meta_base.specs.Expression.{Expression, Str, Ident, Choice, Rule, Grammar, rule_of}
-use Rattle.meta_base.specs.Rewriting.{IsLeaf, Strings, one, named, more}
-use Rattle.meta_base.proofs.Deterministic.{same_rule}
+use Rattle.meta_base.specs.Language.Text.{Text}
+use Rattle.meta_base.specs.Language.Expression.{Expression, Str, Ident, Choice, Rule, Grammar, rule_of}
+use Rattle.meta_base.specs.Rewritings.Rewriting.{IsLeaf, Strings, one, named, more}
+use Rattle.meta_base.proofs.OneOutcome.{same_rule}
 use Rattle.meta_ast.specs.Ast.{expression_of, text_of}
 use Rattle.meta_ast.specs.declared.ast.Expr as code
 use Rattle.meta_ast.specs.declared.ast.Expr.TheVariants as is

@@ -1,9 +1,9 @@
 -- What is unrolled stays unrolled by the passes behind, and has no wrapper where it is read.
 use Rattle.std.proofs.Common.{Bool, true, false, if◌then◌else◌}
-use Rattle.meta_base.specs.Expression.{Expression, RuleType, Str, Insens, Range, Ident, PeekSlice, PosPred, NegPred, Seq, Choice, Opt, Rep, Skip, Push, RestoreOnErr}
-use Rattle.meta_base.specs.Equality.{expression_eq}
-use Rattle.meta_base.specs.Listing.{listed, listed_sequence}
-use Rattle.meta_base.specs.Rewriting.{Within, here, in_pos_pred, in_neg_pred, in_seq_left, in_seq_right, in_choice_left, in_choice_right, in_opt, in_rep, in_push, in_restore, Many, no_step, one_step, Joins, join_literals, join_insensitive, Factors, factor_prefix, factor_optional, factor_optional_compound, factor_absorbed}
+use Rattle.meta_base.specs.Language.Expression.{Expression, RuleType, Str, Insens, Range, Ident, PeekSlice, PosPred, NegPred, Seq, Choice, Opt, Rep, Skip, Push, RestoreOnErr}
+use Rattle.meta_base.specs.Rewritings.Equality.{expression_eq}
+use Rattle.meta_base.specs.Rewritings.Listing.{listed, listed_sequence}
+use Rattle.meta_base.specs.Rewritings.Rewriting.{Within, here, in_pos_pred, in_neg_pred, in_seq_left, in_seq_right, in_choice_left, in_choice_right, in_opt, in_rep, in_push, in_restore, Many, no_step, one_step, Joins, join_literals, join_insensitive, Factors, factor_prefix, factor_optional, factor_optional_compound, factor_absorbed}
 use Rattle.meta_optimizer.specs.Unrolled.{IsUnrolled}
 
 module _ (R : Expression → Expression → Type 0) (root : (a b : Expression) → R a b → IsUnrolled a → IsUnrolled b) where

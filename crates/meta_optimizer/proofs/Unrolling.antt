@@ -2,9 +2,9 @@
 use Rattle.std.proofs.Common.{◌≡◌, refl, ℕ, zero, suc, ◌+◌, ◌-◌, min, List, [], ◌∷◌, ◌++◌, replicate, subst, add-one, sub-one, ap, sym, ◌<◌, ◌≤◌, arith}
 use Rattle.std.proofs.lemmas.List.{append-nil}
 use Rattle.std.specs.Prelude.{⊤}
-use Rattle.meta_base.specs.Expression.{Expression, Str, Insens, Range, Ident, PeekSlice, PosPred, NegPred, Seq, Choice, Opt, Rep, RepOnce, RepExact, RepMin, RepMax, RepMinMax, Skip, Push, RestoreOnErr}
-use Rattle.meta_base.specs.Meaning.{in_sequence, exactly, from_to}
-use Rattle.meta_base.specs.Rewriting.{Many, no_step, one_step, here, Unrolls, unroll_once, unroll_exact, unroll_min, unroll_max, unroll_min_max}
+use Rattle.meta_base.specs.Language.Expression.{Expression, Str, Insens, Range, Ident, PeekSlice, PosPred, NegPred, Seq, Choice, Opt, Rep, RepOnce, RepExact, RepMin, RepMax, RepMinMax, Skip, Push, RestoreOnErr}
+use Rattle.meta_base.specs.Language.Meaning.{in_sequence, exactly, from_to}
+use Rattle.meta_base.specs.Rewritings.Rewriting.{Many, no_step, one_step, here, Unrolls, unroll_once, unroll_exact, unroll_min, unroll_max, unroll_min_max}
 use Rattle.meta_optimizer.specs.Here.{unrolled_here}
 use Rattle.meta_optimizer.specs.Unrolled.{IsUnrolled}
 use Rattle.meta_optimizer.specs.Traversals.{HasNoOperands, BottomUp, left, Above}

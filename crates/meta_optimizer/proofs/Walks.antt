@@ -5,7 +5,7 @@ use Rattle.meta_ast.specs.declared.ast.Expr.{Expr, Str, Insens, Range, Ident, Pe
 use Rattle.meta_ast.specs.declared.ast.Expr.TheVariants.{PosPred, NegPred, Seq, Choice, Opt, Rep, RepOnce, RepExact, RepMin, RepMax, RepMinMax, Push}
 use Rattle.meta_ast.specs.Ast.{expression_of}
 use Rattle.meta_optimizer.specs.Traversals.{HasNoOperands}
-use Rattle.meta_base.specs.Expression.{Expression}
+use Rattle.meta_base.specs.Language.Expression.{Expression}
 use Rattle.meta_optimizer.specs.declared.traversal.Side.{Side}
 use Rattle.meta_optimizer.specs.Sides.{IsNoPair, beside, put_behind, Behind, no_side, next_to}
 

@@ -7,9 +7,9 @@ use Rattle.std.specs.declared.alloc.Global.{Global}
 use Rattle.std.specs.declared.string.String.{String}
 use Rattle.std.specs.declared.vec.Vec.{Vec}
 use denote.Ref.{Bor}
-use Rattle.meta_base.specs.Text.{Text}
-use Rattle.meta_base.specs.Expression.{Expression, Str, Ident, Choice, Rep, Skip, Atomic, Rule, Grammar, rule_of}
-use Rattle.meta_base.specs.Rewriting.{IsLeaf, SkipsUntil, Strings}
+use Rattle.meta_base.specs.Language.Text.{Text}
+use Rattle.meta_base.specs.Language.Expression.{Expression, Str, Ident, Choice, Rep, Skip, Atomic, Rule, Grammar, rule_of}
+use Rattle.meta_base.specs.Rewritings.Rewriting.{IsLeaf, SkipsUntil, Strings}
 use Rattle.meta_ast.specs.Ast.{expression_of, text_of}
 use Rattle.meta_ast.specs.declared.ast.Expr.{Expr}
 use Rattle.meta_optimizer.specs.declared.strings.Found.{Found}
@@ -17,7 +17,9 @@ use Rattle.meta_optimizer.specs.declared.strings.Found.TheVariants as found
 
 -- at each name the map holds the body of the rule that the name means
 abbrev pub HoldsBodies : {S : Type 0} → HashMap (String Global) Expr S → Grammar → Type 0
-HoldsBodies m g = (n : String Global) → option_map expression_of (get_by_text m (string_bytes n)) ≡ option_map (λ (r : Rule). r.body) (rule_of g (text_of n))
+HoldsBodies m g = (n : String Global)
+    → option_map expression_of (get_by_text m (string_bytes n))
+    ≡ option_map (λ (r : Rule). r.body) (rule_of g (text_of n))
 
 -- the step once at a node, where it applies
 pub data SkippedHere (g : Grammar) : Expression → Expression → Type 0 where
@@ -34,8 +36,10 @@ module _ (g : Grammar) where
   -- the strings that an expression stands for, by way of fewer than so many names below one another
   pub data StringsWithin : ℕ → Expression → List Text → Type 0 where
     one : {k : ℕ} {t : Text} → StringsWithin k (Str t) (t ∷ [])
-    named : {j k : ℕ} {n : Text} {r : Rule} {ts : List Text} → j < k → rule_of g n ≡ Some r → StringsWithin j r.body ts → StringsWithin k (Ident n) ts
-    more : {k : ℕ} {x e : Expression} {ts us : List Text} → IsLeaf x → StringsWithin k x ts → StringsWithin k e us → StringsWithin k (Choice x e) (ts ++ us)
+    named : {j k : ℕ} {n : Text} {r : Rule} {ts : List Text} → j < k → rule_of g n ≡ Some r
+        → StringsWithin j r.body ts → StringsWithin k (Ident n) ts
+    more : {k : ℕ} {x e : Expression} {ts us : List Text} → IsLeaf x → StringsWithin k x ts
+        → StringsWithin k e us → StringsWithin k (Choice x e) (ts ++ us)
 
   pub record HasStrings (k : ℕ) (e : Expression) : Type 0 where
     pub strings : List Text
@@ -66,18 +70,22 @@ abbrev pub KnownHave : {S : Type 0} → HashMap (Bor (List ℕ)) Bool S → Gram
 KnownHave m g k = (n : List ℕ) → met_at m n ≡ Some true → HasStrings g k (Ident (chars n))
 
 -- a name is not met yet; with its strings and those behind it, the expression has strings
-pub record FindsName {S : Type 0} (m : HashMap (Bor (List ℕ)) Bool S) (e : Expression) (n : List ℕ) (behind : Option (Bor Expr)) : Type 0 where
+pub record FindsName {S : Type 0} (m : HashMap (Bor (List ℕ)) Bool S) (e : Expression) (n : List ℕ)
+    (behind : Option (Bor Expr)) : Type 0 where
   pub is_new : met_at m n ≡ None
   pub spelled : (s : String Global) × (string_bytes s ≡ n)
   pub needed : Needs e (chars n)
-  pub gives : (g : Grammar) (k : ℕ) → KnownHave m g k → HasStrings g k (Ident (chars n)) → BehindHas g k behind → HasStrings g k e
+  pub gives : (g : Grammar) (k : ℕ) → KnownHave m g k → HasStrings g k (Ident (chars n))
+      → BehindHas g k behind → HasStrings g k e
   pub behind_needed : (j : Text) → BehindNeeds behind j → Needs e j
   pub behind_fails : (g : Grammar) → BehindHasNone g behind → HasNoStrings g e
 
--- an expression has no strings, unless names that are looked for have some; or it has strings; or a name is to be looked for
+-- an expression has no strings, unless names that are looked for have some; or it has strings; or a name is
+-- to be looked for
 abbrev pub FindsNext : {S : Type 0} → HashMap (Bor (List ℕ)) Bool S → Expression → Found → Type 0
 FindsNext m e found.Nothing =
-    (g : Grammar) → ((n : List ℕ) → met_at m n ≡ Some false → Needs e (chars n) → HasNoStrings g (Ident (chars n))) → HasNoStrings g e
+    (g : Grammar) → ((n : List ℕ) → met_at m n ≡ Some false → Needs e (chars n)
+    → HasNoStrings g (Ident (chars n))) → HasNoStrings g e
 FindsNext m e found.Strings = (g : Grammar) (k : ℕ) → KnownHave m g k → HasStrings g k e
 FindsNext m e (found.Name n behind) = FindsName m e n.now behind
 
@@ -95,4 +103,6 @@ abbrev pub StringsOrNone : Grammar → Expression → Option (Vec (String Global
 StringsOrNone g e found = MatchOption found (HasNoStrings g e) (λ ts. Strings g e (map text_of ts.items))
 
 abbrev pub TextsUntil : Grammar → Expression → Option (Vec (String Global) Global) → Type 0
-TextsUntil g e found = MatchOption found ((q : Expression) → SkipsUntil g Atomic (Rep e) q → ⊥) (λ ts. SkipsUntil g Atomic (Rep e) (Skip (map text_of ts.items)))
+TextsUntil g e found =
+    MatchOption found ((q : Expression) → SkipsUntil g Atomic (Rep e) q
+    → ⊥) (λ ts. SkipsUntil g Atomic (Rep e) (Skip (map text_of ts.items)))

@@ -8,3 +8,5 @@ pub mod Passes
 pub mod Bodies
 pub mod Skipped
 pub mod Faults
+pub mod Converting
+pub mod Listed

@@ -1,9 +1,11 @@
 -- What the passes one after another make of rules.
 use Rattle.std.specs.Prelude.{◌≡◌}
-use Rattle.meta_base.specs.Expression.{Expression, RuleType, Grammar}
-use Rattle.meta_base.specs.Erased.{erased}
-use Rattle.meta_base.specs.Listing.{listed}
-use Rattle.meta_base.specs.Rewriting.{Chain, EachBody, Factors, IsDone, Joins, KeepsAny, Many, Rotates, SameOutcomes, SkipsUntil, Unrolls}
+use Rattle.meta_base.specs.Language.Expression.{Expression, RuleType, Grammar}
+use Rattle.meta_base.specs.Rewritings.Erased.{erased}
+use Rattle.meta_base.specs.Rewritings.Listing.{listed, EachListed}
+use Rattle.meta_base.specs.Rewritings.Rewriting.{Chain, EachBody, Factors, IsDone, Joins, KeepsAny, Many, Rotates, SameOutcomes, SkipsUntil, Unrolls}
+use Rattle.meta_base.specs.Rewritings.Wrapping.{EachRestored}
+use Rattle.meta_restorer.specs.Changing.{HasNoWrappers}
 use Rattle.meta_optimizer.specs.Here.{factored_here}
 use Rattle.meta_optimizer.specs.Traversals.{TopDown}
 use Rattle.meta_optimizer.specs.Unrolled.{IsUnrolled}
@@ -22,7 +24,7 @@ pub record IsFactoring (y : RuleType) (a b : Expression) : Type 0 where
 abbrev pub IsListing : Expression → Expression → Type 0
 IsListing a b = erased b ≡ listed a
 
--- all passes over the body of a rule of a type, `skip` looking names up in the rules
+-- the passes up to the listing over the body of a rule of a type, `skip` looking names up in the rules
 pub record IsOptimizedBody (rules : Grammar) (y : RuleType) (a b : Expression) : Type 0 where
   pub rotated : Expression
   pub skipped : Expression
@@ -34,9 +36,11 @@ pub record IsOptimizedBody (rules : Grammar) (y : RuleType) (a b : Expression) :
   pub unrolls : IsUnrolling skipped unrolled
   pub joins : IsDone (Joins y) unrolled joined
   pub factors : IsFactoring y joined factored
-  pub lists : IsListing factored b
+  pub lists : b ≡ listed factored
+  pub bare : HasNoWrappers b
 
--- the passes up to the listing, with the grammar behind each; `skip` looks names up in the rules as they were at first
+-- the passes up to the listing, with the grammar behind each; `skip` looks names up in the rules as they were
+-- at first
 pub record Passes (rules factored : Grammar) : Type 0 where
   pub rotated : Grammar
   pub skipped : Grammar
@@ -48,11 +52,14 @@ pub record Passes (rules factored : Grammar) : Type 0 where
   pub joins : EachBody (λ y. IsDone (Joins y)) unrolled joined
   pub factors : EachBody IsFactoring joined factored
 
--- the answer, without wrappers, is the listing of a grammar to which a chain leads by way of the passes, and which has
--- the same outcomes
+-- the answer, without wrappers, is the listing of a grammar to which a chain leads by way of the passes, and
+-- which has the same outcomes; it has wrappers just where the restorer puts them in the listing
 pub record IsOptimized (rules answer : Grammar) : Type 0 where
   pub reached : Grammar
+  pub listing : Grammar
   pub passes : Passes rules reached
   pub chain : Chain rules reached
   pub outcomes : KeepsAny rules → SameOutcomes rules reached
+  pub listed : EachListed reached listing
+  pub restored : EachRestored listing answer
   pub lists : EachBody (λ y. IsListing) reached answer

@@ -1,6 +1,6 @@
 -- The left sides that a walk along right sides leaves behind.
 use Rattle.std.specs.Prelude.{List, [], ◌∷◌, ⊤}
-use Rattle.meta_base.specs.Expression.{Expression, Seq, Choice}
+use Rattle.meta_base.specs.Language.Expression.{Expression, Seq, Choice}
 use Rattle.meta_ast.specs.Ast.{expression_of}
 use Rattle.meta_optimizer.specs.declared.traversal.Side.{Side}
 use Rattle.meta_optimizer.specs.declared.traversal.Side.TheVariants as side
@@ -23,4 +23,5 @@ IsNoPair _ = ⊤
 module _ (R : Expression → Expression → Type 0) where
   pub data Behind : List Side → Expression → Expression → Type 0 where
     no_side : {e : Expression} → Behind [] e e
-    next_to : {s : Side} {ss : List Side} {e f b : Expression} → Behind ss e f → R (beside s f) b → Behind (s ∷ ss) e b
+    next_to : {s : Side} {ss : List Side} {e f b : Expression} → Behind ss e f → R (beside s f) b
+        → Behind (s ∷ ss) e b

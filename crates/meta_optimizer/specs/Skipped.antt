@@ -3,16 +3,19 @@ use Rattle.std.specs.Prelude.{◌∷◌, ◌++◌}
 use Rattle.std.specs.HashMap.{HashMap}
 use Rattle.std.specs.declared.alloc.Global.{Global}
 use Rattle.std.specs.declared.string.String.{String}
-use Rattle.meta_base.specs.Expression.{Rule, Grammar}
-use Rattle.meta_base.specs.Rewriting.{Chain, KeepsAny, SameOutcomes}
+use Rattle.meta_base.specs.Language.Expression.{Rule, Grammar}
+use Rattle.meta_base.specs.Rewritings.Rewriting.{Chain, KeepsAny, SameOutcomes}
 use Rattle.meta_ast.specs.declared.ast.Expr.{Expr}
 use Rattle.meta_optimizer.specs.Bodies.{HoldsBodies}
 
--- in a grammar that has the first rule and whose bodies the map holds, a chain of steps puts the second in its place
+-- in a grammar that has the first rule and whose bodies the map holds, a chain of steps puts the second in
+-- its place
 abbrev pub IsSkipChained : {S : Type 0} → HashMap (String Global) Expr S → Rule → Rule → Type 0
-IsSkipChained m r q = (before after : Grammar) → HoldsBodies m (before ++ r ∷ after) → Chain (before ++ r ∷ after) (before ++ q ∷ after)
+IsSkipChained m r q = (before after : Grammar) → HoldsBodies m (before ++ r ∷ after)
+    → Chain (before ++ r ∷ after) (before ++ q ∷ after)
 
 -- and if none of its rules is named ANY, that leaves all outcomes as they were
 abbrev pub SkipKeepsOutcomes : {S : Type 0} → HashMap (String Global) Expr S → Rule → Rule → Type 0
-SkipKeepsOutcomes m r q = (before after : Grammar) → HoldsBodies m (before ++ r ∷ after) → KeepsAny (before ++ r ∷ after)
+SkipKeepsOutcomes m r q = (before after : Grammar) → HoldsBodies m (before ++ r ∷ after)
+    → KeepsAny (before ++ r ∷ after)
     → SameOutcomes (before ++ r ∷ after) (before ++ q ∷ after)

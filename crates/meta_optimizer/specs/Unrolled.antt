@@ -1,6 +1,6 @@
 -- Which expressions have no repetition but `*`.
 use Rattle.std.specs.Prelude.{⊤, [], ◌∷◌}
-use Rattle.meta_base.specs.Expression.{Expression, PosPred, NegPred, Seq, Choice, Opt, Rep, RepOnce, RepExact, RepMin, RepMax, RepMinMax, Push, RestoreOnErr, Grammar}
+use Rattle.meta_base.specs.Language.Expression.{Expression, PosPred, NegPred, Seq, Choice, Opt, Rep, RepOnce, RepExact, RepMin, RepMax, RepMinMax, Push, RestoreOnErr, Grammar}
 
 -- no part is a `+` or a counted repetition
 abbrev pub IsUnrolled : Expression → Type 0

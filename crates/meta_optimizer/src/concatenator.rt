@@ -1,8 +1,8 @@
 //! Puts literals in sequence together.
 ghost use Rattle.std.specs.Prelude.{◌≡◌, ◌++◌, IfErr, IfOk};
-ghost use Rattle.meta_base.specs.Expression.{Seq};
-ghost use Rattle.meta_base.specs.Replacing.{KeepsOutcomes, IsChained};
-ghost use Rattle.meta_base.specs.Rewriting.{IsDone, Joins};
+ghost use Rattle.meta_base.specs.Language.Expression.{Seq};
+ghost use Rattle.meta_base.specs.Rewritings.Replacing.{KeepsOutcomes, IsChained};
+ghost use Rattle.meta_base.specs.Rewritings.Rewriting.{IsDone, Joins};
 ghost use Rattle.meta_ast.specs.Ast.{text_of, expression_of, rule_of_code, rule_type_of};
 ghost use Rattle.meta_optimizer.specs.Faults.{IsMemory};
 ghost use Rattle.meta_optimizer.specs.Here.{concatenated_here, joined_here};

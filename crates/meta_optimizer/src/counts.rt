@@ -1,6 +1,6 @@
 //! Whether counts are readable.
 ghost use Rattle.std.specs.Prelude.{◌↔◌, IsTrue};
-ghost use Rattle.meta_base.specs.WellFormed.{HasReadableCounts};
+ghost use Rattle.meta_base.specs.Language.WellFormed.{HasReadableCounts};
 ghost use Rattle.meta_ast.specs.Ast.{expression_of, rules_of};
 ghost use Rattle.meta_optimizer.specs.Counts.{PartsAreReadable};
 ghost use Rattle.meta_optimizer.specs.Sides.{IsNoPair};

@@ -1,7 +1,7 @@
 //! Takes out what two alternatives have in common.
 ghost use Rattle.std.specs.Prelude.{◌≡◌, ◌≤◌, IfErr, IfOk};
-ghost use Rattle.meta_base.specs.Replacing.{KeepsOutcomes, IsChained};
-ghost use Rattle.meta_base.specs.Rewriting.{Many, Factors};
+ghost use Rattle.meta_base.specs.Rewritings.Replacing.{KeepsOutcomes, IsChained};
+ghost use Rattle.meta_base.specs.Rewritings.Rewriting.{Many, Factors};
 ghost use Rattle.meta_ast.specs.Ast.{text_of, expression_of, rule_of_code, rule_type_of};
 ghost use Rattle.meta_optimizer.specs.Faults.{IsMemory};
 ghost use Rattle.meta_optimizer.specs.Here.{factored_here, factored_choice, with_optional};
@@ -23,7 +23,8 @@ pub fn factor(alloc: Global, rule: Rule) -> Result<Rule, Fault>
     ensures steps { IfOk result
         (λ r. Many (Factors (rule_type_of rule.ty)) (expression_of rule.expr) (expression_of r.expr)) }
     ensures factored { IfOk result
-        (λ r. TopDown (λ a b. factored_here (rule_type_of rule.ty) a ≡ b) (expression_of rule.expr) (expression_of r.expr)) }
+        (λ r. TopDown (λ a b. factored_here (rule_type_of rule.ty) a ≡ b) (expression_of rule.expr)
+        (expression_of r.expr)) }
     ensures chain { IfOk result (λ r. IsChained (rule_of_code rule) (rule_of_code r)) }
     ensures outcomes { IfOk result (λ r. KeepsOutcomes (rule_of_code rule) (rule_of_code r)) }
     ensures memory { IfErr result IsMemory }
@@ -59,7 +60,8 @@ fn factored(
     right: Box<Expr>,
 ) -> Result<Expr, AllocError>
     ensures { IfOk result
-        (λ e. expression_of e ≡ factored_choice (rule_type_of ty) (expression_of left.value) (expression_of right.value)) }
+        (λ e. expression_of e ≡ factored_choice (rule_type_of ty) (expression_of left.value)
+        (expression_of right.value)) }
 {
     match Box::into_inner(left) {
         Expr::Seq(front, back) => match (ty, Box::into_inner(right)) {
@@ -101,7 +103,8 @@ fn optional(
     right: Expr,
 ) -> Result<Expr, AllocError>
     ensures { IfOk result
-        (λ e. expression_of e ≡ with_optional (expression_of front.value) (expression_of back.value) (expression_of right)) }
+        (λ e. expression_of e ≡ with_optional (expression_of front.value) (expression_of back.value)
+        (expression_of right)) }
 {
     if *front == right {
         let back = Box::new(alloc, Expr::Opt(back))?;

@@ -15,12 +15,12 @@ mod traversal;
 mod unroller;
 
 pub use concatenator::concatenate;
-pub use converted::rule_to_optimized_rule;
 pub use counts::counts_are_readable;
 pub use factorizer::factor;
 pub use lister::list;
-pub use meta_ast::optimized::{OptimizedExpr, OptimizedRule};
+pub use meta_ast::optimized::{OptimizedExpr, OptimizedExprTopDownIterator, OptimizedRule};
 pub use meta_base::runtime::Fault;
+pub use meta_restorer::{child_modifies_state, restore_on_err};
 pub use passes::optimize;
 pub use rotator::rotate;
 pub use skipper::skip;

@@ -1,9 +1,10 @@
 //! Lists: `(x ~ y)* ~ x` as `x ~ (y ~ x)*`.
 ghost use Rattle.std.specs.Prelude.{◌≡◌, IfErr, IfOk};
-ghost use Rattle.meta_base.specs.Listing.{listed, listed_sequence};
-ghost use Rattle.meta_ast.specs.Ast.{text_of, expression_of};
+ghost use Rattle.meta_base.specs.Rewritings.Listing.{listed, listed_sequence};
+ghost use Rattle.meta_ast.specs.Ast.{text_of, expression_of, rule_type_of};
 ghost use Rattle.meta_optimizer.specs.Faults.{IsMemory};
 ghost use Rattle.meta_optimizer.specs.Here.{listed_here};
+ghost use Rattle.meta_optimizer.specs.Listed.{KeepsMatches};
 
 use crate::Fault;
 use crate::traversal::{Finish, bottom_up};
@@ -17,6 +18,8 @@ pub fn list(alloc: Global, rule: Rule) -> Result<Rule, Fault>
     ensures name { IfOk result (λ r. text_of r.name ≡ text_of rule.name) }
     ensures ty { IfOk result (λ r. r.ty ≡ rule.ty) }
     ensures listed { IfOk result (λ r. expression_of r.expr ≡ listed (expression_of rule.expr)) }
+    ensures matches { IfOk result
+        (λ r. KeepsMatches (rule_type_of rule.ty) (expression_of rule.expr) (expression_of r.expr)) }
     ensures memory { IfErr result IsMemory }
 {
     let Rule { name, ty, expr } = rule;

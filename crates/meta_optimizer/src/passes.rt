@@ -2,38 +2,44 @@
 ghost use Rattle.std.specs.Prelude.{◌≡◌, IfErr, IfOk};
 ghost use Rattle.meta_ast.specs.Ast.{text_of, expression_of, rule_type_of, rules_of};
 ghost use Rattle.meta_ast.specs.Optimized.{optimized_expression_of, optimized_rules_of};
-ghost use Rattle.meta_base.specs.Expression.{Grammar};
-ghost use Rattle.meta_base.specs.Rewriting.{EachBody};
-ghost use Rattle.meta_base.specs.WellFormed.{HasReadableCounts};
+ghost use Rattle.meta_base.specs.Language.Expression.{Grammar};
+ghost use Rattle.meta_base.specs.Rewritings.Rewriting.{EachBody};
+ghost use Rattle.meta_restorer.specs.Agreeing.{AgreesLoosely, WrappersSuffice};
 ghost use Rattle.meta_optimizer.specs.Bodies.{HoldsBodies};
 ghost use Rattle.meta_optimizer.specs.Faults.{IsMemory};
 ghost use Rattle.meta_optimizer.specs.Passes.{IsOptimized, IsOptimizedBody};
 
 use crate::bodies::bodies_of;
-use crate::{
-    Fault, OptimizedRule, concatenate, factor, list, rotate, rule_to_optimized_rule, skip, unroll,
-};
+use crate::converted::rule_to_optimized_rule;
+use crate::{Fault, OptimizedRule, concatenate, factor, list, rotate, skip, unroll};
 use meta_ast::ast::{Expr, Rule};
+use meta_restorer::restore_rules;
 use std::alloc::Global;
 use std::collections::HashMap;
 
 /// The optimized rules, in order: `rotate`, `skip`, `unroll`, `concatenate`, `factor` and `list` are
-/// done in each, and `skip` looks names up in the rules as they were handed in. Names and types
-/// stay. Up to the listing, if no rule is named `ANY`, the outcomes from every start are those of
-/// the rules that were handed in. Refused where memory is.
+/// done in each, and `skip` looks names up in the rules as they were handed in; then wrappers are
+/// put in, as `restore_on_err` does. Names and types stay. Up to the listing, if no rule is named
+/// `ANY`, the outcomes from every start are those of the rules that were handed in. Where `POP_ALL`
+/// is named nowhere and `WHITESPACE` and `COMMENT` reach no `POP`, it does not matter for the rules
+/// that are answered what a failed `POP` leaves of the stack. Refused where memory is.
 pub fn optimize(alloc: Global, rules: Vec<Rule>) -> Result<Vec<OptimizedRule>, Fault>
-    requires { HasReadableCounts (rules_of rules.items) }
     ensures rules { IfOk result
         (λ answer. IsOptimized (rules_of rules.items) (optimized_rules_of answer.items)) }
+    ensures agrees { IfOk result (λ answer. WrappersSuffice (optimized_rules_of answer.items)
+        → AgreesLoosely (optimized_rules_of answer.items)) }
     ensures memory { IfErr result IsMemory }
 {
     match bodies_of(alloc, &rules) {
-        Ok(bodies) => optimized_rules(alloc, rules, &bodies),
+        Ok(bodies) => {
+            let listing = optimized_rules(alloc, rules, &bodies)?;
+            restore_rules(alloc, listing)
+        }
         Err(error) => Err(Fault::Memory(error)),
     }
 }
 
-// All passes over all rules, names being looked up in `bodies`.
+// The passes up to the listing over all rules, names being looked up in `bodies`.
 fn optimized_rules(
     alloc: Global,
     rules: Vec<Rule>,
@@ -54,7 +60,7 @@ fn optimized_rules(
     Ok(answer)
 }
 
-// All passes over one rule, names being looked up in `bodies`.
+// The passes up to the listing over one rule, names being looked up in `bodies`.
 fn optimized_rule(
     alloc: Global,
     rule: Rule,
@@ -64,7 +70,8 @@ fn optimized_rule(
     ensures ty { IfOk result (λ r. r.ty ≡ rule.ty) }
     ensures body { IfOk result
         (λ r. (g : Grammar) → HoldsBodies bodies.now g
-        → IsOptimizedBody g (rule_type_of rule.ty) (expression_of rule.expr) (optimized_expression_of r.expr)) }
+        → IsOptimizedBody g (rule_type_of rule.ty) (expression_of rule.expr)
+        (optimized_expression_of r.expr)) }
     ensures memory { IfErr result IsMemory }
 {
     let rule = rotate(alloc, rule)?;

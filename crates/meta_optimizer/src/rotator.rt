@@ -1,8 +1,8 @@
 //! Nests `~` and `|` to the right.
 ghost use Rattle.std.specs.Prelude.{◌≡◌, ◌≤◌, ◌+◌, IfErr, IfOk};
-ghost use Rattle.meta_base.specs.Expression.{Seq, Choice};
-ghost use Rattle.meta_base.specs.Replacing.{KeepsOutcomes, IsChained};
-ghost use Rattle.meta_base.specs.Rewriting.{IsDone, Rotates};
+ghost use Rattle.meta_base.specs.Language.Expression.{Seq, Choice};
+ghost use Rattle.meta_base.specs.Rewritings.Replacing.{KeepsOutcomes, IsChained};
+ghost use Rattle.meta_base.specs.Rewritings.Rewriting.{IsDone, Rotates};
 ghost use Rattle.meta_ast.specs.Ast.{text_of, expression_of, rule_of_code};
 ghost use Rattle.meta_optimizer.specs.Faults.{IsMemory};
 ghost use Rattle.meta_optimizer.specs.Here.{Exhausted};
@@ -50,9 +50,11 @@ impl Shrink for Rotator {
 // `left ~ right`, the `~` of whose left side have moved to the right.
 fn sequence(alloc: Global, left: Box<Expr>, right: Box<Expr>) -> Result<Expr, AllocError>
     ensures gives { IfOk result
-        (λ e. Exhausted Rotates (Seq (expression_of left.value) (expression_of right.value)) (expression_of e)) }
+        (λ e. Exhausted Rotates (Seq (expression_of left.value) (expression_of right.value))
+        (expression_of e)) }
     ensures smaller { IfOk result
-        (λ e. size (expression_of e) ≤ size (expression_of left.value) + size (expression_of right.value) + 1) }
+        (λ e. size (expression_of e)
+        ≤ size (expression_of left.value) + size (expression_of right.value) + 1) }
 {
     let mut left = left;
     let mut right = right;
@@ -70,9 +72,11 @@ fn sequence(alloc: Global, left: Box<Expr>, right: Box<Expr>) -> Result<Expr, Al
 // The same for `|`.
 fn choice(alloc: Global, left: Box<Expr>, right: Box<Expr>) -> Result<Expr, AllocError>
     ensures gives { IfOk result
-        (λ e. Exhausted Rotates (Choice (expression_of left.value) (expression_of right.value)) (expression_of e)) }
+        (λ e. Exhausted Rotates (Choice (expression_of left.value) (expression_of right.value))
+        (expression_of e)) }
     ensures smaller { IfOk result
-        (λ e. size (expression_of e) ≤ size (expression_of left.value) + size (expression_of right.value) + 1) }
+        (λ e. size (expression_of e)
+        ≤ size (expression_of left.value) + size (expression_of right.value) + 1) }
 {
     let mut left = left;
     let mut right = right;

@@ -1,7 +1,7 @@
 //! Goes to the next of some texts, in place of looking for them at each character.
 ghost use Rattle.std.specs.Prelude.{◌≡◌, IfErr, IfOk};
-ghost use Rattle.meta_base.specs.Expression.{Grammar};
-ghost use Rattle.meta_base.specs.Rewriting.{IsDone, SkipsUntil};
+ghost use Rattle.meta_base.specs.Language.Expression.{Grammar};
+ghost use Rattle.meta_base.specs.Rewritings.Rewriting.{IsDone, SkipsUntil};
 ghost use Rattle.meta_ast.specs.Ast.{text_of, expression_of, rule_of_code, rule_type_of};
 ghost use Rattle.meta_optimizer.specs.Bodies.{HoldsBodies, SkippedHere, TextsUntil};
 ghost use Rattle.meta_optimizer.specs.Faults.{IsMemory};

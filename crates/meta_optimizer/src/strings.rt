@@ -1,7 +1,7 @@
 //! The strings that an expression stands for, where it is a literal, a name or a choice of such.
 ghost use Rattle.std.specs.Prelude.{◌≡◌, IfOk, MatchOption, map};
-ghost use Rattle.meta_base.specs.Expression.{Grammar};
-ghost use Rattle.meta_base.specs.Rewriting.{Strings};
+ghost use Rattle.meta_base.specs.Language.Expression.{Grammar};
+ghost use Rattle.meta_base.specs.Rewritings.Rewriting.{Strings};
 ghost use Rattle.meta_ast.specs.Ast.{expression_of, text_of};
 ghost use Rattle.meta_optimizer.specs.Bodies.{HoldsBodies, HasStrings, FindsNext, Splits, DepthOrNone, StringsOrNone};
 
@@ -129,7 +129,8 @@ fn texts_within(
     names: usize,
 ) -> Result<Option<Vec<String>>, AllocError>
     ensures { IfOk result (λ found. (g : Grammar) → HoldsBodies bodies.now g
-        → HasStrings g names (expression_of expr.now) → MatchOption found ⊥ (λ ts. Strings g (expression_of expr.now) (map text_of ts.items))) }
+        → HasStrings g names (expression_of expr.now) → MatchOption found ⊥
+        (λ ts. Strings g (expression_of expr.now) (map text_of ts.items))) }
 {
     let mut texts = Vec::new(alloc);
     let mut parts = Vec::new(alloc);

@@ -1,6 +1,6 @@
 //! Something done once at each node of an expression, from the root down or from the leaves up.
 ghost use Rattle.std.specs.Prelude.{◌≡◌, ◌≤◌, IfOk};
-ghost use Rattle.meta_base.specs.Expression.{Expression};
+ghost use Rattle.meta_base.specs.Language.Expression.{Expression};
 ghost use Rattle.meta_ast.specs.Ast.{expression_of};
 ghost use Rattle.meta_optimizer.specs.Size.{size};
 ghost use Rattle.meta_optimizer.specs.Traversals.{TopDown, Below, BottomUp, Above};

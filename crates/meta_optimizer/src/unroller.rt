@@ -1,9 +1,9 @@
 //! Writes `+` and counted repetitions out.
 ghost use Rattle.std.specs.Prelude.{◌≡◌, ◌∷◌, ◌++◌, replicate, IfErr, IfOk, List};
-ghost use Rattle.meta_base.specs.Expression.{Expression};
-ghost use Rattle.meta_base.specs.Meaning.{in_sequence, exactly, from_to};
-ghost use Rattle.meta_base.specs.Replacing.{KeepsOutcomes, IsChained};
-ghost use Rattle.meta_base.specs.Rewriting.{Many, Unrolls};
+ghost use Rattle.meta_base.specs.Language.Expression.{Expression};
+ghost use Rattle.meta_base.specs.Language.Meaning.{in_sequence, exactly, from_to};
+ghost use Rattle.meta_base.specs.Rewritings.Replacing.{KeepsOutcomes, IsChained};
+ghost use Rattle.meta_base.specs.Rewritings.Rewriting.{Many, Unrolls};
 ghost use Rattle.meta_ast.specs.Ast.{text_of, expression_of, rule_of_code};
 ghost use Rattle.meta_optimizer.specs.Faults.{IsMemory};
 ghost use Rattle.meta_optimizer.specs.Here.{unrolled_here};

@@ -1,25 +1,25 @@
 -- Alternatives and sequences, read from their front.
-use Rattle.meta_reader.proofs.PieceFacts.{piece_in}
+use Rattle.meta_reader.proofs.SpansArePieces.{piece_in}
 use Rattle.std.proofs.Common.{◌≡◌, ◌≤◌, ◌<◌, ℕ, List, None, refl, sym, ap, ◌∙◌, subst, arith}
 use Rattle.std.specs.Prelude.{codes}
-use Rattle.meta_base.specs.Text.{Text}
-use Rattle.meta_base.specs.State.{Trees, None', Tree, joined}
+use Rattle.meta_base.specs.Language.Text.{Text}
+use Rattle.meta_base.specs.Language.State.{Trees, None', Tree, joined}
 use Rattle.meta_reader.specs.Faults.{first_fault, own_fault, or_else}
 use Rattle.meta_reader.specs.Pieces.{IsPiece, Nested, StandIn}
 use Rattle.meta_reader.specs.Reading as reading
 use Rattle.meta_reader.specs.Reading.{Reads, AnExpression, Alternatives, ASequence, ATerm, both}
-use Rattle.meta_base.specs.MetaRules.{name_of}
+use Rattle.meta_base.specs.Pieces.MetaRules.{name_of}
 use Rattle.meta_syntax.specs.Shape.{Mark, IsExpression, IsChain, IsMore, IsTerm, barred, unbarred, chain, infix_operator, tilde, bar}
 use Rattle.meta_nodes.specs.Spanned.{Span, Spanned, Binary, Seq, Choice}
-use Rattle.meta_reader.specs.Views.{IsBehindBar, IsRest, at_bar, GoesOn, goes_on, count_of, ReadsFront}
+use Rattle.meta_reader.specs.Views.{IsBehindBar, IsRest, at_bar, TakesTerm, takes_term, count_of, ReadsFront}
 use Rattle.meta_nodes.specs.Nodes.{view}
 use Rattle.meta_base.specs.declared.grammar.Rule.{Rule}
 use Rattle.meta_base.specs.declared.grammar.Rule.TheVariants as rule_is
 use Rattle.meta_nodes.specs.declared.node.ParserNode.{ParserNode}
 use Rattle.meta_reader.proofs.Nodes.{span_of-view, start_of-view, end_of-view}
-use Rattle.meta_reader.proofs.Pieces.{stand_inner, stand_behind}
+use Rattle.meta_reader.proofs.TreesStandInText.{stand_inner, stand_behind}
 use Rattle.meta_base.proofs.MetaNames.{name_of-injective}
-use Rattle.meta_reader.proofs.Within.{reads_within, nested_joined}
+use Rattle.meta_reader.proofs.NodesStandInTrees.{reads_within, nested_joined}
 
 pub joined_nil : (us : Trees) → joined us None' ≡ us
 joined_nil None' = refl
@@ -31,7 +31,9 @@ joined_assoc (Tree r i j inner us) vs ws = ap (λ xs. Tree r i j inner xs) (join
 
 -- a bar before the first alternative
 
-pub with_bar : {text : List ℕ} {i j : ℕ} {inner us : Trees} → IsExpression text (Tree (codes "choice_operator") i j inner us) → IsBehindBar text (Tree (codes "choice_operator") i j inner us) us
+pub with_bar : {text : List ℕ} {i j : ℕ} {inner us : Trees}
+    → IsExpression text (Tree (codes "choice_operator") i j inner us)
+    → IsBehindBar text (Tree (codes "choice_operator") i j inner us) us
 unfolding own_fault
 with_bar (barred h) = record { shape = h; nested = λ s. stand_behind s; reads = λ x d. reading.barred d; faults = refl; shorter = omega arith }
 with_bar (unbarred h) = elim h [ ]
@@ -39,24 +41,32 @@ with_bar (unbarred h) = elim h [ ]
 pub no_expression : {text : List ℕ} → IsExpression text None' → ⊥
 no_expression (unbarred h) = elim h [ ]
 
-pub without_bar : {text : List ℕ} {n : Text} {i j : ℕ} {inner us : Trees} (r : Rule) → IsExpression text (Tree n i j inner us) → n ≡ name_of r → ¬ (r ≡ rule_is.choice_operator) → IsBehindBar text (Tree n i j inner us) (Tree n i j inner us)
+pub without_bar : {text : List ℕ} {n : Text} {i j : ℕ} {inner us : Trees} (r : Rule)
+    → IsExpression text (Tree n i j inner us) → n ≡ name_of r → ¬ (r ≡ rule_is.choice_operator)
+    → IsBehindBar text (Tree n i j inner us) (Tree n i j inner us)
 without_bar r (barred h) e d = absurd (d (name_of-injective r rule_is.choice_operator (sym e)))
 without_bar r (unbarred h) e d = record { shape = h; nested = λ s. s; reads = λ x k. reading.unbarred k; faults = refl; shorter = omega arith }
 
 -- the first term of a chain, and what is behind it
-pub chain_tree : {text : List ℕ} {n : Text} {i j : ℕ} {inner us : Trees} → IsChain text (Tree n i j inner us) → (n ≡ codes "term") × IsTerm text inner × IsMore text us
+pub chain_tree : {text : List ℕ} {n : Text} {i j : ℕ} {inner us : Trees} → IsChain text (Tree n i j inner us)
+    → (n ≡ codes "term") × IsTerm text inner × IsMore text us
 chain_tree (chain h k) = (refl, h, k)
 
 -- a tilde and a term, or the end of a sequence
-pub no_tilde : {text : List ℕ} {n : Text} {i j : ℕ} {inner us : Trees} (r : Rule) → IsMore text (Tree n i j inner us) → n ≡ name_of r → ¬ (r ≡ rule_is.sequence_operator) → IsRest text (Tree n i j inner us)
+pub no_tilde : {text : List ℕ} {n : Text} {i j : ℕ} {inner us : Trees} (r : Rule)
+    → IsMore text (Tree n i j inner us) → n ≡ name_of r → ¬ (r ≡ rule_is.sequence_operator)
+    → IsRest text (Tree n i j inner us)
 no_tilde r (infix_operator tilde h) e d = absurd (d (name_of-injective r rule_is.sequence_operator (sym e)))
 no_tilde r (infix_operator bar h) e d = at_bar h
 
-pub lone_tilde : {text : List ℕ} {i j : ℕ} {inner : Trees} → IsMore text (Tree (codes "sequence_operator") i j inner None') → ⊥
+pub lone_tilde : {text : List ℕ} {i j : ℕ} {inner : Trees}
+    → IsMore text (Tree (codes "sequence_operator") i j inner None') → ⊥
 lone_tilde (infix_operator p h) = elim h [ ]
 
-pub tilde_term : {text : List ℕ} {n : Text} {i j k l : ℕ} {inner us vs : Trees} → IsMore text (Tree (codes "sequence_operator") i j us (Tree n k l inner vs)) → GoesOn text (Tree (codes "sequence_operator") i j us (Tree n k l inner vs)) inner vs
-tilde_term (infix_operator p (chain h k)) = goes_on h k
+pub tilde_term : {text : List ℕ} {n : Text} {i j k l : ℕ} {inner us vs : Trees}
+    → IsMore text (Tree (codes "sequence_operator") i j us (Tree n k l inner vs))
+    → TakesTerm text (Tree (codes "sequence_operator") i j us (Tree n k l inner vs)) inner vs
+tilde_term (infix_operator p (chain h k)) = takes_term h k
 
 -- what is in front of the rest, while a sequence is read, and while an expression is read
 pub record InFront (text : List ℕ) (us rest : Trees) (x : Spanned) : Type 0 where
@@ -73,19 +83,23 @@ pub record SplitOff (text : List ℕ) (us rest : Trees) (x : Spanned) : Type 0 w
   pub standing : StandIn text whole
 
 -- from the start of one node to the end of another
-pub piece_across : (text : List ℕ) (m n : ParserNode) → m.span.text.now ≡ text → n.span.text.now ≡ text → m.span.start ≤ n.span.end → IsPiece text m.span.start n.span.end
+pub piece_across : (text : List ℕ) (m n : ParserNode) → m.span.text.now ≡ text → n.span.text.now ≡ text
+    → m.span.start ≤ n.span.end → IsPiece text m.span.start n.span.end
 piece_across text m n e f h =
     let p = piece_in m.span e in
     let q = piece_in n.span f in
     record { starts = p.starts; ends = q.ends; order = h }
 
 -- where two nodes are read as one, and its trees stand in the text
-joined_piece : {text : List ℕ} {p : reading.Part} {us : Trees} {f : Binary} (m n : ParserNode) (i j : ℕ) → m.span.text.now ≡ text → n.span.text.now ≡ text → Reads text p us (both text f (view m) (view n)) → Nested text us i j → IsPiece text m.span.start n.span.end
+joined_piece : {text : List ℕ} {p : reading.Part} {us : Trees} {f : Binary} (m n : ParserNode) (i j : ℕ)
+    → m.span.text.now ≡ text → n.span.text.now ≡ text → Reads text p us (both text f (view m) (view n))
+    → Nested text us i j → IsPiece text m.span.start n.span.end
 joined_piece {text} m n i j e f d h =
     let w = reads_within text d i j h in
     piece_across text m n e f (rw (start_of-view m, end_of-view n) at w.order)
 
-pub same_text : {text : List ℕ} {p : reading.Part} {us : Trees} (n : ParserNode) (i j : ℕ) → Reads text p us (view n) → Nested text us i j → n.span.text.now ≡ text
+pub same_text : {text : List ℕ} {p : reading.Part} {us : Trees} (n : ParserNode) (i j : ℕ)
+    → Reads text p us (view n) → Nested text us i j → n.span.text.now ≡ text
 same_text {text} n i j d h =
     let w = reads_within text d i j h in
     sym (ap (λ (s : Span). s.text) (span_of-view n)) ∙ w.same_text
@@ -93,10 +107,13 @@ same_text {text} n i j d h =
 module _ (text : List ℕ) where
   -- sequences
 
-  pub sequence_start : {i j : ℕ} {inner rest : Trees} {x : Spanned} → Reads text ATerm inner x → InFront text (Tree (codes "term") i j inner rest) rest x
+  pub sequence_start : {i j : ℕ} {inner rest : Trees} {x : Spanned} → Reads text ATerm inner x
+      → InFront text (Tree (codes "term") i j inner rest) rest x
   sequence_start {i} {j} {inner} d = record { front = Tree (codes "term") i j inner None'; split = refl; reads = reading.one_term d }
 
-  pub sequence_step : {i j k l : ℕ} {us inner rest : Trees} {x y : Spanned} → InFront text us (Mark (codes "sequence_operator") i j (Tree (codes "term") k l inner rest)) x → Reads text ATerm inner y → InFront text us rest (both text Seq x y)
+  pub sequence_step : {i j k l : ℕ} {us inner rest : Trees} {x y : Spanned}
+      → InFront text us (Mark (codes "sequence_operator") i j (Tree (codes "term") k l inner rest)) x
+      → Reads text ATerm inner y → InFront text us rest (both text Seq x y)
   sequence_step {i} {j} {k} {l} {inner = inner} {rest = rest} h d = record {
     front = joined h.front (Mark (codes "sequence_operator") i j (Tree (codes "term") k l inner None'));
     split = h.split ∙ sym (joined_assoc h.front (Mark (codes "sequence_operator") i j (Tree (codes "term") k l inner None')) rest);
@@ -110,7 +127,9 @@ module _ (text : List ℕ) where
   pub stand_rest : (us vs ws : Trees) → us ≡ joined vs ws → StandIn text us → StandIn text ws
   stand_rest us vs ws e h = let s = nested_joined text vs ws h.from h.to (rw e at h.nested) in record { from = s.0; to = h.to; nested = s.2 }
 
-  pub sequence_piece : {i j k l : ℕ} {us inner rest : Trees} (m n : ParserNode) → StandIn text us → InFront text us (Mark (codes "sequence_operator") i j (Tree (codes "term") k l inner rest)) (view m) → Reads text ATerm inner (view n) → IsPiece text m.span.start n.span.end
+  pub sequence_piece : {i j k l : ℕ} {us inner rest : Trees} (m n : ParserNode) → StandIn text us
+      → InFront text us (Mark (codes "sequence_operator") i j (Tree (codes "term") k l inner rest)) (view m)
+      → Reads text ATerm inner (view n) → IsPiece text m.span.start n.span.end
   sequence_piece {i} {j} {k} {l} {us} {inner} {rest} m n s h d =
       let t = sequence_step h d in
       let v = stand_front us t.front rest t.split s in
@@ -121,10 +140,13 @@ module _ (text : List ℕ) where
 
   -- expressions
 
-  pub expression_start : {us vs front rest : Trees} {x : Spanned} → IsBehindBar text us vs → StandIn text us → vs ≡ joined front rest → Reads text ASequence front x → SplitOff text us rest x
+  pub expression_start : {us vs front rest : Trees} {x : Spanned} → IsBehindBar text us vs → StandIn text us
+      → vs ≡ joined front rest → Reads text ASequence front x → SplitOff text us rest x
   expression_start {vs = vs} {front = front} b s e d = record { front = front; whole = vs; split = e; reads = reading.one_alternative d; behind = b.reads; standing = b.nested s }
 
-  pub expression_step : {i j : ℕ} {us vs front rest : Trees} {x y : Spanned} → SplitOff text us (Mark (codes "choice_operator") i j vs) x → vs ≡ joined front rest → Reads text ASequence front y → SplitOff text us rest (both text Choice x y)
+  pub expression_step : {i j : ℕ} {us vs front rest : Trees} {x y : Spanned}
+      → SplitOff text us (Mark (codes "choice_operator") i j vs) x → vs ≡ joined front rest
+      → Reads text ASequence front y → SplitOff text us rest (both text Choice x y)
   expression_step {i} {j} {us} {vs} {front} {rest} h e d = record {
     front = joined h.front (Mark (codes "choice_operator") i j front);
     whole = h.whole;
@@ -134,7 +156,9 @@ module _ (text : List ℕ) where
     standing = h.standing;
   }
 
-  pub expression_piece : {i j : ℕ} {us vs front : Trees} (rest : Trees) (m n : ParserNode) → SplitOff text us (Mark (codes "choice_operator") i j vs) (view m) → vs ≡ joined front rest → Reads text ASequence front (view n) → IsPiece text m.span.start n.span.end
+  pub expression_piece : {i j : ℕ} {us vs front : Trees} (rest : Trees) (m n : ParserNode)
+      → SplitOff text us (Mark (codes "choice_operator") i j vs) (view m) → vs ≡ joined front rest
+      → Reads text ASequence front (view n) → IsPiece text m.span.start n.span.end
   unfolding expression_step
   expression_piece {i} {j} {us} {vs} {front} rest m n h e d =
       let t = expression_step h e d in
@@ -148,18 +172,21 @@ module _ (text : List ℕ) where
   expression_end {us} {x} h = h.behind x (subst (λ vs. Reads text Alternatives vs x) (sym (h.split ∙ joined_nil h.front)) h.reads)
 
 -- the rest of a sequence: a bar and a chain
-pub rest_tree : {text : List ℕ} {n : Text} {i j : ℕ} {inner us : Trees} → IsRest text (Tree n i j inner us) → (n ≡ codes "choice_operator") × (inner ≡ None') × IsChain text us
+pub rest_tree : {text : List ℕ} {n : Text} {i j : ℕ} {inner us : Trees} → IsRest text (Tree n i j inner us)
+    → (n ≡ codes "choice_operator") × (inner ≡ None') × IsChain text us
 rest_tree (at_bar h) = (refl, refl, h)
 
 pub no_chain : {text : List ℕ} → IsChain text None' → ⊥
 no_chain h = elim h [ ]
 
 -- nothing is wrong with a bar, a tilde or a term by itself
-pub quiet_bar : (text : List ℕ) (i j : ℕ) (us vs : Trees) → own_fault text (codes "choice_operator") i j us vs ≡ None
+pub quiet_bar : (text : List ℕ) (i j : ℕ) (us vs : Trees)
+    → own_fault text (codes "choice_operator") i j us vs ≡ None
 unfolding own_fault
 quiet_bar text i j us vs = refl
 
-pub quiet_tilde : (text : List ℕ) (i j : ℕ) (us vs : Trees) → own_fault text (codes "sequence_operator") i j us vs ≡ None
+pub quiet_tilde : (text : List ℕ) (i j : ℕ) (us vs : Trees)
+    → own_fault text (codes "sequence_operator") i j us vs ≡ None
 unfolding own_fault
 quiet_tilde text i j us vs = refl
 
@@ -168,7 +195,7 @@ unfolding own_fault
 quiet_term text i j us vs = refl
 
 -- what follows from a tilde and a term
-pub record Went (text : List ℕ) (us inner after : Trees) : Type 0 where
+pub record HasTerm (text : List ℕ) (us inner after : Trees) : Type 0 where
   pub operand : IsTerm text inner
   pub others : IsMore text after
   pub fault : first_fault text us ≡ or_else (first_fault text inner) (first_fault text after)
@@ -176,12 +203,15 @@ pub record Went (text : List ℕ) (us inner after : Trees) : Type 0 where
   pub stand_others : StandIn text us → StandIn text after
   pub smaller : count_of inner < count_of us
   pub shorter : count_of after < count_of us
-  pub step : (whole : Trees) (x y : Spanned) → InFront text whole us x → Reads text ATerm inner y → InFront text whole after (both text Seq x y)
-  pub place : (whole : Trees) (m n : ParserNode) → StandIn text whole → InFront text whole us (view m) → Reads text ATerm inner (view n) → IsPiece text m.span.start n.span.end
+  pub step : (whole : Trees) (x y : Spanned) → InFront text whole us x → Reads text ATerm inner y
+      → InFront text whole after (both text Seq x y)
+  pub place : (whole : Trees) (m n : ParserNode) → StandIn text whole → InFront text whole us (view m)
+      → Reads text ATerm inner (view n) → IsPiece text m.span.start n.span.end
 
-pub went : {text : List ℕ} {us inner after : Trees} → GoesOn text us inner after → Went text us inner after
+pub has_term : {text : List ℕ} {us inner after : Trees}
+    → TakesTerm text us inner after → HasTerm text us inner after
 unfolding own_fault
-went {text} (goes_on h k) = record {
+has_term {text} (takes_term h k) = record {
   operand = h;
   others = k;
   fault = refl;
@@ -194,5 +224,7 @@ went {text} (goes_on h k) = record {
 }
 
 -- the end of a sequence
-pub sequence_end : {text : List ℕ} {us rest : Trees} (n : ParserNode) → InFront text us rest (view n) → IsRest text rest → first_fault text us ≡ first_fault text rest → count_of rest < count_of us → ReadsFront text us n rest
+pub sequence_end : {text : List ℕ} {us rest : Trees} (n : ParserNode) → InFront text us rest (view n)
+    → IsRest text rest → first_fault text us ≡ first_fault text rest → count_of rest < count_of us
+    → ReadsFront text us n rest
 sequence_end n d h f k = record { front = d.front; split = d.split; reads = d.reads; faults = f; shape = h; shorter = k }

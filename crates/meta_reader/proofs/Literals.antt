@@ -24,13 +24,15 @@ pub scalar_same : (v n : ℕ) → IsScalar v → IsSameNumber v n → v ≡ n
 scalar_same v n h (inl e) = e
 scalar_same v n h (inr e) = absurd (omega (arith, scalar_cases v h, e.0))
 
-pub chars-push : (bs : List ℕ) (c : ℕ) → IsUtf8 bs → IsScalar c → chars (bs ++ encode_utf8 c) ≡ chars bs ++ c ∷ []
+pub chars-push : (bs : List ℕ) (c : ℕ) → IsUtf8 bs → IsScalar c
+    → chars (bs ++ encode_utf8 c) ≡ chars bs ++ c ∷ []
 chars-push bs c u h =
     let e = chars_past_char (encode_utf8 c) [] c (IsUtf8-encode c h) (sym (append-nil (encode_utf8 c))) in
     chars-append bs (encode_utf8 c) u ∙ ap (λ t. chars bs ++ t) (e ∙ ap (λ t. c ∷ t) chars-nil)
 
 -- one more character is read: what is read, with what is left
-pub character_step : (u v bs new : List ℕ) (c : ℕ) → IsUtf8 bs → IsScalar c → u ≡ chars bs ++ c ∷ v → new ≡ bs ++ encode_utf8 c → u ≡ chars new ++ v
+pub character_step : (u v bs new : List ℕ) (c : ℕ) → IsUtf8 bs → IsScalar c → u ≡ chars bs ++ c ∷ v
+    → new ≡ bs ++ encode_utf8 c → u ≡ chars new ++ v
 character_step u v bs new c t h e f = e ∙ sym (rw (f, chars-push bs c t h) (append_assoc (chars bs) (c ∷ []) v))
 
 pub scalar_step : (c : ℕ) (v : List ℕ) → IsScalar c → all_scalars (c ∷ v) ≡ all_scalars v

@@ -3,11 +3,11 @@ use Rattle.std.proofs.Common.{◌≡◌, ℕ, suc, zero, ◌<◌, List, [], ◌�
 use Rattle.std.proofs.lemmas.List.Elements.{All-nil, All-cons, All-contains}
 use Rattle.std.specs.List.{All}
 use Rattle.std.specs.Prelude.{nat_eq}
-use Rattle.meta_base.specs.Text.{Text}
-use Rattle.meta_base.specs.Expression as plain
-use Rattle.meta_base.specs.Expression.{Expression, Rule, Part, whole, of_pos_pred, of_neg_pred, of_seq_left, of_seq_right, of_choice_left, of_choice_right, of_opt, of_rep, of_rep_once, of_rep_exact, of_rep_min, of_rep_max, of_rep_min_max, of_push}
-use Rattle.meta_base.specs.State.{Trees, None', Tree, joined}
-use Rattle.meta_base.specs.WellFormed.{CountIsReadable, HasReadableCounts}
+use Rattle.meta_base.specs.Language.Text.{Text}
+use Rattle.meta_base.specs.Language.Expression as plain
+use Rattle.meta_base.specs.Language.Expression.{Expression, Rule, Part, whole, of_pos_pred, of_neg_pred, of_seq_left, of_seq_right, of_choice_left, of_choice_right, of_opt, of_rep, of_rep_once, of_rep_exact, of_rep_min, of_rep_max, of_rep_min_max, of_push}
+use Rattle.meta_base.specs.Language.State.{Trees, None', Tree, joined}
+use Rattle.meta_base.specs.Language.WellFormed.{CountIsReadable, HasReadableCounts}
 use Rattle.meta_nodes.specs.Erasure.{round, between, without_spans, rules_without_spans}
 use Rattle.meta_nodes.specs.Spanned.{Span, Spanned, Leaf, One, Two, Unary, PosPred, NegPred, Opt, Rep, RepOnce, RepExact, RepMin, RepMax, RepMinMax, Push, Binary, Seq, Choice, placed, SpannedRule}
 use Rattle.meta_reader.specs.Faults.{Fault, or_else, own_fault, closes, zero_times, first_fault}
@@ -74,25 +74,29 @@ module _ (text : List ℕ) where
   counts : (i j : ℕ) → zero_times text i j ≡ None → 0 < number text i j
   counts i j h = not_zero (number text i j) _ h
 
-  postfix_readable : {r : Text} {us : Trees} {f : Unary} → Postfix text r us f → first_fault text us ≡ None → (e : Expression) → CountIsReadable (round f e)
+  postfix_readable : {r : Text} {us : Trees} {f : Unary} → Postfix text r us f → first_fault text us ≡ None
+      → (e : Expression) → CountIsReadable (round f e)
   unfolding own_fault
   postfix_readable reading.opt h e = tt
   postfix_readable reading.rep h e = tt
   postfix_readable reading.rep_once h e = tt
-  postfix_readable (reading.exact {i = i} {j = j}) h e = counts i j (none_right _ _ (none_left _ _ h))
+  postfix_readable (reading.exact {number_at = i} {number_to = j}) h e = counts i j (none_right _ _ (none_left _ _ h))
   postfix_readable reading.min h e = tt
-  postfix_readable (reading.max {i = i} {j = j}) h e = counts i j (none_right _ _ (none_left _ _ h))
-  postfix_readable (reading.min_max {k = k} {l = l}) h e = counts k l (none_right _ _ (none_left _ _ (none_right _ _ h)))
+  postfix_readable (reading.max {number_at = i} {number_to = j}) h e = counts i j (none_right _ _ (none_left _ _ h))
+  postfix_readable (reading.min_max {most_at = k} {most_to = l}) h e = counts k l (none_right _ _ (none_left _ _ (none_right _ _ h)))
 
   -- the trees in a tree, and those behind it, where there is no fault
-  inner_none : (r : Text) (i j : ℕ) (inner us : Trees) → first_fault text (Tree r i j inner us) ≡ None → first_fault text inner ≡ None
+  inner_none : (r : Text) (i j : ℕ) (inner us : Trees) → first_fault text (Tree r i j inner us) ≡ None
+      → first_fault text inner ≡ None
   inner_none r i j inner us h = none_left _ _ (none_right (own_fault text r i j inner us) _ h)
 
-  behind_none : (r : Text) (i j : ℕ) (inner us : Trees) → first_fault text (Tree r i j inner us) ≡ None → first_fault text us ≡ None
+  behind_none : (r : Text) (i j : ℕ) (inner us : Trees) → first_fault text (Tree r i j inner us) ≡ None
+      → first_fault text us ≡ None
   behind_none r i j inner us h = none_right (first_fault text inner) _ (none_right (own_fault text r i j inner us) _ h)
 
   -- a number is judged by whether a closing brace is behind it
-  own_fault-behind : (r : Text) (i j : ℕ) (inner us vs : Trees) → closes us ≡ closes vs → own_fault text r i j inner us ≡ own_fault text r i j inner vs
+  own_fault-behind : (r : Text) (i j : ℕ) (inner us vs : Trees) → closes us ≡ closes vs
+      → own_fault text r i j inner us ≡ own_fault text r i j inner vs
   unfolding own_fault
   own_fault-behind r i j inner us vs h = rw h refl
 
@@ -101,7 +105,8 @@ module _ (text : List ℕ) where
   closes-joined (Tree r i j inner us) vs h = refl
 
   -- a front of trees without a fault
-  front_none : (us vs : Trees) → closes vs ≡ false → first_fault text (joined us vs) ≡ None → first_fault text us ≡ None
+  front_none : (us vs : Trees) → closes vs ≡ false → first_fault text (joined us vs) ≡ None
+      → first_fault text us ≡ None
   front_none None' vs c h = refl
   front_none (Tree r i j inner us) vs c h =
       let own = none_left (own_fault text r i j inner (joined us vs)) _ h in
@@ -112,7 +117,8 @@ module _ (text : List ℕ) where
   rest_none None' vs h = h
   rest_none (Tree r i j inner us) vs h = rest_none us vs (behind_none _ _ _ inner (joined us vs) h)
 
-  terminal_readable : {r : Text} {i j : ℕ} {us : Trees} {e : Expression} → Terminal text r i j us e → IsReadable e
+  terminal_readable : {r : Text} {i j : ℕ} {us : Trees} {e : Expression} → Terminal text r i j us e
+      → IsReadable e
   terminal_readable reading.identifier p whole = tt
   terminal_readable reading.string p whole = tt
   terminal_readable reading.insensitive p whole = tt
@@ -122,16 +128,19 @@ module _ (text : List ℕ) where
   terminal_readable reading.slice_to p whole = tt
   terminal_readable reading.slice_between p whole = tt
 
-  postfixed_readable : {x y : Spanned} {us : Trees} → Postfixed text x us y → first_fault text us ≡ None → IsReadable (without_spans x) → IsReadable (without_spans y)
+  postfixed_readable : {x y : Spanned} {us : Trees} → Postfixed text x us y → first_fault text us ≡ None
+      → IsReadable (without_spans x) → IsReadable (without_spans y)
   postfixed_readable done h k = k
   postfixed_readable (more {x = x} {inner = inner} {us = us} {f = f} p d) h k =
       postfixed_readable d (behind_none _ _ _ inner us h) (one f (without_spans x) (postfix_readable p (inner_none _ _ _ inner us h) (without_spans x)) k)
 
   -- the trees in brackets of some kind
-  bracketed : (r q : Text) (i j k l : ℕ) (inner us : Trees) → first_fault text (Tree r i j None' (Tree q k l inner us)) ≡ None → first_fault text inner ≡ None
+  bracketed : (r q : Text) (i j k l : ℕ) (inner us : Trees)
+      → first_fault text (Tree r i j None' (Tree q k l inner us)) ≡ None → first_fault text inner ≡ None
   bracketed r q i j k l inner us h = inner_none _ _ _ inner us (behind_none _ _ _ None' _ h)
 
-  reads_readable : {part : ReadPart} {us : Trees} {x : Spanned} → Reads text part us x → first_fault text us ≡ None → IsReadable (without_spans x)
+  reads_readable : {part : ReadPart} {us : Trees} {x : Spanned} → Reads text part us x
+      → first_fault text us ≡ None → IsReadable (without_spans x)
   reads_readable (barred {us = us} d) h = reads_readable d (behind_none _ _ _ None' us h)
   reads_readable (unbarred d) h = reads_readable d h
   reads_readable (one_alternative d) h = reads_readable d h
@@ -146,7 +155,7 @@ module _ (text : List ℕ) where
   reads_readable (bare {inner = inner} {us = us} (leaf t) q) h = postfixed_readable q (behind_none _ _ _ inner us h) (terminal_readable t)
   reads_readable (bare {inner = inner} {us = us} (pushed {inner = body} {us = vs} d) q) h =
       postfixed_readable q (behind_none _ _ _ inner us h) (one Push _ tt (reads_readable d (bracketed _ _ _ _ _ _ body _ (inner_none _ _ _ inner us h))))
-  reads_readable (grouped {i = i} {n = n} {inner = inner} {us = us} {x = x} {y = y} d q) h =
+  reads_readable (grouped {open_at = i} {close_to = n} {inner = inner} {us = us} {x = x} {y = y} d q) h =
       let behind = behind_none _ _ _ None' us (behind_none _ _ _ inner _ (behind_none _ _ _ None' _ h)) in
       moved _ y (postfixed_readable q behind (moved _ x (reads_readable d (bracketed _ _ _ _ _ _ inner _ h))))
   reads_readable (leaf t) h = terminal_readable t
@@ -156,16 +165,19 @@ module _ (text : List ℕ) where
   abbrev pub BodyIsReadable : Rule → Type 0
   BodyIsReadable r = IsReadable r.body
 
-  rule_readable : {us : Trees} {r : SpannedRule} → ReadsRule text us (Some r) → first_fault text us ≡ None → IsReadable (without_spans r.body)
+  rule_readable : {us : Trees} {r : SpannedRule} → ReadsRule text us (Some r) → first_fault text us ≡ None
+      → IsReadable (without_spans r.body)
   rule_readable (normal {body = body} d) h = reads_readable d (bracketed _ _ _ _ _ _ body _ (behind_none _ _ _ None' _ (behind_none _ _ _ None' _ h)))
   rule_readable (modified {body = body} m d) h = reads_readable d (bracketed _ _ _ _ _ _ body _ (behind_none _ _ _ None' _ (behind_none _ _ _ None' _ (behind_none _ _ _ None' _ h))))
 
-  rules_readable : {us : Trees} {rs : List SpannedRule} → ReadsRules text us rs → first_fault text us ≡ None → All BodyIsReadable (rules_without_spans rs)
+  rules_readable : {us : Trees} {rs : List SpannedRule} → ReadsRules text us rs → first_fault text us ≡ None
+      → All BodyIsReadable (rules_without_spans rs)
   rules_readable end_of_input h = All-nil BodyIsReadable
   rules_readable (grammar_doc {inner = inner} {us = us} d) h = rules_readable d (behind_none _ _ _ inner us h)
   rules_readable (documented {inner = inner} {us = us} e d) h = rules_readable d (behind_none _ _ _ inner us h)
   rules_readable (defined {inner = inner} {us = us} e d) h =
       All-cons BodyIsReadable _ _ (rule_readable e (inner_none _ _ _ inner us h)) (rules_readable d (behind_none _ _ _ inner us h))
 
-  pub counts_readable : {us : Trees} {rs : List SpannedRule} → ReadsRules text us rs → first_fault text us ≡ None → HasReadableCounts (rules_without_spans rs)
+  pub counts_readable : {us : Trees} {rs : List SpannedRule} → ReadsRules text us rs
+      → first_fault text us ≡ None → HasReadableCounts (rules_without_spans rs)
   counts_readable {rs = rs} d h p i = All-contains BodyIsReadable (rules_without_spans rs) i.0 (rules_readable d h) i.1 p i.2

@@ -2,22 +2,22 @@
 use Rattle.std.proofs.Common.{◌≡◌, refl, sym, ℕ, List, Option, Some, None, pos, ℤ, Bool, true, false, not, if◌then◌else◌}
 use Rattle.std.specs.Prelude.{codes, unwrap_or}
 use Rattle.std.specs.Str.{all_scalars}
-use Rattle.meta_base.specs.Text.{Text}
-use Rattle.meta_base.specs.Expression.{Expression, Str, Insens, Range, PeekSlice}
-use Rattle.meta_base.specs.State.{Trees, None', Tree}
+use Rattle.meta_base.specs.Language.Text.{Text}
+use Rattle.meta_base.specs.Language.Expression.{Expression, Str, Insens, Range, PeekSlice}
+use Rattle.meta_base.specs.Language.State.{Trees, None', Tree}
 use Rattle.meta_reader.specs.Faults.{first_fault, own_fault, wrong_literal, past_i32, or_else, Fault, PushLiteralCalled}
 use Rattle.meta_reader.specs.Reading as reading
 use Rattle.meta_reader.specs.Reading.{Terminal, literal, integer, piece}
-use Rattle.meta_base.specs.MetaRules.{name_of}
+use Rattle.meta_base.specs.Pieces.MetaRules.{name_of}
 use Rattle.meta_syntax.specs.Shape.{Mark, IsQuoted, in_quotes, in_single_quotes, IsTerminal, identifier, string, insensitive, range, slice, push_literal, IsInteger, MayBeNumber, IsSlice, in_brackets, IsSliceStart, IsSliceEnd}
 use Rattle.meta_syntax.specs.Shape as shape
 use Rattle.meta_reader.specs.Views as views
 use Rattle.meta_reader.specs.Views.{TakesNumber, TakesBound}
 use Rattle.meta_base.specs.declared.grammar.Rule.{Rule}
 use Rattle.meta_base.specs.declared.grammar.Rule.TheVariants as rule_is
-use Rattle.meta_reader.proofs.Answers.{or_none}
+use Rattle.meta_reader.proofs.FaultsInOrder.{or_none}
 use Rattle.meta_reader.specs.Pieces.{StandIn}
-use Rattle.meta_reader.proofs.Pieces.{stand_behind}
+use Rattle.meta_reader.proofs.TreesStandInText.{stand_behind}
 use Rattle.meta_base.proofs.MetaNames.{name_of-injective}
 
 pub quiet_quoted : (text : List ℕ) {us : Trees} → IsQuoted us → first_fault text us ≡ None
@@ -29,10 +29,12 @@ quiet_quoted text in_single_quotes = refl
 pub record HoldsLiterals (text : List ℕ) (us : Trees) (a b e f : ℕ) (low high : Trees) : Type 0 where
   pub low_quoted : IsQuoted low
   pub high_quoted : IsQuoted high
-  pub fault : (i j : ℕ) → first_fault text (Tree (codes "range") i j us None') ≡ or_else (wrong_literal text a b low) (wrong_literal text e f high)
+  pub fault : (i j : ℕ) → first_fault text (Tree (codes "range") i j us None') ≡ or_else
+      (wrong_literal text a b low) (wrong_literal text e f high)
   pub reads : (i j : ℕ) → Terminal text (codes "range") i j us (Range (literal text low) (literal text high))
 
-pub range_trees : {text : List ℕ} {r s t : Text} {a b c d e f : ℕ} {us vs ws xs : Trees} → IsTerminal text (codes "range") (Tree r a b us (Tree s c d vs (Tree t e f ws xs)))
+pub range_trees : {text : List ℕ} {r s t : Text} {a b c d e f : ℕ} {us vs ws xs : Trees}
+    → IsTerminal text (codes "range") (Tree r a b us (Tree s c d vs (Tree t e f ws xs)))
     → HoldsLiterals text (Tree r a b us (Tree s c d vs (Tree t e f ws xs))) a b e f us ws
 unfolding own_fault
 range_trees {text} {a = a} {b = b} {e = e} {f = f} {us = us} {ws = ws} (range h k) = record {
@@ -45,14 +47,18 @@ range_trees {text} {a = a} {b = b} {e = e} {f = f} {us = us} {ws = ws} (range h 
 -- a number of a slice that stands first
 pub record NumberFirst (text : List ℕ) (i j : ℕ) (inner us : Trees) : Type 0 where
   pub digits : IsInteger text i j
-  pub fault : first_fault text (Tree (codes "integer") i j inner us) ≡ or_else (past_i32 text i j) (first_fault text us)
+  pub fault : first_fault text (Tree (codes "integer") i j inner us) ≡ or_else (past_i32 text i j)
+      (first_fault text us)
   pub takes : TakesNumber text (Tree (codes "integer") i j inner us) (Some (integer text i j)) us
 
-pub number_first : {text : List ℕ} {i j : ℕ} {inner us : Trees} → MayBeNumber text (Tree (codes "integer") i j inner us) → NumberFirst text i j inner us
+pub number_first : {text : List ℕ} {i j : ℕ} {inner us : Trees}
+    → MayBeNumber text (Tree (codes "integer") i j inner us) → NumberFirst text i j inner us
 unfolding own_fault
 number_first (shape.a_number h) = record { digits = h; fault = refl; takes = views.a_number }
 
-pub no_number : {text : List ℕ} {n : Text} {i j : ℕ} {inner us : Trees} (r : Rule) → MayBeNumber text (Tree n i j inner us) → n ≡ name_of r → ¬ (r ≡ rule_is.integer) → TakesNumber text (Tree n i j inner us) None (Tree n i j inner us)
+pub no_number : {text : List ℕ} {n : Text} {i j : ℕ} {inner us : Trees} (r : Rule)
+    → MayBeNumber text (Tree n i j inner us) → n ≡ name_of r → ¬ (r ≡ rule_is.integer)
+    → TakesNumber text (Tree n i j inner us) None (Tree n i j inner us)
 no_number r (shape.a_number h) e d = absurd (d (name_of-injective r rule_is.integer (sym e)))
 no_number r shape.the_dots e d = views.the_dots
 no_number r shape.the_end e d = views.the_end
@@ -61,7 +67,8 @@ no_number r shape.the_end e d = views.the_end
 pub data AtDots (text : List ℕ) : Trees → Type 0 where
   at_dots : {a b : ℕ} {us : Trees} → IsSliceEnd text us → AtDots text (Mark (codes "range_operator") a b us)
 
-pub in_slice : {text : List ℕ} {r : Text} {a b : ℕ} {inner us : Trees} → IsSlice text (Tree r a b inner us) → IsSliceStart text us
+pub in_slice : {text : List ℕ} {r : Text} {a b : ℕ} {inner us : Trees} → IsSlice text (Tree r a b inner us)
+    → IsSliceStart text us
 in_slice (in_brackets h) = h
 
 pub start_number : {text : List ℕ} {us : Trees} → IsSliceStart text us → MayBeNumber text us
@@ -72,37 +79,47 @@ pub end_number : {text : List ℕ} {us : Trees} → IsSliceEnd text us → MayBe
 end_number shape.open_end = shape.the_end
 end_number (shape.up_to h) = shape.a_number h
 
-pub to_dots : {text : List ℕ} {us rest : Trees} {n : Option ℤ} → IsSliceStart text us → TakesNumber text us n rest → AtDots text rest
+pub to_dots : {text : List ℕ} {us rest : Trees} {n : Option ℤ} → IsSliceStart text us
+    → TakesNumber text us n rest → AtDots text rest
 to_dots (shape.open_start h) views.the_dots = at_dots h
 to_dots (shape.from h k) views.a_number = at_dots k
 
 pub no_dots : {text : List ℕ} → AtDots text None' → ⊥
 no_dots h = elim h [ ]
 
-pub behind_dots : {text : List ℕ} {r : Text} {a b : ℕ} {inner us : Trees} → AtDots text (Tree r a b inner us) → IsSliceEnd text us
+pub behind_dots : {text : List ℕ} {r : Text} {a b : ℕ} {inner us : Trees} → AtDots text (Tree r a b inner us)
+    → IsSliceEnd text us
 behind_dots (at_dots h) = h
 
-pub dots_fault : {text : List ℕ} {r : Text} {a b : ℕ} {inner us : Trees} → AtDots text (Tree r a b inner us) → first_fault text (Tree r a b inner us) ≡ first_fault text us
+pub dots_fault : {text : List ℕ} {r : Text} {a b : ℕ} {inner us : Trees} → AtDots text (Tree r a b inner us)
+    → first_fault text (Tree r a b inner us) ≡ first_fault text us
 unfolding own_fault
 dots_fault (at_dots h) = refl
 
-pub end_fault : {text : List ℕ} {us rest : Trees} {n : Option ℤ} → IsSliceEnd text us → TakesNumber text us n rest → first_fault text rest ≡ None
+pub end_fault : {text : List ℕ} {us rest : Trees} {n : Option ℤ} → IsSliceEnd text us
+    → TakesNumber text us n rest → first_fault text rest ≡ None
 unfolding own_fault
 end_fault shape.open_end views.the_end = refl
 end_fault (shape.up_to h) views.a_number = refl
 
-pub slice_fault : {text : List ℕ} {r : Text} {a b : ℕ} {inner us : Trees} (i j : ℕ) → IsSlice text (Tree r a b inner us) → first_fault text (Tree (codes "peek_slice") i j (Tree r a b inner us) None') ≡ first_fault text us
+pub slice_fault : {text : List ℕ} {r : Text} {a b : ℕ} {inner us : Trees} (i j : ℕ)
+    → IsSlice text (Tree r a b inner us)
+    → first_fault text (Tree (codes "peek_slice") i j (Tree r a b inner us) None') ≡ first_fault text us
 unfolding own_fault
 slice_fault {text} {us = us} i j (in_brackets h) = or_none (first_fault text us)
 
-pub slice_reads : {text : List ℕ} {a b c d : ℕ} {r s : Text} {us vs ws xs rest : Trees} {low high : Option ℤ} (i j : ℕ) → IsSlice text (Tree r a b vs us) → TakesNumber text us low (Tree s c d ws xs) → TakesNumber text xs high rest
+pub slice_reads : {text : List ℕ} {a b c d : ℕ} {r s : Text}
+    {us vs ws xs rest : Trees} {low high : Option ℤ} (i j : ℕ)
+    → IsSlice text (Tree r a b vs us) → TakesNumber text us low (Tree s c d ws xs)
+    → TakesNumber text xs high rest
     → Terminal text (codes "peek_slice") i j (Tree r a b vs us) (PeekSlice (unwrap_or low (pos 0)) high)
 slice_reads i j (in_brackets (shape.open_start shape.open_end)) views.the_dots views.the_end = reading.slice
 slice_reads i j (in_brackets (shape.open_start (shape.up_to h))) views.the_dots views.a_number = reading.slice_to
 slice_reads i j (in_brackets (shape.from h shape.open_end)) views.a_number views.the_end = reading.slice_from
 slice_reads i j (in_brackets (shape.from h (shape.up_to k))) views.a_number views.a_number = reading.slice_between
 
-pub takes_standing : {text : List ℕ} {us rest : Trees} {n : Option ℤ} → StandIn text us → TakesNumber text us n rest → StandIn text rest
+pub takes_standing : {text : List ℕ} {us rest : Trees} {n : Option ℤ} → StandIn text us
+    → TakesNumber text us n rest → StandIn text rest
 takes_standing h views.a_number = stand_behind h
 takes_standing h views.the_dots = h
 takes_standing h views.the_end = h
@@ -113,7 +130,8 @@ pub record IsLiteral (text : List ℕ) (r : Text) (us inner : Trees) (f : Text �
   pub fault : (i j : ℕ) → first_fault text (Tree r i j us None') ≡ wrong_literal text i j inner
   pub reads : (i j : ℕ) → Terminal text r i j us (f (literal text inner))
 
-pub string_trees : {text : List ℕ} {us : Trees} → IsTerminal text (codes "string") us → IsLiteral text (codes "string") us us Str
+pub string_trees : {text : List ℕ} {us : Trees} → IsTerminal text (codes "string") us
+    → IsLiteral text (codes "string") us us Str
 unfolding own_fault
 string_trees {text} {us} (string h) = record {
   quoted = h;
@@ -121,12 +139,15 @@ string_trees {text} {us} (string h) = record {
   reads = λ i j. reading.string;
 }
 
-wrong_twice : (b : Bool) (f g : Fault) → or_else (if b then Some f else None) (or_else (or_else (if b then Some g else None) None) None) ≡ (if b then Some f else None)
+wrong_twice : (b : Bool) (f g : Fault) → or_else (if b then Some f else None)
+    (or_else (or_else (if b then Some g else None) None) None) ≡ (if b then Some f else None)
 wrong_twice true f g = refl
 wrong_twice false f g = refl
 
 -- the literal of an insensitive string has the fault of the whole, and so does the string in it, behind it
-pub insensitive_trees : {text : List ℕ} {r : Text} {a b : ℕ} {us vs : Trees} → IsTerminal text (codes "insensitive_string") (Tree r a b us vs) → IsLiteral text (codes "insensitive_string") (Tree r a b us vs) us Insens
+pub insensitive_trees : {text : List ℕ} {r : Text} {a b : ℕ} {us vs : Trees}
+    → IsTerminal text (codes "insensitive_string") (Tree r a b us vs)
+    → IsLiteral text (codes "insensitive_string") (Tree r a b us vs) us Insens
 unfolding own_fault
 insensitive_trees {text} {a = a} {b = b} {us = us} (insensitive h) = record {
   quoted = h;
@@ -134,16 +155,21 @@ insensitive_trees {text} {a = a} {b = b} {us = us} (insensitive h) = record {
   reads = λ i j. reading.insensitive;
 }
 
-pub identifier_trees : {text : List ℕ} {us : Trees} (i j : ℕ) → IsTerminal text (codes "identifier") us → first_fault text (Tree (codes "identifier") i j us None') ≡ None
+pub identifier_trees : {text : List ℕ} {us : Trees} (i j : ℕ) → IsTerminal text (codes "identifier") us
+    → first_fault text (Tree (codes "identifier") i j us None') ≡ None
 unfolding own_fault
 identifier_trees i j identifier = refl
 
-pub push_literal_fault : (text : List ℕ) (us : Trees) (i j : ℕ) → first_fault text (Tree (codes "_push_literal") i j us None') ≡ Some (record { cause = PushLiteralCalled; span = piece text i j })
+pub push_literal_fault : (text : List ℕ) (us : Trees) (i j : ℕ) → first_fault text
+    (Tree (codes "_push_literal") i j us None') ≡ Some
+    (record { cause = PushLiteralCalled; span = piece text i j })
 unfolding own_fault
 push_literal_fault text us i j = refl
 
 -- a terminal's rule is one of six
-pub terminal_rule : {text : List ℕ} {n : Text} {us : Trees} (r : Rule) → IsTerminal text n us → n ≡ name_of r → ¬ (r ≡ rule_is.identifier) → ¬ (r ≡ rule_is.string) → ¬ (r ≡ rule_is.insensitive_string) → ¬ (r ≡ rule_is.range) → ¬ (r ≡ rule_is.peek_slice) → ¬ (r ≡ rule_is._push_literal) → ⊥
+pub terminal_rule : {text : List ℕ} {n : Text} {us : Trees} (r : Rule) → IsTerminal text n us → n ≡ name_of r
+    → ¬ (r ≡ rule_is.identifier) → ¬ (r ≡ rule_is.string) → ¬ (r ≡ rule_is.insensitive_string)
+    → ¬ (r ≡ rule_is.range) → ¬ (r ≡ rule_is.peek_slice) → ¬ (r ≡ rule_is._push_literal) → ⊥
 terminal_rule r identifier e a b c d f g = a (name_of-injective r rule_is.identifier (sym e))
 terminal_rule r (string h) e a b c d f g = b (name_of-injective r rule_is.string (sym e))
 terminal_rule r (insensitive h) e a b c d f g = c (name_of-injective r rule_is.insensitive_string (sym e))

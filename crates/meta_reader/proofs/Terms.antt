@@ -1,39 +1,42 @@
 -- Terms and nodes, by the trees in them.
-use Rattle.meta_reader.proofs.PieceFacts.{piece_in}
+use Rattle.meta_reader.proofs.SpansArePieces.{piece_in}
 use Rattle.std.proofs.Common.{◌≡◌, ◌<◌, ℕ, List, None, refl, sym, ap, ◌∙◌, arith}
 use Rattle.std.specs.Prelude.{codes}
-use Rattle.meta_base.specs.Text.{Text}
-use Rattle.meta_base.specs.State.{Trees, None', Tree}
+use Rattle.meta_base.specs.Language.Text.{Text}
+use Rattle.meta_base.specs.Language.State.{Trees, None', Tree}
 use Rattle.meta_reader.specs.Faults.{first_fault, own_fault, or_else}
 use Rattle.meta_reader.specs.Pieces.{IsPiece, Nested, StandIn}
 use Rattle.meta_reader.specs.Reading as reading
 use Rattle.meta_reader.specs.Reading.{Reads, Postfixed, AnExpression, ATerm, ANode, piece}
-use Rattle.meta_base.specs.MetaRules.{name_of}
-use Rattle.meta_syntax.specs.Shape.{Mark, IsExpression, IsTerm, IsNode, IsTerminal, ArePostfixes, tagged, predicate, grouped, bare, terminal, pushed, positive, negative, identifier, string, insensitive, range, slice, push_literal}
+use Rattle.meta_base.specs.Pieces.MetaRules.{name_of}
+use Rattle.meta_syntax.specs.Shape.{Mark, IsExpression, IsTerm, IsNode, IsTerminal, ArePostfixes, tagged, predicate, bare, terminal, pushed, identifier, string, insensitive, range, slice, push_literal}
 use Rattle.meta_nodes.specs.Spanned as spanned
 use Rattle.meta_nodes.specs.Spanned.{Spanned, One, PosPred, NegPred, Push, span_of, start_of, end_of, placed, starting, ending}
+use Rattle.meta_reader.specs.Signs.{IsOperand, group, node}
 use Rattle.meta_reader.specs.Views.{StandsBefore, count_of}
 use Rattle.meta_nodes.specs.Nodes.{view, piece_of}
 use Rattle.meta_base.specs.declared.grammar.Rule.{Rule}
 use Rattle.meta_base.specs.declared.grammar.Rule.TheVariants as rule_is
 use Rattle.meta_nodes.specs.declared.node.ParserNode.{ParserNode}
-use Rattle.meta_reader.proofs.Answers.{or_none, or_assoc}
+use Rattle.meta_reader.proofs.FaultsInOrder.{or_none, or_assoc}
 use Rattle.meta_reader.proofs.Chains.{same_text}
 use Rattle.meta_reader.proofs.Nodes.{span_of-view, start_of-view, end_of-view, view_at-placed}
-use Rattle.meta_reader.proofs.Pieces.{nested_from, nested_order}
+use Rattle.meta_reader.proofs.TreesStandInText.{nested_from, nested_order}
 use Rattle.meta_base.proofs.MetaNames.{name_of-injective}
-use Rattle.meta_reader.proofs.Within.{reads_within, span_of-placed}
+use Rattle.meta_reader.proofs.NodesStandInTrees.{reads_within, span_of-placed}
 
 pub no_term : {text : List ℕ} → IsTerm text None' → ⊥
 no_term h = elim h [ ]
 
 -- a tag
 
-pub lone_tag : {text : List ℕ} {i j : ℕ} {inner : Trees} → IsTerm text (Tree (codes "tag_id") i j inner None') → ⊥
+pub lone_tag : {text : List ℕ} {i j : ℕ} {inner : Trees}
+    → IsTerm text (Tree (codes "tag_id") i j inner None') → ⊥
 lone_tag (predicate p h) = elim p [ ]
 lone_tag (bare (terminal h) k) = elim h [ ]
 
-pub tag_tree : {text : List ℕ} {n : Text} {i j k l : ℕ} {inner vs us : Trees} → IsTerm text (Tree (codes "tag_id") i j inner (Tree n k l vs us))
+pub tag_tree : {text : List ℕ} {n : Text} {i j k l : ℕ} {inner vs us : Trees}
+    → IsTerm text (Tree (codes "tag_id") i j inner (Tree n k l vs us))
     → IsTerm text us × (first_fault text (Tree (codes "tag_id") i j inner (Tree n k l vs us)) ≡ first_fault text us) × ((x : Spanned) → Reads text ATerm us x → Reads text ATerm (Tree (codes "tag_id") i j inner (Tree n k l vs us)) x)
 unfolding own_fault
 tag_tree (tagged h) = (h, refl, λ x d. reading.tagged d)
@@ -44,61 +47,67 @@ tag_tree (bare (terminal h) k) = elim h [ ]
 pub record IsPredicate (text : List ℕ) (r : Text) (i j : ℕ) (inner us : Trees) (f : spanned.Unary) : Type 0 where
   pub operand : IsTerm text us
   pub fault : first_fault text (Tree r i j inner us) ≡ first_fault text us
-  pub reads : (x : Spanned) → Reads text ATerm us x → Reads text ATerm (Tree r i j inner us) (One (piece text i (end_of x)) f x)
+  pub reads : (x : Spanned) → Reads text ATerm us x
+      → Reads text ATerm (Tree r i j inner us) (One (piece text i (end_of x)) f x)
 
-pub positive_tree : {text : List ℕ} {i j : ℕ} {inner us : Trees} → IsTerm text (Tree (codes "positive_predicate_operator") i j inner us) → IsPredicate text (codes "positive_predicate_operator") i j inner us PosPred
+pub positive_tree : {text : List ℕ} {i j : ℕ} {inner us : Trees}
+    → IsTerm text (Tree (codes "positive_predicate_operator") i j inner us)
+    → IsPredicate text (codes "positive_predicate_operator") i j inner us PosPred
 unfolding own_fault
 positive_tree (predicate p h) = record { operand = h; fault = refl; reads = λ x d. reading.pos_pred d }
 positive_tree (bare (terminal h) k) = elim h [ ]
 
-pub negative_tree : {text : List ℕ} {i j : ℕ} {inner us : Trees} → IsTerm text (Tree (codes "negative_predicate_operator") i j inner us) → IsPredicate text (codes "negative_predicate_operator") i j inner us NegPred
+pub negative_tree : {text : List ℕ} {i j : ℕ} {inner us : Trees}
+    → IsTerm text (Tree (codes "negative_predicate_operator") i j inner us)
+    → IsPredicate text (codes "negative_predicate_operator") i j inner us NegPred
 unfolding own_fault
 negative_tree (predicate p h) = record { operand = h; fault = refl; reads = λ x d. reading.neg_pred d }
 negative_tree (bare (terminal h) k) = elim h [ ]
 
 -- parentheses
 
-pub paren_tree : {text : List ℕ} {i j : ℕ} {inner us : Trees} → IsTerm text (Tree (codes "opening_paren") i j inner us) → inner ≡ None'
-paren_tree (predicate p h) = elim p [ ]
-paren_tree (grouped h k) = refl
-paren_tree (bare (terminal h) k) = elim h [ ]
+pub paren_tree : {text : List ℕ} {i j : ℕ} {inner us : Trees}
+    → IsOperand text (Tree (codes "opening_paren") i j inner us) → inner ≡ None'
+paren_tree (group h k) = refl
+paren_tree (node (terminal h) k) = elim h [ ]
 
-pub lone_paren : {text : List ℕ} {i j : ℕ} → IsTerm text (Mark (codes "opening_paren") i j None') → ⊥
-lone_paren (predicate p h) = elim p [ ]
-lone_paren (bare (terminal h) k) = elim h [ ]
+pub lone_paren : {text : List ℕ} {i j : ℕ} → IsOperand text (Mark (codes "opening_paren") i j None') → ⊥
+lone_paren (node (terminal h) k) = elim h [ ]
 
-pub open_group : {text : List ℕ} {n : Text} {i j k l : ℕ} {inner : Trees} → IsTerm text (Mark (codes "opening_paren") i j (Tree n k l inner None')) → ⊥
-open_group (predicate p h) = elim p [ ]
-open_group (bare (terminal h) k) = elim h [ ]
+pub open_group : {text : List ℕ} {n : Text} {i j k l : ℕ} {inner : Trees}
+    → IsOperand text (Mark (codes "opening_paren") i j (Tree n k l inner None')) → ⊥
+open_group (node (terminal h) k) = elim h [ ]
 
 pub record IsGroup (text : List ℕ) (us inner operators : Trees) (i q : ℕ) : Type 0 where
   pub inside : IsExpression text inner
   pub behind : ArePostfixes text operators
   pub fault : first_fault text us ≡ or_else (first_fault text inner) (first_fault text operators)
-  pub reads : (x y : Spanned) → Reads text AnExpression inner x → Postfixed text (ending q x) operators y → Reads text ATerm us (starting i y)
+  pub reads : (x y : Spanned) → Reads text AnExpression inner x
+      → Postfixed text (ending q x) operators y → Reads text ATerm us (starting i y)
 
-pub group_tree : {text : List ℕ} {n o : Text} {i j k l m q : ℕ} {inner ws us : Trees} → IsTerm text (Mark (codes "opening_paren") i j (Tree n k l inner (Tree o m q ws us)))
+pub group_tree : {text : List ℕ} {n o : Text} {i j k l m q : ℕ} {inner ws us : Trees}
+    → IsOperand text (Mark (codes "opening_paren") i j (Tree n k l inner (Tree o m q ws us)))
     → IsGroup text (Mark (codes "opening_paren") i j (Tree n k l inner (Tree o m q ws us))) inner us i q
 unfolding own_fault
-group_tree (predicate p h) = elim p [ ]
-group_tree (grouped h k) = record { inside = h; behind = k; fault = refl; reads = λ x y d e. reading.grouped d e }
-group_tree (bare (terminal h) k) = elim h [ ]
+group_tree (group h k) = record { inside = h; behind = k; fault = refl; reads = λ x y d e. reading.grouped d e }
+group_tree (node (terminal h) k) = elim h [ ]
 
 -- the others: a node, and operators
 
-pub node_tree : {text : List ℕ} {n : Text} {i j : ℕ} {inner us : Trees} (r : Rule) → IsTerm text (Tree n i j inner us) → n ≡ name_of r → ¬ (r ≡ rule_is.tag_id) → ¬ (r ≡ rule_is.positive_predicate_operator) → ¬ (r ≡ rule_is.negative_predicate_operator) → ¬ (r ≡ rule_is.opening_paren) → IsNode text n inner × ArePostfixes text us
-node_tree r (tagged h) e a b c d = absurd (a (name_of-injective r rule_is.tag_id (sym e)))
-node_tree r (predicate positive h) e a b c d = absurd (b (name_of-injective r rule_is.positive_predicate_operator (sym e)))
-node_tree r (predicate negative h) e a b c d = absurd (c (name_of-injective r rule_is.negative_predicate_operator (sym e)))
-node_tree r (grouped h k) e a b c d = absurd (d (name_of-injective r rule_is.opening_paren (sym e)))
-node_tree r (bare h k) e a b c d = (h, k)
+pub node_tree : {text : List ℕ} {n : Text} {i j : ℕ} {inner us : Trees} (r : Rule)
+    → IsOperand text (Tree n i j inner us) → n ≡ name_of r → ¬ (r ≡ rule_is.opening_paren)
+    → IsNode text n inner × ArePostfixes text us
+node_tree r (group h k) e d = absurd (d (name_of-injective r rule_is.opening_paren (sym e)))
+node_tree r (node h k) e d = (h, k)
 
-pub terminal_tree : {text : List ℕ} {n : Text} {us : Trees} (r : Rule) → IsNode text n us → n ≡ name_of r → ¬ (r ≡ rule_is._push) → IsTerminal text n us
+pub terminal_tree : {text : List ℕ} {n : Text} {us : Trees} (r : Rule) → IsNode text n us → n ≡ name_of r
+    → ¬ (r ≡ rule_is._push) → IsTerminal text n us
 terminal_tree r (terminal h) e d = h
 terminal_tree r (pushed h) e d = absurd (d (name_of-injective r rule_is._push (sym e)))
 
 -- the fault of a tree that has no other behind it, with one behind it
-quiet_behind : (text : List ℕ) {n : Text} (i j : ℕ) (inner us : Trees) → IsNode text n inner → own_fault text n i j inner us ≡ own_fault text n i j inner None'
+quiet_behind : (text : List ℕ) {n : Text} (i j : ℕ) (inner us : Trees) → IsNode text n inner
+    → own_fault text n i j inner us ≡ own_fault text n i j inner None'
 unfolding own_fault
 quiet_behind text i j inner us (terminal identifier) = refl
 quiet_behind text i j inner us (terminal (string h)) = refl
@@ -108,7 +117,9 @@ quiet_behind text i j inner us (terminal (slice h)) = refl
 quiet_behind text i j inner us (terminal push_literal) = refl
 quiet_behind text i j inner us (pushed h) = refl
 
-pub node_fault : (text : List ℕ) {n : Text} (i j : ℕ) (inner us : Trees) → IsNode text n inner → first_fault text (Tree n i j inner us) ≡ or_else (first_fault text (Tree n i j inner None')) (first_fault text us)
+pub node_fault : (text : List ℕ) {n : Text} (i j : ℕ) (inner us : Trees) → IsNode text n inner
+    → first_fault text (Tree n i j inner us) ≡ or_else (first_fault text (Tree n i j inner None'))
+    (first_fault text us)
 node_fault text {n} i j inner us h =
     rw (quiet_behind text i j inner us h, or_none (first_fault text inner)) (sym (or_assoc (own_fault text n i j inner None') (first_fault text inner) (first_fault text us)))
 
@@ -117,31 +128,29 @@ node_fault text {n} i j inner us h =
 pub lone_push : {text : List ℕ} → IsNode text (codes "_push") None' → ⊥
 lone_push (terminal h) = elim h [ ]
 
-pub open_push : {text : List ℕ} {n : Text} {i j : ℕ} {inner : Trees} → IsNode text (codes "_push") (Tree n i j inner None') → ⊥
+pub open_push : {text : List ℕ} {n : Text} {i j : ℕ} {inner : Trees}
+    → IsNode text (codes "_push") (Tree n i j inner None') → ⊥
 open_push (terminal h) = elim h [ ]
 
 pub record IsPush (text : List ℕ) (us inner : Trees) : Type 0 where
   pub inside : IsExpression text inner
   pub fault : (i j : ℕ) → first_fault text (Tree (codes "_push") i j us None') ≡ first_fault text inner
-  pub reads : (i j : ℕ) (x : Spanned) → Reads text AnExpression inner x → Reads text ANode (Tree (codes "_push") i j us None') (One (piece text i (end_of x)) Push x)
+  pub reads : (i j : ℕ) (x : Spanned) → Reads text AnExpression inner x
+      → Reads text ANode (Tree (codes "_push") i j us None') (One (piece text i (end_of x)) Push x)
 
-pub push_tree : {text : List ℕ} {n o : Text} {i j k l : ℕ} {vs inner us : Trees} → IsNode text (codes "_push") (Tree n i j vs (Tree o k l inner us)) → IsPush text (Tree n i j vs (Tree o k l inner us)) inner
+pub push_tree : {text : List ℕ} {n o : Text} {i j k l : ℕ} {vs inner us : Trees}
+    → IsNode text (codes "_push") (Tree n i j vs (Tree o k l inner us))
+    → IsPush text (Tree n i j vs (Tree o k l inner us)) inner
 unfolding own_fault
 push_tree (terminal h) = elim h [ ]
 push_tree {text} {inner = inner} (pushed h) = record { inside = h; fault = λ i j. or_none (or_else (first_fault text inner) None) ∙ or_none (first_fault text inner); reads = λ i j x d. reading.pushed d }
 
 -- where nodes of terms stand
 
--- from a sign to the end of what is read behind it
-pub predicate_piece : {text : List ℕ} {r : Text} {a b : ℕ} {inner us : Trees} (n : ParserNode) → StandIn text (Tree r a b inner us) → Reads text ATerm us (view n) → IsPiece text a n.span.end
-predicate_piece {text} {a = a} {b = b} {inner = inner} n s d =
-    let w = reads_within text d b s.to s.nested.4 in
-    let p = piece_in n.span (same_text n b s.to d s.nested.4) in
-    let q = rw (start_of-view n) at w.after in
-    record { starts = s.nested.1; ends = p.ends; order = omega (arith, nested_order text inner a b s.nested.3, q, p.order) }
-
 -- a node before its operators
-pub before_operators : {text : List ℕ} {r : Text} {a b : ℕ} {inner us : Trees} (n : ParserNode) → StandIn text (Tree r a b inner us) → Reads text ANode (Tree r a b inner None') (view n) → StandsBefore text n us
+pub before_operators : {text : List ℕ} {r : Text} {a b : ℕ} {inner us : Trees} (n : ParserNode)
+    → StandIn text (Tree r a b inner us) → Reads text ANode (Tree r a b inner None') (view n)
+    → StandsBefore text n us
 before_operators {text} {r} {a} {b} {inner} {us} n s d =
     let t : Nested text (Tree r a b inner None') s.from b = (s.nested.0, s.nested.1, s.nested.2, s.nested.3, omega arith) in
     let w = reads_within text d s.from b t in
@@ -155,16 +164,19 @@ count_positive None' = omega arith
 count_positive (Tree r i j inner us) = omega arith
 
 -- a node that is placed elsewhere in the text
-view_placed : (t : spanned.Span) (n x : ParserNode) → x.expr ≡ n.expr → piece_of x.span ≡ t → view x ≡ placed t (view n)
+view_placed : (t : spanned.Span) (n x : ParserNode) → x.expr ≡ n.expr → piece_of x.span ≡ t
+    → view x ≡ placed t (view n)
 view_placed t n x e f = rw (e, f) (view_at-placed (piece_of n.span) t n.expr)
 
-pub view_ending : {text : List ℕ} {j : ℕ} (n x : ParserNode) → n.span.text.now ≡ text → x.expr ≡ n.expr → piece_of x.span ≡ piece text n.span.start j → view x ≡ ending j (view n)
+pub view_ending : {text : List ℕ} {j : ℕ} (n x : ParserNode) → n.span.text.now ≡ text → x.expr ≡ n.expr
+    → piece_of x.span ≡ piece text n.span.start j → view x ≡ ending j (view n)
 view_ending {text} {j} n x h e f =
     let s = ap (λ (t : spanned.Span). record t { end = j }) (span_of-view n) in
     let k = ap (λ u. piece u n.span.start j) (sym h) ∙ sym s in
     view_placed (piece text n.span.start j) n x e f ∙ ap (λ t. placed t (view n)) k
 
-pub view_starting : {text : List ℕ} {i : ℕ} (n x : ParserNode) → n.span.text.now ≡ text → x.expr ≡ n.expr → piece_of x.span ≡ piece text i n.span.end → view x ≡ starting i (view n)
+pub view_starting : {text : List ℕ} {i : ℕ} (n x : ParserNode) → n.span.text.now ≡ text → x.expr ≡ n.expr
+    → piece_of x.span ≡ piece text i n.span.end → view x ≡ starting i (view n)
 view_starting {text} {i} n x h e f =
     let s = ap (λ (t : spanned.Span). record t { start = i }) (span_of-view n) in
     let k = ap (λ u. piece u i n.span.end) (sym h) ∙ sym s in
@@ -176,7 +188,9 @@ pub record Inside (text : List ℕ) (q : ℕ) (n : ParserNode) (operators : Tree
   pub place : IsPiece text n.span.start q
   pub before : (x : ParserNode) → piece_of x.span ≡ piece text n.span.start q → StandsBefore text x operators
 
-pub inside : {text : List ℕ} {r o p : Text} {i j k l m q : ℕ} {vs inner ws us : Trees} (n : ParserNode) → StandIn text (Tree r i j vs (Tree o k l inner (Tree p m q ws us))) → Reads text AnExpression inner (view n) → Inside text q n us
+pub inside : {text : List ℕ} {r o p : Text} {i j k l m q : ℕ} {vs inner ws us : Trees} (n : ParserNode)
+    → StandIn text (Tree r i j vs (Tree o k l inner (Tree p m q ws us)))
+    → Reads text AnExpression inner (view n) → Inside text q n us
 inside {text} {k = k} {l = l} {m = m} {q = q} {ws = ws} n s d =
     let t = s.nested.4 in
     let u = t.4 in
@@ -198,7 +212,9 @@ pub record Outermost (text : List ℕ) (i : ℕ) (n : ParserNode) : Type 0 where
   pub same_text : n.span.text.now ≡ text
   pub place : IsPiece text i n.span.end
 
-pub outermost : {text : List ℕ} {r : Text} {i j : ℕ} {vs us : Trees} (n : ParserNode) → StandIn text (Tree r i j vs us) → Reads text ATerm (Tree r i j vs us) (starting i (view n)) → Outermost text i n
+pub outermost : {text : List ℕ} {r : Text} {i j : ℕ} {vs us : Trees} (n : ParserNode)
+    → StandIn text (Tree r i j vs us) → Reads text ATerm (Tree r i j vs us) (starting i (view n))
+    → Outermost text i n
 outermost {text} {i = i} n s d =
     let w = reads_within text d s.from s.to s.nested in
     let f = span_of-placed (record (span_of (view n)) { start = i }) (view n) in
@@ -208,7 +224,10 @@ outermost {text} {i = i} n s d =
     record { same_text = e; place = record { starts = s.nested.1; ends = p.ends; order = o } }
 
 -- from `PUSH` to the end of its operand
-pub push_piece : {text : List ℕ} {r : Text} {i j : ℕ} {us inner : Trees} (n : ParserNode) → StandIn text (Tree r i j us None') → StandIn text inner → Reads text AnExpression inner (view n) → Reads text ANode (Tree r i j us None') (One (piece text i (end_of (view n))) Push (view n)) → IsPiece text i n.span.end
+pub push_piece : {text : List ℕ} {r : Text} {i j : ℕ} {us inner : Trees} (n : ParserNode)
+    → StandIn text (Tree r i j us None') → StandIn text inner → Reads text AnExpression inner (view n)
+    → Reads text ANode (Tree r i j us None') (One (piece text i (end_of (view n))) Push (view n))
+    → IsPiece text i n.span.end
 push_piece {text} n s k d e =
     let w = reads_within text e s.from s.to s.nested in
     let p = piece_in n.span (same_text n k.from k.to d k.nested) in

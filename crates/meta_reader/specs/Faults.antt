@@ -1,8 +1,8 @@
 -- The faults that trees of a grammar's text may have, and the first of them.
 use Rattle.std.specs.Prelude.{ℕ, ℤ, pos, negsuc, List, ◌^◌, Option, Some, None, Bool, true, false, not, if◌then◌else◌, bytes_eq, codes, nat_lt, nat_eq}
 use Rattle.std.specs.Str.{all_scalars}
-use Rattle.meta_base.specs.Text.{Text}
-use Rattle.meta_base.specs.State.{Trees, None', Tree}
+use Rattle.meta_base.specs.Language.Text.{Text}
+use Rattle.meta_base.specs.Language.State.{Trees, None', Tree}
 use Rattle.meta_nodes.specs.Spanned.{Span}
 use Rattle.meta_reader.specs.Reading.{piece, number, integer, literal}
 
@@ -63,7 +63,8 @@ module _ (text : List ℕ) where
   abbrev pub number_fault : ℕ → ℕ → Trees → Option Fault
   number_fault i j others = if closes others then not_a_count i j else past_u32 i j
 
-  -- what is wrong with a tree of the rule r from i to j, by itself, by what it holds and by what is behind it
+  -- what is wrong with a tree of the rule r from i to j, by itself, by what it holds and by what is
+  -- behind it
   unfoldable pub own_fault : Text → ℕ → ℕ → Trees → Trees → Option Fault
   own_fault r i j inner others =
       if bytes_eq r (codes "_push_literal") then faulty true PushLiteralCalled i j
@@ -77,4 +78,5 @@ module _ (text : List ℕ) where
   -- the first fault: of the first tree itself, in it, or behind it
   abbrev pub first_fault : Trees → Option Fault
   first_fault None' = None
-  first_fault (Tree r i j inner others) = or_else (own_fault r i j inner others) (or_else (first_fault inner) (first_fault others))
+  first_fault (Tree r i j inner others) =
+      or_else (own_fault r i j inner others) (or_else (first_fault inner) (first_fault others))

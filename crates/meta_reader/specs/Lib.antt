@@ -4,5 +4,6 @@ pub mod Faults
 pub mod Refusals
 pub mod Pieces
 pub mod Views
+pub mod Signs
 pub mod ShownNames
 pub mod Laws

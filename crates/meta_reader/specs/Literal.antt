@@ -1,11 +1,15 @@
 -- What the text between two quotes stands for.
 use Rattle.std.specs.Prelude.{ℕ, ◌+◌, ◌*◌, [], ◌∷◌, ◌==◌, if◌then◌else◌, nat_lt}
 use Rattle.std.specs.Char.{digit_value}
-use Rattle.meta_base.specs.Text.{Text}
+use Rattle.meta_base.specs.Language.Text.{Text}
 
 -- what a character behind a backslash stands for: `r`, `n`, `t` and `0` for controls, any other for itself
 abbrev pub letter : ℕ → ℕ
-letter c = if c == 114 then 13 else (if c == 110 then 10 else (if c == 116 then 9 else (if c == 48 then 0 else c)))
+letter c =
+    if c == 114 then 13
+    else (if c == 110 then 10
+    else (if c == 116 then 9
+    else (if c == 48 then 0 else c)))
 
 -- the value of a hexadecimal digit
 abbrev pub hex_digit : ℕ → ℕ

@@ -1,7 +1,7 @@
 -- Pieces of a text, and trees that stand in it.
 use Rattle.std.specs.Prelude.{ℕ, ◌≤◌, List}
 use Rattle.std.specs.Str.{IsCharBoundary}
-use Rattle.meta_base.specs.State.{Trees, None', Tree}
+use Rattle.meta_base.specs.Language.State.{Trees, None', Tree}
 
 -- from i to j there is a piece of the text: both are on characters, and in order
 pub record IsPiece (text : List ℕ) (i j : ℕ) : Type 0 where
@@ -12,7 +12,8 @@ pub record IsPiece (text : List ℕ) (i j : ℕ) : Type 0 where
 -- the trees stand between i and j: in order, apart, on characters, each around those that it holds
 abbrev pub Nested : List ℕ → Trees → ℕ → ℕ → Type 0
 Nested text None' i j = i ≤ j
-Nested text (Tree r a b inner others) i j = (i ≤ a) × IsCharBoundary text a × IsCharBoundary text b × Nested text inner a b × Nested text others b j
+Nested text (Tree r a b inner others) i j =
+    (i ≤ a) × IsCharBoundary text a × IsCharBoundary text b × Nested text inner a b × Nested text others b j
 
 -- the trees stand somewhere in the text
 pub record StandIn (text : List ℕ) (us : Trees) : Type 0 where

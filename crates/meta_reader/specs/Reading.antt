@@ -2,9 +2,9 @@
 use Rattle.std.specs.Prelude.{ℕ, ℤ, pos, List, [], ◌∷◌, Option, Some, None, codes, chars}
 use Rattle.std.specs.List.{slice_range}
 use Rattle.std.specs.Str.Parse.{digits_value, signed_digits_value}
-use Rattle.meta_base.specs.Text.{Text}
-use Rattle.meta_base.specs.Expression.{Expression, Str, Insens, Range, Ident, PeekSlice, RuleType, Normal, Silent, Atomic, CompoundAtomic, NonAtomic}
-use Rattle.meta_base.specs.State.{Trees, None', Tree, joined}
+use Rattle.meta_base.specs.Language.Text.{Text}
+use Rattle.meta_base.specs.Language.Expression.{Expression, Str, Insens, Range, Ident, PeekSlice, RuleType, Normal, Silent, Atomic, CompoundAtomic, NonAtomic}
+use Rattle.meta_base.specs.Language.State.{Trees, None', Tree, joined}
 use Rattle.meta_syntax.specs.Shape.{Mark, Braced}
 use Rattle.meta_nodes.specs.Spanned.{Span, Spanned, Leaf, One, Two, Unary, PosPred, NegPred, Opt, Rep, RepOnce, RepExact, RepMin, RepMax, RepMinMax, Push, Binary, Seq, Choice, start_of, end_of, starting, ending, SpannedRule}
 use Rattle.meta_reader.specs.Literal.{unescaped}
@@ -30,8 +30,8 @@ module _ (text : List ℕ) where
   piece i j = record { text = text; start = i; end = j }
 
   -- what is written there: characters, a number, a number with a sign
-  abbrev pub written : ℕ → ℕ → Text
-  written i j = chars (slice_range text i j)
+  abbrev pub characters_between : ℕ → ℕ → Text
+  characters_between i j = chars (slice_range text i j)
 
   abbrev pub number : ℕ → ℕ → ℕ
   number i j = digits_value 10 (slice_range text i j)
@@ -41,7 +41,7 @@ module _ (text : List ℕ) where
 
   -- what a literal stands for, by the trees in it: a quote, what is quoted, a quote
   abbrev pub literal : Trees → Text
-  literal (Tree q i j inner (Tree r k l inner' us)) = unescaped (written k l)
+  literal (Tree q i j inner (Tree r k l inner' us)) = unescaped (characters_between k l)
   literal us = []
 
   -- two nodes round an operator
@@ -52,63 +52,185 @@ module _ (text : List ℕ) where
   abbrev pub around : ℕ → Unary → Spanned → Spanned
   around j f x = One (piece (start_of x) j) f x
 
-  -- what a postfix operator says
+  -- what a postfix operator says; `_at` and `_to` are where a tree begins, and where it ends
   pub data Postfix : Text → Trees → Unary → Type 0 where
     opt : {us : Trees} → Postfix (codes "optional_operator") us Opt
     rep : {us : Trees} → Postfix (codes "repeat_operator") us Rep
     rep_once : {us : Trees} → Postfix (codes "repeat_once_operator") us RepOnce
-    exact : {a b i j c d : ℕ} → Postfix (codes "repeat_exact") (Mark (codes "opening_brace") a b (Mark (codes "number") i j (Mark (codes "closing_brace") c d None'))) (RepExact (number i j))
-    min : {a b i j c d e f : ℕ} → Postfix (codes "repeat_min") (Mark (codes "opening_brace") a b (Mark (codes "number") i j (Mark (codes "comma") c d (Mark (codes "closing_brace") e f None')))) (RepMin (number i j))
-    max : {a b i j c d e f : ℕ} → Postfix (codes "repeat_max") (Mark (codes "opening_brace") a b (Mark (codes "comma") c d (Mark (codes "number") i j (Mark (codes "closing_brace") e f None')))) (RepMax (number i j))
-    min_max : {a b i j c d k l e f : ℕ} → Postfix (codes "repeat_min_max") (Mark (codes "opening_brace") a b (Mark (codes "number") i j (Mark (codes "comma") c d (Mark (codes "number") k l (Mark (codes "closing_brace") e f None'))))) (RepMinMax (number i j) (number k l))
+    exact : {open_at open_to number_at number_to close_at close_to : ℕ}
+        → Postfix (codes "repeat_exact")
+        (Mark (codes "opening_brace") open_at open_to
+        (Mark (codes "number") number_at number_to
+        (Mark (codes "closing_brace") close_at close_to None')))
+        (RepExact (number number_at number_to))
+    min : {open_at open_to number_at number_to comma_at comma_to close_at close_to : ℕ}
+        → Postfix (codes "repeat_min")
+        (Mark (codes "opening_brace") open_at open_to
+        (Mark (codes "number") number_at number_to
+        (Mark (codes "comma") comma_at comma_to
+        (Mark (codes "closing_brace") close_at close_to None'))))
+        (RepMin (number number_at number_to))
+    max : {open_at open_to comma_at comma_to number_at number_to close_at close_to : ℕ}
+        → Postfix (codes "repeat_max")
+        (Mark (codes "opening_brace") open_at open_to
+        (Mark (codes "comma") comma_at comma_to
+        (Mark (codes "number") number_at number_to
+        (Mark (codes "closing_brace") close_at close_to None'))))
+        (RepMax (number number_at number_to))
+    min_max : {open_at open_to least_at least_to comma_at comma_to most_at most_to close_at close_to : ℕ}
+        → Postfix (codes "repeat_min_max")
+        (Mark (codes "opening_brace") open_at open_to
+        (Mark (codes "number") least_at least_to
+        (Mark (codes "comma") comma_at comma_to
+        (Mark (codes "number") most_at most_to
+        (Mark (codes "closing_brace") close_at close_to None')))))
+        (RepMinMax (number least_at least_to) (number most_at most_to))
 
   -- a node, and what the postfix operators behind it make of it
   pub data Postfixed : Spanned → Trees → Spanned → Type 0 where
     done : {x : Spanned} → Postfixed x None' x
-    more : {x y : Spanned} {r : Text} {i j : ℕ} {inner us : Trees} {f : Unary} → Postfix r inner f → Postfixed (around j f x) us y → Postfixed x (Tree r i j inner us) y
+    more : {x y : Spanned} {r : Text} {from to : ℕ} {inner us : Trees} {f : Unary}
+        → Postfix r inner f → Postfixed (around to f x) us y → Postfixed x (Tree r from to inner us) y
 
-  -- the expression of a tree of the rule r from i to j, where it has no operands
+  -- the expression of a tree of a rule, from one place to another, where it has no operands
   pub data Terminal : Text → ℕ → ℕ → Trees → Expression → Type 0 where
-    identifier : {i j : ℕ} {us : Trees} → Terminal (codes "identifier") i j us (Ident (written i j))
-    string : {i j : ℕ} {us : Trees} → Terminal (codes "string") i j us (Str (literal us))
-    insensitive : {i j k l : ℕ} {us vs : Trees} → Terminal (codes "insensitive_string") i j (Tree (codes "string") k l us vs) (Insens (literal us))
-    range : {i j a b c d e f : ℕ} {us vs : Trees} → Terminal (codes "range") i j (Tree (codes "character") a b us (Mark (codes "range_operator") c d (Tree (codes "character") e f vs None'))) (Range (literal us) (literal vs))
-    slice : {i j a b c d e f : ℕ} → Terminal (codes "peek_slice") i j (Mark (codes "opening_brack") a b (Mark (codes "range_operator") c d (Mark (codes "closing_brack") e f None'))) (PeekSlice (pos 0) None)
-    slice_from : {i j a b c d e f k l : ℕ} → Terminal (codes "peek_slice") i j (Mark (codes "opening_brack") a b (Mark (codes "integer") k l (Mark (codes "range_operator") c d (Mark (codes "closing_brack") e f None')))) (PeekSlice (integer k l) None)
-    slice_to : {i j a b c d e f m n : ℕ} → Terminal (codes "peek_slice") i j (Mark (codes "opening_brack") a b (Mark (codes "range_operator") c d (Mark (codes "integer") m n (Mark (codes "closing_brack") e f None')))) (PeekSlice (pos 0) (Some (integer m n)))
-    slice_between : {i j a b c d e f k l m n : ℕ} → Terminal (codes "peek_slice") i j (Mark (codes "opening_brack") a b (Mark (codes "integer") k l (Mark (codes "range_operator") c d (Mark (codes "integer") m n (Mark (codes "closing_brack") e f None'))))) (PeekSlice (integer k l) (Some (integer m n)))
+    identifier : {from to : ℕ} {us : Trees}
+        → Terminal (codes "identifier") from to us (Ident (characters_between from to))
+    string : {from to : ℕ} {us : Trees} → Terminal (codes "string") from to us (Str (literal us))
+    insensitive : {from to string_at string_to : ℕ} {us vs : Trees}
+        → Terminal (codes "insensitive_string") from to
+        (Tree (codes "string") string_at string_to us vs) (Insens (literal us))
+    range : {from to low_at low_to dots_at dots_to high_at high_to : ℕ} {us vs : Trees}
+        → Terminal (codes "range") from to
+        (Tree (codes "character") low_at low_to us
+        (Mark (codes "range_operator") dots_at dots_to
+        (Tree (codes "character") high_at high_to vs None')))
+        (Range (literal us) (literal vs))
+    slice : {from to open_at open_to dots_at dots_to close_at close_to : ℕ}
+        → Terminal (codes "peek_slice") from to
+        (Mark (codes "opening_brack") open_at open_to
+        (Mark (codes "range_operator") dots_at dots_to
+        (Mark (codes "closing_brack") close_at close_to None')))
+        (PeekSlice (pos 0) None)
+    slice_from : {from to open_at open_to low_at low_to dots_at dots_to close_at close_to : ℕ}
+        → Terminal (codes "peek_slice") from to
+        (Mark (codes "opening_brack") open_at open_to
+        (Mark (codes "integer") low_at low_to
+        (Mark (codes "range_operator") dots_at dots_to
+        (Mark (codes "closing_brack") close_at close_to None'))))
+        (PeekSlice (integer low_at low_to) None)
+    slice_to : {from to open_at open_to dots_at dots_to high_at high_to close_at close_to : ℕ}
+        → Terminal (codes "peek_slice") from to
+        (Mark (codes "opening_brack") open_at open_to
+        (Mark (codes "range_operator") dots_at dots_to
+        (Mark (codes "integer") high_at high_to
+        (Mark (codes "closing_brack") close_at close_to None'))))
+        (PeekSlice (pos 0) (Some (integer high_at high_to)))
+    slice_between : {from to open_at open_to low_at low_to dots_at dots_to : ℕ}
+        {high_at high_to close_at close_to : ℕ}
+        → Terminal (codes "peek_slice") from to
+        (Mark (codes "opening_brack") open_at open_to
+        (Mark (codes "integer") low_at low_to
+        (Mark (codes "range_operator") dots_at dots_to
+        (Mark (codes "integer") high_at high_to
+        (Mark (codes "closing_brack") close_at close_to None')))))
+        (PeekSlice (integer low_at low_to) (Some (integer high_at high_to)))
 
   pub data Reads : Part → Trees → Spanned → Type 0 where
     -- a bar before the first alternative says nothing
-    barred : {i j : ℕ} {us : Trees} {x : Spanned} → Reads Alternatives us x → Reads AnExpression (Mark (codes "choice_operator") i j us) x
+    barred : {bar_at bar_to : ℕ} {us : Trees} {x : Spanned}
+        → Reads Alternatives us x → Reads AnExpression (Mark (codes "choice_operator") bar_at bar_to us) x
     unbarred : {us : Trees} {x : Spanned} → Reads Alternatives us x → Reads AnExpression us x
     -- a choice splits at its last bar, a sequence at its last tilde
     one_alternative : {us : Trees} {x : Spanned} → Reads ASequence us x → Reads Alternatives us x
-    choice : (i j : ℕ) {us vs : Trees} {x y : Spanned} → Reads Alternatives us x → Reads ASequence vs y → Reads Alternatives (joined us (Mark (codes "choice_operator") i j vs)) (both Choice x y)
-    one_term : {us : Trees} {x : Spanned} {i j : ℕ} → Reads ATerm us x → Reads ASequence (Tree (codes "term") i j us None') x
-    sequence : (i j k l : ℕ) {us vs : Trees} {x y : Spanned} → Reads ASequence us x → Reads ATerm vs y → Reads ASequence (joined us (Mark (codes "sequence_operator") i j (Tree (codes "term") k l vs None'))) (both Seq x y)
+    choice : (bar_at bar_to : ℕ) {us vs : Trees} {x y : Spanned}
+        → Reads Alternatives us x → Reads ASequence vs y
+        → Reads Alternatives (joined us (Mark (codes "choice_operator") bar_at bar_to vs)) (both Choice x y)
+    one_term : {us : Trees} {x : Spanned} {from to : ℕ}
+        → Reads ATerm us x → Reads ASequence (Tree (codes "term") from to us None') x
+    sequence : (tilde_at tilde_to term_at term_to : ℕ) {us vs : Trees} {x y : Spanned}
+        → Reads ASequence us x → Reads ATerm vs y
+        → Reads ASequence
+        (joined us (Mark (codes "sequence_operator") tilde_at tilde_to
+        (Tree (codes "term") term_at term_to vs None')))
+        (both Seq x y)
     -- a tag says nothing; a predicate takes the rest of its term
-    tagged : {us : Trees} {x : Spanned} {i j k l : ℕ} → Reads ATerm us x → Reads ATerm (Mark (codes "tag_id") i j (Mark (codes "assignment_operator") k l us)) x
-    pos_pred : {us : Trees} {x : Spanned} {i j : ℕ} → Reads ATerm us x → Reads ATerm (Mark (codes "positive_predicate_operator") i j us) (One (piece i (end_of x)) PosPred x)
-    neg_pred : {us : Trees} {x : Spanned} {i j : ℕ} → Reads ATerm us x → Reads ATerm (Mark (codes "negative_predicate_operator") i j us) (One (piece i (end_of x)) NegPred x)
-    -- a node begins and ends with its token; in parentheses it ends with the second, and the outermost begins with the first
-    bare : {r : Text} {i j : ℕ} {inner us : Trees} {x y : Spanned} → Reads ANode (Tree r i j inner None') x → Postfixed x us y → Reads ATerm (Tree r i j inner us) y
-    grouped : {i j k l m n : ℕ} {inner us : Trees} {x y : Spanned} → Reads AnExpression inner x → Postfixed (ending n x) us y → Reads ATerm (Mark (codes "opening_paren") i j (Tree (codes "expression") k l inner (Mark (codes "closing_paren") m n us))) (starting i y)
-    leaf : {r : Text} {i j : ℕ} {inner : Trees} {e : Expression} → Terminal r i j inner e → Reads ANode (Tree r i j inner None') (Leaf (piece i j) e)
+    tagged : {us : Trees} {x : Spanned} {tag_at tag_to equals_at equals_to : ℕ}
+        → Reads ATerm us x
+        → Reads ATerm
+        (Mark (codes "tag_id") tag_at tag_to (Mark (codes "assignment_operator") equals_at equals_to us)) x
+    pos_pred : {us : Trees} {x : Spanned} {sign_at sign_to : ℕ}
+        → Reads ATerm us x
+        → Reads ATerm (Mark (codes "positive_predicate_operator") sign_at sign_to us)
+        (One (piece sign_at (end_of x)) PosPred x)
+    neg_pred : {us : Trees} {x : Spanned} {sign_at sign_to : ℕ}
+        → Reads ATerm us x
+        → Reads ATerm (Mark (codes "negative_predicate_operator") sign_at sign_to us)
+        (One (piece sign_at (end_of x)) NegPred x)
+    -- a node begins and ends with its token; in parentheses it ends with the second, and the outermost
+    -- begins with the first
+    bare : {r : Text} {from to : ℕ} {inner us : Trees} {x y : Spanned}
+        → Reads ANode (Tree r from to inner None') x → Postfixed x us y
+        → Reads ATerm (Tree r from to inner us) y
+    grouped : {open_at open_to body_at body_to close_at close_to : ℕ} {inner us : Trees} {x y : Spanned}
+        → Reads AnExpression inner x → Postfixed (ending close_to x) us y
+        → Reads ATerm
+        (Mark (codes "opening_paren") open_at open_to
+        (Tree (codes "expression") body_at body_to inner
+        (Mark (codes "closing_paren") close_at close_to us)))
+        (starting open_at y)
+    leaf : {r : Text} {from to : ℕ} {inner : Trees} {e : Expression}
+        → Terminal r from to inner e → Reads ANode (Tree r from to inner None') (Leaf (piece from to) e)
     -- `PUSH` ends where its operand does
-    pushed : {i j k l m n a b : ℕ} {inner us : Trees} {x : Spanned} → Reads AnExpression inner x → Reads ANode (Tree (codes "_push") i j (Mark (codes "opening_paren") k l (Tree (codes "expression") m n inner (Mark (codes "closing_paren") a b us))) None') (One (piece i (end_of x)) Push x)
+    pushed : {from to open_at open_to body_at body_to close_at close_to : ℕ} {inner us : Trees} {x : Spanned}
+        → Reads AnExpression inner x
+        → Reads ANode
+        (Tree (codes "_push") from to
+        (Mark (codes "opening_paren") open_at open_to
+        (Tree (codes "expression") body_at body_to inner
+        (Mark (codes "closing_paren") close_at close_to us)))
+        None')
+        (One (piece from (end_of x)) Push x)
 
-  -- a rule; a comment that documents one gives none
+  -- a rule whose name stands from one place to another; a comment that documents one gives none
   pub data ReadsRule : Trees → Option SpannedRule → Type 0 where
-    line_doc : {i j : ℕ} {inner : Trees} → ReadsRule (Tree (codes "line_doc") i j inner None') None
-    normal : {i j a b c d e f g h : ℕ} {body : Trees} {x : Spanned} → Reads AnExpression body x → ReadsRule (Mark (codes "identifier") i j (Mark (codes "assignment_operator") a b (Braced c d e f g h body)))
-        (Some (record { name = written i j; span = piece i j; type_of = Normal; body = x }))
-    modified : {i j a b c d e f g h k l : ℕ} {r : Text} {t : RuleType} {body : Trees} {x : Spanned} → Modifies r t → Reads AnExpression body x → ReadsRule (Mark (codes "identifier") i j (Mark (codes "assignment_operator") a b (Mark r k l (Braced c d e f g h body))))
-        (Some (record { name = written i j; span = piece i j; type_of = t; body = x }))
+    line_doc : {from to : ℕ} {inner : Trees} → ReadsRule (Tree (codes "line_doc") from to inner None') None
+    normal : {from to equals_at equals_to open_at open_to body_at body_to close_at close_to : ℕ}
+        {body : Trees} {x : Spanned}
+        → Reads AnExpression body x
+        → ReadsRule
+        (Mark (codes "identifier") from to
+        (Mark (codes "assignment_operator") equals_at equals_to
+        (Braced open_at open_to body_at body_to close_at close_to body)))
+        (Some (record {
+          name = characters_between from to;
+          span = piece from to;
+          type_of = Normal;
+          body = x;
+        }))
+    modified : {from to equals_at equals_to open_at open_to body_at body_to close_at close_to : ℕ}
+        {sign_at sign_to : ℕ} {r : Text} {t : RuleType} {body : Trees} {x : Spanned}
+        → Modifies r t → Reads AnExpression body x
+        → ReadsRule
+        (Mark (codes "identifier") from to
+        (Mark (codes "assignment_operator") equals_at equals_to
+        (Mark r sign_at sign_to
+        (Braced open_at open_to body_at body_to close_at close_to body))))
+        (Some (record {
+          name = characters_between from to;
+          span = piece from to;
+          type_of = t;
+          body = x;
+        }))
 
   -- the rules of a whole text; comments that document it give none
   pub data ReadsRules : Trees → List SpannedRule → Type 0 where
-    end_of_input : {i j : ℕ} → ReadsRules (Mark (codes "EOI") i j None') []
-    grammar_doc : {i j : ℕ} {inner us : Trees} {rs : List SpannedRule} → ReadsRules us rs → ReadsRules (Tree (codes "grammar_doc") i j inner us) rs
-    documented : {i j : ℕ} {inner us : Trees} {rs : List SpannedRule} → ReadsRule inner None → ReadsRules us rs → ReadsRules (Tree (codes "grammar_rule") i j inner us) rs
-    defined : {i j : ℕ} {inner us : Trees} {r : SpannedRule} {rs : List SpannedRule} → ReadsRule inner (Some r) → ReadsRules us rs → ReadsRules (Tree (codes "grammar_rule") i j inner us) (r ∷ rs)
+    end_of_input : {from to : ℕ} → ReadsRules (Mark (codes "EOI") from to None') []
+    grammar_doc : {from to : ℕ} {inner us : Trees} {rs : List SpannedRule}
+        → ReadsRules us rs → ReadsRules (Tree (codes "grammar_doc") from to inner us) rs
+    documented : {from to : ℕ} {inner us : Trees} {rs : List SpannedRule}
+        → ReadsRule inner None → ReadsRules us rs
+        → ReadsRules (Tree (codes "grammar_rule") from to inner us) rs
+    defined : {from to : ℕ} {inner us : Trees} {r : SpannedRule} {rs : List SpannedRule}
+        → ReadsRule inner (Some r) → ReadsRules us rs
+        → ReadsRules (Tree (codes "grammar_rule") from to inner us) (r ∷ rs)

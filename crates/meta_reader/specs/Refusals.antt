@@ -1,8 +1,8 @@
 -- What is answered to the pairs of a grammar's text.
 use Rattle.std.specs.Prelude.{◌≡◌, ℕ, List, [], ◌∷◌, Option, MatchOption, codes, ⊤}
-use Rattle.meta_base.specs.NamedTrees.{named}
-use Rattle.meta_base.specs.Saying.{SaysAt}
-use Rattle.meta_base.specs.Pairs.{pairs_text, pairs_trees}
+use Rattle.meta_base.specs.Pieces.NamedTrees.{named}
+use Rattle.meta_base.specs.Pieces.Saying.{SaysAt}
+use Rattle.meta_base.specs.Pieces.Pairs.{pairs_text, pairs_trees}
 use Rattle.meta_base.specs.declared.grammar.Rule.{Rule}
 use Rattle.meta_base.specs.declared.runtime.errors.Error.{Error}
 use Rattle.meta_base.specs.declared.runtime.faults.Fault as code

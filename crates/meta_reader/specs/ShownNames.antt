@@ -1,6 +1,6 @@
 -- What errors call the rules of the meta-grammar.
 use Rattle.std.specs.Prelude.{ℕ, List, codes}
-use Rattle.meta_base.specs.MetaRules.{name_of}
+use Rattle.meta_base.specs.Pieces.MetaRules.{name_of}
 use Rattle.meta_base.specs.declared.grammar.Rule.{Rule}
 use Rattle.meta_base.specs.declared.grammar.Rule.TheVariants.{grammar_rule, assignment_operator, opening_brace, closing_brace, opening_paren, closing_paren, opening_brack, closing_brack, silent_modifier, atomic_modifier, compound_atomic_modifier, non_atomic_modifier, positive_predicate_operator, negative_predicate_operator, sequence_operator, choice_operator, optional_operator, repeat_operator, repeat_once_operator, comma, _push, _push_literal, insensitive_string, quote, single_quote, range_operator, grammar_doc, line_doc}
 

@@ -1,25 +1,31 @@
 -- What the code's values stand for, and what its answers say.
-use Rattle.std.specs.Prelude.{◌≡◌, ◌≤◌, ◌<◌, ◌+◌, ◌⊎◌, ℕ, List, [], ◌∷◌, true, false, Option, Some, None, chars, Result, Ok, Err, MatchOption, MatchResult, ℤ, codes}
+use Rattle.std.specs.Prelude.{◌≡◌, ◌≤◌, ◌<◌, ◌+◌, ◌⊎◌, ℕ, List, [], ◌∷◌, true, false, Option, Some, None, chars, Result, Ok, Err, MatchOption, MatchResult, ℤ, codes, option_map, string_bytes, Vec}
 use Rattle.std.specs.Borrow.{Bor}
+use Rattle.std.specs.declared.alloc.Global.{Global}
+use Rattle.std.specs.declared.string.String.{String}
 use Rattle.std.specs.Str.{all_scalars}
-use Rattle.meta_base.specs.Expression as meaning
-use Rattle.meta_base.specs.State as state
-use Rattle.meta_base.specs.Text.{Text}
-use Rattle.meta_base.specs.State.{joined}
-use Rattle.meta_base.specs.Span.{span_text, span_end}
+use Rattle.meta_base.specs.Language.Expression as meaning
+use Rattle.meta_base.specs.Language.State as state
+use Rattle.meta_base.specs.Language.Text.{Text}
+use Rattle.meta_base.specs.Language.State.{joined}
+use Rattle.meta_base.specs.Pieces.Span.{span_text, span_end}
 use Rattle.meta_nodes.specs.Spanned as spanned
 use Rattle.meta_reader.specs.Pieces.{StandBehind, StandIn}
 use Rattle.meta_syntax.specs.Shape.{Mark, IsChain, IsMore, IsTerm, IsModifier}
 use Rattle.meta_nodes.specs.Spanned.{Spanned, One, Unary}
-use Rattle.meta_nodes.specs.Nodes.{piece_of, view}
-use Rattle.meta_base.specs.NamedTrees.{named_trees_of}
-use Rattle.meta_reader.specs.Reading.{Modifies, Part, AnExpression, Alternatives, ASequence, Reads, Postfix, integer}
+use Rattle.meta_nodes.specs.Nodes.{piece_of, view, rule_view, rule_views}
+use Rattle.meta_base.specs.Pieces.NamedTrees.{named_trees_of}
+use Rattle.meta_reader.specs.Reading.{Modifies, Part, AnExpression, Alternatives, ASequence, Reads, ReadsRule, ReadsRules, Postfix, Postfixed, integer, literal}
 use Rattle.meta_reader.specs.Literal.{unescaped}
 use Rattle.meta_reader.specs.Faults as faults
-use Rattle.meta_reader.specs.Faults.{first_fault}
+use Rattle.meta_reader.specs.Faults.{first_fault, wrong_literal}
 use Rattle.meta_base.specs.declared.grammar.Rule.{Rule}
 use Rattle.meta_base.specs.declared.runtime.trees.TokenTree.{TokenTree}
+use Rattle.meta_base.specs.declared.runtime.trees.FirstTree.{FirstTree}
+use Rattle.meta_base.specs.declared.runtime.places.Span.{Span}
+use Rattle.meta_base.specs.Pieces.MetaRules.{name_of}
 use Rattle.meta_nodes.specs.declared.node.ParserNode.{ParserNode}
+use Rattle.meta_nodes.specs.declared.node.ParserRule.{ParserRule}
 use Rattle.meta_reader.specs.declared.parser.faults.Cause as code_cause
 use Rattle.meta_reader.specs.declared.parser.faults.Cause.TheVariants as cause_is
 use Rattle.meta_reader.specs.declared.parser.faults.Finding.{Finding}
@@ -46,21 +52,57 @@ abbrev pub Answers : {X : Type 0} → Option faults.Fault → Result X error.Rea
 Answers o (Ok x) P = (o ≡ None) × P x
 Answers o (Err e) P = IsFirst o e
 
+-- a tree of the code by itself, and as one of another rule
+abbrev pub alone_as : Text → FirstTree Rule → state.Trees
+alone_as rule tree = state.Tree rule tree.start tree.end (named_trees_of tree.inner.now) state.None'
+
+abbrev pub alone : FirstTree Rule → state.Trees
+alone tree = alone_as (name_of tree.rule) tree
+
+-- an opening parenthesis, and what is behind it
+abbrev pub group_from : FirstTree Rule → state.Trees
+group_from paren = Mark (codes "opening_paren") paren.start paren.end (named_trees_of paren.others.now)
+
 -- what the trees of a part read as, or their first fault
 abbrev pub ReadsAs : List ℕ → Part → state.Trees → Result ParserNode error.ReadError → Type 0
 ReadsAs text part us result = Answers (first_fault text us) result (λ n. Reads text part us (view n))
+
+-- the rule that trees are read as, and all rules of a text, or their first fault
+abbrev pub AnswersRule : List ℕ → state.Trees → Result (Option ParserRule) error.ReadError → Type 0
+AnswersRule text us result =
+    Answers (first_fault text us) result (λ rule. ReadsRule text us (option_map rule_view rule))
+
+abbrev pub AnswersRules : List ℕ → state.Trees → Result (Vec ParserRule Global) error.ReadError → Type 0
+AnswersRules text us result =
+    Answers (first_fault text us) result (λ rules. ReadsRules text us (rule_views rules.items))
+
+-- what a literal from i to j stands for, by the trees in it, or its fault
+abbrev pub AnswersLiteral : List ℕ → ℕ → ℕ → state.Trees → Result (String Global) error.ReadError → Type 0
+AnswersLiteral text i j us result =
+    Answers (wrong_literal text i j us) result (λ s. chars (string_bytes s) ≡ literal text us)
+
+-- the numbers of a postfix operator that counts, by the trees in it, or their first fault
+abbrev pub AnswersCount : {N : Type 0} → List ℕ → Text → state.Trees → (N → Unary) → Result N error.ReadError
+    → Type 0
+AnswersCount text r us says result = Answers (first_fault text us) result (λ n. Postfix text r us (says n))
 
 -- the same number, or both past the greatest scalar value
 abbrev pub IsSameNumber : ℕ → ℕ → Type 0
 IsSameNumber v n = (v ≡ n) ⊎ ((0x110000 ≤ v) × (0x110000 ≤ n))
 
--- the number that an escape names, and what follows it, where f says what the text stands for; or the text ends in it
+-- the number that an escape names, and what follows it, where f says what the text stands for
+abbrev pub Names : (List ℕ → List ℕ) → List ℕ → ℕ × Bor (List ℕ) → Type 0
+Names f t x = (n : ℕ) × IsSameNumber x.0 n × (f (chars t) ≡ n ∷ unescaped (chars x.1.now))
+
+-- the same of an answer: or the text ends in the escape
 abbrev pub NamesFirst : (List ℕ → List ℕ) → List ℕ → Option (ℕ × Bor (List ℕ)) → Type 0
-NamesFirst f t result = MatchOption result (f (chars t) ≡ []) (λ x. (n : ℕ) × IsSameNumber x.0 n × (f (chars t) ≡ n ∷ unescaped (chars x.1.now)))
+NamesFirst f t result = MatchOption result (f (chars t) ≡ []) (Names f t)
 
 -- the text with its escapes read, or none where one names no character
 abbrev pub Unescapes : {X : Type 0} → (X → List ℕ) → List ℕ → Option X → Type 0
-Unescapes of t result = MatchOption result (all_scalars (unescaped t) ≡ false) (λ s. (all_scalars (unescaped t) ≡ true) × (of s ≡ unescaped t))
+Unescapes of t result =
+    MatchOption result (all_scalars (unescaped t) ≡ false)
+    (λ s. (all_scalars (unescaped t) ≡ true) × (of s ≡ unescaped t))
 
 -- a node that stands in the text, before some trees
 pub record StandsBefore (text : List ℕ) (n : ParserNode) (us : state.Trees) : Type 0 where
@@ -68,24 +110,42 @@ pub record StandsBefore (text : List ℕ) (n : ParserNode) (us : state.Trees) : 
   pub behind : StandBehind text (span_end n.span) us
 
 -- a postfix operator's node round another
-pub record IsPostfixOf (text : List ℕ) (r : Text) (us : state.Trees) (s : spanned.Span) (n x : ParserNode) : Type 0 where
+pub record IsPostfixOf (text : List ℕ) (r : Text) (us : state.Trees) (s : spanned.Span) (n x : ParserNode)
+    : Type 0 where
   pub operator : Unary
   pub says : Postfix text r us operator
   pub round : view x ≡ One s operator (view n)
 
+-- what a postfix operator makes of a node, where it stands with the node, or the fault in it
+abbrev pub AnswersPostfix : Span → FirstTree Rule → ParserNode → Result ParserNode error.ReadError → Type 0
+AnswersPostfix span operator node result =
+    let text = span_text span in
+    let us = named_trees_of operator.inner.now in
+    Answers (first_fault text us) result (IsPostfixOf text (name_of operator.rule) us (piece_of span) node)
+
+-- what the postfix operators behind a node make of it, or their first fault
+abbrev pub AnswersPostfixes : List ℕ → state.Trees → ParserNode → Result ParserNode error.ReadError → Type 0
+AnswersPostfixes text us node result =
+    Answers (first_fault text us) result (λ n. Postfixed text (view node) us (view n))
+
 -- the number that may stand first, and what follows it
 pub data TakesNumber (text : List ℕ) : state.Trees → Option ℤ → state.Trees → Type 0 where
-  a_number : {i j : ℕ} {us : state.Trees} → TakesNumber text (Mark (codes "integer") i j us) (Some (integer text i j)) us
-  the_dots : {i j : ℕ} {us : state.Trees} → TakesNumber text (Mark (codes "range_operator") i j us) None (Mark (codes "range_operator") i j us)
-  the_end : {i j : ℕ} → TakesNumber text (Mark (codes "closing_brack") i j state.None') None (Mark (codes "closing_brack") i j state.None')
+  a_number : {i j : ℕ} {us : state.Trees}
+      → TakesNumber text (Mark (codes "integer") i j us) (Some (integer text i j)) us
+  the_dots : {i j : ℕ} {us : state.Trees}
+      → TakesNumber text (Mark (codes "range_operator") i j us) None (Mark (codes "range_operator") i j us)
+  the_end : {i j : ℕ} → TakesNumber text (Mark (codes "closing_brack") i j state.None') None
+      (Mark (codes "closing_brack") i j state.None')
 
 -- the same of an answer: the first fault is the number's, or that of what follows
 pub record TakesBound (text : List ℕ) (us : state.Trees) (n : Option ℤ) (rest : state.Trees) : Type 0 where
   pub takes : TakesNumber text us n rest
   pub faults : first_fault text us ≡ first_fault text rest
 
-abbrev pub AnswersBound : List ℕ → state.Trees → Result (Option ℤ × Bor (List (TokenTree Rule))) error.ReadError → Type 0
-AnswersBound text us result = MatchResult result (λ x. TakesBound text us x.0 (named_trees_of x.1.now)) (IsFirst (first_fault text us))
+abbrev pub AnswersBound : List ℕ → state.Trees
+    → Result (Option ℤ × Bor (List (TokenTree Rule))) error.ReadError → Type 0
+AnswersBound text us result =
+    MatchResult result (λ x. TakesBound text us x.0 (named_trees_of x.1.now)) (IsFirst (first_fault text us))
 
 -- how many trees there are, with the ends of their lists
 abbrev pub count_of : state.Trees → ℕ
@@ -103,11 +163,14 @@ pub record IsBehindBar (text : List ℕ) (us vs : state.Trees) : Type 0 where
 -- behind a sequence: nothing, or a bar and a chain
 pub data IsRest (text : List ℕ) : state.Trees → Type 0 where
   at_end : IsRest text state.None'
-  at_bar : {i j : ℕ} {us : state.Trees} → IsChain text us → IsRest text (Mark (codes "choice_operator") i j us)
+  at_bar : {i j : ℕ} {us : state.Trees} → IsChain text us
+      → IsRest text (Mark (codes "choice_operator") i j us)
 
 -- a tilde, a term and more
-pub data GoesOn (text : List ℕ) : state.Trees → state.Trees → state.Trees → Type 0 where
-  goes_on : {i j k l : ℕ} {inner us : state.Trees} → IsTerm text inner → IsMore text us → GoesOn text (Mark (codes "sequence_operator") i j (state.Tree (codes "term") k l inner us)) inner us
+pub data TakesTerm (text : List ℕ) : state.Trees → state.Trees → state.Trees → Type 0 where
+  takes_term : {i j k l : ℕ} {inner us : state.Trees} → IsTerm text inner → IsMore text us
+      → TakesTerm text (Mark (codes "sequence_operator") i j
+      (state.Tree (codes "term") k l inner us)) inner us
 
 -- a front of the trees is read as a sequence, and the rest is left
 pub record ReadsFront (text : List ℕ) (us : state.Trees) (n : ParserNode) (rest : state.Trees) : Type 0 where
@@ -118,8 +181,10 @@ pub record ReadsFront (text : List ℕ) (us : state.Trees) (n : ParserNode) (res
   pub shape : IsRest text rest
   pub shorter : count_of rest < count_of us
 
-abbrev pub AnswersFront : List ℕ → state.Trees → Result (ParserNode × Bor (List (TokenTree Rule))) error.ReadError → Type 0
-AnswersFront text us result = MatchResult result (λ x. ReadsFront text us x.0 (named_trees_of x.1.now)) (IsFirst (first_fault text us))
+abbrev pub AnswersFront : List ℕ → state.Trees
+    → Result (ParserNode × Bor (List (TokenTree Rule))) error.ReadError → Type 0
+AnswersFront text us result =
+    MatchResult result (λ x. ReadsFront text us x.0 (named_trees_of x.1.now)) (IsFirst (first_fault text us))
 
 -- where a rule's modifier may stand: it does, or the opening brace follows at once
 pub data MayBeModifier : state.Trees → Type 0 where
@@ -128,5 +193,7 @@ pub data MayBeModifier : state.Trees → Type 0 where
 
 -- the type that a modifier gives, and what follows it
 pub data TakesModifier : state.Trees → meaning.RuleType → state.Trees → Type 0 where
-  a_type : {r : Text} {t : meaning.RuleType} {i j : ℕ} {us : state.Trees} → Modifies r t → TakesModifier (Mark r i j us) t us
-  no_type : {i j : ℕ} {us : state.Trees} → TakesModifier (Mark (codes "opening_brace") i j us) meaning.Normal (Mark (codes "opening_brace") i j us)
+  a_type : {r : Text} {t : meaning.RuleType} {i j : ℕ} {us : state.Trees} → Modifies r t
+      → TakesModifier (Mark r i j us) t us
+  no_type : {i j : ℕ} {us : state.Trees} → TakesModifier (Mark (codes "opening_brace") i j us) meaning.Normal
+      (Mark (codes "opening_brace") i j us)

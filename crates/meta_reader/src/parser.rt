@@ -1,15 +1,13 @@
 // From the trees of a grammar's text to its rules.
-ghost use Rattle.std.specs.Prelude.{◌≡◌, IfErr, IfOk, MatchResult, OnOk, option_map};
-ghost use Rattle.meta_base.specs.Pairs.{pairs_text};
-ghost use Rattle.meta_base.specs.NamedTrees.{named_trees_of};
-ghost use Rattle.meta_reader.specs.Faults.{first_fault};
+ghost use Rattle.std.specs.Prelude.{◌≡◌, IfErr, IfOk, MatchResult, OnOk};
+ghost use Rattle.meta_base.specs.Pieces.Pairs.{pairs_text};
+ghost use Rattle.meta_base.specs.Pieces.NamedTrees.{named_trees_of};
 ghost use Rattle.meta_syntax.specs.Parses.{AreOfAGrammar, AreSpelled, ParseRefuses};
 ghost use Rattle.meta_reader.specs.Refusals.{AreReadAs, IsRefusal, first_fault_of};
 ghost use Rattle.meta_reader.specs.Pieces.{StandIn};
-ghost use Rattle.meta_reader.specs.Reading.{ReadsRule, ReadsRules};
 ghost use Rattle.meta_syntax.specs.Shape.{IsGrammar, IsRule};
-ghost use Rattle.meta_reader.specs.Views.{Answers, MayBeModifier, TakesModifier};
-ghost use Rattle.meta_nodes.specs.Nodes.{rule_view, rule_views, type_of};
+ghost use Rattle.meta_reader.specs.Views.{AnswersRule, AnswersRules, MayBeModifier, TakesModifier};
+ghost use Rattle.meta_nodes.specs.Nodes.{rule_views, type_of};
 
 mod faults;
 mod literal;
@@ -17,34 +15,34 @@ mod operators;
 mod pieces;
 mod reading;
 mod shown;
+mod signs;
 mod terminals;
 
 use crate::parser::faults::{ReadError, refusal};
-use crate::parser::pieces::{span_at, written};
+use crate::parser::pieces::{span_of, text_of};
 use crate::parser::reading::expression;
 pub use crate::parser::shown::rename_meta_rule;
 use meta_ast::ast::RuleType;
 pub use meta_base::grammar::Rule;
-use meta_base::runtime::{Fault, FirstTree, Pairs, TokenTree};
+use meta_base::runtime::{Fault, Pairs, TokenTree};
 pub use meta_nodes::{ParserExpr, ParserNode, ParserRule, filter_internal};
 pub use meta_syntax::grammar::PestParser;
 use meta_syntax::laws::trees_of_a_grammar_have_their_shape;
-use meta_syntax::trees::first_tree;
+use meta_syntax::trees::{first_tree, leading_tree};
 use std::alloc::Global;
 
 /// The type that a rule's modifier gives, and what follows the modifier; Normal where there is none.
 fn modifier(trees: &[TokenTree<Rule>]) -> (RuleType, &[TokenTree<Rule>])
     requires { MayBeModifier (named_trees_of trees.now) }
-    ensures { TakesModifier (named_trees_of trees.entry.now) (type_of result.0) (named_trees_of result.1.now) }
+    ensures { TakesModifier (named_trees_of trees.entry.now)
+        (type_of result.0) (named_trees_of result.1.now) }
 {
-    let Some(FirstTree { rule, others, .. }) = first_tree(trees) else {
-        unreachable!()
-    };
-    match rule {
-        Rule::silent_modifier => (RuleType::Silent, others),
-        Rule::atomic_modifier => (RuleType::Atomic, others),
-        Rule::compound_atomic_modifier => (RuleType::CompoundAtomic, others),
-        Rule::non_atomic_modifier => (RuleType::NonAtomic, others),
+    let sign = leading_tree(trees);
+    match sign.rule {
+        Rule::silent_modifier => (RuleType::Silent, sign.others),
+        Rule::atomic_modifier => (RuleType::Atomic, sign.others),
+        Rule::compound_atomic_modifier => (RuleType::CompoundAtomic, sign.others),
+        Rule::non_atomic_modifier => (RuleType::NonAtomic, sign.others),
         _ => (RuleType::Normal, trees),
     }
 }
@@ -57,36 +55,19 @@ fn rule<'i>(
 ) -> Result<Option<ParserRule<'i>>, ReadError<'i>>
     requires shape { IsRule text.now (named_trees_of trees.now) }
     requires nested { StandIn text.now (named_trees_of trees.now) }
-    ensures { Answers (first_fault text.entry.now (named_trees_of trees.now)) result (λ o. ReadsRule text.entry.now (named_trees_of trees.now) (option_map rule_view o)) }
+    ensures { AnswersRule text.entry.now (named_trees_of trees.now) result }
 {
-    let Some(
-        FirstTree {
-            rule,
-            start,
-            end,
-            others,
-            ..
-        },
-    ) = first_tree(trees)
-    else {
-        unreachable!()
-    };
-    let Rule::identifier = rule else {
+    let first = leading_tree(trees);
+    let Rule::identifier = first.rule else {
         return Ok(None);
     };
-    let Some(FirstTree { others, .. }) = first_tree(others) else {
-        unreachable!()
-    };
-    let (ty, rest) = modifier(others);
-    let Some(FirstTree { others, .. }) = first_tree(rest) else {
-        unreachable!()
-    };
-    let Some(FirstTree { inner, .. }) = first_tree(others) else {
-        unreachable!()
-    };
-    let node = expression(alloc, text, inner)?;
-    let name = String::from_str(alloc, written(text, start, end))?;
-    let span = span_at(text, start, end);
+    let assignment = leading_tree(first.others);
+    let (ty, rest) = modifier(assignment.others);
+    let brace = leading_tree(rest);
+    let body = leading_tree(brace.others);
+    let node = expression(alloc, text, body.inner)?;
+    let name = String::from_str(alloc, text_of(text, first))?;
+    let span = span_of(text, first);
     Ok(Some(ParserRule {
         name,
         span,
@@ -104,25 +85,17 @@ fn rules<'i>(
 ) -> Result<Vec<ParserRule<'i>>, ReadError<'i>>
     requires shape { IsGrammar text.now (named_trees_of trees.now) }
     requires nested { StandIn text.now (named_trees_of trees.now) }
-    ensures { Answers (first_fault text.entry.now (named_trees_of trees.now)) result (λ rs. ReadsRules text.entry.now (named_trees_of trees.now) (rule_views rs.items)) }
+    ensures { AnswersRules text.entry.now (named_trees_of trees.now) result }
 {
     let mut read = Vec::new(alloc);
     let mut rest = trees;
-    while let Some(
-        FirstTree {
-            rule: token,
-            inner,
-            others,
-            ..
-        },
-    ) = first_tree(rest)
-    {
-        if let Rule::grammar_rule = token {
-            if let Some(one) = rule(alloc, text, inner)? {
+    while let Some(tree) = first_tree(rest) {
+        rest = tree.others;
+        if let Rule::grammar_rule = tree.rule {
+            if let Some(one) = rule(alloc, text, tree.inner)? {
                 read.push(one)?;
             }
         }
-        rest = others;
     }
     Ok(read)
 }

@@ -1,9 +1,9 @@
 -- A stack that a reading gives as intact has the base that the reading began with.
 use Rattle.std.proofs.Common.{◌≡◌, ℕ, zero, suc, List, [], ◌∷◌, replicate, length, Bool, true, false, ◌&&◌, ◌||◌, is_some, if◌then◌else◌, Option, Some, None, refl, sym, ◌∙◌, subst, nat_eq, nat_le, ℤ, pos, negsuc}
 use Rattle.std.specs.Prelude.{⊤}
-use Rattle.meta_base.specs.Expression.{Grammar, Expression, Str, Insens, Range, Ident, PeekSlice, PosPred, NegPred, Seq, Choice, Opt, Rep, RepOnce, RepExact, RepMin, RepMax, RepMinMax, Skip, Push, RestoreOnErr, Rule, rule_of}
-use Rattle.meta_base.specs.Text.{Text}
-use Rattle.meta_base.specs.Builtins.{Builtin, One, Property, Newline, Soi, Eoi, Peek, Pop, Drop, PeekAll, PopAll, builtin_of}
+use Rattle.meta_base.specs.Language.Expression.{Grammar, Expression, Str, Insens, Range, Ident, PeekSlice, PosPred, NegPred, Seq, Choice, Opt, Rep, RepOnce, RepExact, RepMin, RepMax, RepMinMax, Skip, Push, RestoreOnErr, Rule, rule_of}
+use Rattle.meta_base.specs.Language.Text.{Text}
+use Rattle.meta_base.specs.Language.Builtins.{Builtin, One, Property, Newline, Soi, Eoi, Peek, Pop, Drop, PeekAll, PopAll, builtin_of}
 use Rattle.meta_stacks.specs.Stack.{Base, Empty, Blank, Any, AbstractStack, unknown, is_empty, all_blank, push_mark, pop_one, pop_all, popped, common, both_marks, join, join_any, failed, is_among}
 use Rattle.meta_stacks.specs.Reading.{Reading, surely, maybe, anything, from, only_if, peek_all_reading, pop_all_reading, top_reading, drop_reading, builtin_reading, slice_reading, text_reading, pushed_reading, stays, tried, Copy, Required, Optional, Endless, Walk, turns, onward, walk, walked, at_least_copies, from_to_copies, reading, rule_reading, name_reading}
 use Rattle.meta_stacks.proofs.Stacks.{and_left, and_right}

@@ -2,12 +2,12 @@
 use Rattle.std.proofs.Common.{◌≡◌, ◌⊎◌, inl, inr, ℕ, zero, suc, ◌-◌, min, List, [], ◌∷◌, ◌++◌, replicate, Bool, true, false, ◌||◌, is_some, if◌then◌else◌, Option, Some, None, refl, sym, ◌∙◌, ap, subst, nat_eq, length}
 use Rattle.std.specs.Prelude.{⊤, ℤ}
 use Rattle.std.specs.Char.{eq_ignore_ascii_case}
-use Rattle.meta_base.specs.Expression.{Grammar, Expression, Ident, Seq, Opt, Rep, Rule, rule_of, whitespace, comment}
-use Rattle.meta_base.specs.State.{Classes, Mode, NonAtomicMode, AtomicMode, CompoundAtomicMode, Between, State, Trees, None', Outcome, Success, Failure, moved}
-use Rattle.meta_base.specs.Text.{Text}
-use Rattle.meta_base.specs.Matching.{begins, text_outcome, character_outcome, starts_in, newline_outcome, end_outcome, slice_at, slice_outcome, place, end_place, builtin_outcome, other_outcome, named_outcome, peek_outcome, range_set}
-use Rattle.meta_base.specs.Builtins.{Builtin, One, Property, Newline, Soi, Eoi, Peek, Pop, Drop, PeekAll, PopAll, builtin_of}
-use Rattle.meta_base.specs.Meaning.{Does, Task, Run, Turns, Skipping, str, insens, range, slice, skip, call, other, pos_pred, neg_pred, push, restore, seq, seq_first, seq_second, left, right, opt, opt_none, rep, rep_none, turn, turn_none, rep_once, rep_exact, rep_min, rep_max, rep_min_max, skips, atomic, compound_atomic, between, ahead, not_ahead, with_token, in_sequence, exactly, at_least, at_most, from_to, skipped}
+use Rattle.meta_base.specs.Language.Expression.{Grammar, Expression, Ident, Seq, Opt, Rep, Rule, rule_of, whitespace, comment}
+use Rattle.meta_base.specs.Language.State.{Classes, Mode, NonAtomicMode, AtomicMode, CompoundAtomicMode, Between, State, Trees, None', Outcome, Success, Failure, moved}
+use Rattle.meta_base.specs.Language.Text.{Text}
+use Rattle.meta_base.specs.Language.Matching.{begins, text_outcome, character_outcome, starts_in, newline_outcome, end_outcome, slice_at, slice_outcome, place, end_place, builtin_outcome, other_outcome, named_outcome, peek_outcome, range_set}
+use Rattle.meta_base.specs.Language.Builtins.{Builtin, One, Property, Newline, Soi, Eoi, Peek, Pop, Drop, PeekAll, PopAll, builtin_of}
+use Rattle.meta_base.specs.Language.Meaning.{Does, Task, Run, Turns, Skipping, str, insens, range, slice, skip, call, other, pos_pred, neg_pred, push, restore, seq, seq_first, seq_second, left, right, opt, opt_none, rep, rep_none, turn, turn_none, rep_once, rep_exact, rep_min, rep_max, rep_min_max, skips, atomic, compound_atomic, between, ahead, not_ahead, with_token, in_sequence, exactly, at_least, at_most, from_to, skipped}
 use Rattle.meta_stacks.specs.Reports.{ChangesStack, by_push, by_builtin, by_rule, in_left, in_right, in_first, in_second, in_opt, in_rep, in_rep_once, in_rep_exact, in_rep_min, in_rep_max, in_rep_min_max, in_restore, AltersStack, SkippingChangesStack, skips_in}
 use Rattle.meta_stacks.proofs.Walking.{Kept}
 

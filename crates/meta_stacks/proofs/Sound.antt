@@ -3,12 +3,12 @@ use Rattle.std.proofs.Common.{◌≡◌, ℕ, zero, suc, ◌-◌, min, List, [],
 use Rattle.std.proofs.Math.Dec.{leb-zero}
 use mathlib.Core.List.{reverse_aux}
 use Rattle.std.specs.Char.{eq_ignore_ascii_case}
-use Rattle.meta_base.specs.Expression.{Grammar, Expression, Str, Insens, Range, Ident, PeekSlice, PosPred, NegPred, Seq, Choice, Opt, Rep, RepOnce, RepExact, RepMin, RepMax, RepMinMax, Skip, Push, RestoreOnErr, RuleType, Normal, Silent, Atomic, CompoundAtomic, NonAtomic, Rule, rule_of, whitespace, comment}
-use Rattle.meta_base.specs.State.{Classes, Mode, IsRuleMode, NonAtomicMode, AtomicMode, CompoundAtomicMode, Between, State, Outcome, Success, Failure}
-use Rattle.meta_base.specs.Text.{Text}
-use Rattle.meta_base.specs.Matching.{text_outcome, slice_at, slice_outcome, other_outcome, named_outcome, peek_outcome, pop_outcome, drop_outcome, with_stack, range_set, concatenated}
-use Rattle.meta_base.specs.Builtins.{Builtin, One, Property, Newline, Soi, Eoi, Peek, Pop, Drop, PeekAll, PopAll, builtin_of}
-use Rattle.meta_base.specs.Meaning.{Does, Run, Skipping, str, insens, range, slice, skip, call, other, pos_pred, neg_pred, push, restore, seq, seq_first, seq_second, left, right, opt, opt_none, rep_once, rep_exact, rep_min, rep_max, rep_min_max, ahead, not_ahead, pushed, with_token, in_sequence, body_mode, mode_in}
+use Rattle.meta_base.specs.Language.Expression.{Grammar, Expression, Str, Insens, Range, Ident, PeekSlice, PosPred, NegPred, Seq, Choice, Opt, Rep, RepOnce, RepExact, RepMin, RepMax, RepMinMax, Skip, Push, RestoreOnErr, RuleType, Normal, Silent, Atomic, CompoundAtomic, NonAtomic, Rule, rule_of, whitespace, comment}
+use Rattle.meta_base.specs.Language.State.{Classes, Mode, IsRuleMode, NonAtomicMode, AtomicMode, CompoundAtomicMode, Between, State, Outcome, Success, Failure}
+use Rattle.meta_base.specs.Language.Text.{Text}
+use Rattle.meta_base.specs.Language.Matching.{text_outcome, slice_at, slice_outcome, other_outcome, named_outcome, peek_outcome, pop_outcome, drop_outcome, with_stack, range_set, concatenated}
+use Rattle.meta_base.specs.Language.Builtins.{Builtin, One, Property, Newline, Soi, Eoi, Peek, Pop, Drop, PeekAll, PopAll, builtin_of}
+use Rattle.meta_base.specs.Language.Meaning.{Does, Run, Skipping, str, insens, range, slice, skip, call, other, pos_pred, neg_pred, push, restore, seq, seq_first, seq_second, left, right, opt, opt_none, rep_once, rep_exact, rep_min, rep_max, rep_min_max, ahead, not_ahead, pushed, with_token, in_sequence, body_mode, mode_in}
 use Rattle.meta_stacks.specs.Stack.{Base, Empty, Blank, Any, AbstractStack, AreBlank, Above, Marked, Describes, unknown, all_blank, push_mark, pop_all, popped, failed}
 use Rattle.meta_stacks.specs.Reading.{Reading, surely, maybe, anything, from, only_if, peek_all_reading, pop_all_reading, top_reading, drop_reading, builtin_reading, slice_reading, text_reading, pushed_reading, ahead_reading, not_ahead_reading, seq_reading, choice_reading, opt_reading, stays, Copy, Required, Optional, Endless, at_least_copies, from_to_copies, reading, rule_reading, name_reading, walked}
 use Rattle.meta_stacks.proofs.Stacks.{and_left, and_right, Has, Can, either_left, either_right, has_failed, pushes, blank_entries}

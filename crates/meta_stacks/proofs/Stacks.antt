@@ -2,7 +2,7 @@
 use Rattle.std.proofs.Common.{◌≡◌, ◌⊎◌, inl, inr, List, [], ◌∷◌, Bool, true, false, ◌&&◌, ◌||◌, if◌then◌else◌, Option, Some, None, refl, sym, length, nat_eq, nat_le, arith}
 use Rattle.std.specs.Prelude.{⊤}
 use Rattle.std.proofs.lemmas.Bool.{eqb-true}
-use Rattle.meta_base.specs.Text.{Text}
+use Rattle.meta_base.specs.Language.Text.{Text}
 use Rattle.meta_stacks.specs.Stack.{In, Base, Empty, Blank, Any, AbstractStack, AreBlank, Below, Marked, Above, Describes, unknown, blank_above, all_blank, push_mark, popped, common, both_marks, join, join_any, failed, bool_eq, base_eq, marks_eq, stack_eq, is_among, are_among}
 
 pub and_left : (a b : Bool) → (a && b) ≡ true → a ≡ true

@@ -1,10 +1,10 @@
 -- A repetition agrees with the reading of its copies.
 use Rattle.std.proofs.Common.{◌≡◌, ◌⊎◌, inl, inr, ℕ, zero, suc, List, [], ◌∷◌, Bool, true, false, not, ◌&&◌, ◌||◌, is_some, if◌then◌else◌, Option, Some, None, refl, sym, ◌∙◌, subst}
 use Rattle.std.specs.Prelude.{⊤}
-use Rattle.meta_base.specs.Expression.{Grammar, Expression, Opt, Rep}
-use Rattle.meta_base.specs.State.{Classes, Mode, State, Trees, Outcome, Success, Failure}
-use Rattle.meta_base.specs.Text.{Text}
-use Rattle.meta_base.specs.Meaning.{Does, Run, Turns, Skipping, str, seq, seq_first, seq_second, opt, opt_none, rep, rep_none, turn, turn_none, in_sequence}
+use Rattle.meta_base.specs.Language.Expression.{Grammar, Expression, Opt, Rep}
+use Rattle.meta_base.specs.Language.State.{Classes, Mode, State, Trees, Outcome, Success, Failure}
+use Rattle.meta_base.specs.Language.Text.{Text}
+use Rattle.meta_base.specs.Language.Meaning.{Does, Run, Turns, Skipping, str, seq, seq_first, seq_second, opt, opt_none, rep, rep_none, turn, turn_none, in_sequence}
 use Rattle.meta_stacks.specs.Stack.{AbstractStack, Describes, join_any, failed, is_among}
 use Rattle.meta_stacks.specs.Reading.{Reading, stays, Copy, Required, Optional, Endless, is_one, is_single, Walk, turns, copy_from, onward, walk, walked}
 use Rattle.meta_stacks.specs.Stack.{In}

@@ -1,8 +1,8 @@
 -- What an expression may do to a stack of which something is known.
 use Rattle.std.specs.Prelude.{ℕ, zero, suc, ◌-◌, min, List, [], ◌∷◌, ◌++◌, replicate, Option, Some, None, is_some, Bool, true, false, not, ◌&&◌, ◌||◌, if◌then◌else◌, ℤ, pos}
-use Rattle.meta_base.specs.Text.{Text}
-use Rattle.meta_base.specs.Expression.{Expression, Str, Insens, Range, Ident, PeekSlice, PosPred, NegPred, Seq, Choice, Opt, Rep, RepOnce, RepExact, RepMin, RepMax, RepMinMax, Skip, Push, RestoreOnErr, Rule, Grammar, rule_of}
-use Rattle.meta_base.specs.Builtins.{Builtin, Peek, Pop, Drop, PeekAll, PopAll, builtin_of}
+use Rattle.meta_base.specs.Language.Text.{Text}
+use Rattle.meta_base.specs.Language.Expression.{Expression, Str, Insens, Range, Ident, PeekSlice, PosPred, NegPred, Seq, Choice, Opt, Rep, RepOnce, RepExact, RepMin, RepMax, RepMinMax, Skip, Push, RestoreOnErr, Rule, Grammar, rule_of}
+use Rattle.meta_base.specs.Language.Builtins.{Builtin, Peek, Pop, Drop, PeekAll, PopAll, builtin_of}
 use Rattle.meta_stacks.specs.Stack.{Base, Empty, Blank, Any, AbstractStack, unknown, made_intact, all_blank, push_mark, pop_one, pop_all, join_any, failed, is_among, are_among}
 
 -- the stack after a success and after a failure, where they are possible, and whether a success certainly

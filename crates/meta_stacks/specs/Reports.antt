@@ -1,11 +1,11 @@
 -- Where the reading goes, where matching goes, what is reported, and which reports are certain.
 use Rattle.std.specs.Prelude.{◌≡◌, ℕ, zero, suc, List, [], ◌∷◌, replicate, length, Option, Some, None, is_some, Bool, true, ◌||◌, ⊤, ◌⊎◌}
-use Rattle.meta_base.specs.Text.{Text}
-use Rattle.meta_base.specs.Expression.{Expression, Ident, PosPred, NegPred, Seq, Choice, Opt, Rep, RepOnce, RepExact, RepMin, RepMax, RepMinMax, Push, RestoreOnErr, Rule, Grammar, rule_of, whitespace, comment}
-use Rattle.meta_base.specs.State.{Classes, Mode, IsRuleMode, State, Trees, Outcome, Success, Failure}
-use Rattle.meta_base.specs.Builtins.{Builtin, One, Property, Newline, Soi, Eoi, Peek, Pop, Drop, PeekAll, PopAll, builtin_of}
-use Rattle.meta_base.specs.Meaning.{Does, Run, Skipping, Matches}
-use Rattle.meta_base.specs.WellFormed.{IsNullable, CannotFail}
+use Rattle.meta_base.specs.Language.Text.{Text}
+use Rattle.meta_base.specs.Language.Expression.{Expression, Ident, PosPred, NegPred, Seq, Choice, Opt, Rep, RepOnce, RepExact, RepMin, RepMax, RepMinMax, Push, RestoreOnErr, Rule, Grammar, rule_of, whitespace, comment}
+use Rattle.meta_base.specs.Language.State.{Classes, Mode, IsRuleMode, State, Trees, Outcome, Success, Failure}
+use Rattle.meta_base.specs.Language.Builtins.{Builtin, One, Property, Newline, Soi, Eoi, Peek, Pop, Drop, PeekAll, PopAll, builtin_of}
+use Rattle.meta_base.specs.Language.Meaning.{Does, Run, Skipping, Matches}
+use Rattle.meta_base.specs.Language.WellFormed.{IsNullable, CannotFail}
 use Rattle.meta_stacks.specs.Stack.{AbstractStack, Describes, entry, failed}
 use Rattle.meta_stacks.specs.Reading.{Reading, reading, name_reading, tried, loops, Copy, Required, Optional, Endless, from_to_copies, at_least_copies}
 

@@ -1,6 +1,6 @@
 -- What is known of a stack: an abstract stack describes stacks of entries.
 use Rattle.std.specs.Prelude.{◌≡◌, List, [], ◌∷◌, length, Option, Some, None, Bool, true, false, ◌&&◌, ◌||◌, if◌then◌else◌, nat_eq, nat_le, ⊤, ◌⊎◌}
-use Rattle.meta_base.specs.Text.{Text}
+use Rattle.meta_base.specs.Language.Text.{Text}
 
 -- it stands in the list
 abbrev pub In : {A : Type 0} → A → List A → Type 0

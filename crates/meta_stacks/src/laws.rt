@@ -1,7 +1,7 @@
 // Laws over the definitions alone.
 ghost use Rattle.std.specs.Prelude.{◌≡◌, ℕ, Bool, List};
-ghost use Rattle.meta_base.specs.Text.{Text};
-ghost use Rattle.meta_base.specs.Expression.{Grammar, Expression};
+ghost use Rattle.meta_base.specs.Language.Text.{Text};
+ghost use Rattle.meta_base.specs.Language.Expression.{Grammar, Expression};
 ghost use Rattle.meta_nodes.specs.Spanned.{Spanned, Span};
 ghost use Rattle.meta_stacks.specs.Stack.{AbstractStack, In};
 ghost use Rattle.meta_stacks.specs.Reported.{KnowsNullable, ReportedFrom, IsCertainAt};

@@ -3,10 +3,10 @@ use Rattle.std.proofs.Common.{◌≡◌, refl, sym, ◌∙◌, ap, ℕ, ◌+◌,
 use Rattle.std.proofs.Math.ListN.{set}
 use Rattle.std.proofs.Math.Seq.{set-append_seam, take-append_seam}
 use Rattle.std.proofs.lemmas.List.{length-append}
-use Rattle.meta_base.specs.Text.{Text}
-use Rattle.meta_base.specs.State.{Trees, None', Tree, joined}
+use Rattle.meta_base.specs.Language.Text.{Text}
+use Rattle.meta_base.specs.Language.State.{Trees, None', Tree, joined}
 use Rattle.meta_syntax.specs.declared.entries.Entry as code
-use Rattle.meta_syntax.specs.Entries.{Entry, Starts, Ends, entries_of, entry_count, seen, Adds, Closes, IsWhole, nothing, pair, opened, token}
+use Rattle.meta_syntax.specs.Entries.{Entry, Starts, Ends, entries_of, entry_count, named_entries, Adds, Closes, IsWhole, nothing, pair, open_start, token}
 
 pub length-entries : (n : ℕ) (us : Trees) → length (entries_of n us) ≡ entry_count us
 length-entries n None' = refl
@@ -52,7 +52,7 @@ pub cut_back : (start es : List Entry) (n : ℕ) → n ≡ length start → take
 cut_back start es n e = rw (e, take-append_seam start es) refl
 
 -- a tree whose end was written, and its start again
-pub closed : (gives : Bool) (r : Text) (i j first last : ℕ) (before now pushed : List Entry) (us : Trees) → gives ≡ true → length before ≡ first → now ≡ (before ++ opened gives r i) ++ entries_of (length (before ++ opened gives r i)) us → pushed ≡ now ++ Ends j first ∷ [] → last ≡ length now → set pushed first (Starts r i last) ≡ before ++ entries_of first (token gives r i j us)
+pub closed : (gives : Bool) (r : Text) (i j first last : ℕ) (before now pushed : List Entry) (us : Trees) → gives ≡ true → length before ≡ first → now ≡ (before ++ open_start gives r i) ++ entries_of (length (before ++ open_start gives r i)) us → pushed ≡ now ++ Ends j first ∷ [] → last ≡ length now → set pushed first (Starts r i last) ≡ before ++ entries_of first (token gives r i j us)
 closed gives r i j first last before now pushed us g f e p l = rw g (closed_tree (rw g at e))
   where
     closed_tree : now ≡ (before ++ Starts r i 0 ∷ []) ++ entries_of (length (before ++ Starts r i 0 ∷ [])) us → set pushed first (Starts r i last) ≡ before ++ entries_of first (Tree r i j us None')
@@ -64,10 +64,10 @@ closed gives r i j first last before now pushed us g f e p l = rw g (closed_tree
         rw (p, n, append_assoc before (Starts r i 0 ∷ entries_of (first + 1) us) (Ends j first ∷ []), ← f, set-append_seam before (Starts r i 0) (entries_of (length before + 1) us ++ Ends j (length before) ∷ []) (Starts r i last), m) (rw f refl)
 
 -- a tree that was closed behind a list
-pub adds_tree : (gives : Bool) (r : Text) (i j first : ℕ) (old start inner now : List code.Entry) (us : Trees) → seen start ≡ seen old ++ opened gives r i → Adds start inner us → first ≡ length (seen old) → Closes gives r i j first inner now → Adds old now (token gives r i j us)
+pub adds_tree : (gives : Bool) (r : Text) (i j first : ℕ) (old start inner now : List code.Entry) (us : Trees) → named_entries start ≡ named_entries old ++ open_start gives r i → Adds start inner us → first ≡ length (named_entries old) → Closes gives r i j first inner now → Adds old now (token gives r i j us)
 adds_tree gives r i j first old start inner now us o w f c =
-    let x = c (seen old) us (sym f) (rw (← o) w) in
+    let x = c (named_entries old) us (sym f) (rw (← o) w) in
     rw f at x
 
 pub adds_more : (old middle now : List code.Entry) (us vs : Trees) → Adds old middle us → Adds middle now vs → Adds old now (joined us vs)
-adds_more old middle now us vs e f = grown (seen old) (seen middle) (seen now) us vs e f
+adds_more old middle now us vs e f = grown (named_entries old) (named_entries middle) (named_entries now) us vs e f

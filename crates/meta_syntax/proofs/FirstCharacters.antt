@@ -1,25 +1,28 @@
 -- What fails where the next character cannot begin it, and what is noted then.
-use Rattle.std.proofs.Common.{◌≡◌, refl, sym, ◌∙◌, subst, ℕ, zero, suc, max, List, [], ◌∷◌, Bool, true, false, not, ◌&&◌, ◌||◌, Option, Some, None, arith, if◌then◌else◌, nat_eq, eqb-true}
+use Rattle.std.proofs.Common.{◌≡◌, refl, sym, ◌∙◌, subst, ℕ, zero, suc, max, List, [], ◌∷◌, Bool, true, false, not, ◌&&◌, ◌||◌, Option, Some, None, arith, if◌then◌else◌, nat_eq, eqb-true, codes, ◌⊎◌, inl, inr}
 use Rattle.std.specs.Str.{chars}
-use Rattle.meta_base.specs.Text.{Text}
-use Rattle.meta_base.specs.Expression.{Expression, Str, Ident, Seq, Choice, rule_of, whitespace, comment}
-use Rattle.meta_base.specs.State.{Classes, State, Mode, NonAtomicMode, None', Success, Failure}
-use Rattle.meta_base.specs.Matching.{text_outcome}
-use Rattle.meta_base.specs.Meaning.{Run, Skipping, body_mode, gives_token, seen_from}
-use Rattle.meta_base.specs.Ran.{Ran}
-use Rattle.meta_base.specs.MetaRules.{name_of}
+use Rattle.meta_base.specs.Language.Text.{Text}
+use Rattle.meta_base.specs.Language.Expression.{Expression, Str, Ident, NegPred, Seq, Choice, rule_of, whitespace, comment}
+use Rattle.meta_base.specs.Language.State.{Classes, State, Mode, NonAtomicMode, AtomicMode, None', Success, Failure}
+use Rattle.meta_base.specs.Language.Matching.{text_outcome}
+use Rattle.meta_base.specs.Language.Meaning.{Run, Skipping, body_mode, gives_token, seen_from}
+use Rattle.meta_base.specs.Language.Ran.{Ran}
+use Rattle.meta_base.specs.Pieces.MetaRules.{name_of}
 use Rattle.meta_base.specs.declared.grammar.Rule.{Rule}
 use Rattle.meta_base.specs.declared.grammar.Rule.TheVariants as is
-use Rattle.meta_base.proofs.Steps.{ran_str, ran_seq_fails, ran_right, ran_call, ran_skips, ran_seq, ran_rep_none, ran_between}
+use Rattle.meta_base.proofs.Steps.{ran_atomic, ran_not_ahead, ran_str, ran_seq_fails, ran_right, ran_call, ran_skips, ran_seq, ran_rep_none, ran_between}
 use Rattle.meta_syntax.specs.declared.modes.Mode as mode
 use Rattle.meta_syntax.specs.declared.modes.Mode.TheVariants as in_mode
-use Rattle.meta_syntax.specs.Firsts.{firsts, is_among, is_among_any, is_noted_at_once, may_begin}
+use Rattle.meta_base.specs.Language.Builtins.{is_lower, is_upper}
+use Rattle.meta_syntax.specs.Firsts.{begins_name, firsts, is_among, is_among_any, is_noted_at_once, may_begin}
 use Rattle.meta_syntax.specs.MetaGrammar.{meta_grammar, rule_at, type_of_rule, body_of}
 use Rattle.meta_syntax.specs.Rows.{is_defined}
 use Rattle.meta_syntax.specs.Runs.{at, mode_of}
 use Rattle.meta_syntax.proofs.Lookup.{defined_rule}
 use Rattle.meta_syntax.proofs.Naming.{rule_named, name_of_named}
 use Rattle.meta_syntax.proofs.Quiet.{and_first, and_second}
+use Rattle.meta_syntax.proofs.SingleCharacters as single
+use Rattle.meta_syntax.proofs.SingleCharacters.{fails_within}
 use Rattle.meta_syntax.proofs.Steps.{ran_whitespace, ran_comment}
 
 -- whether all that an expression matches begins with one of these characters, if that is so of what it calls
@@ -135,15 +138,49 @@ all_right r in_mode.NonAtomic = right_in_non_atomic r
 all_right r in_mode.Atomic = right_in_atomic r
 all_right r in_mode.CompoundAtomic = right_in_compound_atomic r
 
+-- a name fails before a character that begins none
+no_push : (c : ℕ) (b : Bool) → nat_eq 80 c ≡ b → (is_lower c || is_upper c) ≡ false → not b ≡ true
+no_push c true e h = let i = eqb-true 80 c e in let j = rw (← i) at h in cc
+no_push c false e h = refl
+
+no_start : (n l u : Bool) → (n || (l || u)) ≡ false → ((not n && (not l && not u)) ≡ true) × ((l || u) ≡ false)
+no_start true l u h = cc
+no_start false true u h = cc
+no_start false false true h = cc
+no_start false false false h = (refl, refl)
+
+name_body_fails : (c : ℕ) (classes : Classes) (s : State) (u : Text) (p : ℕ) → begins_name c ≡ false → s.rest ≡ c ∷ u → Ran meta_grammar classes (Run AtomicMode (body_of is.identifier)) s Failure p p
+unfolding rule_named
+name_body_fails c classes s u p h e =
+    let k = no_start (nat_eq 95 c) (is_lower c) (is_upper c) h in
+    let push : Ran meta_grammar classes (Run AtomicMode (Str (codes "PUSH"))) s Failure p p = single.all_fail classes c (λ n. false) (λ n. λ i. cc) (Str (codes "PUSH")) (no_push c (nat_eq 80 c) refl k.1) AtomicMode s u p e in
+    let first : Ran meta_grammar classes (Run AtomicMode (Choice (Str (codes "_")) (Ident (name_of is.alpha)))) s Failure p p = single.all_fail classes c (fails_within 2 c) (single.call_fails classes c 2) (Choice (Str (codes "_")) (Ident (name_of is.alpha))) k.0 AtomicMode s u p e in
+    let both : Ran meta_grammar classes (Run AtomicMode (Seq (NegPred (Str (codes "PUSH"))) (Choice (Str (codes "_")) (Ident (name_of is.alpha))))) s Failure p p = ran_seq (ran_not_ahead push) ran_atomic first in
+    ran_seq_fails both
+
+name_fails : (m : mode.Mode) (c : ℕ) (classes : Classes) (s : State) (u : Text) (p q : ℕ) → begins_name c ≡ false → s.rest ≡ c ∷ u → q ≡ max p (if seen_from (mode_of m) then s.position else 0) → Ran meta_grammar classes (Run (mode_of m) (Ident (name_of is.identifier))) s Failure p q
+name_fails in_mode.NonAtomic c classes s u p q h e k = ran_call (defined_rule is.identifier refl) (name_body_fails c classes s u p h e) k
+name_fails in_mode.Atomic c classes s u p q h e k = ran_call (defined_rule is.identifier refl) (name_body_fails c classes s u p h e) k
+name_fails in_mode.CompoundAtomic c classes s u p q h e k = ran_call (defined_rule is.identifier refl) (name_body_fails c classes s u p h e) k
+
+name_or_listed : (r : Rule) (c : ℕ) → may_begin r c ≡ false → ((r ≡ is.identifier) × (begins_name c ≡ false)) ⊎ (is_among_any (firsts r) c ≡ false)
+name_or_listed is.identifier c h = inl (refl, h)
+name_or_listed is.EOI c h = inr h
+name_or_listed _ c h = inr h
+
 -- a call fails where the next character cannot begin what its rule matches
 pub fails_at_once : (r : Rule) (m : mode.Mode) (c : ℕ) (classes : Classes) (s : State) (u : Text) (p q : ℕ) → may_begin r c ≡ false → s.rest ≡ c ∷ u → q ≡ max p (if is_noted_at_once r m then s.position else 0) → Ran meta_grammar classes (Run (mode_of m) (Ident (name_of r))) s Failure p q
-fails_at_once r m c classes s u p q h e k = go (firsts r) h (all_right r m)
+fails_at_once r m c classes s u p q h e k = either (name_or_listed r c h)
   where
     go : (o : Option (List ℕ)) → is_among_any o c ≡ false → is_right o r m ≡ true → Ran meta_grammar classes (Run (mode_of m) (Ident (name_of r))) s Failure p q
     go None a b = cc
     go (Some xs) a b =
         let same = same_true (notes_within 3 (mode_of m) (name_of r)) (is_noted_at_once r m) (and_second _ _ b) in
         call_fails classes xs c a 3 (name_of r) (and_first _ _ b) (mode_of m) s u p q e (rw same k)
+
+    either : ((r ≡ is.identifier) × (begins_name c ≡ false)) ⊎ (is_among_any (firsts r) c ≡ false) → Ran meta_grammar classes (Run (mode_of m) (Ident (name_of r))) s Failure p q
+    either (inl (i, b)) = rw i (name_fails m c classes s u p q b e (rw i at k))
+    either (inr b) = go (firsts r) b (all_right r m)
 
 not_true : (b : Bool) → not b ≡ true → b ≡ false
 not_true true h = cc

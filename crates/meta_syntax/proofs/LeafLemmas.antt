@@ -10,10 +10,10 @@ use Rattle.std.proofs.Math.Seq.{drop-append_seam, take-append_seam}
 use Rattle.std.proofs.lemmas.List.{length-append, take-append-drop}
 use Rattle.std.proofs.lemmas.List.Sums.{sum_by-cons}
 use Rattle.std.proofs.lemmas.Str.{chars-append, encodes-chars, encodes-append, chars_past_char, length-encode, len_utf8_bounds}
-use Rattle.meta_base.specs.Text.{Text}
-use Rattle.meta_base.specs.State.{State, Mode, NonAtomicMode, AtomicMode, CompoundAtomicMode, Between, None', Outcome, Success, Failure, moved}
-use Rattle.meta_base.specs.Matching.{begins, text_outcome, character_outcome, end_outcome, end_token}
-use Rattle.meta_base.specs.Meaning.{seen_from}
+use Rattle.meta_base.specs.Language.Text.{Text}
+use Rattle.meta_base.specs.Language.State.{State, Mode, NonAtomicMode, AtomicMode, CompoundAtomicMode, Between, None', Outcome, Success, Failure, moved}
+use Rattle.meta_base.specs.Language.Matching.{begins, text_outcome, character_outcome, end_outcome, end_token}
+use Rattle.meta_base.specs.Language.Meaning.{seen_from}
 use Rattle.meta_syntax.specs.Forms.{decoded}
 use Rattle.meta_syntax.specs.Entries.{token}
 use Rattle.meta_syntax.specs.Runs.{GoesOn, IsLeft, at, leaving}

@@ -1,3 +1,4 @@
+pub mod Choices
 pub mod EntryLists
 pub mod FirstCharacters
 pub mod LeafLemmas
@@ -9,6 +10,8 @@ pub mod Naming
 pub mod Numerals
 pub mod Parsing
 pub mod Quiet
+pub mod Quoted
+pub mod SetCharacters
 pub mod ShapeOfTrees
 pub mod SingleCharacters
 pub mod Steps

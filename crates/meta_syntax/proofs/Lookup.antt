@@ -1,14 +1,14 @@
 -- The rules of the meta-grammar by their names, and the names that are builtins'.
 use Rattle.std.proofs.Common.{◌≡◌, refl, ◌⊎◌, inl, inr, Bool, true, false, ◌||◌, Some, None, bytes_eq, codes}
-use Rattle.meta_base.specs.Expression as spec
-use Rattle.meta_base.specs.Text.{Text}
-use Rattle.meta_base.specs.Expression.{Ident, rule_of, whitespace, comment}
-use Rattle.meta_base.specs.State.{Outcome, Mode, NonAtomicMode, AtomicMode, CompoundAtomicMode, Between, State, Classes}
-use Rattle.meta_base.specs.Builtins.{One, Soi, Eoi, builtins, builtin_of}
-use Rattle.meta_base.specs.Matching.{end_outcome, other_outcome}
-use Rattle.meta_base.specs.Meaning.{other, inherited, body_mode}
-use Rattle.meta_base.specs.WellFormed.{HasOutcome}
-use Rattle.meta_base.specs.MetaRules.{name_of}
+use Rattle.meta_base.specs.Language.Expression as spec
+use Rattle.meta_base.specs.Language.Text.{Text}
+use Rattle.meta_base.specs.Language.Expression.{Ident, rule_of, whitespace, comment}
+use Rattle.meta_base.specs.Language.State.{Outcome, Mode, NonAtomicMode, AtomicMode, CompoundAtomicMode, Between, State, Classes}
+use Rattle.meta_base.specs.Language.Builtins.{One, Soi, Eoi, builtins, builtin_of}
+use Rattle.meta_base.specs.Language.Matching.{end_outcome, other_outcome}
+use Rattle.meta_base.specs.Language.Meaning.{other, inherited, body_mode}
+use Rattle.meta_base.specs.Language.WellFormed.{HasOutcome}
+use Rattle.meta_base.specs.Pieces.MetaRules.{name_of}
 use Rattle.meta_base.specs.declared.grammar.Rule.{Rule}
 use Rattle.meta_base.specs.declared.grammar.Rule.TheVariants as is
 use Rattle.meta_syntax.specs.declared.table.Kind.{Kind}

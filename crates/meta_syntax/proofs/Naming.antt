@@ -1,8 +1,8 @@
 -- The rule that a name is of.
 use Rattle.std.proofs.Common.{◌≡◌, refl, List, [], ◌∷◌, Bool, true, false, Option, Some, None, if◌then◌else◌, bytes_eq}
 use Rattle.std.proofs.lemmas.Slice.Eq.{bytes_eq-Decides}
-use Rattle.meta_base.specs.Text.{Text}
-use Rattle.meta_base.specs.MetaRules.{name_of, meta_rules}
+use Rattle.meta_base.specs.Language.Text.{Text}
+use Rattle.meta_base.specs.Pieces.MetaRules.{name_of, meta_rules}
 use Rattle.meta_base.specs.declared.grammar.Rule.{Rule}
 use Rattle.meta_base.specs.declared.grammar.Rule.TheVariants as is
 

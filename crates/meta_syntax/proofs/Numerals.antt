@@ -11,11 +11,11 @@ use Rattle.std.specs.Char.{digit_value, len_utf8}
 use Rattle.std.specs.List.{slice_range}
 use Rattle.std.specs.Str.{IsUtf8, IsAscii}
 use Rattle.std.specs.Str.Parse.{AllDigits, IsNumeral, without_leading_sign, without_leading_plus}
-use Rattle.meta_base.specs.Text.{Text, size_of}
-use Rattle.meta_base.specs.State.{State}
-use Rattle.meta_base.specs.Builtins.{is_between}
-use Rattle.meta_base.specs.Places.{Stands}
-use Rattle.meta_base.specs.Expression.{Str, Range}
+use Rattle.meta_base.specs.Language.Text.{Text, size_of}
+use Rattle.meta_base.specs.Language.State.{State}
+use Rattle.meta_base.specs.Language.Builtins.{is_between}
+use Rattle.meta_base.specs.Language.Places.{Stands}
+use Rattle.meta_base.specs.Language.Expression.{Str, Range}
 use Rattle.meta_base.specs.declared.grammar.Rule.TheVariants as is
 use Rattle.meta_syntax.specs.MetaGrammar.{body_of}
 use Rattle.meta_syntax.specs.Shape.{IsNumber, IsInteger}

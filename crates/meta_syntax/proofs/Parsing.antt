@@ -1,24 +1,24 @@
 -- From what a call finds at the start of a text to what the text spells.
 use Rattle.std.proofs.Common.{◌≡◌, refl, sym, ap, subst, ℕ, ◌-◌, max, List, [], length, chars, false, arith}
 use Rattle.std.specs.Str.{IsCharBoundary, IsUtf8}
-use Rattle.meta_base.specs.State.{Classes, NonAtomicMode, State, Failure, Success}
-use Rattle.meta_base.specs.Expression.{Ident}
-use Rattle.meta_base.specs.Meaning.{Does, Task, Run}
-use Rattle.meta_base.specs.FurthestFailure.{furthest}
-use Rattle.meta_base.specs.MetaRules.{name_of}
+use Rattle.meta_base.specs.Language.State.{Classes, NonAtomicMode, State, Failure, Success}
+use Rattle.meta_base.specs.Language.Expression.{Ident}
+use Rattle.meta_base.specs.Language.Meaning.{Does, Task, Run}
+use Rattle.meta_base.specs.Language.FurthestFailure.{furthest}
+use Rattle.meta_base.specs.Pieces.MetaRules.{name_of}
 use Rattle.meta_base.specs.declared.grammar.Rule.{Rule}
 use Rattle.meta_syntax.specs.declared.entries.Entry.{Entry}
-use Rattle.meta_syntax.specs.Entries.{IsWhole, seen}
+use Rattle.meta_syntax.specs.Entries.{IsWhole, named_entries}
 use Rattle.meta_syntax.specs.MetaGrammar.{meta_grammar}
-use Rattle.meta_base.specs.NamedTrees.{named}
-use Rattle.meta_base.specs.Places.{Stands}
-use Rattle.meta_base.specs.TokenTrees.{TokenTrees, AreNested}
+use Rattle.meta_base.specs.Pieces.NamedTrees.{named}
+use Rattle.meta_base.specs.Language.Places.{Stands}
+use Rattle.meta_base.specs.Pieces.TokenTrees.{TokenTrees, AreNested}
 use Rattle.meta_base.specs.declared.runtime.faults.Fault.{Fault}
 use Rattle.meta_base.specs.declared.runtime.faults.Fault.TheVariants as fault_is
 use Rattle.meta_base.proofs.FailuresStand.{stands_at}
 use Rattle.meta_base.proofs.InBytes.{ends_within, nested_bytes, on_bytes}
 use Rattle.meta_base.proofs.PairLemmas.{AreNested-wider}
-use Rattle.meta_base.proofs.Within.{fits}
+use Rattle.meta_base.proofs.TreesAreNested.{fits}
 use Rattle.meta_syntax.specs.Parses.{FailsAt, IsSyntaxErrorOrMemory, ParseRefuses, Spells, TokensGive, start_of}
 use Rattle.meta_syntax.specs.Runs.{Fails, Finds, at}
 use Rattle.meta_syntax.proofs.EntryLists.{entries-whole}
@@ -29,7 +29,7 @@ at_start text =
     let f : ℕ → State = λ p. record { position = p; rest = chars text; stack = [] } in
     ap f z
 
-pub spelled : (rule : Rule) (text : List ℕ) (es fs : List Entry) (p q : ℕ) (after : List ℕ) → Finds (Run NonAtomicMode (Ident (name_of rule))) text text es fs p q after → seen es ≡ [] → TokensGive rule text fs
+pub spelled : (rule : Rule) (text : List ℕ) (es fs : List Entry) (p q : ℕ) (after : List ℕ) → Finds (Run NonAtomicMode (Ident (name_of rule))) text text es fs p q after → named_entries es ≡ [] → TokensGive rule text fs
 spelled rule text es fs p q after x e =
     let a = x.added in
     let b = rw e at a in
@@ -46,7 +46,7 @@ refused rule text es fs p q x z classes =
     let n : q ≡ max p (furthest r.found) = r.noted in
     placed classes _ (at text text) (start_of text) q (at_start text) r.found (omega (arith, n, z))
 
-pub tokens_whole : (rule : Rule) (text : List ℕ) (es : List Entry) → TokensGive rule text es → IsWhole 0 (seen es)
+pub tokens_whole : (rule : Rule) (text : List ℕ) (es : List Entry) → TokensGive rule text es → IsWhole 0 (named_entries es)
 tokens_whole rule text es t = subst (λ l. IsWhole 0 l) (sym t.2) (entries-whole 0 t.0)
 
 -- the places of what a text spells, and of a failure

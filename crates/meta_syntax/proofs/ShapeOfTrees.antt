@@ -1,12 +1,12 @@
 -- What each rule's body yields makes the shape of its trees.
 use Rattle.std.proofs.Common.{◌≡◌, refl, ℕ, List, inl, inr, Bool, true, false, if◌then◌else◌, codes}
-use Rattle.meta_base.specs.Text.{Text}
-use Rattle.meta_base.specs.Expression.{RuleType, Silent}
-use Rattle.meta_base.specs.State.{Trees, None', Tree, joined}
-use Rattle.meta_base.specs.MetaRules.{name_of}
+use Rattle.meta_base.specs.Language.Text.{Text}
+use Rattle.meta_base.specs.Language.Expression.{RuleType, Silent}
+use Rattle.meta_base.specs.Language.State.{Trees, None', Tree, joined}
+use Rattle.meta_base.specs.Pieces.MetaRules.{name_of}
 use Rattle.meta_base.specs.declared.grammar.Rule.{Rule}
 use Rattle.meta_base.specs.declared.grammar.Rule.TheVariants as is
-use Rattle.meta_base.proofs.Local.{joined-assoc}
+use Rattle.meta_base.proofs.RewritingsKeepOutcomes.{joined-assoc}
 use Rattle.meta_syntax.specs.MetaGrammar.{type_of_rule}
 use Rattle.meta_syntax.specs.Rows.{is_defined}
 use Rattle.meta_syntax.specs.Shape as shape

@@ -3,14 +3,14 @@ use Rattle.std.proofs.Common.{◌≡◌, refl, sym, ◌∙◌, subst, ℕ, zero,
 use Rattle.std.specs.Prelude.{IsUtf8, encode_utf8, ◌++◌}
 use Rattle.std.specs.Str.{chars}
 use Rattle.std.proofs.lemmas.Str.{chars_past_char}
-use Rattle.meta_base.specs.Text.{Text}
-use Rattle.meta_base.specs.Expression.{Expression, Str, Range, Ident, Choice, RuleType, Silent, rule_of}
-use Rattle.meta_base.specs.State.{Classes, State, Mode, None', Outcome, Success, Failure, moved}
-use Rattle.meta_base.specs.Matching.{range_set}
-use Rattle.meta_base.specs.Meaning.{Run, body_mode, gives_token, seen_from}
-use Rattle.meta_base.specs.Ran.{Ran}
-use Rattle.meta_base.specs.Builtins.{is_between, is_lower, is_upper}
-use Rattle.meta_base.specs.MetaRules.{name_of}
+use Rattle.meta_base.specs.Language.Text.{Text}
+use Rattle.meta_base.specs.Language.Expression.{Expression, Str, Range, Ident, Choice, RuleType, Silent, rule_of}
+use Rattle.meta_base.specs.Language.State.{Classes, State, Mode, None', Outcome, Success, Failure, moved}
+use Rattle.meta_base.specs.Language.Matching.{range_set}
+use Rattle.meta_base.specs.Language.Meaning.{Run, body_mode, gives_token, seen_from}
+use Rattle.meta_base.specs.Language.Ran.{Ran}
+use Rattle.meta_base.specs.Language.Builtins.{is_between, is_lower, is_upper}
+use Rattle.meta_base.specs.Pieces.MetaRules.{name_of}
 use Rattle.meta_base.specs.declared.grammar.Rule.{Rule}
 use Rattle.meta_base.specs.declared.grammar.Rule.TheVariants as is
 use Rattle.meta_base.proofs.Steps.{ran_str, ran_range, ran_left, ran_right, ran_call}
@@ -28,7 +28,7 @@ all P [] = true
 all P (x ∷ xs) = P x && all P xs
 
 -- whether an expression fails by the character c, if what it calls does
-abbrev fails_by : (Text → Bool) → ℕ → Expression → Bool
+abbrev pub fails_by : (Text → Bool) → ℕ → Expression → Bool
 fails_by called c (Str []) = false
 fails_by called c (Str (x ∷ t)) = not (nat_eq x c)
 fails_by called c (Range a b) = not (range_set a b c)
@@ -37,7 +37,7 @@ fails_by called c (Choice a b) = fails_by called c a && fails_by called c b
 fails_by called c _ = false
 
 -- whether it takes that character and nothing more, by what it calls fails on and takes
-abbrev takes_by : (Text → Bool) → (Text → Bool) → ℕ → Expression → Bool
+abbrev pub takes_by : (Text → Bool) → (Text → Bool) → ℕ → Expression → Bool
 takes_by failing taking c (Str []) = false
 takes_by failing taking c (Str (x ∷ [])) = nat_eq x c
 takes_by failing taking c (Str (x ∷ y ∷ t)) = false
@@ -46,20 +46,20 @@ takes_by failing taking c (Ident n) = taking n
 takes_by failing taking c (Choice a b) = takes_by failing taking c a || (fails_by failing c a && takes_by failing taking c b)
 takes_by failing taking c _ = false
 
-abbrev is_silent : RuleType → Bool
+abbrev pub is_silent : RuleType → Bool
 is_silent Silent = true
 is_silent _ = false
 
-abbrev silently : (Expression → Bool) → Option Rule → Bool
+abbrev pub silently : (Expression → Bool) → Option Rule → Bool
 silently f None = false
 silently f (Some r) = (is_defined r && is_silent (type_of_rule r)) && f (body_of r)
 
 -- the same of a name, with so many calls of silent rules followed
-abbrev fails_within : ℕ → ℕ → Text → Bool
+abbrev pub fails_within : ℕ → ℕ → Text → Bool
 fails_within zero c n = false
 fails_within (suc k) c n = silently (fails_by (fails_within k c) c) (rule_named n)
 
-abbrev takes_within : ℕ → ℕ → Text → Bool
+abbrev pub takes_within : ℕ → ℕ → Text → Bool
 takes_within zero c n = false
 takes_within (suc k) c n = silently (takes_by (fails_within k c) (takes_within k c) c) (rule_named n)
 
@@ -78,13 +78,13 @@ same_type Silent h = refl
 same_type _ h = cc
 
 module _ (classes : Classes) (c : ℕ) where
-  abbrev Ends : (State → Outcome) → Expression → Type 0
+  abbrev pub Ends : (State → Outcome) → Expression → Type 0
   Ends o e = (m : Mode) (s : State) (u : Text) (p : ℕ) → s.rest ≡ c ∷ u → Ran meta_grammar classes (Run m e) s (o s) p p
 
-  abbrev Fails : Expression → Type 0
+  abbrev pub Fails : Expression → Type 0
   Fails = Ends (λ s. Failure)
 
-  abbrev Takes : Expression → Type 0
+  abbrev pub Takes : Expression → Type 0
   Takes = Ends (λ s. Success (moved 1 s) None')
 
   text_fails : (x : ℕ) (t : Text) (b : Bool) → nat_eq x c ≡ b → not b ≡ true → Fails (Str (x ∷ t))
@@ -102,7 +102,7 @@ module _ (classes : Classes) (c : ℕ) where
   range_takes a b h = λ m s u p i. ran_range (rw (i, h) refl)
 
   module _ (failing : Text → Bool) (calls_fail : (n : Text) → failing n ≡ true → Fails (Ident n)) where
-    all_fail : (e : Expression) → fails_by failing c e ≡ true → Fails e
+    pub all_fail : (e : Expression) → fails_by failing c e ≡ true → Fails e
     all_fail (Str []) h = cc
     all_fail (Str (x ∷ t)) h = text_fails x t (nat_eq x c) refl h
     all_fail (Range a b) h = range_fails a b (range_set a b c) refl h
@@ -115,7 +115,7 @@ module _ (classes : Classes) (c : ℕ) where
       either_takes a b true e h first second = λ m s u p i. ran_left (first e m s u p i)
       either_takes a b false e h first second = λ m s u p i. ran_right (all_fail a (and_first _ _ h) m s u p i) (second (and_second _ _ h) m s u p i)
 
-      all_take : (e : Expression) → takes_by failing taking c e ≡ true → Takes e
+      pub all_take : (e : Expression) → takes_by failing taking c e ≡ true → Takes e
       all_take (Str []) h = cc
       all_take (Str (x ∷ [])) h = text_takes x h
       all_take (Str (x ∷ y ∷ t)) h = cc
@@ -143,11 +143,11 @@ module _ (classes : Classes) (c : ℕ) where
       let x = ran_call {m = m} {z = p} found (k (body_of r) (and_second _ _ h) (body_mode (rule_at r) m) s u p i) (omega arith) in
       rw (same_type (type_of_rule r) (and_second (is_defined r) (is_silent (type_of_rule r)) d)) at x
 
-  call_fails : (k : ℕ) (n : Text) → fails_within k c n ≡ true → Fails (Ident n)
+  pub call_fails : (k : ℕ) (n : Text) → fails_within k c n ≡ true → Fails (Ident n)
   call_fails zero n h = cc
   call_fails (suc k) n h = silent_fails n (rule_named n) _ refl h (all_fail (fails_within k c) (call_fails k))
 
-  call_takes : (k : ℕ) (n : Text) → takes_within k c n ≡ true → Takes (Ident n)
+  pub call_takes : (k : ℕ) (n : Text) → takes_within k c n ≡ true → Takes (Ident n)
   call_takes zero n h = cc
   call_takes (suc k) n h = silent_takes n (rule_named n) _ refl h (all_take (fails_within k c) (call_fails k) (takes_within k c) (call_takes k))
 
@@ -168,7 +168,7 @@ one_of_three true b d h = refl
 one_of_three false true d h = refl
 one_of_three false false d h = h
 
-takes_listed : (r : Rule) (c : ℕ) → takes_one r c ≡ true → takes_within 2 c (name_of r) ≡ true
+pub takes_listed : (r : Rule) (c : ℕ) → takes_one r c ≡ true → takes_within 2 c (name_of r) ≡ true
 unfolding rule_named
 takes_listed is.WHITESPACE c h = among_all (λ x. takes_within 2 x (name_of is.WHITESPACE)) (32 ∷ 9 ∷ 10 ∷ []) c refl h
 takes_listed is.newline c h = among_all (λ x. takes_within 2 x (name_of is.newline)) (10 ∷ []) c refl h

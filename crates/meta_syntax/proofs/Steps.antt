@@ -3,15 +3,15 @@ use Rattle.std.proofs.Common.{◌≡◌, refl, ◌∙◌, ap, subst, ℕ, ◌-�
 use Rattle.std.proofs.lemmas.List.{length-drop}
 use Rattle.std.specs.Borrow.{Bor}
 use Rattle.std.specs.declared.alloc.AllocError.{AllocError}
-use Rattle.meta_base.specs.State.{Classes, Mode, NonAtomicMode, Between, State, Trees, None', joined, Outcome, Success, Failure}
-use Rattle.meta_base.specs.Expression.{Expression, Ident, NegPred, Opt, Seq, Choice, Rep, RepOnce, RepMinMax, RuleType, whitespace, comment}
-use Rattle.meta_base.specs.Text.{Text}
-use Rattle.meta_base.specs.Builtins.{Builtin, builtin_of}
-use Rattle.meta_base.specs.Matching.{character_outcome, other_outcome, builtin_outcome, end_outcome}
-use Rattle.meta_base.specs.Meaning.{Task, Run, Turns, Skipping, from_to, body_mode, gives_token, seen_from, with_token}
-use Rattle.meta_base.specs.FurthestFailure.{place_of}
-use Rattle.meta_base.specs.Ran.{Ran}
-use Rattle.meta_base.specs.MetaRules.{name_of}
+use Rattle.meta_base.specs.Language.State.{Classes, Mode, NonAtomicMode, Between, State, Trees, None', joined, Outcome, Success, Failure}
+use Rattle.meta_base.specs.Language.Expression.{Expression, Ident, NegPred, Opt, Seq, Choice, Rep, RepOnce, RepMinMax, RuleType, whitespace, comment}
+use Rattle.meta_base.specs.Language.Text.{Text}
+use Rattle.meta_base.specs.Language.Builtins.{Builtin, builtin_of}
+use Rattle.meta_base.specs.Language.Matching.{character_outcome, other_outcome, builtin_outcome, end_outcome}
+use Rattle.meta_base.specs.Language.Meaning.{Task, Run, Turns, Skipping, from_to, body_mode, gives_token, seen_from, with_token}
+use Rattle.meta_base.specs.Language.FurthestFailure.{place_of}
+use Rattle.meta_base.specs.Language.Ran.{Ran}
+use Rattle.meta_base.specs.Pieces.MetaRules.{name_of}
 use Rattle.meta_base.specs.declared.grammar.Rule.{Rule}
 use Rattle.meta_base.specs.declared.grammar.Rule.TheVariants as is
 use Rattle.meta_base.proofs.Steps.{after_trees, after_assoc, after_none, joined_nil, ran_other, ran_quietly, ran_call, ran_not_ahead, ran_opt, ran_opt_none, ran_seq_fails, ran_seq, ran_left, ran_right, ran_rep_none, ran_rep, ran_rep_once, ran_rep_min_max, ran_turns_end, ran_turns_more, ran_more, ran_skips, ran_atomic, ran_compound_atomic, ran_between, ran_blank}
@@ -19,7 +19,7 @@ use Rattle.meta_syntax.specs.declared.entries.Entry.{Entry}
 use Rattle.meta_syntax.specs.declared.modes.Mode as mode
 use Rattle.meta_syntax.specs.declared.modes.Mode.TheVariants as in_mode
 use Rattle.meta_syntax.specs.Entries.{Entry as NamedEntry}
-use Rattle.meta_syntax.specs.Entries.{seen, token, entries_of, Adds}
+use Rattle.meta_syntax.specs.Entries.{named_entries, token, entries_of, Adds}
 use Rattle.meta_syntax.specs.MetaGrammar.{meta_grammar, rule_at, type_of_rule, body_of}
 use Rattle.meta_syntax.specs.Rows.{is_defined}
 use Rattle.meta_syntax.specs.Runs.{Fails, Finds, Gives, IsLeft, at, leaving, mode_of}
@@ -27,15 +27,15 @@ use Rattle.meta_syntax.proofs.EntryLists.{adds_more, not_grown, cut_back}
 use Rattle.meta_syntax.proofs.Lookup.{defined_rule, no_any, no_soi, no_eoi, any_builtin, soi_builtin, eoi_builtin, whitespace_name, comment_name}
 
 -- a list that was added to, and was cut back to the length that it had
-pub cut_to : (start now cut : List Entry) (n : ℕ) (us : Trees) → Adds start now us → seen cut ≡ take n (seen now) → n ≡ length (seen start) → seen cut ≡ seen start
-cut_to start now cut n us a c e = c ∙ (ap (take n) a ∙ cut_back (seen start) (entries_of (length (seen start)) us) n e)
+pub cut_to : (start now cut : List Entry) (n : ℕ) (us : Trees) → Adds start now us → named_entries cut ≡ take n (named_entries now) → n ≡ length (named_entries start) → named_entries cut ≡ named_entries start
+cut_to start now cut n us a c e = c ∙ (ap (take n) a ∙ cut_back (named_entries start) (entries_of (length (named_entries start)) us) n e)
 
 -- the same, where a failure came last
-pub cut_past : (start middle now cut : List Entry) (n : ℕ) (us : Trees) → Adds start middle us → seen now ≡ seen middle → seen cut ≡ take n (seen now) → n ≡ length (seen start) → seen cut ≡ seen start
+pub cut_past : (start middle now cut : List Entry) (n : ℕ) (us : Trees) → Adds start middle us → named_entries now ≡ named_entries middle → named_entries cut ≡ take n (named_entries now) → n ≡ length (named_entries start) → named_entries cut ≡ named_entries start
 cut_past start middle now cut n us a k c e = cut_to start middle cut n us a (c ∙ ap (take n) k) e
 
 -- entries that are what they were, and then were added to
-pub adds_on : (start middle now : List Entry) (us : Trees) → seen middle ≡ seen start → Adds middle now us → Adds start now us
+pub adds_on : (start middle now : List Entry) (us : Trees) → named_entries middle ≡ named_entries start → Adds middle now us → Adds start now us
 adds_on start middle now us k a = rw k at a
 
 -- what a builtin's name does in a mode of the code
@@ -88,7 +88,7 @@ module _ {classes : Classes} where
 -- forms without tokens
 pub gives_leaving : (k : Task) (text rest : List ℕ) (es : List Entry) (p : ℕ) (o : Option (Bor (List ℕ))) → ((classes : Classes) → Ran meta_grammar classes k (at text rest) (leaving text o) p p) → Gives k text rest es es p p o
 gives_leaving k text rest es p None h = record { kept = refl; ran = h }
-gives_leaving k text rest es p (Some after) h = record { trees = None'; added = not_grown (seen es); ran = h }
+gives_leaving k text rest es p (Some after) h = record { trees = None'; added = not_grown (named_entries es); ran = h }
 
 module _ {text rest : List ℕ} {es fs : List Entry} {p q : ℕ} where
   -- another task that does the same
@@ -100,7 +100,7 @@ module _ {text rest : List ℕ} {es fs : List Entry} {p q : ℕ} where
 
   -- a failure where nothing was taken
   pub finds_nothing : {k l : Task} → ((classes : Classes) → Ran meta_grammar classes k (at text rest) Failure p q → Ran meta_grammar classes l (at text rest) (Success (at text rest) None') p q) → Fails k text rest es fs p q → Finds l text rest es fs p q rest
-  finds_nothing h x = record { trees = None'; added = adds_on es fs fs None' x.kept (not_grown (seen fs)); ran = λ classes. h classes (x.ran classes) }
+  finds_nothing h x = record { trees = None'; added = adds_on es fs fs None' x.kept (not_grown (named_entries fs)); ran = λ classes. h classes (x.ran classes) }
 
 module _ {m : Mode} {a b : Expression} {text rest : List ℕ} where
   pub finds_seq : {es fs gs hs : List Entry} {p q r z : ℕ} {s t u : List ℕ} → Finds (Run m a) text rest es fs p q s → Finds (Skipping m) text s fs gs q r t → Finds (Run m b) text t gs hs r z u → Finds (Run m (Seq a b)) text rest es hs p z u
@@ -113,7 +113,7 @@ module _ {m : Mode} {a b : Expression} {text rest : List ℕ} where
   pub fails_first : {es fs : List Entry} {p q : ℕ} → Fails (Run m a) text rest es fs p q → Fails (Run m (Seq a b)) text rest es fs p q
   fails_first x = record { kept = x.kept; ran = λ classes. ran_seq_fails (x.ran classes) }
 
-  pub fails_second : {es fs gs hs cut : List Entry} {n p q r z : ℕ} {s t : List ℕ} → Finds (Run m a) text rest es fs p q s → Finds (Skipping m) text s fs gs q r t → Fails (Run m b) text t gs hs r z → seen cut ≡ take n (seen hs) → n ≡ length (seen es) → Fails (Run m (Seq a b)) text rest es cut p z
+  pub fails_second : {es fs gs hs cut : List Entry} {n p q r z : ℕ} {s t : List ℕ} → Finds (Run m a) text rest es fs p q s → Finds (Skipping m) text s fs gs q r t → Fails (Run m b) text t gs hs r z → named_entries cut ≡ take n (named_entries hs) → n ≡ length (named_entries es) → Fails (Run m (Seq a b)) text rest es cut p z
   fails_second {es} {fs} {gs} {hs} {cut} {n} x y w c e = record {
     kept = cut_past es gs hs cut n _ (adds_more es fs gs _ _ x.added y.added) w.kept c e;
     ran = λ classes. ran_seq (x.ran classes) (y.ran classes) (w.ran classes);
@@ -125,6 +125,12 @@ module _ {m : Mode} {a b : Expression} {text rest : List ℕ} where
 gives_right : (m : Mode) (a b : Expression) (text rest : List ℕ) (es fs gs : List Entry) (p q r : ℕ) (o : Option (Bor (List ℕ))) → Fails (Run m a) text rest es fs p q → Gives (Run m b) text rest fs gs q r o → Gives (Run m (Choice a b)) text rest es gs p r o
 gives_right m a b text rest es fs gs p q r None x y = record { kept = y.kept ∙ x.kept; ran = λ classes. ran_right (x.ran classes) (y.ran classes) }
 gives_right m a b text rest es fs gs p q r (Some s) x y = record { trees = y.trees; added = adds_on es fs gs _ x.kept y.added; ran = λ classes. ran_right (x.ran classes) (y.ran classes) }
+
+pub finds_right : {m : Mode} {a b : Expression} {text rest s : List ℕ} {es fs gs : List Entry} {p q r : ℕ} → Fails (Run m a) text rest es fs p q → Finds (Run m b) text rest fs gs q r s → Finds (Run m (Choice a b)) text rest es gs p r s
+finds_right {m} {a} {b} {text} {rest} {s} {es} {fs} {gs} x y = record { trees = y.trees; added = adds_on es fs gs _ x.kept y.added; ran = λ classes. ran_right (x.ran classes) (y.ran classes) }
+
+pub fails_right : {m : Mode} {a b : Expression} {text rest : List ℕ} {es fs gs : List Entry} {p q r : ℕ} → Fails (Run m a) text rest es fs p q → Fails (Run m b) text rest fs gs q r → Fails (Run m (Choice a b)) text rest es gs p r
+fails_right x y = record { kept = y.kept ∙ x.kept; ran = λ classes. ran_right (x.ran classes) (y.ran classes) }
 
 -- the answer of the second alternative
 pub right_if_ok : (m : Mode) (a b : Expression) (text rest : List ℕ) (es fs gs : List Entry) (p q r : ℕ) (answer : Result (Option (Bor (List ℕ))) AllocError) → Fails (Run m a) text rest es fs p q → IfOk answer (λ o. Gives (Run m b) text rest fs gs q r o) → IfOk answer (λ o. Gives (Run m (Choice a b)) text rest es gs p r o)
@@ -150,7 +156,7 @@ module _ {m : Mode} {a : Expression} {text rest : List ℕ} where
   pub finds_not : {es fs : List Entry} {p q : ℕ} → Fails (Run m a) text rest es fs p q → Finds (Run m (NegPred a)) text rest es fs p q rest
   finds_not x = finds_nothing (λ classes r. ran_not_ahead r) x
 
-  pub fails_not : {es fs cut : List Entry} {n p q : ℕ} {s : List ℕ} → Finds (Run m a) text rest es fs p q s → seen cut ≡ take n (seen fs) → n ≡ length (seen es) → Fails (Run m (NegPred a)) text rest es cut p q
+  pub fails_not : {es fs cut : List Entry} {n p q : ℕ} {s : List ℕ} → Finds (Run m a) text rest es fs p q s → named_entries cut ≡ take n (named_entries fs) → n ≡ length (named_entries es) → Fails (Run m (NegPred a)) text rest es cut p q
   fails_not {es} {fs} {cut} {n} x c e = record { kept = cut_to es fs cut n _ x.added c e; ran = λ classes. ran_not_ahead (x.ran classes) }
 
   pub finds_rep : {es fs gs : List Entry} {p q r : ℕ} {s t : List ℕ} → Finds (Run m a) text rest es fs p q s → Finds (Turns m a) text s fs gs q r t → Finds (Run m (Rep a)) text rest es gs p r t
@@ -176,7 +182,7 @@ pub record SoFar (k : Task) (text from : List ℕ) (es : List Entry) (p : ℕ) (
   pub goes_on : (classes : Classes) (o : Outcome) (z : ℕ) → Ran meta_grammar classes k (at text rest) o q z → Ran meta_grammar classes k (at text from) (after_trees trees o) p z
 
 pub so_far_nothing : (k : Task) (text from : List ℕ) (es : List Entry) (p : ℕ) → SoFar k text from es p from es p
-so_far_nothing k text from es p = record { trees = None'; added = not_grown (seen es); goes_on = λ classes o z r. rw after_none r }
+so_far_nothing k text from es p = record { trees = None'; added = not_grown (named_entries es); goes_on = λ classes o z r. rw after_none r }
 
 module _ {m : Mode} {a : Expression} {text from rest : List ℕ} {es fs : List Entry} {p q : ℕ} (x : SoFar (Turns m a) text from es p rest fs q) where
   pub so_far_turn : {gs hs : List Entry} {r z : ℕ} {s t : List ℕ} → Finds (Skipping m) text rest fs gs q r s → Finds (Run m a) text s gs hs r z t → SoFar (Turns m a) text from es p t hs z
@@ -186,7 +192,7 @@ module _ {m : Mode} {a : Expression} {text from rest : List ℕ} {es fs : List E
     goes_on = λ classes o z r. rw (← after_assoc, ← after_assoc) (x.goes_on classes _ _ (ran_turns_more (y.ran classes) (w.ran classes) r));
   }
 
-  pub finds_turns : {gs hs cut : List Entry} {n r z : ℕ} {s : List ℕ} → Finds (Skipping m) text rest fs gs q r s → Fails (Run m a) text s gs hs r z → seen cut ≡ take n (seen hs) → n ≡ length (seen fs) → Finds (Turns m a) text from es cut p z rest
+  pub finds_turns : {gs hs cut : List Entry} {n r z : ℕ} {s : List ℕ} → Finds (Skipping m) text rest fs gs q r s → Fails (Run m a) text s gs hs r z → named_entries cut ≡ take n (named_entries hs) → n ≡ length (named_entries fs) → Finds (Turns m a) text from es cut p z rest
   finds_turns {gs} {hs} {cut} {n} y w c e =
       let k = cut_past fs gs hs cut n _ y.added w.kept c e in
       record {
@@ -218,7 +224,7 @@ comments = Run Between (Rep (Seq (Ident comment) (Rep (Ident whitespace))))
 
 -- nothing is skipped between a comment and the blanks after it
 nothing_between : {text s : List ℕ} {gs : List Entry} {r : ℕ} → Finds (Skipping Between) text s gs gs r r s
-nothing_between {gs = gs} = record { trees = None'; added = not_grown (seen gs); ran = λ classes. ran_between }
+nothing_between {gs = gs} = record { trees = None'; added = not_grown (named_entries gs); ran = λ classes. ran_between }
 
 module _ {text from rest : List ℕ} {es fs : List Entry} {p q : ℕ} where
   pub so_far_blank : {gs : List Entry} {r : ℕ} {s : List ℕ} → SoFar blanks text from es p rest fs q → Finds (Run NonAtomicMode (Ident (name_of is.WHITESPACE))) text rest fs gs q r s → SoFar blanks text from es p s gs r
@@ -237,18 +243,18 @@ module _ {text from rest : List ℕ} {es fs : List Entry} {p q : ℕ} where
   finds_skipped x y = finds_as (λ classes o r. ran_skips r) (finds_seq x nothing_between y)
 
 pub finds_no_skipping : (m : mode.Mode) (text rest : List ℕ) (es : List Entry) (p : ℕ) → (m ≡ in_mode.Atomic) ⊎ (m ≡ in_mode.CompoundAtomic) → Finds (Skipping (mode_of m)) text rest es es p p rest
-finds_no_skipping m text rest es p (inl e) = record { trees = None'; added = not_grown (seen es); ran = λ classes. rw e ran_atomic }
-finds_no_skipping m text rest es p (inr e) = record { trees = None'; added = not_grown (seen es); ran = λ classes. rw e ran_compound_atomic }
+finds_no_skipping m text rest es p (inl e) = record { trees = None'; added = not_grown (named_entries es); ran = λ classes. rw e ran_atomic }
+finds_no_skipping m text rest es p (inr e) = record { trees = None'; added = not_grown (named_entries es); ran = λ classes. rw e ran_compound_atomic }
 
 -- a list that was opened, and was cut back
-pub cut_opened : (start begun now cut : List Entry) (n : ℕ) (es : List NamedEntry) → seen begun ≡ seen start ++ es → seen now ≡ seen begun → seen cut ≡ take n (seen now) → n ≡ length (seen start) → seen cut ≡ seen start
-cut_opened start begun now cut n es o k c e = c ∙ (ap (take n) (k ∙ o) ∙ cut_back (seen start) es n e)
+pub cut_opened : (start begun now cut : List Entry) (n : ℕ) (es : List NamedEntry) → named_entries begun ≡ named_entries start ++ es → named_entries now ≡ named_entries begun → named_entries cut ≡ take n (named_entries now) → n ≡ length (named_entries start) → named_entries cut ≡ named_entries start
+cut_opened start begun now cut n es o k c e = c ∙ (ap (take n) (k ∙ o) ∙ cut_back (named_entries start) es n e)
 
 -- the start of the text
 pub finds_start : (m : mode.Mode) (text rest : List ℕ) (es : List Entry) (p : ℕ) → length rest ≡ length text → Finds (Run (mode_of m) (Ident (codes "SOI"))) text rest es es p p rest
 finds_start m text rest es p e =
     let z : length text - length rest ≡ 0 = omega arith in
-    record { trees = None'; added = not_grown (seen es); ran = λ classes. ran_soi m (rw (eq-eqb (length text - length rest) 0 z) refl) }
+    record { trees = None'; added = not_grown (named_entries es); ran = λ classes. ran_soi m (rw (eq-eqb (length text - length rest) 0 z) refl) }
 
 pub fails_start : (m : mode.Mode) (text rest : List ℕ) (es : List Entry) (p : ℕ) → IsLeft text rest → (length rest ≡ length text → ⊥) → Fails (Run (mode_of m) (Ident (codes "SOI"))) text rest es es p p
 fails_start m text rest es p h e =

@@ -3,14 +3,14 @@ use Rattle.std.proofs.Common.{◌≡◌, refl, sym, ◌∙◌, ap, ℕ, ◌+◌,
 use Rattle.std.proofs.lemmas.List.Sums.{sum_by-append}
 use Rattle.std.proofs.Math.Bool.{and-true}
 use Rattle.std.specs.Char.{len_utf8}
-use Rattle.meta_base.specs.Expression as spec
-use Rattle.meta_base.specs.Text.{Text, size_of}
-use Rattle.meta_base.specs.Expression.{Expression, Str, Range, Ident, Seq, Choice, Opt, Rep, RepOnce, rule_of}
-use Rattle.meta_base.specs.State.{Classes, State, Mode, AtomicMode, None', Outcome, Success, Failure, moved}
-use Rattle.meta_base.specs.Matching.{begins, starts_in, range_set}
-use Rattle.meta_base.specs.Meaning.{Does, Task, Run, Turns, Skipping, str, insens, range, slice, skip, call, other, pos_pred, neg_pred, push, restore, seq, seq_first, seq_second, left, right, opt, opt_none, rep, rep_none, turn, turn_none, rep_once, rep_exact, rep_min, rep_max, rep_min_max, skips, atomic, compound_atomic, between, ahead, not_ahead, pushed, with_token, body_mode}
+use Rattle.meta_base.specs.Language.Expression as spec
+use Rattle.meta_base.specs.Language.Text.{Text, size_of}
+use Rattle.meta_base.specs.Language.Expression.{Expression, Str, Range, Ident, Seq, Choice, Opt, Rep, RepOnce, rule_of}
+use Rattle.meta_base.specs.Language.State.{Classes, State, Mode, AtomicMode, None', Outcome, Success, Failure, moved}
+use Rattle.meta_base.specs.Language.Matching.{begins, starts_in, range_set}
+use Rattle.meta_base.specs.Language.Meaning.{Does, Task, Run, Turns, Skipping, str, insens, range, slice, skip, call, other, pos_pred, neg_pred, push, restore, seq, seq_first, seq_second, left, right, opt, opt_none, rep, rep_none, turn, turn_none, rep_once, rep_exact, rep_min, rep_max, rep_min_max, skips, atomic, compound_atomic, between, ahead, not_ahead, pushed, with_token, body_mode}
 use Rattle.meta_base.specs.declared.grammar.Rule.TheVariants as is
-use Rattle.meta_base.proofs.Deterministic.{same_rule}
+use Rattle.meta_base.proofs.OneOutcome.{same_rule}
 use Rattle.meta_syntax.specs.MetaGrammar.{meta_grammar, rule_at, body_of}
 use Rattle.meta_syntax.proofs.Lookup.{defined_rule}
 

@@ -2,17 +2,17 @@
 use Rattle.std.proofs.Common.{◌≡◌, refl, ◌∙◌, ap, ℕ, List, [], ◌∷◌, inl, inr, Bool, true, false, not, ◌||◌, Option, Some, None, if◌then◌else◌, nat_eq, bytes_eq, ◌==◌, codes, chars}
 use Rattle.std.specs.Str.{IsUtf8}
 use Rattle.std.specs.Str.Parse.{IsNumeral}
-use Rattle.meta_base.specs.Expression as spec
-use Rattle.meta_base.specs.Text.{Text}
-use Rattle.meta_base.specs.Expression.{Ident, Choice, RuleType, Normal, Silent, Atomic, CompoundAtomic, NonAtomic, rule_of, whitespace, comment}
-use Rattle.meta_base.specs.State.{Classes, State, Mode, NonAtomicMode, AtomicMode, CompoundAtomicMode, Between, Trees, None', Tree, joined, Outcome, Success, Failure}
-use Rattle.meta_base.specs.Matching.{begins, starts_in, range_set, end_outcome, other_outcome}
-use Rattle.meta_base.specs.Meaning.{Does, Task, Run, Turns, Skipping, str, insens, range, slice, skip, call, other, pos_pred, neg_pred, push, restore, seq, seq_first, seq_second, left, right, opt, opt_none, rep, rep_none, turn, turn_none, rep_once, rep_exact, rep_min, rep_max, rep_min_max, skips, atomic, compound_atomic, between, ahead, not_ahead, pushed, with_token, gives_token, seen_from, mode_in, body_mode, skipped}
-use Rattle.meta_base.specs.MetaRules.{name_of}
-use Rattle.meta_base.specs.Places.{Stands}
+use Rattle.meta_base.specs.Language.Expression as spec
+use Rattle.meta_base.specs.Language.Text.{Text}
+use Rattle.meta_base.specs.Language.Expression.{Ident, Choice, RuleType, Normal, Silent, Atomic, CompoundAtomic, NonAtomic, rule_of, whitespace, comment}
+use Rattle.meta_base.specs.Language.State.{Classes, State, Mode, NonAtomicMode, AtomicMode, CompoundAtomicMode, Between, Trees, None', Tree, joined, Outcome, Success, Failure}
+use Rattle.meta_base.specs.Language.Matching.{begins, starts_in, range_set, end_outcome, other_outcome}
+use Rattle.meta_base.specs.Language.Meaning.{Does, Task, Run, Turns, Skipping, str, insens, range, slice, skip, call, other, pos_pred, neg_pred, push, restore, seq, seq_first, seq_second, left, right, opt, opt_none, rep, rep_none, turn, turn_none, rep_once, rep_exact, rep_min, rep_max, rep_min_max, skips, atomic, compound_atomic, between, ahead, not_ahead, pushed, with_token, gives_token, seen_from, mode_in, body_mode, skipped}
+use Rattle.meta_base.specs.Pieces.MetaRules.{name_of}
+use Rattle.meta_base.specs.Language.Places.{Stands}
 use Rattle.meta_base.specs.declared.grammar.Rule.{Rule}
 use Rattle.meta_base.specs.declared.grammar.Rule.TheVariants as is
-use Rattle.meta_base.proofs.Within.{fits}
+use Rattle.meta_base.proofs.TreesAreNested.{fits}
 use Rattle.meta_syntax.specs.MetaGrammar.{meta_grammar, rule_at, type_of_rule, body_of}
 use Rattle.meta_syntax.specs.Rows.{is_defined}
 use Rattle.meta_syntax.specs.Runs.{is_blank}

@@ -1,9 +1,9 @@
 -- Which trees an expression of the meta-grammar may yield, where tokens are seen.
 use Rattle.std.proofs.Common.{◌≡◌, ℕ, List, ◌⊎◌, Bool, true, false, ◌||◌, Option, Some, None, codes}
-use Rattle.meta_base.specs.Text.{Text}
-use Rattle.meta_base.specs.Expression.{Expression, Str, Range, Ident, NegPred, Seq, Choice, Opt, Rep, RuleType, Atomic}
-use Rattle.meta_base.specs.State.{Trees, None', Tree, joined}
-use Rattle.meta_base.specs.MetaRules.{name_of}
+use Rattle.meta_base.specs.Language.Text.{Text}
+use Rattle.meta_base.specs.Language.Expression.{Expression, Str, Range, Ident, NegPred, Seq, Choice, Opt, Rep, RuleType, Atomic}
+use Rattle.meta_base.specs.Language.State.{Trees, None', Tree, joined}
+use Rattle.meta_base.specs.Pieces.MetaRules.{name_of}
 use Rattle.meta_base.specs.declared.grammar.Rule.{Rule}
 use Rattle.meta_base.specs.declared.grammar.Rule.TheVariants as is
 use Rattle.meta_syntax.specs.MetaGrammar.{type_of_rule, body_of}

@@ -1,8 +1,8 @@
 -- How trees are made from their entries, the last entry first.
 use Rattle.std.specs.Prelude.{ℕ, List, [], ◌∷◌, map, reverse}
-use Rattle.meta_base.specs.Text.{Text}
-use Rattle.meta_base.specs.State as state
-use Rattle.meta_base.specs.NamedTrees.{named_trees_of}
+use Rattle.meta_base.specs.Language.Text.{Text}
+use Rattle.meta_base.specs.Language.State as state
+use Rattle.meta_base.specs.Pieces.NamedTrees.{named_trees_of}
 use Rattle.meta_syntax.specs.Entries.{Entry, Starts, Ends}
 use Rattle.meta_base.specs.declared.grammar.Rule.{Rule}
 use Rattle.meta_base.specs.declared.runtime.trees.TokenTree.{TokenTree}
@@ -25,16 +25,17 @@ abbrev pub making_of : List (TokenTree Rule) → List waits.Pending → Making
 making_of us ps = record { trees = named_trees_of us; waiting = reverse (map pending_of ps) }
 
 -- a start takes the end that was met last
-abbrev pub started : Text → ℕ → state.Trees → List Pending → Making
-started r i us [] = record { trees = us; waiting = [] }
-started r i us (p ∷ ps) = record { trees = state.Tree r i p.end_ us p.others; waiting = ps }
+abbrev pub with_start : Text → ℕ → state.Trees → List Pending → Making
+with_start r i us [] = record { trees = us; waiting = [] }
+with_start r i us (p ∷ ps) = record { trees = state.Tree r i p.end_ us p.others; waiting = ps }
 
 -- what one more entry makes, before those that were met
-abbrev pub stepped : Entry → Making → Making
-stepped (Starts r i m) k = started r i k.trees k.waiting
-stepped (Ends j n) k = record { trees = state.None'; waiting = record { end_ = j; others = k.trees } ∷ k.waiting }
+abbrev pub with_one_more : Entry → Making → Making
+with_one_more (Starts r i m) k = with_start r i k.trees k.waiting
+with_one_more (Ends j n) k =
+    record { trees = state.None'; waiting = record { end_ = j; others = k.trees } ∷ k.waiting }
 
 -- what all entries make
-abbrev pub made : List Entry → Making
-made [] = record { trees = state.None'; waiting = [] }
-made (e ∷ es) = stepped e (made es)
+abbrev pub making_from : List Entry → Making
+making_from [] = record { trees = state.None'; waiting = [] }
+making_from (e ∷ es) = with_one_more e (making_from es)

@@ -1,8 +1,8 @@
 -- Trees as one flat list of entries: where each tree starts, and where it ends.
 use Rattle.std.specs.Prelude.{◌≡◌, ℕ, ◌+◌, List, [], ◌∷◌, ◌++◌, length, map, Bool, if◌then◌else◌}
-use Rattle.meta_base.specs.Text.{Text}
-use Rattle.meta_base.specs.State.{Trees, None', Tree}
-use Rattle.meta_base.specs.MetaRules.{name_of}
+use Rattle.meta_base.specs.Language.Text.{Text}
+use Rattle.meta_base.specs.Language.State.{Trees, None', Tree}
+use Rattle.meta_base.specs.Pieces.MetaRules.{name_of}
 use Rattle.meta_syntax.specs.declared.entries.Entry as code
 use Rattle.meta_syntax.specs.declared.entries.Entry.TheVariants as is
 
@@ -17,8 +17,8 @@ entry_of (is.Start r i m) = Starts (name_of r) i m
 entry_of (is.End j n) = Ends j n
 
 -- the entries of a list of the code
-abbrev pub seen : List code.Entry → List Entry
-seen es = map entry_of es
+abbrev pub named_entries : List code.Entry → List Entry
+named_entries es = map entry_of es
 
 -- how many entries trees have
 abbrev pub entry_count : Trees → ℕ
@@ -34,26 +34,29 @@ entries_of n (Tree r i j inner others) =
 
 -- the list has grown by the entries of trees
 abbrev pub Adds : List code.Entry → List code.Entry → Trees → Type 0
-Adds old new us = seen new ≡ seen old ++ entries_of (length (seen old)) us
+Adds old new us = named_entries new ≡ named_entries old ++ entries_of (length (named_entries old)) us
 
--- whole pairs from the number n on: the partner of each start is an end further on, its partner is that start, and what
--- stands between them is whole again
+-- whole pairs from the number n on: the partner of each start is an end further on, its partner is that
+-- start, and what stands between them is whole again
 pub data IsWhole : ℕ → List Entry → Type 0 where
   nothing : {n : ℕ} → IsWhole n []
-  pair : {n : ℕ} {r : Text} {i : ℕ} (j : ℕ) {inner others : List Entry} → IsWhole (n + 1) inner → IsWhole (n + 2 + length inner) others
+  pair : {n : ℕ} {r : Text} {i : ℕ} (j : ℕ) {inner others : List Entry}
+      → IsWhole (n + 1) inner → IsWhole (n + 2 + length inner) others
       → IsWhole n (Starts r i (n + 1 + length inner) ∷ inner ++ Ends j n ∷ others)
 
 -- a start whose partner isn't known yet, if there is to be one
-abbrev pub opened : Bool → Text → ℕ → List Entry
-opened gives r i = if gives then Starts r i 0 ∷ [] else []
+abbrev pub open_start : Bool → Text → ℕ → List Entry
+open_start gives r i = if gives then Starts r i 0 ∷ [] else []
 
 -- the trees, or one tree around them
 abbrev pub token : Bool → Text → ℕ → ℕ → Trees → Trees
 token gives r i j us = if gives then Tree r i j us None' else us
 
--- whatever trees were written behind an opened start of the number `first`, they stand now in one tree, if there is to be one
+-- whatever trees were written behind an open start of the number `first`, they stand now in one tree, if
+-- there is to be one
 abbrev pub Closes : Bool → Text → ℕ → ℕ → ℕ → List code.Entry → List code.Entry → Type 0
 Closes gives r i j first old new =
     (before : List Entry) (us : Trees) → length before ≡ first
-    → seen old ≡ (before ++ opened gives r i) ++ entries_of (length (before ++ opened gives r i)) us
-    → seen new ≡ before ++ entries_of first (token gives r i j us)
+    → named_entries old ≡ (before ++ open_start gives r i)
+    ++ entries_of (length (before ++ open_start gives r i)) us
+    → named_entries new ≡ before ++ entries_of first (token gives r i j us)

@@ -1,7 +1,7 @@
 -- With which characters the rules begin.
 use Rattle.std.specs.Prelude.{ℕ, List, [], ◌∷◌, Bool, true, false, ◌||◌, Option, Some, None, nat_eq, codes}
-use Rattle.meta_base.specs.Builtins.{is_between, is_lower, is_upper}
-use Rattle.meta_base.specs.Meaning.{seen_from}
+use Rattle.meta_base.specs.Language.Builtins.{is_between, is_lower, is_upper}
+use Rattle.meta_base.specs.Language.Meaning.{seen_from}
 use Rattle.meta_base.specs.declared.grammar.Rule.{Rule}
 use Rattle.meta_base.specs.declared.grammar.Rule.TheVariants as is
 use Rattle.meta_syntax.specs.declared.modes.Mode as mode
@@ -51,12 +51,17 @@ abbrev pub is_among_any : Option (List ℕ) → ℕ → Bool
 is_among_any None c = true
 is_among_any (Some xs) c = is_among xs c
 
+-- whether a name begins with a character
+abbrev pub begins_name : ℕ → Bool
+begins_name c = nat_eq 95 c || (is_lower c || is_upper c)
+
 -- whether what a rule matches may begin with a character, as far as its first characters are listed
 abbrev pub may_begin : Rule → ℕ → Bool
+may_begin is.identifier c = begins_name c
 may_begin r c = is_among_any (firsts r) c
 
--- whether a call that fails by the first character is noted there: not the blanks and comments, which are silent, nor
--- what Atomic does not see; but the quotes of a literal are seen from its own mode
+-- whether a call that fails by the first character is noted there: not the blanks and comments, which are
+-- silent, nor what Atomic does not see; but the quotes of a literal are seen from its own mode
 abbrev pub is_noted_at_once : Rule → mode.Mode → Bool
 is_noted_at_once is.WHITESPACE m = false
 is_noted_at_once is.newline m = false

@@ -1,12 +1,15 @@
 -- What the table's forms stand for, and how far a run of one may go before it takes input.
 use Rattle.std.specs.Prelude.{◌≡◌, ℕ, ◌+◌, max, List, [], ◌∷◌, Bool, true, false, not, ◌&&◌, ◌||◌, if◌then◌else◌, nat_eq, nat_lt, length, codes, ⊤}
 use Rattle.std.specs.Str.{chars_after, continuation_len, lead_bits}
-use Rattle.meta_base.specs.Expression as spec
-use Rattle.meta_base.specs.Expression.{Expression, RuleType}
-use Rattle.meta_base.specs.Meaning.{from_to}
-use Rattle.meta_base.specs.MetaRules.{name_of}
+use Rattle.meta_base.specs.Language.Expression as spec
+use Rattle.meta_base.specs.Language.Expression.{Expression, RuleType}
+use Rattle.meta_base.specs.Language.Meaning.{from_to}
+use Rattle.meta_base.specs.Pieces.MetaRules.{name_of}
 use Rattle.meta_base.specs.declared.grammar.Rule.{Rule}
 use Rattle.meta_base.specs.declared.grammar.Rule.TheVariants as is
+use Rattle.meta_syntax.specs.MetaGrammar.{body_of}
+use Rattle.meta_syntax.specs.Sets.{spelled_by}
+use Rattle.meta_syntax.specs.declared.sets.Set.TheVariants as set
 use Rattle.meta_syntax.specs.declared.table.Kind.{Kind}
 use Rattle.meta_syntax.specs.declared.table.Kind.TheVariants as of
 use Rattle.meta_syntax.specs.declared.table.Form.{Form}
@@ -24,6 +27,11 @@ kind_of of.Silent = spec.Silent
 kind_of of.Atomic = spec.Atomic
 kind_of of.CompoundAtomic = spec.CompoundAtomic
 
+-- a choice that goes on with these rules, grouped from the left
+abbrev pub choice_among : Expression → List Rule → Expression
+choice_among e [] = e
+choice_among e (r ∷ rs) = choice_among (spec.Choice e (spec.Ident (name_of r))) rs
+
 -- the expression of a form
 abbrev pub expression_of : Form → Expression
 expression_of (form.Str t) = spec.Str (decoded t.now)
@@ -33,8 +41,11 @@ expression_of form.Start = spec.Ident (codes "SOI")
 expression_of (form.Call r) = spec.Ident (name_of r)
 expression_of (form.Seq' p a q b) = spec.Seq (expression_of a) (expression_of b)
 expression_of (form.Choice' p a q b) = spec.Choice (expression_of a) (expression_of b)
+expression_of (form.FirstOf r rs) = choice_among (spec.Ident (name_of r)) rs.now
 expression_of (form.Opt' p a) = spec.Opt (expression_of a)
 expression_of (form.Rep' p a) = spec.Rep (expression_of a)
+expression_of (form.Characters' s p a) = spec.Rep (expression_of a)
+expression_of (form.Quoted' p a q b) = expression_of b
 expression_of (form.RepOnce' p a) = spec.RepOnce (expression_of a)
 expression_of (form.NegPred' p a) = spec.NegPred (expression_of a)
 expression_of (form.RepMinMax' p a i j q b) = spec.RepMinMax (expression_of a) i j
@@ -47,6 +58,11 @@ nullable is.inner_str = true
 nullable is.inner_doc = true
 nullable _ = false
 
+-- whether none of these rules may
+abbrev pub all_take : List Rule → Bool
+all_take [] = true
+all_take (r ∷ rs) = not (nullable r) && all_take rs
+
 -- the same of a form
 abbrev pub null : Form → Bool
 null (form.Str t) = nat_eq (length t.now) 0
@@ -56,58 +72,66 @@ null form.Start = true
 null (form.Call r) = nullable r
 null (form.Seq' p a q b) = null a && null b
 null (form.Choice' p a q b) = null a || null b
+null (form.FirstOf r rs) = false
 null (form.Opt' p a) = true
 null (form.Rep' p a) = true
+null (form.Characters' s p a) = true
+null (form.Quoted' p a q b) = true
 null (form.RepOnce' p a) = null a
 null (form.NegPred' p a) = true
 null (form.RepMinMax' p a i j q b) = null b
 
 -- a number for each rule that bounds the cost of its body, so that left calls go down
 abbrev pub rank_of : Rule → ℕ
-rank_of is.grammar_rules = 41
-rank_of is.grammar_rule = 31
-rank_of is.modifier = 8
+rank_of is.grammar_rules = 44
+rank_of is.grammar_rule = 33
+rank_of is.modifier = 4
 rank_of is.tag_id = 6
-rank_of is.node_tag = 11
-rank_of is.expression = 47
-rank_of is.term = 39
-rank_of is.node = 31
-rank_of is.terminal = 27
+rank_of is.node_tag = 12
+rank_of is.expression = 45
+rank_of is.term = 36
+rank_of is.node = 27
+rank_of is.terminal = 22
 rank_of is.prefix_operator = 4
 rank_of is.infix_operator = 4
 rank_of is.postfix_operator = 19
-rank_of is.repeat_exact = 8
-rank_of is.repeat_min = 11
-rank_of is.repeat_max = 11
-rank_of is.repeat_min_max = 14
+rank_of is.repeat_exact = 9
+rank_of is.repeat_min = 12
+rank_of is.repeat_max = 12
+rank_of is.repeat_min_max = 15
 rank_of is.number = 3
 rank_of is.integer = 11
 rank_of is._push = 9
 rank_of is._push_literal = 9
 rank_of is.peek_slice = 15
-rank_of is.identifier = 12
+rank_of is.identifier = 13
 rank_of is.alpha = 2
-rank_of is.alpha_num = 6
-rank_of is.string = 8
+rank_of is.alpha_num = 7
+rank_of is.string = 9
 rank_of is.insensitive_string = 3
-rank_of is.range = 16
-rank_of is.character = 8
-rank_of is.inner_str = 13
+rank_of is.range = 18
+rank_of is.character = 9
+rank_of is.inner_str = 21
 rank_of is.inner_chr = 9
 rank_of is.escape = 3
 rank_of is.code = 6
 rank_of is.unicode = 9
 rank_of is.hex_digit = 4
 rank_of is.newline = 2
-rank_of is.WHITESPACE = 6
+rank_of is.WHITESPACE = 7
 rank_of is.line_comment = 6
 rank_of is.block_comment = 6
 rank_of is.COMMENT = 10
 rank_of is.space = 2
 rank_of is.grammar_doc = 6
 rank_of is.line_doc = 6
-rank_of is.inner_doc = 11
+rank_of is.inner_doc = 13
 rank_of _ = 0
+
+-- the greatest of these rules' numbers
+abbrev pub greatest_rank : List Rule → ℕ
+greatest_rank [] = 0
+greatest_rank (r ∷ rs) = max (rank_of r) (greatest_rank rs)
 
 -- a bound on the calls that nest before input is taken
 abbrev pub cost : Form → ℕ
@@ -115,11 +139,14 @@ cost (form.Str t) = 0
 cost (form.Range a b) = 0
 cost form.Any = 0
 cost form.Start = 0
-cost (form.Call r) = rank_of r + 2
+cost (form.Call r) = rank_of r + 3
 cost (form.Seq' p a q b) = 3 + max (cost a) (if null a then cost b else 0)
 cost (form.Choice' p a q b) = 2 + max (cost a) (cost b)
+cost (form.FirstOf r rs) = 4 + greatest_rank (r ∷ rs.now)
 cost (form.Opt' p a) = 2 + cost a
 cost (form.Rep' p a) = 2 + cost a
+cost (form.Characters' s p a) = 3 + cost a
+cost (form.Quoted' p a q b) = 7 + max (cost a) (cost b)
 cost (form.RepOnce' p a) = 3 + cost a
 cost (form.NegPred' p a) = 2 + cost a
 cost (form.RepMinMax' p a i j q b) = 2 + cost b
@@ -133,8 +160,11 @@ good form.Start = true
 good (form.Call r) = true
 good (form.Seq' p a q b) = good a && (good b && nat_lt (cost b) 1000)
 good (form.Choice' p a q b) = good a && good b
+good (form.FirstOf r rs) = all_take (r ∷ rs.now)
 good (form.Opt' p a) = good a
 good (form.Rep' p a) = good a && (not (null a) && nat_lt (cost a) 999)
+good (form.Characters' s p a) = good a && (not (null a) && nat_lt (cost a) 999)
+good (form.Quoted' p a q b) = (good a && (not (null a) && nat_lt (cost a) 999)) && good b
 good (form.RepOnce' p a) = good a && (not (null a) && nat_lt (cost a) 999)
 good (form.NegPred' p a) = good a
 good (form.RepMinMax' p a i j q b) = good b
@@ -142,7 +172,7 @@ good (form.RepMinMax' p a i j q b) = good b
 abbrev pub IsGood : Form → Type 0
 IsGood f = good f ≡ true
 
--- copies that are spelled out are those that the counts mean
+-- copies that are spelled out are those that the counts mean, and a body is the one that its set belongs to
 abbrev pub IsSpelled : Form → Type 0
 IsSpelled (form.Str t) = ⊤
 IsSpelled (form.Range a b) = ⊤
@@ -151,8 +181,12 @@ IsSpelled form.Start = ⊤
 IsSpelled (form.Call r) = ⊤
 IsSpelled (form.Seq' p a q b) = IsSpelled a × IsSpelled b
 IsSpelled (form.Choice' p a q b) = IsSpelled a × IsSpelled b
+IsSpelled (form.FirstOf r rs) = ⊤
 IsSpelled (form.Opt' p a) = IsSpelled a
 IsSpelled (form.Rep' p a) = IsSpelled a
+IsSpelled (form.Characters' s p a) = (expression_of a ≡ spelled_by s) × IsSpelled a
+IsSpelled (form.Quoted' p a q b) = (expression_of a ≡ spelled_by set.Quoted) × IsSpelled a
+    × (expression_of b ≡ body_of is.inner_str) × IsSpelled b
 IsSpelled (form.RepOnce' p a) = IsSpelled a
 IsSpelled (form.NegPred' p a) = IsSpelled a
 IsSpelled (form.RepMinMax' p a i j q b) = (expression_of b ≡ from_to (expression_of a) i j) × IsSpelled b

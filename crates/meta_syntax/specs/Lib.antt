@@ -6,4 +6,5 @@ pub mod MetaGrammar
 pub mod Parses
 pub mod Rows
 pub mod Runs
+pub mod Sets
 pub mod Shape

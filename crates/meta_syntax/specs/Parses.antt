@@ -1,17 +1,17 @@
 -- What a text spells for a rule.
 use Rattle.std.specs.Prelude.{◌≡◌, List, [], ◌∷◌, ℕ, chars, ⊤}
-use Rattle.meta_base.specs.Expression.{Ident}
-use Rattle.meta_base.specs.State.{NonAtomicMode, State, Trees, Outcome, Success, Failure, Classes}
-use Rattle.meta_base.specs.Meaning.{Matches}
-use Rattle.meta_base.specs.FurthestFailure.{furthest}
-use Rattle.meta_base.specs.MetaRules.{name_of}
+use Rattle.meta_base.specs.Language.Expression.{Ident}
+use Rattle.meta_base.specs.Language.State.{NonAtomicMode, State, Trees, Outcome, Success, Failure, Classes}
+use Rattle.meta_base.specs.Language.Meaning.{Matches}
+use Rattle.meta_base.specs.Language.FurthestFailure.{furthest}
+use Rattle.meta_base.specs.Pieces.MetaRules.{name_of}
 use Rattle.meta_base.specs.declared.grammar.Rule.{Rule}
 use Rattle.meta_base.specs.declared.grammar.Rule.TheVariants as rule_is
 use Rattle.meta_syntax.specs.declared.entries.Entry.{Entry}
-use Rattle.meta_base.specs.NamedTrees.{named}
-use Rattle.meta_base.specs.Pairs.{pairs_text, pairs_trees}
-use Rattle.meta_base.specs.LineColumn.{line_column}
-use Rattle.meta_base.specs.PrintedError.{error_line, printed_line}
+use Rattle.meta_base.specs.Pieces.NamedTrees.{named}
+use Rattle.meta_base.specs.Pieces.Pairs.{pairs_text, pairs_trees}
+use Rattle.meta_base.specs.Pieces.LineColumn.{line_column}
+use Rattle.meta_base.specs.Pieces.PrintedError.{error_line, printed_line}
 use Rattle.meta_base.specs.declared.runtime.tokens.Pairs.{Pairs}
 use Rattle.meta_base.specs.declared.runtime.errors.Error.{Error}
 use Rattle.meta_base.specs.declared.runtime.errors.ErrorVariant.TheVariants.{ParsingError}
@@ -19,7 +19,7 @@ use Rattle.meta_base.specs.declared.runtime.errors.InputLocation.TheVariants as 
 use Rattle.meta_base.specs.declared.runtime.errors.LineColLocation.TheVariants as in_lines
 use Rattle.meta_base.specs.declared.runtime.faults.Fault.{Fault}
 use Rattle.meta_base.specs.declared.runtime.faults.Fault.TheVariants as fault_is
-use Rattle.meta_syntax.specs.Entries.{entries_of, seen}
+use Rattle.meta_syntax.specs.Entries.{entries_of, named_entries}
 use Rattle.meta_syntax.specs.MetaGrammar.{meta_grammar}
 
 -- the start of a text, with the empty stack
@@ -28,7 +28,8 @@ start_of text = record { position = 0; rest = chars text; stack = [] }
 
 -- the rule, called in NonAtomic at the start of the text, has this outcome
 abbrev pub Recognizes : Rule → List ℕ → Classes → Outcome → Type 0
-Recognizes rule text classes o = Matches meta_grammar classes (Ident (name_of rule)) NonAtomicMode (start_of text) o
+Recognizes rule text classes o =
+    Matches meta_grammar classes (Ident (name_of rule)) NonAtomicMode (start_of text) o
 
 -- the text spells these trees for the rule, whatever the classes are
 abbrev pub Spells : Rule → List ℕ → Trees → Type 0
@@ -36,7 +37,7 @@ Spells rule text us = (classes : Classes) → (t : State) × Recognizes rule tex
 
 -- these are the entries of trees that the text spells
 abbrev pub TokensGive : Rule → List ℕ → List Entry → Type 0
-TokensGive rule text es = (us : Trees) × Spells rule text us × (seen es ≡ entries_of 0 us)
+TokensGive rule text es = (us : Trees) × Spells rule text us × (named_entries es ≡ entries_of 0 us)
 
 -- the pairs are all those that their text spells for the rule
 abbrev pub AreSpelled : Rule → Pairs Rule → Type 0
@@ -48,7 +49,8 @@ AreOfAGrammar pairs = AreSpelled rule_is.grammar_rules pairs
 
 -- the rule fails, whatever the classes are, and this is the place of the failure
 abbrev pub FailsAt : Rule → List ℕ → ℕ → Type 0
-FailsAt rule text place = (classes : Classes) → (d : Recognizes rule text classes Failure) × (place ≡ furthest d)
+FailsAt rule text place =
+    (classes : Classes) → (d : Recognizes rule text classes Failure) × (place ≡ furthest d)
 
 -- the errors are one syntax error, at a place of a text
 pub record IsSyntaxError (text : List ℕ) (place : ℕ) (errors : List (Error Rule)) : Type 0 where

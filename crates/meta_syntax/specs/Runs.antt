@@ -4,19 +4,19 @@ use Rattle.std.specs.Borrow.{Bor}
 use Rattle.std.specs.HashSet.{HashSet, contains}
 use Rattle.std.specs.declared.hash.FoldHasher.{FoldHasher}
 use Rattle.std.specs.declared.hash.BuildHasherDefault.{BuildHasherDefault}
-use Rattle.meta_base.specs.Expression.{Ident}
-use Rattle.meta_base.specs.State.{Mode, NonAtomicMode, AtomicMode, CompoundAtomicMode, State, Trees, None', Outcome, Success, Failure, Classes}
-use Rattle.meta_base.specs.Meaning.{Matches, Task}
-use Rattle.meta_base.specs.FurthestFailure.{furthest}
-use Rattle.meta_base.specs.Ran.{Ran}
-use Rattle.meta_base.specs.MetaRules.{name_of}
+use Rattle.meta_base.specs.Language.Expression.{Ident}
+use Rattle.meta_base.specs.Language.State.{Mode, NonAtomicMode, AtomicMode, CompoundAtomicMode, State, Trees, None', Outcome, Success, Failure, Classes}
+use Rattle.meta_base.specs.Language.Meaning.{Matches, Task}
+use Rattle.meta_base.specs.Language.FurthestFailure.{furthest}
+use Rattle.meta_base.specs.Language.Ran.{Ran}
+use Rattle.meta_base.specs.Pieces.MetaRules.{name_of}
 use Rattle.meta_base.specs.declared.grammar.Rule.{Rule}
 use Rattle.meta_base.specs.declared.grammar.Rule.TheVariants as is
 use Rattle.meta_syntax.specs.declared.entries.Entry.{Entry}
 use Rattle.meta_syntax.specs.declared.modes.Mode as mode
 use Rattle.meta_syntax.specs.declared.modes.Mode.TheVariants as in_mode
 use Rattle.meta_syntax.specs.declared.recognize.Recognizer.{Recognizer}
-use Rattle.meta_syntax.specs.Entries.{Adds, seen}
+use Rattle.meta_syntax.specs.Entries.{Adds, named_entries}
 use Rattle.meta_syntax.specs.MetaGrammar.{meta_grammar}
 
 -- the mode of a mode of the code
@@ -52,14 +52,17 @@ Progress text rest empty (Some after) = GoesOn text rest empty after.now
 
 -- the task was found to fail, whatever the classes are; the entries are what they were
 pub record Fails (k : Task) (text rest : List ℕ) (old new : List Entry) (p q : ℕ) : Type 0 where
-  pub kept : seen new ≡ seen old
+  pub kept : named_entries new ≡ named_entries old
   pub ran : (classes : Classes) → Ran meta_grammar classes k (at text rest) Failure p q
 
--- the task was found to succeed and to leave these bytes, whatever the classes are; the entries of its trees were added
-pub record Finds (k : Task) (text rest : List ℕ) (old new : List Entry) (p q : ℕ) (after : List ℕ) : Type 0 where
+-- the task was found to succeed and to leave these bytes, whatever the classes are; the entries of its trees
+-- were added
+pub record Finds (k : Task) (text rest : List ℕ) (old new : List Entry) (p q : ℕ)
+    (after : List ℕ) : Type 0 where
   pub trees : Trees
   pub added : Adds old new trees
-  pub ran : (classes : Classes) → Ran meta_grammar classes k (at text rest) (Success (at text after) trees) p q
+  pub ran : (classes : Classes)
+      → Ran meta_grammar classes k (at text rest) (Success (at text after) trees) p q
 
 abbrev pub Gives : Task → List ℕ → List ℕ → List Entry → List Entry → ℕ → ℕ → Option (Bor (List ℕ)) → Type 0
 Gives k text rest old new p q None = Fails k text rest old new p q
@@ -71,12 +74,14 @@ Runs k text rest old new o = Gives k text rest old.entries.items new.entries.ite
 
 -- the same of a run that cannot fail
 abbrev pub Reaches : Task → List ℕ → List ℕ → Recognizer → Recognizer → List ℕ → Type 0
-Reaches k text rest old new after = Finds k text rest old.entries.items new.entries.items old.furthest new.furthest after
+Reaches k text rest old new after =
+    Finds k text rest old.entries.items new.entries.items old.furthest new.furthest after
 
 -- a call fails, whatever the classes are, and nothing in it fails further than at a place
 abbrev pub FailsWithin : Rule → Mode → List ℕ → List ℕ → ℕ → Type 0
 FailsWithin rule m text rest bound = (classes : Classes)
-    → (d : Matches meta_grammar classes (Ident (name_of rule)) m (at text rest) Failure) × (furthest d ≤ bound)
+    → (d : Matches meta_grammar classes (Ident (name_of rule)) m (at text rest) Failure)
+    × (furthest d ≤ bound)
 
 -- a comment does so at each place that is remembered, by the count of bytes that are left there
 abbrev pub Remembers : Mode → List ℕ → ℕ → HashSet ℕ (BuildHasherDefault FoldHasher) → Type 0
@@ -91,8 +96,8 @@ IsSound text r = record {
 }
 
 -- the furthest failure, with one more at a position if it counts
-abbrev pub noted : Bool → ℕ → ℕ → ℕ
-noted counts position old = max old (if counts then position else 0)
+abbrev pub furthest_with : Bool → ℕ → ℕ → ℕ
+furthest_with counts position old = max old (if counts then position else 0)
 
 -- whether the implicit skipping is called in a mode
 abbrev pub skips_in : mode.Mode → ℕ

@@ -1,7 +1,7 @@
 // Trees as one flat list of entries.
 ghost use Rattle.std.specs.Prelude.{◌≡◌, ◌<◌, ◌++◌, OnOk, length, take, true};
-ghost use Rattle.meta_base.specs.MetaRules.{name_of};
-ghost use Rattle.meta_syntax.specs.Entries.{Closes, opened, seen};
+ghost use Rattle.meta_base.specs.Pieces.MetaRules.{name_of};
+ghost use Rattle.meta_syntax.specs.Entries.{Closes, open_start, named_entries};
 
 use meta_base::grammar::Rule;
 use std::alloc::{AllocError, Global};
@@ -22,8 +22,8 @@ pub enum Entry {
 }
 
 /// How many entries there are.
-pub(crate) fn written(entries: &Vec<Entry>) -> usize
-    ensures { result ≡ length (seen entries.now.items) }
+pub(crate) fn count_of_entries(entries: &Vec<Entry>) -> usize
+    ensures { result ≡ length (named_entries entries.now.items) }
 {
     entries.len()
 }
@@ -36,7 +36,8 @@ pub(crate) fn open(
     from: usize,
 ) -> Result<(), AllocError>
     ensures { OnOk result
-        (seen entries.new.items ≡ seen entries.old.items ++ opened gives (name_of rule) from) }
+        (named_entries entries.new.items
+        ≡ named_entries entries.old.items ++ open_start gives (name_of rule) from) }
 {
     if gives {
         entries.push(Entry::Start {
@@ -77,7 +78,7 @@ pub(crate) fn close(
 
 /// Cuts the list back to a length that it had.
 pub(crate) fn cut(entries: &mut Vec<Entry>, length: usize)
-    ensures { seen entries.new.items ≡ take length (seen entries.old.items) }
+    ensures { named_entries entries.new.items ≡ take length (named_entries entries.old.items) }
 {
     entries.truncate(length);
 }

@@ -1,10 +1,10 @@
-// With which characters the rules begin.
+// With which characters the rules begin. What looks at a character is built into the call that asks.
 ghost use Rattle.std.specs.Prelude.{◌≡◌, ℕ, List, IfSome, true, false};
-ghost use Rattle.meta_base.specs.State.{Classes, None', NonAtomicMode, Success};
-ghost use Rattle.meta_base.specs.Expression.{Ident};
-ghost use Rattle.meta_base.specs.Meaning.{Run, Skipping};
-ghost use Rattle.meta_base.specs.MetaRules.{name_of};
-ghost use Rattle.meta_base.specs.Ran.{Ran};
+ghost use Rattle.meta_base.specs.Language.State.{Classes, None', NonAtomicMode, Success};
+ghost use Rattle.meta_base.specs.Language.Expression.{Ident};
+ghost use Rattle.meta_base.specs.Language.Meaning.{Run, Skipping};
+ghost use Rattle.meta_base.specs.Pieces.MetaRules.{name_of};
+ghost use Rattle.meta_base.specs.Language.Ran.{Ran};
 ghost use Rattle.meta_syntax.specs.Firsts.{is_noted_at_once, may_begin, takes_one};
 ghost use Rattle.meta_syntax.specs.MetaGrammar.{meta_grammar};
 ghost use Rattle.meta_syntax.specs.Runs.{GoesOn, IsLeft, at, mode_of};
@@ -13,6 +13,7 @@ use crate::modes::{Mode, is_seen_from};
 use meta_base::grammar::Rule;
 
 /// Whether what a rule matches may begin with a character: `false` only where it cannot.
+#[inline(always)]
 pub fn may_begin(rule: Rule, first: char) -> bool
     ensures { result ≡ may_begin rule first }
 {
@@ -36,6 +37,7 @@ pub fn may_begin(rule: Rule, first: char) -> bool
         Rule::escape => first == '\\',
         Rule::opening_paren => first == '(',
         Rule::closing_paren => first == ')',
+        Rule::identifier => first == '_' || matches!(first, 'a'..='z' | 'A'..='Z'),
         Rule::sequence_operator => first == '~',
         Rule::choice_operator => first == '|',
         Rule::optional_operator => first == '?',
@@ -47,6 +49,7 @@ pub fn may_begin(rule: Rule, first: char) -> bool
 
 /// Whether a call that fails by the first character is noted as a failure there: the call itself,
 /// or one that it makes.
+#[inline(always)]
 pub fn is_noted_at_once(rule: Rule, mode: Mode) -> bool
     ensures { result ≡ is_noted_at_once rule mode }
 {
@@ -62,6 +65,7 @@ pub fn is_noted_at_once(rule: Rule, mode: Mode) -> bool
 }
 
 /// Whether a silent rule matches a character, and nothing more: `true` only where it does.
+#[inline(always)]
 fn takes_one(rule: Rule, first: char) -> bool
     ensures { result ≡ takes_one rule first }
 {
@@ -76,6 +80,7 @@ fn takes_one(rule: Rule, first: char) -> bool
 }
 
 /// What is left after the next character, where a silent rule matches just that one.
+#[inline(always)]
 pub fn one<'i>(rule: Rule, rest: &'i str) -> Option<&'i str>
     ensures goes_on { IfSome result (λ after. (whole : List ℕ) → IsLeft whole rest.entry.now
         → GoesOn whole rest.entry.now false after.now) }

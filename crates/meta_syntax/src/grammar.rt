@@ -1,8 +1,8 @@
 // The rules of the meta-grammar, and what a text spells for one of them.
 ghost use Rattle.std.specs.Prelude.{◌≡◌, alloc_error, IfErr, IfOk, MatchResult};
 ghost use Rattle.std.specs.Str.{IsCharBoundary};
-ghost use Rattle.meta_base.specs.Pairs.{pairs_text};
-ghost use Rattle.meta_syntax.specs.Entries.{IsWhole, seen};
+ghost use Rattle.meta_base.specs.Pieces.Pairs.{pairs_text};
+ghost use Rattle.meta_syntax.specs.Entries.{IsWhole, named_entries};
 ghost use Rattle.meta_syntax.specs.Parses.{AreSpelled, IsSyntaxError, IsSyntaxErrorOrMemory, ParseRefuses, TokensGive};
 
 pub use crate::entries::Entry;
@@ -45,7 +45,7 @@ impl PestParser {
     pub fn tokens(alloc: Global, rule: Rule, text: &str) -> Result<Vec<Entry>, Fault>
         ensures trees { MatchResult result
             (λ v. TokensGive rule text.now v.items) (ParseRefuses rule text.now) }
-        ensures whole { IfOk result (λ v. IsWhole 0 (seen v.items)) }
+        ensures whole { IfOk result (λ v. IsWhole 0 (named_entries v.items)) }
     {
         let mut recognizer = Recognizer::new(alloc);
         match recognizer.call(text, rule, Mode::NonAtomic, text) {

@@ -1,11 +1,11 @@
 // Laws of the meta-grammar.
 ghost use Rattle.std.specs.Prelude.{◌≡◌, ℕ, List};
 ghost use Rattle.std.specs.Str.{IsUtf8};
-ghost use Rattle.meta_base.specs.State.{Classes, Mode, Outcome, State, Trees};
-ghost use Rattle.meta_base.specs.Expression.{Ident};
-ghost use Rattle.meta_base.specs.Meaning.{Matches};
-ghost use Rattle.meta_base.specs.MetaRules.{name_of};
-ghost use Rattle.meta_base.specs.WellFormed.{HasReadableCounts, IsPlain, IsWellFormed};
+ghost use Rattle.meta_base.specs.Language.State.{Classes, Mode, Outcome, State, Trees};
+ghost use Rattle.meta_base.specs.Language.Expression.{Ident};
+ghost use Rattle.meta_base.specs.Language.Meaning.{Matches};
+ghost use Rattle.meta_base.specs.Pieces.MetaRules.{name_of};
+ghost use Rattle.meta_base.specs.Language.WellFormed.{HasReadableCounts, IsPlain, IsWellFormed};
 ghost use Rattle.meta_base.specs.declared.grammar.Rule.{Rule};
 ghost use Rattle.meta_base.specs.declared.grammar.Rule.TheVariants.{grammar_rules};
 ghost use Rattle.meta_syntax.specs.MetaGrammar.{meta_grammar};

@@ -1,6 +1,6 @@
 // What is matched without the table: a text, a character.
 ghost use Rattle.std.specs.Prelude.{◌≡◌, ℕ, [], ◌∷◌, List, length, true, false, nat_eq};
-ghost use Rattle.meta_base.specs.Matching.{character_outcome, range_set, text_outcome};
+ghost use Rattle.meta_base.specs.Language.Matching.{character_outcome, range_set, text_outcome};
 ghost use Rattle.meta_syntax.specs.Forms.{decoded};
 ghost use Rattle.meta_syntax.specs.Runs.{IsLeft, Progress, at, leaving};
 
@@ -21,7 +21,8 @@ pub fn character<'i>(low: char, high: char, rest: &'i str) -> Option<&'i str>
     ensures goes_on { (whole : List ℕ) → IsLeft whole rest.entry.now
         → Progress whole rest.entry.now false result }
     ensures means { (whole : List ℕ) → IsLeft whole rest.entry.now
-        → leaving whole result ≡ character_outcome (range_set (low ∷ []) (high ∷ [])) (at whole rest.entry.now) }
+        → leaving whole result
+        ≡ character_outcome (range_set (low ∷ []) (high ∷ [])) (at whole rest.entry.now) }
 {
     let mut characters = rest.chars();
     match characters.next() {

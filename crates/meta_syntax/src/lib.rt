@@ -8,5 +8,6 @@ pub mod laws;
 mod leaves;
 mod modes;
 mod recognize;
+mod sets;
 mod table;
 pub mod trees;

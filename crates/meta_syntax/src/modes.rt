@@ -1,9 +1,9 @@
 // What is skipped, and which rules give tokens.
-ghost use Rattle.std.specs.Prelude.{◌≡◌, ◌≤◌, ◌&&◌};
-ghost use Rattle.meta_base.specs.Meaning.{body_mode, gives_token, seen_from};
+ghost use Rattle.std.specs.Prelude.{◌≡◌, ◌≤◌, ◌&&◌, true};
+ghost use Rattle.meta_base.specs.Language.Meaning.{body_mode, gives_token, seen_from};
 ghost use Rattle.meta_syntax.specs.Forms.{kind_of};
 ghost use Rattle.meta_syntax.specs.MetaGrammar.{rule_at, type_of_rule};
-ghost use Rattle.meta_syntax.specs.Runs.{is_blank, mode_of, noted, skips_in, skips_in_call};
+ghost use Rattle.meta_syntax.specs.Runs.{is_blank, furthest_with, mode_of, skips_in, skips_in_call};
 
 use crate::table::Kind;
 use meta_base::grammar::Rule;
@@ -15,6 +15,13 @@ pub enum Mode {
     NonAtomic,
     Atomic,
     CompoundAtomic,
+}
+
+/// Whether nothing is skipped between the parts of an expression.
+pub fn is_tight(mode: Mode) -> bool
+    ensures { result ≡ true → skips_in mode ≡ 0 }
+{
+    !matches!(mode, Mode::NonAtomic)
 }
 
 /// Whether a mode sees the tokens of normal and atomic rules.
@@ -63,8 +70,8 @@ pub fn body_mode(rule: Rule, kind: Kind, mode: Mode) -> Mode
 }
 
 /// A failure, if it counts and is further than those before it.
-pub fn noted(counts: bool, position: usize, furthest: usize) -> usize
-    ensures value { result ≡ noted counts position furthest }
+pub fn furthest_with(counts: bool, position: usize, furthest: usize) -> usize
+    ensures value { result ≡ furthest_with counts position furthest }
     ensures further { furthest ≤ result }
 {
     if counts && furthest < position {

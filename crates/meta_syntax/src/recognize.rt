@@ -1,20 +1,25 @@
 // The recognizer: an interpreter of the table.
 ghost use Rattle.std.specs.Prelude.{◌≡◌, ◌<◌, ◌≤◌, ◌&&◌, ◌||◌, ℕ, List, IfOk, IfSome, OnOk, [], true, false, codes};
-ghost use Rattle.meta_base.specs.State.{Between, Classes, Failure};
-ghost use Rattle.meta_base.specs.Expression.{Choice, Ident, NegPred, Opt, Rep, RepOnce, Seq, comment, whitespace};
-ghost use Rattle.meta_base.specs.Meaning.{Run, Skipping, Turns};
-ghost use Rattle.meta_base.specs.Ran.{Ran};
-ghost use Rattle.meta_base.specs.MetaRules.{name_of};
-ghost use Rattle.meta_base.specs.declared.grammar.Rule.TheVariants.{block_comment};
-ghost use Rattle.meta_syntax.specs.Entries.{seen};
-ghost use Rattle.meta_syntax.specs.Forms.{IsGood, IsSpelled, cost, expression_of, null, nullable};
-ghost use Rattle.meta_syntax.specs.MetaGrammar.{meta_grammar};
+ghost use Rattle.meta_base.specs.Language.State.{Between, Classes, Failure};
+ghost use Rattle.meta_base.specs.Language.Expression.{Choice, Ident, NegPred, Opt, Rep, RepOnce, Seq, comment, whitespace};
+ghost use Rattle.meta_base.specs.Language.Meaning.{Run, Skipping, Turns};
+ghost use Rattle.meta_base.specs.Language.Ran.{Ran};
+ghost use Rattle.meta_base.specs.Pieces.MetaRules.{name_of};
+ghost use Rattle.meta_base.specs.declared.grammar.Rule.TheVariants.{block_comment, inner_str};
+ghost use Rattle.meta_syntax.specs.Entries.{named_entries};
+ghost use Rattle.meta_syntax.specs.Forms.{IsGood, IsSpelled, all_take, choice_among, cost, expression_of, null, nullable};
+ghost use Rattle.meta_syntax.specs.MetaGrammar.{body_of, meta_grammar};
+ghost use Rattle.meta_syntax.specs.Sets.{spelled_by};
+ghost use Rattle.meta_syntax.specs.declared.sets.Set.{Set};
 ghost use Rattle.meta_syntax.specs.Runs.{at, FailsWithin, GoesOn, IsLeft, IsSound, Progress, Reaches, Runs, mode_of};
 
-use crate::entries::{Entry, close, cut, open, written};
+use crate::entries::{Entry, close, count_of_entries, cut, open};
 use crate::firsts::{is_left_alone, is_noted_at_once, may_begin, one};
 use crate::leaves::{any, character, literal};
-use crate::modes::{Mode, body_mode, call_counts, gives_token, is_seen_from, noted};
+use crate::modes::{
+    Mode, body_mode, call_counts, furthest_with, gives_token, is_seen_from, is_tight,
+};
+use crate::sets::{Set, ends, past};
 use crate::table::{Form, row_of};
 use meta_base::grammar::Rule;
 use std::alloc::{AllocError, Global};
@@ -42,7 +47,7 @@ fn begins_comment(rule: Rule, rest: &str) -> bool
 
 impl Recognizer {
     pub fn new(alloc: Global) -> Recognizer
-        ensures entries { seen result.entries.items ≡ [] }
+        ensures entries { named_entries result.entries.items ≡ [] }
         ensures furthest { result.furthest ≡ 0 }
         ensures sound { (text : List ℕ) → IsSound text result }
     {
@@ -69,6 +74,7 @@ impl Recognizer {
 
     /// The furthest failure after a call that fails by the next character alone, or `None` where
     /// that character does not tell, or there is none.
+    #[inline(always)]
     fn rejection(&self, text: &str, rule: Rule, mode: Mode, rest: &str) -> Option<usize>
         requires left { IsLeft text.now rest.now }
         ensures further { IfSome result (λ furthest. self.now.furthest ≤ furthest) }
@@ -81,7 +87,7 @@ impl Recognizer {
             return None;
         }
         let place = text.len() - rest.len();
-        Some(noted(is_noted_at_once(rule, mode), place, self.furthest))
+        Some(furthest_with(is_noted_at_once(rule, mode), place, self.furthest))
     }
 
     /// Whether it is remembered that a call fails here. Nothing is then noted that was not noted
@@ -139,20 +145,23 @@ impl Recognizer {
             (Runs (Run (mode_of mode) (Ident (codes "EOI")))
             text.now rest.entry.now self.old self.new) }
     {
-        let seen = is_seen_from(mode);
+        let is_seen = is_seen_from(mode);
         let place = text.len() - rest.len();
         if !rest.is_empty() {
-            self.furthest = noted(seen, place, self.furthest);
+            self.furthest = furthest_with(is_seen, place, self.furthest);
             return Ok(None);
         }
-        let first = written(&self.entries);
-        open(&mut self.entries, seen, Rule::EOI, place)?;
-        close(&mut self.entries, seen, Rule::EOI, first, place, place)?;
+        let first = count_of_entries(&self.entries);
+        open(&mut self.entries, is_seen, Rule::EOI, place)?;
+        close(&mut self.entries, is_seen, Rule::EOI, first, place, place)?;
         Ok(Some(rest))
     }
 
     /// Runs a form on what is left of the text. The answer is what is left after it, or `None`
     /// where it fails. The entries of its trees are then written, or none.
+    ///
+    /// It is built into each of the functions below, so that a form within a form costs one call and
+    /// not two.
     #[inline(always)]
     #[cycle(recognize)]
     fn run<'i>(
@@ -186,18 +195,25 @@ impl Recognizer {
             Form::Call(rule) => self.call(text, *rule, mode, rest),
             Form::Seq(first, second) => self.sequence(text, first, second, mode, rest),
             Form::Choice(first, second) => self.choice(text, first, second, mode, rest),
+            Form::FirstOf(first, others) => self.first_of(text, *first, others, mode, rest),
             Form::Opt(body) => self.option(text, body, mode, rest),
             Form::Rep(body) => {
                 let after = self.repetition(text, body, mode, rest)?;
                 Ok(Some(after))
             }
+            Form::Characters(set, body) => {
+                let after = self.characters(text, *set, body, mode, rest)?;
+                Ok(Some(after))
+            }
+            Form::Quoted(body, spelled) => self.quoted(text, body, spelled, mode, rest),
             Form::RepOnce(body) => self.once_or_more(text, body, mode, rest),
             Form::NegPred(body) => self.negation(text, body, mode, rest),
             Form::RepMinMax(_, _, _, spelled) => self.copies(text, spelled, mode, rest),
         }
     }
 
-    /// The copies of a counted repetition, spelled out.
+    /// A form that is spelled out beside another. `run` is built into its callers, which it can only
+    /// be while it does not call itself; so this is the function that it calls in its place.
     #[inline(never)]
     #[cycle(recognize)]
     fn copies<'i>(
@@ -250,6 +266,39 @@ impl Recognizer {
         }
     }
 
+    /// A call of the first of some rules that matches.
+    #[inline(never)]
+    #[cycle(recognize)]
+    #[tactic(auto, using(crate::proofs::Choices::rank_at))]
+    fn first_of<'i>(
+        &mut self,
+        text: &str,
+        first: Rule,
+        others: &'static [Rule],
+        mode: Mode,
+        rest: &'i str,
+    ) -> Result<Option<&'i str>, AllocError>
+        requires takes { nullable first ≡ false }
+        requires others_take { all_take others.now ≡ true }
+        requires left { IsLeft text.now rest.now }
+        requires sound { IsSound text.now self.old }
+        ensures goes_on { IfOk result (Progress text.now rest.entry.now false) }
+        ensures sound { OnOk result (IsSound text.now self.new) }
+        ensures means { IfOk result
+            (Runs (Run (mode_of mode) (choice_among (Ident (name_of first)) others.now))
+            text.now rest.entry.now self.old self.new) }
+    {
+        if let Some(after) = self.call(text, first, mode, rest)? {
+            return Ok(Some(after));
+        }
+        for rule in others {
+            if let Some(after) = self.call(text, *rule, mode, rest)? {
+                return Ok(Some(after));
+            }
+        }
+        Ok(None)
+    }
+
     /// A form, or nothing.
     #[inline(never)]
     #[cycle(recognize)]
@@ -296,7 +345,7 @@ impl Recognizer {
             (Runs (Run (mode_of mode) (NegPred (expression_of body.now)))
             text.now rest.entry.now self.old self.new) }
     {
-        let mark = written(&self.entries);
+        let mark = count_of_entries(&self.entries);
         match self.run(text, body, mode, rest)? {
             Some(_) => {
                 cut(&mut self.entries, mark);
@@ -361,7 +410,7 @@ impl Recognizer {
             (Runs (Run (mode_of mode) (Seq (expression_of first.now) (expression_of second.now)))
             text.now rest.entry.now self.old self.new) }
     {
-        let mark = written(&self.entries);
+        let mark = count_of_entries(&self.entries);
         let Some(after) = self.run(text, first, mode, rest)? else {
             return Ok(None);
         };
@@ -430,7 +479,7 @@ impl Recognizer {
     {
         let mut rest = from;
         loop {
-            let mark = written(&self.entries);
+            let mark = count_of_entries(&self.entries);
             let next = self.skip(text, mode, rest)?;
             match self.run(text, body, mode, next)? {
                 Some(after) => rest = after,
@@ -442,7 +491,89 @@ impl Recognizer {
         }
     }
 
-    /// A call of a rule, or of `EOI`.
+    /// As many turns as there are, of which a set tells what most of them do.
+    #[inline(never)]
+    #[cycle(recognize)]
+    fn characters<'i>(
+        &mut self,
+        text: &str,
+        set: Set,
+        body: &'static Form,
+        mode: Mode,
+        from: &'i str,
+    ) -> Result<&'i str, AllocError>
+        requires good { IsGood body.now }
+        requires spelled { IsSpelled body.now }
+        requires of_set { expression_of body.now ≡ spelled_by set }
+        requires consumes { null body.now ≡ false }
+        requires below { cost body.now < 999 }
+        requires left { IsLeft text.now from.now }
+        requires sound { IsSound text.now self.old }
+        ensures goes_on { IfOk result (λ after. GoesOn text.now from.entry.now true after.now) }
+        ensures sound { OnOk result (IsSound text.now self.new) }
+        ensures means { IfOk result
+            (λ after. Reaches (Run (mode_of mode) (Rep (expression_of body.now)))
+            text.now from.entry.now self.old self.new after.now) }
+    {
+        if !is_tight(mode) {
+            let after = self.repetition(text, body, mode, from)?;
+            return Ok(after);
+        }
+        let mut rest = past(set, from);
+        loop {
+            if ends(set, rest) {
+                return Ok(rest);
+            }
+            match self.run(text, body, mode, rest)? {
+                Some(after) => rest = past(set, after),
+                None => return Ok(rest),
+            }
+        }
+    }
+
+    /// The text of a string: characters, and behind each escape the same again. The rule calls itself
+    /// there; here that is another turn.
+    #[inline(never)]
+    #[cycle(recognize)]
+    fn quoted<'i>(
+        &mut self,
+        text: &str,
+        body: &'static Form,
+        spelled: &'static Form,
+        mode: Mode,
+        from: &'i str,
+    ) -> Result<Option<&'i str>, AllocError>
+        requires good { IsGood body.now }
+        requires body_spelled { IsSpelled body.now }
+        requires of_set { expression_of body.now ≡ spelled_by Set.Quoted }
+        requires consumes { null body.now ≡ false }
+        requires below { cost body.now < 999 }
+        requires whole_good { IsGood spelled.now }
+        requires whole_spelled { IsSpelled spelled.now }
+        requires whole { expression_of spelled.now ≡ body_of inner_str }
+        requires left { IsLeft text.now from.now }
+        requires sound { IsSound text.now self.old }
+        ensures goes_on { IfOk result (Progress text.now from.entry.now true) }
+        ensures sound { OnOk result (IsSound text.now self.new) }
+        ensures means { IfOk result
+            (Runs (Run (mode_of mode) (body_of inner_str))
+            text.now from.entry.now self.old self.new) }
+    {
+        if is_seen_from(mode) {
+            return self.copies(text, spelled, mode, from);
+        }
+        let mut rest = from;
+        loop {
+            let next = self.characters(text, Set::Quoted, body, Mode::Atomic, rest)?;
+            match self.call(text, Rule::escape, Mode::Atomic, next)? {
+                Some(after) => rest = after,
+                None => return Ok(Some(next)),
+            }
+        }
+    }
+
+    /// A call of a rule, or of `EOI`, which the next character may decide. What it calls is built into
+    /// it, and it is built into nothing: each form within a form keeps as little as it can on the stack.
     #[inline(never)]
     #[cycle(recognize)]
     pub fn call<'i>(
@@ -467,6 +598,27 @@ impl Recognizer {
             self.furthest = furthest;
             return Ok(None);
         }
+        self.called(text, rule, mode, rest)
+    }
+
+    /// The same, where the character does not decide it.
+    #[inline(always)]
+    #[cycle(recognize)]
+    fn called<'i>(
+        &mut self,
+        text: &str,
+        rule: Rule,
+        mode: Mode,
+        rest: &'i str,
+    ) -> Result<Option<&'i str>, AllocError>
+        requires left { IsLeft text.now rest.now }
+        requires sound { IsSound text.now self.old }
+        ensures goes_on { IfOk result (Progress text.now rest.entry.now (nullable rule)) }
+        ensures sound { OnOk result (IsSound text.now self.new) }
+        ensures means { IfOk result
+            (Runs (Run (mode_of mode) (Ident (name_of rule)))
+            text.now rest.entry.now self.old self.new) }
+    {
         let Some(row) = row_of(rule) else {
             return self.end_of_input(text, mode, rest);
         };
@@ -475,7 +627,7 @@ impl Recognizer {
         }
         let place = text.len() - rest.len();
         let gives = gives_token(row.kind, mode);
-        let first = written(&self.entries);
+        let first = count_of_entries(&self.entries);
         open(&mut self.entries, gives, rule, place)?;
         let inner_mode = body_mode(rule, row.kind, mode);
         match self.run(text, row.body, inner_mode, rest)? {
@@ -486,7 +638,7 @@ impl Recognizer {
             }
             None => {
                 cut(&mut self.entries, first);
-                self.furthest = noted(call_counts(row.kind, mode), place, self.furthest);
+                self.furthest = furthest_with(call_counts(row.kind, mode), place, self.furthest);
                 self.remember(rule, mode, rest)?;
                 Ok(None)
             }

@@ -3,6 +3,7 @@ ghost use Rattle.std.specs.Prelude.{◌≡◌, MatchOption};
 ghost use Rattle.meta_base.specs.declared.grammar.Rule.TheVariants.{EOI};
 ghost use Rattle.meta_syntax.specs.Rows.{IsRow};
 
+use crate::sets::Set;
 use meta_base::grammar::Rule;
 
 /// What a rule does with the mode of its caller, and whether it gives a token.
@@ -30,11 +31,17 @@ pub enum Form {
     Seq(&'static Form, &'static Form),
     /// The first, or the second where the first fails.
     Choice(&'static Form, &'static Form),
+    /// What the first of these rules that matches matches.
+    FirstOf(Rule, &'static [Rule]),
     /// It, or nothing.
     Opt(&'static Form),
     /// As many turns as there are.
     Rep(&'static Form),
-    /// The same, and one at least.
+    /// The same, where a set tells by the next character what most turns do.
+    Characters(Set, &'static Form),
+    /// What `inner_str` matches: the form of one of its characters, and all of it spelled out.
+    Quoted(&'static Form, &'static Form),
+    /// As many turns as there are, and one at least.
     RepOnce(&'static Form),
     /// Nothing, where it fails.
     NegPred(&'static Form),
@@ -73,6 +80,12 @@ macro_rules! choice {
     };
 }
 
+macro_rules! first_of {
+    ($first:ident $(, $others:ident)*) => {
+        Form::FirstOf(Rule::$first, &[$(Rule::$others),*])
+    };
+}
+
 macro_rules! optional {
     ($form:expr) => {
         Form::Opt(&$form)
@@ -82,6 +95,12 @@ macro_rules! optional {
 macro_rules! repeated {
     ($form:expr) => {
         Form::Rep(&$form)
+    };
+}
+
+macro_rules! characters {
+    ($set:ident, $form:expr) => {
+        Form::Characters(Set::$set, &$form)
     };
 }
 
@@ -130,11 +149,11 @@ static OPENING_BRACK: Form = Form::Str("[");
 
 static CLOSING_BRACK: Form = Form::Str("]");
 
-static MODIFIER: Form = choice!(
-    call!(silent_modifier),
-    call!(atomic_modifier),
-    call!(compound_atomic_modifier),
-    call!(non_atomic_modifier)
+static MODIFIER: Form = first_of!(
+    silent_modifier,
+    atomic_modifier,
+    compound_atomic_modifier,
+    non_atomic_modifier
 );
 
 static SILENT_MODIFIER: Form = Form::Str("_");
@@ -148,7 +167,7 @@ static NON_ATOMIC_MODIFIER: Form = Form::Str("!");
 static TAG_ID: Form = sequence!(
     Form::Str("#"),
     choice!(Form::Str("_"), call!(alpha)),
-    repeated!(choice!(Form::Str("_"), call!(alpha_num)))
+    characters!(Name, choice!(Form::Str("_"), call!(alpha_num)))
 );
 
 static NODE_TAG: Form = sequence!(call!(tag_id), call!(assignment_operator));
@@ -175,31 +194,28 @@ static NODE: Form = choice!(
     call!(terminal)
 );
 
-static TERMINAL: Form = choice!(
-    call!(_push_literal),
-    call!(_push),
-    call!(peek_slice),
-    call!(identifier),
-    call!(string),
-    call!(insensitive_string),
-    call!(range)
+static TERMINAL: Form = first_of!(
+    _push_literal,
+    _push,
+    peek_slice,
+    identifier,
+    string,
+    insensitive_string,
+    range
 );
 
-static PREFIX_OPERATOR: Form = choice!(
-    call!(positive_predicate_operator),
-    call!(negative_predicate_operator)
-);
+static PREFIX_OPERATOR: Form = first_of!(positive_predicate_operator, negative_predicate_operator);
 
-static INFIX_OPERATOR: Form = choice!(call!(sequence_operator), call!(choice_operator));
+static INFIX_OPERATOR: Form = first_of!(sequence_operator, choice_operator);
 
-static POSTFIX_OPERATOR: Form = choice!(
-    call!(optional_operator),
-    call!(repeat_operator),
-    call!(repeat_once_operator),
-    call!(repeat_exact),
-    call!(repeat_min),
-    call!(repeat_max),
-    call!(repeat_min_max)
+static POSTFIX_OPERATOR: Form = first_of!(
+    optional_operator,
+    repeat_operator,
+    repeat_once_operator,
+    repeat_exact,
+    repeat_min,
+    repeat_max,
+    repeat_min_max
 );
 
 static POSITIVE_PREDICATE_OPERATOR: Form = Form::Str("&");
@@ -280,7 +296,7 @@ static PEEK_SLICE: Form = sequence!(
 static IDENTIFIER: Form = sequence!(
     not!(Form::Str("PUSH")),
     choice!(Form::Str("_"), call!(alpha)),
-    repeated!(choice!(Form::Str("_"), call!(alpha_num)))
+    characters!(Name, choice!(Form::Str("_"), call!(alpha_num)))
 );
 
 static ALPHA: Form = choice!(Form::Range('a', 'z'), Form::Range('A', 'Z'));
@@ -295,9 +311,18 @@ static RANGE: Form = sequence!(call!(character), call!(range_operator), call!(ch
 
 static CHARACTER: Form = sequence!(call!(single_quote), call!(inner_chr), call!(single_quote));
 
-static INNER_STR: Form = sequence!(
-    repeated!(sequence!(not!(choice!(Form::Str("\""), Form::Str("\\"))), Form::Any)),
-    optional!(sequence!(call!(escape), call!(inner_str)))
+macro_rules! quoted_character {
+    () => {
+        sequence!(not!(choice!(Form::Str("\""), Form::Str("\\"))), Form::Any)
+    };
+}
+
+static INNER_STR: Form = Form::Quoted(
+    &quoted_character!(),
+    &sequence!(
+        characters!(Quoted, quoted_character!()),
+        optional!(sequence!(call!(escape), call!(inner_str)))
+    ),
 );
 
 static INNER_CHR: Form = choice!(
@@ -365,19 +390,22 @@ static WHITESPACE: Form = choice!(Form::Str(" "), Form::Str("\t"), call!(newline
 static LINE_COMMENT: Form = sequence!(
     Form::Str("//"),
     not!(choice!(Form::Str("/"), Form::Str("!"))),
-    repeated!(sequence!(not!(call!(newline)), Form::Any))
+    characters!(Line, sequence!(not!(call!(newline)), Form::Any))
 );
 
 static BLOCK_COMMENT: Form = sequence!(
     Form::Str("/*"),
-    repeated!(choice!(
-        call!(block_comment),
-        sequence!(not!(Form::Str("*/")), Form::Any)
-    )),
+    characters!(
+        Comment,
+        choice!(
+            call!(block_comment),
+            sequence!(not!(Form::Str("*/")), Form::Any)
+        )
+    ),
     Form::Str("*/")
 );
 
-static COMMENT: Form = choice!(call!(block_comment), call!(line_comment));
+static COMMENT: Form = first_of!(block_comment, line_comment);
 
 static SPACE: Form = choice!(Form::Str(" "), Form::Str("\t"));
 
@@ -385,7 +413,7 @@ static GRAMMAR_DOC: Form = sequence!(Form::Str("//!"), optional!(call!(space)), 
 
 static LINE_DOC: Form = sequence!(Form::Str("///"), optional!(call!(space)), call!(inner_doc));
 
-static INNER_DOC: Form = repeated!(sequence!(not!(call!(newline)), Form::Any));
+static INNER_DOC: Form = characters!(Line, sequence!(not!(call!(newline)), Form::Any));
 
 macro_rules! normal {
     ($body:ident) => {

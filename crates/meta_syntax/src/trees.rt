@@ -1,10 +1,10 @@
 // Token trees from the list of their entries.
-ghost use Rattle.std.specs.Prelude.{◌≡◌, ◌≤◌, IfOk, MatchOption, length};
-ghost use Rattle.meta_base.specs.State as spec;
-ghost use Rattle.meta_base.specs.MetaRules.{name_of};
-ghost use Rattle.meta_base.specs.NamedTrees.{named_trees_of};
-ghost use Rattle.meta_syntax.specs.Building.{making_of, stepped};
-ghost use Rattle.meta_syntax.specs.Entries.{entries_of, entry_of, seen};
+ghost use Rattle.std.specs.Prelude.{◌≡◌, ◌≢◌, ◌≤◌, IfOk, MatchOption, length};
+ghost use Rattle.meta_base.specs.Language.State as spec;
+ghost use Rattle.meta_base.specs.Pieces.MetaRules.{name_of};
+ghost use Rattle.meta_base.specs.Pieces.NamedTrees.{named_trees_of};
+ghost use Rattle.meta_syntax.specs.Building.{making_of, with_one_more};
+ghost use Rattle.meta_syntax.specs.Entries.{entries_of, entry_of, named_entries};
 
 use crate::entries::Entry;
 use meta_base::grammar::Rule;
@@ -19,6 +19,19 @@ pub fn first_tree(trees: &[TokenTree<Rule>]) -> Option<FirstTree<'_, Rule>>
         (named_trees_of first.inner.now) (named_trees_of first.others.now)) }
 {
     meta_base::runtime::first_tree(trees)
+}
+
+/// The first of these trees, of which there is one at least, and the last comes first.
+pub fn leading_tree(trees: &[TokenTree<Rule>]) -> FirstTree<'_, Rule>
+    requires { named_trees_of trees.now ≢ spec.None' }
+    ensures { named_trees_of trees.entry.now
+        ≡ spec.Tree (name_of result.rule) result.start result.end
+        (named_trees_of result.inner.now) (named_trees_of result.others.now) }
+{
+    match first_tree(trees) {
+        Some(first) => first,
+        None => unreachable!(),
+    }
 }
 
 /// The end of a tree whose start is still to come, and the trees behind it. Of them the last comes
@@ -58,7 +71,7 @@ fn with_entry(
     waiting: &mut Vec<Pending>,
 ) -> Result<Vec<TokenTree<Rule>>, AllocError>
     ensures { IfOk result (λ us. making_of us.items waiting.new.items
-        ≡ stepped (entry_of entry) (making_of trees.items waiting.old.items)) }
+        ≡ with_one_more (entry_of entry) (making_of trees.items waiting.old.items)) }
 {
     match entry {
         Entry::End { pos, .. } => {
@@ -80,7 +93,7 @@ fn with_entry(
 
 /// The trees whose entries these are. The last tree comes first.
 pub fn from_entries(alloc: Global, entries: &[Entry]) -> Result<Vec<TokenTree<Rule>>, AllocError>
-    ensures { (us : spec.Trees) → seen entries.now ≡ entries_of 0 us
+    ensures { (us : spec.Trees) → named_entries entries.now ≡ entries_of 0 us
         → IfOk result (λ t. named_trees_of t.items ≡ us) }
 {
     let mut trees = Vec::new(alloc);

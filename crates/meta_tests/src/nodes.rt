@@ -1,11 +1,9 @@
-//! Walks over nodes, clones and equality of nodes, and what errors call a rule.
+//! Walks over nodes.
 ghost use Rattle.std.specs.Prelude.{◌≡◌, IfSome};
-ghost use Rattle.meta_base.specs.Span.{span_end, span_start};
+ghost use Rattle.meta_base.specs.Pieces.Span.{span_end, span_start};
 
-use meta_ast::ast::RuleType;
-use meta_base::grammar::Rule;
 use meta_base::runtime::Span;
-use meta_reader::parser::{ParserExpr, ParserNode, ParserRule, filter_internal, rename_meta_rule};
+use meta_reader::parser::{ParserExpr, ParserNode, filter_internal};
 use std::alloc::Global;
 use std::test::Fail;
 
@@ -86,54 +84,5 @@ fn answers_follow_those_that_were_there(rt: HostRuntime) -> Result<(), Fail> {
     }
     walked?;
     assert_eq!(rt; ends.as_slice(), [7, 9, 5, 1, 5, 9].as_slice());
-    Ok(())
-}
-
-#[test]
-fn a_clone_equals_its_source(rt: HostRuntime) -> Result<(), Fail> {
-    let rule = ParserRule {
-        name: String::from_str(rt.alloc(), "r")?,
-        span: span(0, 1)?,
-        ty: RuleType::Silent,
-        node: counted(rt.alloc(), 2, 3)?,
-    };
-    let mut copy = rule.clone()?;
-    assert_eq!(rt; copy, rule);
-    copy.ty = RuleType::Normal;
-    assert_ne!(rt; copy, rule);
-    Ok(())
-}
-
-#[test]
-fn every_part_of_a_node_counts(rt: HostRuntime) -> Result<(), Fail> {
-    let node = counted(rt.alloc(), 2, 3)?;
-    assert_ne!(rt; counted(rt.alloc(), 2, 4)?, node);
-    let mut moved = node.clone()?;
-    moved.span = span(0, 8)?;
-    assert_ne!(rt; moved, node);
-    assert_eq!(rt; moved.expr, node.expr);
-    Ok(())
-}
-
-#[test]
-fn rules_are_called_by_words_marks_and_names(rt: HostRuntime) -> Result<(), Fail> {
-    assert_eq!(rt;
-        rename_meta_rule(rt.alloc(), &Rule::sequence_operator)?.as_str(),
-        "`&`"
-    );
-    assert_eq!(rt;
-        rename_meta_rule(rt.alloc(), &Rule::grammar_rule)?.as_str(),
-        "rule"
-    );
-    assert_eq!(rt;
-        rename_meta_rule(rt.alloc(), &Rule::quote)?.as_str(),
-        "`\"`"
-    );
-    assert_eq!(rt;
-        rename_meta_rule(rt.alloc(), &Rule::line_doc)?.as_str(),
-        "///"
-    );
-    assert_eq!(rt; rename_meta_rule(rt.alloc(), &Rule::term)?.as_str(), "term");
-    assert_eq!(rt; rename_meta_rule(rt.alloc(), &Rule::EOI)?.as_str(), "EOI");
     Ok(())
 }

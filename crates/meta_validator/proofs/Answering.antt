@@ -2,9 +2,10 @@
 use Rattle.std.proofs.Common.{◌≡◌, ℕ, zero, suc, ◌⊎◌, inl, inr, List, [], ◌∷◌, Option, Some, None, Bool, true, false, ◌&&◌, ◌||◌, if◌then◌else◌, bytes_eq, codes, nat_eq, slice_get, length, arith, refl, sym, ◌∙◌, ap, subst}
 use Rattle.std.specs.Cmp.{unsigned_Decides}
 use Rattle.std.proofs.lemmas.Slice.Eq.{bytes_eq-Decides}
-use Rattle.meta_base.specs.Text.{Text}
-use Rattle.meta_base.specs.Expression.{Expression, Str, Insens, Range, Ident, PeekSlice, PosPred, NegPred, Seq, Choice, Opt, Rep, RepOnce, RepExact, RepMin, RepMax, RepMinMax, Skip, Push, RestoreOnErr, Rule, Grammar, rule_of, or_else}
-use Rattle.meta_base.specs.WellFormed.{IsNullable, nullable_str, nullable_insens, nullable_soi, nullable_eoi, nullable_call, nullable_pos_pred, nullable_neg_pred, nullable_opt, nullable_rep, nullable_rep_max, nullable_seq, nullable_left, nullable_right, nullable_rep_once, nullable_push, nullable_exact_zero, nullable_exact, nullable_min_zero, nullable_min, nullable_min_max_zero, nullable_min_max, nullable_skip, nullable_restore, CannotFail, cannot_fail_str, cannot_fail_insens, cannot_fail_call, cannot_fail_opt, cannot_fail_rep, cannot_fail_rep_max, cannot_fail_seq, cannot_fail_left, cannot_fail_right, cannot_fail_rep_once, cannot_fail_push, cannot_fail_pos_pred, cannot_fail_exact_zero, cannot_fail_exact, cannot_fail_min_zero, cannot_fail_min, cannot_fail_min_max_zero, cannot_fail_min_max, cannot_fail_skip, cannot_fail_restore}
+use Rattle.meta_base.specs.Language.Text.{Text}
+use Rattle.meta_base.specs.Language.Expression.{Expression, Str, Insens, Range, Ident, PeekSlice, PosPred, NegPred, Seq, Choice, Opt, Rep, RepOnce, RepExact, RepMin, RepMax, RepMinMax, Skip, Push, RestoreOnErr, Rule, Grammar, rule_of, or_else}
+use Rattle.std.specs.Bool.{Decides}
+use Rattle.meta_base.specs.Language.WellFormed.{IsNullable, nullable_str, nullable_insens, nullable_soi, nullable_eoi, nullable_call, nullable_pos_pred, nullable_neg_pred, nullable_opt, nullable_rep, nullable_rep_max, nullable_seq, nullable_left, nullable_right, nullable_rep_once, nullable_push, nullable_exact_zero, nullable_exact, nullable_min_zero, nullable_min, nullable_min_max_zero, nullable_min_max, nullable_skip, nullable_restore, CannotFail, cannot_fail_str, cannot_fail_insens, cannot_fail_call, cannot_fail_opt, cannot_fail_rep, cannot_fail_rep_max, cannot_fail_seq, cannot_fail_left, cannot_fail_right, cannot_fail_rep_once, cannot_fail_push, cannot_fail_pos_pred, cannot_fail_exact_zero, cannot_fail_exact, cannot_fail_min_zero, cannot_fail_min, cannot_fail_min_max_zero, cannot_fail_min_max, cannot_fail_skip, cannot_fail_restore}
 use Rattle.meta_nodes.specs.Nodes.{view}
 use Rattle.meta_nodes.specs.declared.node.ParserRule.{ParserRule}
 use Rattle.meta_validator.specs.Names.{grammar_of, kind_in, rule_said, last_place, name_kind, is_end}
@@ -150,26 +151,28 @@ no_rule h = cc
 pub same_rule : {o : Option Rule} {a b : Rule} → o ≡ Some a → o ≡ Some b → a ≡ b
 same_rule e f = let h = sym e ∙ f in cc
 
--- 3. what holds is asked
-module _ (q : Question) (rules : List ParserRule) (t : Table) (table : IsTableOf rules t) where
-  abbrev G : Grammar
-  G = grammar_of rules
+-- 3. what a name is taken for: nothing, or a rule whose body lies in the table
+pub data Sense (G : Grammar) (kind_of : Text → Kind) (t : Table) (n : Text) : Option ℕ → Type 0 where
+  absent_from : rule_of G n ≡ None → Sense G kind_of t n None
+  lies_at : {k j : ℕ} (r : Rule) → rule_of G n ≡ Some r → slice_get t.roots.items k ≡ Some j → Says kind_of t.kinds.items j r.body → Sense G kind_of t n (Some k)
 
+abbrev pub kinds_by : (Text → Option ℕ) → Text → Kind
+kinds_by place_of n = name_kind (is_end n) (place_of n)
+
+-- 4. what holds is asked
+module _ (q : Question) (G : Grammar) (place_of : Text → Option ℕ) (t : Table) (sense : (n : Text) → Sense G (kinds_by place_of) t n (place_of n)) where
   abbrev Says_ : ℕ → Expression → Type 0
-  Says_ i e = Says (kind_in G) t.kinds.items i e
+  Says_ i e = Says (kinds_by place_of) t.kinds.items i e
 
   module _ (p : ℕ → Bool) (below : (j : ℕ) (e : Expression) → p j ≡ true → Says_ j e → Asked q G e) where
-    root_asked : (n : Text) (r : ℕ) (rule : ParserRule) → slice_get rules r ≡ Some rule → rule_of G n ≡ Some (rule_said rule) → at_root p (slice_get t.roots.items r) ≡ true → Asked q G (Ident n)
-    root_asked n r rule at e f =
-        let (i, h) = got_root rules t.roots.items r rule at (sym table.alike) in
-        let m : p i ≡ true = sym (ap (at_root p) h) ∙ f in
-        call_asked G q n (rule_said rule) e (below i (rule_said rule).body m (says (kind_in G) t.kinds.items i (view rule.node) (table.stand r i rule at h)))
-
-    name_asked : (n : Text) (o : Option ℕ) → Named rules n o → (b : Bool) → is_end n ≡ b → fires q t.roots.items p (name_kind b o) ≡ true → Asked q G (Ident n)
-    name_asked n o (absent e) true h f = end_asked G q n h f
-    name_asked n o (absent e) false h f = cc
-    name_asked n o (named {r = r} rule at e) true h f = elim (either (is_of_taking q) (at_root p (slice_get t.roots.items r)) f) [ inl z ↦ end_asked G q n h z | inr z ↦ root_asked n r rule at e z ]
-    name_asked n o (named {r = r} rule at e) false h f = root_asked n r rule at e f
+    name_asked : (n : Text) (o : Option ℕ) → Sense G (kinds_by place_of) t n o → (b : Bool) → is_end n ≡ b → fires q t.roots.items p (name_kind b o) ≡ true → Asked q G (Ident n)
+    name_asked n o (absent_from e) true h f = end_asked G q n h f
+    name_asked n o (absent_from e) false h f = cc
+    name_asked n o (lies_at {k = k} {j = j} r e at s) true h f = elim (either (is_of_taking q) (at_root p (slice_get t.roots.items k)) f) [
+      | inl z ↦ end_asked G q n h z
+      | inr z ↦ call_asked G q n r e (below j r.body (sym (ap (at_root p) at) ∙ z) s)
+    ]
+    name_asked n o (lies_at {k = k} {j = j} r e at s) false h f = call_asked G q n r e (below j r.body (sym (ap (at_root p) at) ∙ f) s)
 
     step : (i : ℕ) (k : Kind) (e : Expression) → slice_get t.kinds.items i ≡ Some k → Says_ i e → fires q t.roots.items p k ≡ true → Asked q G e
     step i k (Str []) at s f = empty_asked G q
@@ -178,7 +181,7 @@ module _ (q : Question) (rules : List ParserRule) (t : Table) (table : IsTableOf
     step i k (Insens (c ∷ u)) at s f = let h = subst (λ z. fires q t.roots.items p z ≡ true) (same_kind _ at s) f in cc
     step i k (Range a b) at s f = let h = subst (λ z. fires q t.roots.items p z ≡ true) (same_kind _ at s) f in cc
     step i k (PeekSlice a b) at s f = let h = subst (λ z. fires q t.roots.items p z ≡ true) (same_kind _ at s) f in cc
-    step i k (Ident n) at s f = name_asked n (last_place G n) (resolved rules n) (is_end n) refl (subst (λ z. fires q t.roots.items p z ≡ true) (same_kind _ at s) f)
+    step i k (Ident n) at s f = name_asked n (place_of n) (sense n) (is_end n) refl (subst (λ z. fires q t.roots.items p z ≡ true) (same_kind _ at s) f)
     step i k (PosPred e) at s f = ahead_asked G q e (p s.0) (subst (λ z. fires q t.roots.items p z ≡ true) (same_kind _ at s.2) f) (λ h. below s.0 e h s.3)
     step i k (NegPred e) at s f = not_ahead_asked G q e (subst (λ z. fires q t.roots.items p z ≡ true) (same_kind _ at s.2) f)
     step i k (Opt e) at s f = opt_asked G q e
@@ -197,7 +200,7 @@ module _ (q : Question) (rules : List ParserRule) (t : Table) (table : IsTableOf
   pub asked : {i : ℕ} → Holds q t i → (e : Expression) → Says_ i e → Asked q G e
   asked (holds {i = i} {k = k} p at f g) e s = step p (λ j d h z. asked (g j h) d z) i k e at s f
 
--- 4. what is asked is marked
+-- 5. what is asked is marked
 end_fires : (roots : List ℕ) (p : ℕ → Bool) (b : Bool) → b ≡ true → (o : Option ℕ) → fires asks.TakesNothing roots p (name_kind b o) ≡ true
 end_fires roots p true h None = refl
 end_fires roots p true h (Some r) = refl
@@ -229,32 +232,26 @@ or_first : (a b : Bool) → a ≡ true → (a || b) ≡ true
 or_first true b h = refl
 or_first false b h = cc
 
-module _ (rules : List ParserRule) (t : Table) (table : IsTableOf rules t) where
-  abbrev H : Grammar
-  H = grammar_of rules
-
+module _ (G : Grammar) (place_of : Text → Option ℕ) (t : Table) (sense : (n : Text) → Sense G (kinds_by place_of) t n (place_of n)) where
   abbrev Lies : ℕ → Expression → Type 0
-  Lies i e = Says (kind_in H) t.kinds.items i e
+  Lies i e = Says (kinds_by place_of) t.kinds.items i e
 
-  module _ (q : Question) (p : ℕ → Bool) (n : Text) (r : Rule) (at : rule_of H n ≡ Some r) (inner : (j : ℕ) → Lies j r.body → p j ≡ true) where
-    root_fires : (k : ℕ) (rule : ParserRule) → slice_get rules k ≡ Some rule → rule_of H n ≡ Some (rule_said rule) → at_root p (slice_get t.roots.items k) ≡ true
-    root_fires k rule got e =
-        let (j, h) = got_root rules t.roots.items k rule got (sym table.alike) in
-        let same : rule_said rule ≡ r = same_rule e at in
-        ap (at_root p) h ∙ inner j (subst (λ z. Lies j z.body) same (says (kind_in H) t.kinds.items j (view rule.node) (table.stand k j rule got h)))
+  module _ (q : Question) (p : ℕ → Bool) (n : Text) (r : Rule) (at : rule_of G n ≡ Some r) (inner : (j : ℕ) → Lies j r.body → p j ≡ true) where
+    root_fires : (k j : ℕ) (m : Rule) → rule_of G n ≡ Some m → slice_get t.roots.items k ≡ Some j → Lies j m.body → at_root p (slice_get t.roots.items k) ≡ true
+    root_fires k j m e h s = ap (at_root p) h ∙ inner j (subst (λ z. Lies j z.body) (same_rule e at) s)
 
-    call_fires : (o : Option ℕ) → Named rules n o → (b : Bool) → fires q t.roots.items p (name_kind b o) ≡ true
-    call_fires o (absent e) b = absurd (no_rule (sym e ∙ at))
-    call_fires o (named {r = k} rule got e) true = or_true (is_of_taking q) (at_root p (slice_get t.roots.items k)) (root_fires k rule got e)
-    call_fires o (named {r = k} rule got e) false = root_fires k rule got e
+    call_fires : (o : Option ℕ) → Sense G (kinds_by place_of) t n o → (b : Bool) → fires q t.roots.items p (name_kind b o) ≡ true
+    call_fires o (absent_from e) b = absurd (no_rule (sym e ∙ at))
+    call_fires o (lies_at {k = k} {j = j} m e h s) true = or_true (is_of_taking q) (at_root p (slice_get t.roots.items k)) (root_fires k j m e h s)
+    call_fires o (lies_at {k = k} {j = j} m e h s) false = root_fires k j m e h s
 
   module _ (marks : List Bool) (closed : AreClosed asks.TakesNothing t marks) where
-    null_marked : {e : Expression} → IsNullable H e → (i : ℕ) → Lies i e → is_set_at marks i ≡ true
+    null_marked : {e : Expression} → IsNullable G e → (i : ℕ) → Lies i e → is_set_at marks i ≡ true
     null_marked nullable_str i s = closed i _ s refl
     null_marked nullable_insens i s = closed i _ s refl
-    null_marked nullable_soi i s = closed i _ s (end_fires t.roots.items (is_set_at marks) (is_end (codes "SOI")) refl (last_place H (codes "SOI")))
-    null_marked nullable_eoi i s = closed i _ s (end_fires t.roots.items (is_set_at marks) (is_end (codes "EOI")) refl (last_place H (codes "EOI")))
-    null_marked (nullable_call {n = n} {r = r} e d) i s = closed i _ s (call_fires asks.TakesNothing (is_set_at marks) n r e (λ j z. null_marked d j z) (last_place H n) (resolved rules n) (is_end n))
+    null_marked nullable_soi i s = closed i _ s (end_fires t.roots.items (is_set_at marks) (is_end (codes "SOI")) refl (place_of (codes "SOI")))
+    null_marked nullable_eoi i s = closed i _ s (end_fires t.roots.items (is_set_at marks) (is_end (codes "EOI")) refl (place_of (codes "EOI")))
+    null_marked (nullable_call {n = n} {r = r} e d) i s = closed i _ s (call_fires asks.TakesNothing (is_set_at marks) n r e (λ j z. null_marked d j z) (place_of n) (sense n) (is_end n))
     null_marked nullable_pos_pred i s = closed i _ s.2 refl
     null_marked nullable_neg_pred i s = closed i _ s.2 refl
     null_marked nullable_opt i s = closed i _ s.2 refl
@@ -275,10 +272,10 @@ module _ (rules : List ParserRule) (t : Table) (table : IsTableOf rules t) where
     null_marked (nullable_restore d) i s = absurd s
 
   module _ (marks : List Bool) (closed : AreClosed asks.CannotFail t marks) where
-    sure_marked : {e : Expression} → CannotFail H e → (i : ℕ) → Lies i e → is_set_at marks i ≡ true
+    sure_marked : {e : Expression} → CannotFail G e → (i : ℕ) → Lies i e → is_set_at marks i ≡ true
     sure_marked cannot_fail_str i s = closed i _ s refl
     sure_marked cannot_fail_insens i s = closed i _ s refl
-    sure_marked (cannot_fail_call {n = n} {r = r} e d) i s = closed i _ s (call_fires asks.CannotFail (is_set_at marks) n r e (λ j z. sure_marked d j z) (last_place H n) (resolved rules n) (is_end n))
+    sure_marked (cannot_fail_call {n = n} {r = r} e d) i s = closed i _ s (call_fires asks.CannotFail (is_set_at marks) n r e (λ j z. sure_marked d j z) (place_of n) (sense n) (is_end n))
     sure_marked cannot_fail_opt i s = closed i _ s.2 refl
     sure_marked cannot_fail_rep i s = closed i _ s.2 refl
     sure_marked cannot_fail_rep_max i s = closed i _ s.2 refl
@@ -297,6 +294,18 @@ module _ (rules : List ParserRule) (t : Table) (table : IsTableOf rules t) where
     sure_marked cannot_fail_skip i s = absurd s
     sure_marked (cannot_fail_restore d) i s = absurd s
 
-  pub answers : (q : Question) (marks : List Bool) → AreSound q t marks → AreClosed q t marks → AreAnswers rules t q marks
-  answers asks.TakesNothing marks s c = λ i e l. ((λ h. asked asks.TakesNothing rules t table (s.right i h) e l), (λ d. null_marked marks c d i l))
-  answers asks.CannotFail marks s c = λ i e l. ((λ h. asked asks.CannotFail rules t table (s.right i h) e l), (λ d. sure_marked marks c d i l))
+  pub answered : (q : Question) (marks : List Bool) → AreSound q t marks → AreClosed q t marks → (i : ℕ) (e : Expression) → Lies i e → Decides (is_set_at marks i) (Asked q G e)
+  answered asks.TakesNothing marks s c i e l = ((λ h. asked asks.TakesNothing G place_of t sense (s.right i h) e l), (λ d. null_marked marks c d i l))
+  answered asks.CannotFail marks s c i e l = ((λ h. asked asks.CannotFail G place_of t sense (s.right i h) e l), (λ d. sure_marked marks c d i l))
+
+-- 6. the names of rules
+pub sense_of : (rules : List ParserRule) (t : Table) → IsTableOf rules t → (n : Text) → Sense (grammar_of rules) (kind_in (grammar_of rules)) t n (last_place (grammar_of rules) n)
+sense_of rules t table n = go (last_place (grammar_of rules) n) (resolved rules n)
+  where
+    go : (o : Option ℕ) → Named rules n o → Sense (grammar_of rules) (kind_in (grammar_of rules)) t n o
+    go o (absent e) = absent_from e
+    go o (named {r = k} rule at e) = let (j, h) = got_root rules t.roots.items k rule at (sym table.alike) in
+        lies_at (rule_said rule) e h (says (kind_in (grammar_of rules)) t.kinds.items j (view rule.node) (table.stand k j rule at h))
+
+pub answers : (rules : List ParserRule) (t : Table) → IsTableOf rules t → (q : Question) (marks : List Bool) → AreSound q t marks → AreClosed q t marks → AreAnswers rules t q marks
+answers rules t table q marks s c = answered (grammar_of rules) (last_place (grammar_of rules)) t (sense_of rules t table) q marks s c

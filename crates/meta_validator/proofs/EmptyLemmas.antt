@@ -2,9 +2,9 @@
 use Rattle.std.proofs.Common.{◌≡◌, ℕ, zero, suc, List, [], ◌∷◌, ◌++◌, Some, Bool, true, false, if◌then◌else◌, nat_eq, slice_get, length, refl, sym, ◌∙◌, ap, subst, arith}
 use Rattle.std.proofs.lemmas.Option.{slice_get_within, slice_get-map}
 use Rattle.std.specs.Option.{option_map}
-use Rattle.meta_base.specs.Text.{Text}
-use Rattle.meta_base.specs.Expression.{Expression, Rule, Grammar, rule_of}
-use Rattle.meta_base.specs.WellFormed.{IsNullable, Leads, at_once, by_way, IsWellFormed}
+use Rattle.meta_base.specs.Language.Text.{Text}
+use Rattle.meta_base.specs.Language.Expression.{Expression, Rule, Grammar, rule_of}
+use Rattle.meta_base.specs.Language.WellFormed.{IsNullable, Leads, at_once, by_way, IsWellFormed}
 use Rattle.meta_nodes.specs.Erasure.{without_spans}
 use Rattle.meta_nodes.specs.Nodes.{view, rule_view, rule_views}
 use Rattle.meta_nodes.specs.Spanned.{Span, Spanned, Leaf, One, Two, Unary, PosPred, NegPred, Opt, Rep, RepOnce, RepExact, RepMin, RepMax, RepMinMax, Push, Seq, Choice, SpannedRule}
@@ -22,34 +22,34 @@ use Rattle.meta_validator.proofs.Accepting.{well_formed}
 use Rattle.meta_validator.proofs.ReportingLemmas.{leaf_kinds, says_at, got_within}
 use Rattle.meta_validator.proofs.Tying.{says}
 
-clash : (b : Bool) → b ≡ true → b ≡ false → ⊥
+pub clash : (b : Bool) → b ≡ true → b ≡ false → ⊥
 clash b g h = let e = sym g ∙ h in cc
 
-empty_first : {A : Type 0} (xs ys : List A) → xs ++ ys ≡ [] → xs ≡ []
+pub empty_first : {A : Type 0} (xs ys : List A) → xs ++ ys ≡ [] → xs ≡ []
 empty_first [] ys h = refl
 empty_first (x ∷ xs) ys h = cc
 
-empty_second : {A : Type 0} (xs ys : List A) → xs ++ ys ≡ [] → ys ≡ []
+pub empty_second : {A : Type 0} (xs ys : List A) → xs ++ ys ≡ [] → ys ≡ []
 empty_second [] ys h = h
 empty_second (x ∷ xs) ys h = cc
 
 -- where nothing is found of all, nothing is found of each
-reports_empty : {X : Type 0} (R : X → List Finding → Type 0) {xs : List X} {fs : List Finding} → Reports R xs fs → fs ≡ [] → (i : ℕ) (x : X) → slice_get xs i ≡ Some x → R x []
+pub reports_empty : {X : Type 0} (R : X → List Finding → Type 0) {xs : List X} {fs : List Finding} → Reports R xs fs → fs ≡ [] → (i : ℕ) (x : X) → slice_get xs i ≡ Some x → R x []
 reports_empty R reports_none e i x g = cc
 reports_empty R (reports_at {x = y} {fs = fs} {gs = gs} h t) e zero x g = let same : y ≡ x = cc in subst (λ z. R z []) same (subst (λ z. R y z) (empty_first fs gs e) h)
 reports_empty R (reports_at {fs = fs} {gs = gs} h t) e (suc i) x g = reports_empty R t (empty_second fs gs e) i x g
 
 module _ (g : Grammar) where
-  none_repeated : {subject : List ℕ} {place : Span} {e : Expression} {fs : List Finding} → OfRepeated g subject place e fs → fs ≡ [] → IsNullable g e → ⊥
+  pub none_repeated : {subject : List ℕ} {place : Span} {e : Expression} {fs : List Finding} → OfRepeated g subject place e fs → fs ≡ [] → IsNullable g e → ⊥
   none_repeated (never_fails d) h n = cc
   none_repeated (takes_nothing d m) h n = cc
   none_repeated (goes_on f) h n = f n
 
-  none_repetition : {x : Spanned} {fs : List Finding} → OfRepetition g x fs → fs ≡ [] → (s : Span) (f : Unary) (y : Spanned) → x ≡ One s f y → is_endless f ≡ true → IsNullable g (without_spans y) → ⊥
+  pub none_repetition : {x : Spanned} {fs : List Finding} → OfRepetition g x fs → fs ≡ [] → (s : Span) (f : Unary) (y : Spanned) → x ≡ One s f y → is_endless f ≡ true → IsNullable g (without_spans y) → ⊥
   none_repetition (repetition {x = z} h d) e s f y m q n = let same : y ≡ z = cc in none_repeated d e (subst (λ w. IsNullable g (without_spans w)) same n)
   none_repetition (no_repetition h) e s f y m q n = clash (is_endless f) q (ap is_repetition (sym m) ∙ h)
 
-  none_skipped : {r : SpannedRule} {fs : List Finding} → OfSkipped g r fs → fs ≡ [] → is_skipped_name r.name ≡ true → IsNullable g (without_spans r.body) → ⊥
+  pub none_skipped : {r : SpannedRule} {fs : List Finding} → OfSkipped g r fs → fs ≡ [] → is_skipped_name r.name ≡ true → IsNullable g (without_spans r.body) → ⊥
   none_skipped (skipped h d) e q n = none_repeated d e n
   none_skipped {r} (not_skipped h) e q n = clash (is_skipped_name r.name) q h
 

@@ -4,6 +4,7 @@ pub mod Walk
 pub mod Reports
 pub mod NameLemmas
 pub mod Tying
+pub mod LayoutLemmas
 pub mod ReportingLemmas
 pub mod Roots
 pub mod Answering
@@ -11,4 +12,14 @@ pub mod Falling
 pub mod Accepting
 pub mod EmptyLemmas
 pub mod SortedLemmas
-pub mod LeadingLemmas
+pub mod NothingElse
+pub mod NoneWalks
+pub mod SearchLemmas
+pub mod SearchCalls
+pub mod RegionLemmas
+pub mod PassingLemmas
+pub mod PassingSteps
+pub mod NodeSteps
+pub mod WalkSteps
+pub mod WalkLists
+pub mod ClosingLemmas

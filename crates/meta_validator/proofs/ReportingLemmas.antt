@@ -5,8 +5,8 @@ use Rattle.std.proofs.lemmas.List.{append_assoc, append-nil, take_more, map-appe
 use Rattle.std.proofs.lemmas.Option.{slice_get_within, get_or_from_slice_get, slice_get-map}
 use Rattle.std.proofs.lemmas.Str.{encodes-chars, IsUtf8-string_bytes}
 use Rattle.meta_ast.specs.Ast.{text_of}
-use Rattle.meta_base.specs.Expression as plain
-use Rattle.meta_base.specs.Expression.{Expression, Grammar}
+use Rattle.meta_base.specs.Language.Expression as plain
+use Rattle.meta_base.specs.Language.Expression.{Expression, Grammar}
 use Rattle.meta_base.specs.declared.runtime.places.Span as code_span
 use Rattle.meta_nodes.specs.Erasure.{without_spans}
 use Rattle.meta_nodes.specs.Nodes.{view, piece_of, rule_view, rule_views}

@@ -1,8 +1,8 @@
 -- Nothing is reported of a well-formed grammar, and of no other.
 use Rattle.std.proofs.Common.{◌≡◌, ◌⊎◌, inl, inr, Some, refl, codes}
-use Rattle.meta_base.specs.Text.{Text}
-use Rattle.meta_base.specs.Expression.{Expression, Ident, Rule, Grammar, rule_of, whitespace, comment}
-use Rattle.meta_base.specs.WellFormed.{IsNullable, nullable_soi, nullable_eoi, nullable_call, CannotFail, IsSkipped, is_whitespace, is_comment, IsWellFormed}
+use Rattle.meta_base.specs.Language.Text.{Text}
+use Rattle.meta_base.specs.Language.Expression.{Expression, Ident, Rule, Grammar, rule_of, whitespace, comment}
+use Rattle.meta_base.specs.Language.WellFormed.{IsNullable, nullable_soi, nullable_eoi, nullable_call, CannotFail, IsSkipped, is_whitespace, is_comment, IsWellFormed}
 use Rattle.meta_validator.specs.Walk.{WalkLeads, w_at_once, w_by_way}
 use Rattle.meta_validator.specs.Reports.{repeats_any, repeats_once, repeats_min, Reported, endless, bad_skipped, recursive}
 use Rattle.meta_validator.proofs.Certain.{sure_null}

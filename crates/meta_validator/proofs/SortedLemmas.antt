@@ -3,13 +3,13 @@ use Rattle.std.proofs.Common.{cond, ◌≡◌, ℕ, ◌+◌, List, [], ◌∷◌
 use Rattle.std.specs.Prelude.{IsPermutation, filter}
 use Rattle.std.specs.Option.{option_map}
 use Rattle.std.specs.List.Sorted.{IsSortedBy, IsStableBy}
-use Rattle.std.proofs.lemmas.List.{take_more, map-append}
+use Rattle.std.proofs.lemmas.List.{take_more, map-append, nil_from_length}
 use Rattle.std.proofs.lemmas.List.Sorted.{IsPermutation-map, length_permutation}
 use Rattle.std.proofs.lemmas.Option.{slice_get_within, get_or_from_slice_get, slice_get-map}
 use Rattle.meta_base.specs.declared.grammar.Rule.{Rule}
 use Rattle.meta_base.specs.declared.runtime.errors.Error.{Error}
 use Rattle.meta_validator.specs.Findings.{Finding, is_before, is_level, IsSortedBySpan}
-use Rattle.meta_validator.specs.Reported.{Tells, AreTold, told_none, told_first}
+use Rattle.meta_base.specs.Pieces.Saying.{SaysAt, Tell}
 use Rattle.meta_validator.specs.Reporting.{finding_of, findings_of}
 use Rattle.meta_validator.specs.declared.findings.Finding as code
 
@@ -52,25 +52,38 @@ sorted_findings found sorted p r s = record {
     level i x (f, at, is_x) = subst (λ z. filter (is_level z) (findings_of sorted) ≡ filter (is_level z) (findings_of found)) is_x
         (filter-map (is_level (finding_of f)) finding_of sorted ∙ (ap (λ z. findings_of z) (s f) ∙ sym (filter-map (is_level (finding_of f)) finding_of found)))
 
-told_more : {fs : List Finding} {es : List (Error Rule)} → AreTold fs es → (f : Finding) (e : Error Rule) → Tells f e → AreTold (fs ++ f ∷ []) (es ++ e ∷ [])
-told_more told_none f e t = told_first t told_none
-told_more (told_first h k) f e t = told_first h (told_more k f e t)
+told_more : (fs : List Finding) (es : List (Error Rule)) → Tell fs es → (f : Finding) (e : Error Rule)
+    → SaysAt f.message f.span e → Tell (fs ++ f ∷ []) (es ++ e ∷ [])
+told_more [] [] h f e t = (t, tt)
+told_more [] (y ∷ es) h f e t = absurd h
+told_more (x ∷ fs) [] h f e t = absurd h
+told_more (x ∷ fs) (y ∷ es) h f e t = (h.0, told_more fs es h.1 f e t)
 
 -- one finding more is told
-pub told_step : (fs : List code.Finding) (i : ℕ) (f : code.Finding) (old new : List (Error Rule)) (e : Error Rule) → slice_get fs i ≡ Some f → new ≡ old ++ e ∷ [] → Tells (finding_of f) e → AreTold (findings_of (take i fs)) old → AreTold (findings_of (take (i + 1) fs)) new
+pub told_step : (fs : List code.Finding) (i : ℕ) (f : code.Finding) (old new : List (Error Rule)) (e : Error Rule) → slice_get fs i ≡ Some f → new ≡ old ++ e ∷ [] → SaysAt (finding_of f).message (finding_of f).span e
+    → Tell (findings_of (take i fs)) old → Tell (findings_of (take (i + 1) fs)) new
 told_step fs i f old new e at is_new t h =
     let taken : findings_of (take (i + 1) fs) ≡ findings_of (take i fs) ++ finding_of f ∷ []
     = ap (λ z. findings_of z) (take_more fs i f (slice_get_within fs i f at) ∙ ap (λ y. take i fs ++ y ∷ []) (get_or_from_slice_get fs i f f at)) ∙ map-append finding_of (take i fs) (f ∷ []) in
-    subst (λ z. AreTold z new) (sym taken) (subst (λ z. AreTold (findings_of (take i fs) ++ finding_of f ∷ []) z) (sym is_new) (told_more h (finding_of f) e t))
+    subst (λ z. Tell z new) (sym taken) (subst (λ z. Tell (findings_of (take i fs) ++ finding_of f ∷ []) z) (sym is_new)
+    (told_more (findings_of (take i fs)) old h (finding_of f) e t))
 
 -- where no error is told, nothing was found
-pub told_empty : {fs : List Finding} {es : List (Error Rule)} → AreTold fs es → es ≡ [] → fs ≡ []
-told_empty told_none e = refl
-told_empty (told_first h k) e = cc
+pub told_empty : (fs : List Finding) (es : List (Error Rule)) → Tell fs es → es ≡ [] → fs ≡ []
+told_empty [] es h e = refl
+told_empty (f ∷ fs) [] h e = absurd h
+told_empty (f ∷ fs) (x ∷ es) h e = cc
+
+-- where nothing was found, no error is told
+pub nothing_told : (fs : List Finding) (es : List (Error Rule)) → Tell fs es → fs ≡ [] → es ≡ []
+nothing_told fs [] h e = refl
+nothing_told [] (x ∷ es) h e = absurd h
+nothing_told (f ∷ fs) (x ∷ es) h e = cc
 
 pub none_found : (found sorted : List Finding) → IsSortedBySpan found sorted → sorted ≡ [] → found ≡ []
-none_found found sorted s e = shorter found (let l = length_permutation found sorted s.same in let m = ap (λ z. length z) e in omega arith)
-  where
-    shorter : (xs : List Finding) → length xs ≡ 0 → xs ≡ []
-    shorter [] h = refl
-    shorter (x ∷ xs) h = absurd (omega arith)
+none_found found sorted s e =
+    nil_from_length found (let l = length_permutation found sorted s.same in let m = ap (λ z. length z) e in omega arith)
+
+pub none_sorted : (found sorted : List Finding) → IsSortedBySpan found sorted → found ≡ [] → sorted ≡ []
+none_sorted found sorted s e =
+    nil_from_length sorted (let l = length_permutation found sorted s.same in let m = ap (λ z. length z) e in omega arith)

@@ -8,10 +8,10 @@ use Rattle.meta_nodes.specs.declared.node.ParserNode.{ParserNode}
 use Rattle.meta_nodes.specs.declared.node.ParserExpr.{ParserExpr}
 use Rattle.meta_nodes.specs.declared.node.ParserExpr.TheVariants as code
 use Rattle.meta_ast.specs.Ast.{text_of}
-use Rattle.meta_base.specs.Text.{Text}
+use Rattle.meta_base.specs.Language.Text.{Text}
 use Rattle.meta_nodes.specs.Spanned.{Span, Unary, Binary, span_of, Spanned, Leaf, One, Two, PosPred, NegPred, Opt, Rep, RepOnce, RepExact, RepMin, RepMax, RepMinMax, Push, Seq, Choice}
-use Rattle.meta_base.specs.Expression as plain
-use Rattle.meta_base.specs.Expression.{Expression}
+use Rattle.meta_base.specs.Language.Expression as plain
+use Rattle.meta_base.specs.Language.Expression.{Expression}
 use Rattle.meta_nodes.specs.Erasure.{without_spans}
 use Rattle.meta_validator.specs.Numbering.{size, AreNodes, Fits, Stands, Says, IsSimple, leaf_kind, kind_of_code}
 use Rattle.meta_validator.specs.Findings.{postorder}
@@ -35,8 +35,8 @@ got_more (x ∷ xs) y (suc k) n e = elim (got_more xs y k n e) [ inl h ↦ inl h
 
 fits_more : (kind_of : Text → Kind) (nodes more : List Spanned) (i : ℕ) (k : Kind) (x : Spanned) → Fits kind_of nodes i k x → Fits kind_of (nodes ++ more) i k x
 fits_more kind_of nodes more i k (Leaf s e) h = h
-fits_more kind_of nodes more i k (One s f x) h = (h.0, h.1, got_before nodes more h.0 x h.2, h.3)
-fits_more kind_of nodes more i k (Two s f x y) h = (h.0, h.1, h.2, h.3, got_before nodes more h.0 x h.4, got_before nodes more h.1 y h.5, h.6)
+fits_more kind_of nodes more i k (One s f x) h = (h.0, h.1, got_before nodes more h.0 x h.2, h.3, h.4)
+fits_more kind_of nodes more i k (Two s f x y) h = (h.0, h.1, h.2, h.3, got_before nodes more h.0 x h.4, got_before nodes more h.1 y h.5, h.6, h.7, h.8)
 
 -- a node that is pushed fits behind those that were there
 pub nodes_pushed : (kind_of : Text → Kind) (nodes : List Spanned) (mid new : List Kind) (k : Kind) (own : ℕ) (x : Spanned) → new ≡ mid ++ k ∷ [] → own ≡ length mid → AreNodes kind_of nodes mid → Fits kind_of nodes own k x → AreNodes kind_of (nodes ++ x ∷ []) new
@@ -72,9 +72,6 @@ stands_at kind_of nodes ks h (Leaf s e) i g = let (k, at, fit) = h.fit i _ g in 
 stands_at kind_of nodes ks h (One s f x) i g = let (k, at, fit) = h.fit i _ g in (fit.0, fit.1, at ∙ ap Some fit.3, stands_at kind_of nodes ks h x fit.0 fit.2)
 stands_at kind_of nodes ks h (Two s f x y) i g = let (k, at, fit) = h.fit i _ g in (fit.0, fit.1, fit.2, fit.3, at ∙ ap Some fit.6, stands_at kind_of nodes ks h x fit.0 fit.4, stands_at kind_of nodes ks h y fit.1 fit.5)
 
-pub within : (kind_of : Text → Kind) (nodes : List Spanned) (ks : List Kind) (j own : ℕ) (x : Spanned) → AreNodes kind_of nodes ks → slice_get nodes j ≡ Some x → own ≡ length ks → j < own
-within kind_of nodes ks j own x h g l = let w = slice_get_within nodes j x g in let a = h.alike in omega arith
-
 simple_says : (kind_of : Text → Kind) (ks : List Kind) (i : ℕ) (e : Expression) → IsSimple e → slice_get ks i ≡ Some (leaf_kind kind_of e) → Says kind_of ks i e
 simple_says kind_of ks i (plain.Str t) l h = h
 simple_says kind_of ks i (plain.Insens t) l h = h
@@ -97,29 +94,6 @@ says kind_of ks i (One s (RepMax n) x) h = (h.0, h.1, h.2, says kind_of ks h.0 x
 says kind_of ks i (One s (RepMinMax m n) x) h = (h.0, h.1, h.2, says kind_of ks h.0 x h.3)
 says kind_of ks i (Two s Seq x y) h = (h.0, h.1, h.2, h.3, h.4, says kind_of ks h.0 x h.5, says kind_of ks h.1 y h.6)
 says kind_of ks i (Two s Choice x y) h = (h.0, h.1, h.2, h.3, h.4, says kind_of ks h.0 x h.5, says kind_of ks h.1 y h.6)
-
--- the size of an expression is the same wherever it stands
-pub size_anywhere : (t u : Span) (e : ParserExpr) → size (view_at t e) ≡ size (view_at u e)
-size_anywhere t u (code.Str s) = refl
-size_anywhere t u (code.Insens s) = refl
-size_anywhere t u (code.Range s v) = refl
-size_anywhere t u (code.Ident s) = refl
-size_anywhere t u (code.PeekSlice m n) = refl
-size_anywhere t u (code.PosPred' p e s) = refl
-size_anywhere t u (code.NegPred' p e s) = refl
-size_anywhere t u (code.Seq' p e s q f v) = refl
-size_anywhere t u (code.Choice' p e s q f v) = refl
-size_anywhere t u (code.Opt' p e s) = refl
-size_anywhere t u (code.Rep' p e s) = refl
-size_anywhere t u (code.RepOnce' p e s) = refl
-size_anywhere t u (code.RepExact' p e s n) = refl
-size_anywhere t u (code.RepMin' p e s m) = refl
-size_anywhere t u (code.RepMax' p e s n) = refl
-size_anywhere t u (code.RepMinMax' p e s m n) = refl
-size_anywhere t u (code.Push' p e s) = refl
-
-pub size_unplaced : (b : ParserNode) → size (unplaced b.expr) ≡ size (view b)
-size_unplaced b = size_anywhere _ _ b.expr
 
 -- an expression of code that is one without operands does what that does
 pub leaf_done : (kind_of : Text → Kind) (x : ParserExpr) (d : Expression) (t : Span) → view_at t x ≡ Leaf t d → kind_of_code kind_of x ≡ leaf_kind kind_of d
@@ -164,15 +138,3 @@ span_at t (code.Push' p e s) = refl
 -- the spans of nodes, pushed one after another
 pub spans_pushed : (mid new : List code_span.Span) (s : code_span.Span) → new ≡ mid ++ s ∷ [] → map piece_of new ≡ map piece_of mid ++ piece_of s ∷ []
 spans_pushed mid new s e = ap (λ z. map piece_of z) e ∙ map-append piece_of mid (s ∷ [])
-
-pub spans_leaf : (old : List Span) (x : Spanned) (p : Span) (e : Expression) → x ≡ Leaf p e → old ++ p ∷ [] ≡ old ++ map span_of (postorder x)
-spans_leaf old x p e h = ap (λ z. old ++ map span_of (postorder z)) (sym h)
-
-pub spans_one : (old mid : List Span) (x : Spanned) (p : Span) (f : Unary) (y : Spanned) → x ≡ One p f y → mid ≡ old ++ map span_of (postorder y) → mid ++ p ∷ [] ≡ old ++ map span_of (postorder x)
-spans_one old mid x p f y h e = ap (λ z. z ++ p ∷ []) e ∙ (append_assoc old (map span_of (postorder y)) (p ∷ []) ∙ (ap (λ z. old ++ z) (sym (map-append span_of (postorder y) (One p f y ∷ []))) ∙ ap (λ z. old ++ map span_of (postorder z)) (sym h)))
-
-pub spans_two : (old mid all : List Span) (x : Spanned) (p : Span) (f : Binary) (y z : Spanned) → x ≡ Two p f y z → mid ≡ old ++ map span_of (postorder y) → all ≡ mid ++ map span_of (postorder z) → all ++ p ∷ [] ≡ old ++ map span_of (postorder x)
-spans_two old mid all x p f y z h e g =
-    let a : all ≡ old ++ map span_of (postorder y ++ postorder z)
-    = g ∙ (ap (λ w. w ++ map span_of (postorder z)) e ∙ (append_assoc old (map span_of (postorder y)) (map span_of (postorder z)) ∙ ap (λ w. old ++ w) (sym (map-append span_of (postorder y) (postorder z))))) in
-    ap (λ w. w ++ p ∷ []) a ∙ (append_assoc old (map span_of (postorder y ++ postorder z)) (p ∷ []) ∙ (ap (λ w. old ++ w) (sym (map-append span_of (postorder y ++ postorder z) (Two p f y z ∷ []))) ∙ ap (λ w. old ++ map span_of (postorder w)) (sym h)))

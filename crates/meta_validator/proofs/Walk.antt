@@ -1,9 +1,9 @@
 -- Walks that come back, and cycles of left calls.
 use Rattle.std.proofs.Common.{◌≡◌, ◌⊎◌, inl, inr, Bool, true, false, if◌then◌else◌, [], ◌∷◌, Option, Some, None, refl, sym, ap, subst, ◌∙◌, bytes_eq}
 use Rattle.std.proofs.lemmas.Slice.Eq.{bytes_eq-Decides}
-use Rattle.meta_base.specs.Text.{Text}
-use Rattle.meta_base.specs.Expression.{Expression, Ident, Seq, Rule, Grammar, rule_of, or_else}
-use Rattle.meta_base.specs.WellFormed.{IsNullable, nullable_str, nullable_insens, nullable_soi, nullable_eoi, nullable_call, nullable_pos_pred, nullable_neg_pred, nullable_opt, nullable_rep, nullable_rep_max, nullable_seq, nullable_left, nullable_right, nullable_rep_once, nullable_push, nullable_exact_zero, nullable_exact, nullable_min_zero, nullable_min, nullable_min_max_zero, nullable_min_max, nullable_skip, nullable_restore, CannotFail, LeftCalls, left_name, left_first, left_second, left_pos_pred, left_neg_pred, left_left, left_right, left_opt, left_rep, left_rep_once, left_rep_exact, left_rep_min, left_rep_max, left_rep_min_max, left_push, left_restore, Leads, at_once, by_way}
+use Rattle.meta_base.specs.Language.Text.{Text}
+use Rattle.meta_base.specs.Language.Expression.{Expression, Ident, Seq, Rule, Grammar, rule_of, or_else}
+use Rattle.meta_base.specs.Language.WellFormed.{IsNullable, nullable_str, nullable_insens, nullable_soi, nullable_eoi, nullable_call, nullable_pos_pred, nullable_neg_pred, nullable_opt, nullable_rep, nullable_rep_max, nullable_seq, nullable_left, nullable_right, nullable_rep_once, nullable_push, nullable_exact_zero, nullable_exact, nullable_min_zero, nullable_min, nullable_min_max_zero, nullable_min_max, nullable_skip, nullable_restore, CannotFail, LeftCalls, left_name, left_first, left_second, left_pos_pred, left_neg_pred, left_left, left_right, left_opt, left_rep, left_rep_once, left_rep_exact, left_rep_min, left_rep_max, left_rep_min_max, left_push, left_restore, Leads, at_once, by_way}
 use Rattle.meta_validator.specs.Walk.{without, Walked, w_name, w_first, w_second, w_pos_pred, w_neg_pred, w_left, w_right, w_opt, w_rep, w_rep_once, w_rep_exact, w_rep_min, w_rep_max, w_rep_min_max, w_push, w_restore, WalkLeads, w_at_once, w_by_way}
 use Rattle.meta_validator.proofs.Certain.{sure_null}
 
@@ -18,7 +18,7 @@ apart n k f = go (bytes_eq n k) refl
     go true e = absurd (f ((bytes_eq-Decides n k).0 e))
     go false e = refl
 
-rule_without : (v : Text) (g : Grammar) (n : Text) → (v ≡ n → ⊥) → rule_of (without v g) n ≡ rule_of g n
+pub rule_without : (v : Text) (g : Grammar) (n : Text) → (v ≡ n → ⊥) → rule_of (without v g) n ≡ rule_of g n
 rule_without v [] n d = refl
 rule_without v (r ∷ g) n d = go (bytes_eq r.name v) refl (rule_without v g n d)
   where
@@ -31,7 +31,7 @@ rule_without v (r ∷ g) n d = go (bytes_eq r.name v) refl (rule_without v g n d
         subst (λ b. rule_of (without v g) n ≡ or_else (rule_of g n) (if b then Some r else None)) (sym i) (h ∙ no_rule (rule_of g n))
     go false e h = ap (λ o. or_else o (if bytes_eq r.name n then Some r else None)) h
 
-rule_gone : (v : Text) (g : Grammar) → rule_of (without v g) v ≡ None
+pub rule_gone : (v : Text) (g : Grammar) → rule_of (without v g) v ≡ None
 rule_gone v [] = refl
 rule_gone v (r ∷ g) = go (bytes_eq r.name v) refl (rule_gone v g)
   where
@@ -39,18 +39,18 @@ rule_gone v (r ∷ g) = go (bytes_eq r.name v) refl (rule_gone v g)
     go true e h = h
     go false e h = subst (λ o. or_else o (if bytes_eq r.name v then Some r else None) ≡ None) (sym h) (subst (λ b. or_else None (if b then Some r else None) ≡ None) (sym e) refl)
 
-data Compared (n k : Text) : Type 0 where
+pub data Compared (n k : Text) : Type 0 where
   same_name : n ≡ k → Compared n k
   other_name : (n ≡ k → ⊥) → Compared n k
 
-compared : (n k : Text) → Compared n k
+pub compared : (n k : Text) → Compared n k
 compared n k = go (bytes_eq n k) refl
   where
     go : (b : Bool) → bytes_eq n k ≡ b → Compared n k
     go true e = same_name ((bytes_eq-Decides n k).0 e)
     go false e = other_name (differ n k e)
 
-rule_within : (v : Text) (g : Grammar) (n : Text) (r : Rule) → rule_of (without v g) n ≡ Some r → rule_of g n ≡ Some r
+pub rule_within : (v : Text) (g : Grammar) (n : Text) (r : Rule) → rule_of (without v g) n ≡ Some r → rule_of g n ≡ Some r
 rule_within v g n r h = go (compared v n)
   where
     go : Compared v n → rule_of g n ≡ Some r
@@ -58,7 +58,7 @@ rule_within v g n r h = go (compared v n)
     go (other_name d) = sym (rule_without v g n d) ∙ h
 
 module _ (g : Grammar) where
-  null_more : (v : Text) {e : Expression} → IsNullable (without v g) e → IsNullable g e
+  pub null_more : (v : Text) {e : Expression} → IsNullable (without v g) e → IsNullable g e
   null_more v nullable_str = nullable_str
   null_more v nullable_insens = nullable_insens
   null_more v nullable_soi = nullable_soi
@@ -84,11 +84,11 @@ module _ (g : Grammar) where
   null_more v (nullable_restore d) = nullable_restore (null_more v d)
 
   -- 2. what is walked is left-called
-  passed : (v : Text) {a : Expression} → IsNullable (without v g) a ⊎ CannotFail (without v g) a → IsNullable g a
+  pub passed : (v : Text) {a : Expression} → IsNullable (without v g) a ⊎ CannotFail (without v g) a → IsNullable g a
   passed v (inl d) = null_more v d
   passed v {a} (inr d) = null_more v (sure_null (without v g) a d)
 
-  left_called : {v : Text} {e : Expression} {n : Text} → Walked g v e n → LeftCalls g e n
+  pub left_called : {v : Text} {e : Expression} {n : Text} → Walked g v e n → LeftCalls g e n
   left_called w_name = left_name
   left_called {v} (w_second p w) = left_second (passed v p) (left_called w)
   left_called (w_pos_pred w) = left_pos_pred (left_called w)
@@ -106,7 +106,7 @@ module _ (g : Grammar) where
   left_called (w_left w) = left_left (left_called w)
   left_called (w_right w) = left_right (left_called w)
 
-  leads : {n k : Text} → WalkLeads g n k → Leads g n k
+  pub leads : {n k : Text} → WalkLeads g n k → Leads g n k
   leads (w_at_once e w) = at_once e (left_called w)
   leads (w_by_way a b) = by_way (leads a) (leads b)
 

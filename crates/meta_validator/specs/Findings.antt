@@ -3,16 +3,16 @@
 use Rattle.std.specs.Prelude.{◌≡◌, ℕ, ◌+◌, Some, slice_get, filter, not, ◌&&◌, IsPermutation, List, [], ◌∷◌, ◌++◌, flat_map, Bool, true, false, ◌||◌, bytes_eq, codes}
 use Rattle.std.specs.Ordering.{is_lt, ordering_then, nat_cmp}
 use Rattle.std.specs.Str.{encode_utf8_all}
-use Rattle.meta_base.specs.Text.{Text}
-use Rattle.meta_base.specs.Expression.{Expression, Grammar}
-use Rattle.meta_base.specs.WellFormed.{IsNullable, CannotFail, Leads}
+use Rattle.meta_base.specs.Pieces.Saying.{Complaint}
+use Rattle.meta_base.specs.Language.Text.{Text}
+use Rattle.meta_base.specs.Language.Expression.{Expression, Grammar}
+use Rattle.meta_base.specs.Language.WellFormed.{IsNullable, CannotFail, Leads}
 use Rattle.meta_nodes.specs.Erasure.{without_spans, rules_without_spans}
 use Rattle.meta_nodes.specs.Spanned.{Span, span_of, Spanned, Leaf, One, Two, Unary, Rep, RepOnce, RepMin, Choice, SpannedRule}
 
--- what is wrong, and where
-pub record Finding : Type 0 where
-  pub message : List ℕ
-  pub span : Span
+-- what is wrong, and where: what is to be said of a piece
+abbrev pub Finding : Type 0
+Finding = Complaint
 
 abbrev pub found_at : Span → List ℕ → Finding
 found_at place message = record { message = message; span = place }

@@ -5,6 +5,7 @@ pub mod Reports
 pub mod Names
 pub mod NameMaps
 pub mod Numbering
+pub mod Layout
 pub mod Facts
 pub mod Cycles
 pub mod Without
@@ -12,4 +13,6 @@ pub mod Ends
 pub mod Findings
 pub mod Reporting
 pub mod Reported
-pub mod Leading
+pub mod LeftRecursion
+pub mod Regions
+pub mod Searching

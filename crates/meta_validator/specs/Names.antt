@@ -1,7 +1,7 @@
 -- What rules of code say, and what names are resolved to.
 use Rattle.std.specs.Prelude.{ℕ, suc, List, [], ◌∷◌, Option, Some, None, Bool, ◌||◌, if◌then◌else◌, bytes_eq, codes}
-use Rattle.meta_base.specs.Text.{Text}
-use Rattle.meta_base.specs.Expression.{Rule, Grammar}
+use Rattle.meta_base.specs.Language.Text.{Text}
+use Rattle.meta_base.specs.Language.Expression.{Rule, Grammar}
 use Rattle.meta_nodes.specs.Nodes.{rule_view, rule_views}
 use Rattle.meta_nodes.specs.Erasure.{rule_without_spans, rules_without_spans}
 use Rattle.meta_nodes.specs.declared.node.ParserRule.{ParserRule}

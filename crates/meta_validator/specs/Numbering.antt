@@ -1,8 +1,8 @@
 -- The nodes of a body, each behind those inside it.
 use Rattle.std.specs.Prelude.{◌≡◌, ℕ, suc, ◌+◌, ◌<◌, List, [], ◌∷◌, length, Some, Bool, true, false, if◌then◌else◌, slice_get, nat_eq, ⊤}
-use Rattle.meta_base.specs.Text.{Text}
-use Rattle.meta_base.specs.Expression as plain
-use Rattle.meta_base.specs.Expression.{Expression}
+use Rattle.meta_base.specs.Language.Text.{Text}
+use Rattle.meta_base.specs.Language.Expression as plain
+use Rattle.meta_base.specs.Language.Expression.{Expression}
 use Rattle.meta_nodes.specs.Nodes.{view, view_at, rule_views}
 use Rattle.meta_nodes.specs.Spanned.{Span, Spanned, Leaf, One, Two, Unary, PosPred, NegPred, Opt, Rep, RepOnce, RepExact, RepMin, RepMax, RepMinMax, Push, Binary, Seq, Choice}
 use Rattle.meta_nodes.specs.declared.node.ParserExpr.{ParserExpr}
@@ -69,18 +69,11 @@ abbrev pub choice_of : Binary → Bool
 choice_of Seq = false
 choice_of Choice = true
 
--- what is inside a node is smaller
+-- how many nodes there are, with those inside
 abbrev pub size : Spanned → ℕ
 size (Leaf s e) = 1
 size (One s f x) = suc (size x)
 size (Two s f x y) = suc (size x + size y)
-
--- what an expression is made of is smaller than it, wherever it stands
-abbrev pub AreSmaller : ParserExpr → Operands → Type 0
-AreSmaller expr has.Nothing = (t : Span) → size (view_at t expr) ≡ 1
-AreSmaller expr (has.Inside wrap body) = (t : Span) → size (view_at t expr) ≡ size (view body.now) + 1
-AreSmaller expr (has.Both choice first second) =
-    (t : Span) → size (view_at t expr) ≡ size (view first.now) + size (view second.now) + 1
 
 -- an expression without operands
 abbrev pub IsSimple : Expression → Type 0
@@ -146,10 +139,10 @@ Says kind_of ks i (plain.RestoreOnErr e) = ⊥
 abbrev pub Fits : (Text → Kind) → List Spanned → ℕ → Kind → Spanned → Type 0
 Fits kind_of nodes i k (Leaf s e) = IsSimple e × (k ≡ leaf_kind kind_of e)
 Fits kind_of nodes i k (One s f x) = (j : ℕ) × (j < i) × (slice_get nodes j ≡ Some x)
-    × (k ≡ wrap_kind (wrap_of f) j)
+    × (k ≡ wrap_kind (wrap_of f) j) × (suc j ≡ i)
 Fits kind_of nodes i k (Two s f x y) =
     (j : ℕ) × (l : ℕ) × (j < i) × (l < i) × (slice_get nodes j ≡ Some x) × (slice_get nodes l ≡ Some y)
-    × (k ≡ both_kind (choice_of f) j l)
+    × (k ≡ both_kind (choice_of f) j l) × (suc l ≡ i) × (j + size y ≡ l)
 
 -- the list says of each of these nodes what it does
 pub record AreNodes (kind_of : Text → Kind) (nodes : List Spanned) (ks : List Kind) : Type 0 where

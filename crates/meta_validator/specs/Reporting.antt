@@ -51,7 +51,8 @@ abbrev pub alternative_at : Facts → ℕ → Option code_span.Span → List Fin
 alternative_at facts a None = []
 alternative_at facts a (Some s) =
     if is_set_at facts.certain.items a
-    then found_at (piece_of s) (codes "expression cannot fail; following choices cannot be reached") ∷ [] else []
+    then found_at (piece_of s) (codes "expression cannot fail; following choices cannot be reached") ∷ []
+    else []
 
 abbrev pub unreachable_at : Facts → List code_span.Span → ℕ → List Finding
 unreachable_at facts spans a = alternative_at facts a (slice_get spans a)

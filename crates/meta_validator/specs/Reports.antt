@@ -1,8 +1,8 @@
 -- What the validator reports of repetitions, skipped rules and recursion.
 use Rattle.std.specs.Prelude.{◌≡◌, ◌⊎◌, ℕ, Some}
-use Rattle.meta_base.specs.Text.{Text}
-use Rattle.meta_base.specs.Expression.{Expression, Rep, RepOnce, RepMin, Rule, Grammar, rule_of}
-use Rattle.meta_base.specs.WellFormed.{IsNullable, CannotFail, InRules, IsSkipped}
+use Rattle.meta_base.specs.Language.Text.{Text}
+use Rattle.meta_base.specs.Language.Expression.{Expression, Rep, RepOnce, RepMin, Rule, Grammar, rule_of}
+use Rattle.meta_base.specs.Language.WellFormed.{IsNullable, CannotFail, InRules, IsSkipped}
 use Rattle.meta_validator.specs.Walk.{WalkLeads}
 
 -- a repetition with no upper number, and its body

@@ -1,8 +1,8 @@
 -- Left recursion, as it is sought.
 use Rattle.std.specs.Prelude.{◌≡◌, ◌⊎◌, ℕ, [], ◌∷◌, Some, bytes_eq, if◌then◌else◌}
-use Rattle.meta_base.specs.Text.{Text}
-use Rattle.meta_base.specs.Expression.{Expression, Ident, PosPred, NegPred, Seq, Choice, Opt, Rep, RepOnce, RepExact, RepMin, RepMax, RepMinMax, Push, RestoreOnErr, Rule, Grammar, rule_of}
-use Rattle.meta_base.specs.WellFormed.{IsNullable, CannotFail}
+use Rattle.meta_base.specs.Language.Text.{Text}
+use Rattle.meta_base.specs.Language.Expression.{Expression, Ident, PosPred, NegPred, Seq, Choice, Opt, Rep, RepOnce, RepExact, RepMin, RepMax, RepMinMax, Push, RestoreOnErr, Rule, Grammar, rule_of}
+use Rattle.meta_base.specs.Language.WellFormed.{IsNullable, CannotFail}
 
 -- the other rules
 abbrev pub without : Text → Grammar → Grammar

@@ -1,7 +1,9 @@
 -- A table where calls of a rule count as neither.
-use Rattle.std.specs.Prelude.{◌≡◌, ℕ, map, nat_eq, if◌then◌else◌}
+use Rattle.std.specs.Prelude.{◌≡◌, ℕ, List, Bool, map, nat_eq, if◌then◌else◌}
+use Rattle.meta_validator.specs.Marks.{AreSound, AreClosed}
 use Rattle.meta_validator.specs.declared.table.Kind.{Kind}
 use Rattle.meta_validator.specs.declared.table.Kind.TheVariants as is
+use Rattle.meta_validator.specs.declared.table.Question.TheVariants as asks
 use Rattle.meta_validator.specs.declared.table.Table.{Table}
 
 abbrev pub without_kind : ℕ → Kind → Kind
@@ -12,3 +14,10 @@ without_kind r k = k
 pub record IsWithout (r : ℕ) (old new : Table) : Type 0 where
   pub kinds : new.kinds.items ≡ map (without_kind r) old.kinds.items
   pub roots : new.roots.items ≡ old.roots.items
+
+-- these nodes may take nothing where calls of the rule count as neither
+pub record AreMarksWithout (r : ℕ) (old : Table) (marks : List Bool) : Type 0 where
+  pub table : Table
+  pub without_it : IsWithout r old table
+  pub sound : AreSound asks.TakesNothing table marks
+  pub closed : AreClosed asks.TakesNothing table marks

@@ -2,8 +2,8 @@
 // in depth, and the order is then looked over node by node. Only what is looked over counts: where each
 // left call leads down, none comes back.
 ghost use Rattle.std.specs.Prelude.{◌≡◌, ◌<◌, ◌≤◌, ◌+◌, ◌*◌, IfOk, OnOk, length, true};
-ghost use Rattle.meta_base.specs.Text.{Text};
-ghost use Rattle.meta_base.specs.WellFormed.{Leads};
+ghost use Rattle.meta_base.specs.Language.Text.{Text};
+ghost use Rattle.meta_base.specs.Language.WellFormed.{Leads};
 ghost use Rattle.meta_validator.specs.Marks.{unset};
 ghost use Rattle.meta_validator.specs.Facts.{AreFacts};
 ghost use Rattle.meta_validator.specs.Names.{grammar_of};
@@ -169,7 +169,7 @@ fn all_fall(facts: &Facts, order: &[usize]) -> bool
 }
 
 /// Whether no rule calls itself before anything is taken; a yes is certain.
-pub fn has_no_cycle<'i>(
+pub(crate) fn has_no_cycle<'i>(
     alloc: Global,
     rules: &[ParserRule<'i>],
     facts: &Facts,

@@ -21,11 +21,11 @@ pub struct Facts {
 }
 
 /// Finds out which nodes may take nothing, and which cannot fail.
-pub fn facts_of<'i>(alloc: Global, rules: &[ParserRule<'i>]) -> Result<Facts, AllocError>
+pub(crate) fn facts_of<'i>(alloc: Global, rules: &[ParserRule<'i>]) -> Result<Facts, AllocError>
     ensures { IfOk result (λ facts. AreFacts rules.now facts) }
 {
     let names = names_of(alloc, rules)?;
-    let table = tabulated(alloc, rules, &names)?;
+    let (table, _) = tabulated(alloc, rules, &names)?;
     let listeners = who_listens(alloc, &table)?;
     let nullable = marked(alloc, &table, &listeners, Question::TakesNothing)?;
     let certain = marked(alloc, &table, &listeners, Question::CannotFail)?;

@@ -24,7 +24,7 @@ pub struct Finding<'i> {
 }
 
 /// One text of two.
-pub fn joined(alloc: Global, first: &str, second: &str) -> Result<String, AllocError>
+pub(crate) fn joined(alloc: Global, first: &str, second: &str) -> Result<String, AllocError>
     ensures { IfOk result (λ text. string_bytes text ≡ first.now ++ second.now) }
 {
     let mut text = String::from_str(alloc, first)?;
@@ -49,7 +49,7 @@ fn add<'i>(
 }
 
 /// What the node of a number does, if there is one.
-fn kind_of_node(facts: &Facts, node: usize) -> Option<Kind>
+pub(crate) fn kind_of_node(facts: &Facts, node: usize) -> Option<Kind>
     ensures { result ≡ slice_get facts.now.table.kinds.items node }
 {
     facts.table.kinds.get(node).copied()
@@ -122,18 +122,21 @@ fn report_repetition<'i>(
 }
 
 /// The spans of all nodes, each behind those inside it.
-pub fn spans_of<'i>(alloc: Global, rules: &[ParserRule<'i>]) -> Result<Vec<Span<'i>>, AllocError>
+pub(crate) fn spans_of<'i>(
+    alloc: Global,
+    rules: &[ParserRule<'i>],
+) -> Result<Vec<Span<'i>>, AllocError>
     ensures { IfOk result (λ spans. AreSpans rules.now spans.items) }
 {
     let mut spans = Vec::new(alloc);
     for place in 0..rules.len() {
-        push_spans(&rules[place].node, &mut spans)?;
+        push_spans(alloc, &rules[place].node, &mut spans)?;
     }
     Ok(spans)
 }
 
 /// What is found of all nodes as repetitions.
-pub fn repetitions<'i>(
+pub(crate) fn repetitions<'i>(
     alloc: Global,
     rules: &[ParserRule<'i>],
     facts: &Facts,
@@ -211,7 +214,7 @@ fn report_choice<'i>(
 }
 
 /// What is found of all nodes as choices.
-pub fn choices<'i>(
+pub(crate) fn choices<'i>(
     alloc: Global,
     rules: &[ParserRule<'i>],
     facts: &Facts,
@@ -256,7 +259,7 @@ fn report_skipped<'i>(
 }
 
 /// What is found of all rules as those that are skipped.
-pub fn skips<'i>(
+pub(crate) fn skips<'i>(
     alloc: Global,
     rules: &[ParserRule<'i>],
     facts: &Facts,

@@ -1,14 +1,15 @@
-//! The validator of rules: what may take nothing, what cannot fail, and what is wrong with rules that were read.
+//! The validator of rules: what may take nothing, what cannot fail, and what is wrong with rules that were
+//! read.
 #![tactic(auto)]
 
 mod cycles;
 mod facts;
 mod findings;
 pub mod laws;
-mod leading;
 mod marks;
 mod names;
 mod numbering;
+mod passing;
 mod recursions;
 mod reported;
 mod table;

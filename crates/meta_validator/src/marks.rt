@@ -50,7 +50,7 @@ fn add_listeners(
 }
 
 /// Who listens to whom.
-pub fn who_listens(alloc: Global, table: &Table) -> Result<Listeners, AllocError> {
+pub(crate) fn who_listens(alloc: Global, table: &Table) -> Result<Listeners, AllocError> {
     let mut listeners = Listeners {
         of: Vec::new(alloc),
     };
@@ -140,7 +140,7 @@ fn round(
 }
 
 /// Which nodes answer a question with yes.
-pub fn marked(
+pub(crate) fn marked(
     alloc: Global,
     table: &Table,
     listeners: &Listeners,

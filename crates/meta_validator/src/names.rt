@@ -17,7 +17,7 @@ pub struct Names {
 }
 
 /// The names of rules.
-pub fn names_of<'i>(alloc: Global, rules: &[ParserRule<'i>]) -> Result<Names, AllocError>
+pub(crate) fn names_of<'i>(alloc: Global, rules: &[ParserRule<'i>]) -> Result<Names, AllocError>
     ensures { IfOk result (λ names. KnowsRules rules.now names) }
 {
     let mut places = HashMap::new(alloc);
@@ -33,7 +33,7 @@ impl Names {
     ghost use Rattle.std.specs.HashMap.{get_by_text};
 
     /// The place of the last rule of that name, if there is one.
-    pub fn place_of(&self, name: &String) -> Option<usize>
+    pub(crate) fn place_of(&self, name: &String) -> Option<usize>
         ensures { result ≡ get_by_text self.now.places (string_bytes name.now) }
     {
         self.places.get(name.as_str()).copied()
@@ -41,7 +41,11 @@ impl Names {
 }
 
 /// The place of the last rule of that name, if there is one.
-fn rule_number<'i>(rules: &[ParserRule<'i>], names: &Names, name: &String) -> Option<usize>
+pub(crate) fn rule_number<'i>(
+    rules: &[ParserRule<'i>],
+    names: &Names,
+    name: &String,
+) -> Option<usize>
     requires { KnowsRules rules.now names.now }
     ensures { result ≡ last_place (grammar_of rules.now) (text_of name.now) }
 {
@@ -49,7 +53,7 @@ fn rule_number<'i>(rules: &[ParserRule<'i>], names: &Names, name: &String) -> Op
 }
 
 /// Whether a name is a literal's text.
-pub fn is_literal(name: &String, literal: &str) -> bool
+pub(crate) fn is_literal(name: &String, literal: &str) -> bool
     requires { IsAscii literal.now }
     ensures { result ≡ bytes_eq (text_of name.now) literal.now }
 {
@@ -57,7 +61,7 @@ pub fn is_literal(name: &String, literal: &str) -> bool
 }
 
 /// What a name does.
-pub fn kind_of_name<'i>(rules: &[ParserRule<'i>], names: &Names, name: &String) -> Kind
+pub(crate) fn kind_of_name<'i>(rules: &[ParserRule<'i>], names: &Names, name: &String) -> Kind
     requires { KnowsRules rules.now names.now }
     ensures { result ≡ kind_in (grammar_of rules.now) (text_of name.now) }
 {

@@ -1,77 +1,30 @@
-// The search for left recursion, made where left calls may have a cycle: a walk from a rule in text order,
-// with a list of what is still to be done in place of calls, and a flag for each node that was come to, so
-// that no rule is entered twice.
-ghost use Rattle.std.specs.Prelude.{◌≡◌, ◌≤◌, ◌+◌, ◌*◌, [], IfOk, OnOk, length};
-ghost use Rattle.meta_base.specs.Text.{Text};
-ghost use Rattle.meta_base.specs.WellFormed.{Leads};
+// The search for left recursion, made where left calls may have a cycle: a walk from a rule in the order of
+// the text, with a list of what is still to be done in place of calls, and a flag for each rule, so that none
+// is entered twice.
+ghost use Rattle.std.specs.Prelude.{◌≡◌, ℕ, false, ◌<◌, ◌+◌, ◌++◌, ◌∷◌, [], List, Option, Some, None, true, IfOk, OnOk, IfNone, IfSome, OnSome, length, slice_get, slice_set};
+ghost use Rattle.meta_base.specs.Language.Text.{Text};
+ghost use Rattle.meta_base.specs.Language.WellFormed.{Leads};
+ghost use Rattle.meta_nodes.specs.Nodes.{rule_views};
+ghost use Rattle.meta_nodes.specs.Spanned.{SpannedRule};
 ghost use Rattle.meta_validator.specs.Facts.{AreFacts};
-ghost use Rattle.meta_validator.specs.Marks.{unset};
+ghost use Rattle.meta_validator.specs.LeftRecursion.{Means};
 ghost use Rattle.meta_validator.specs.Names.{grammar_of};
+ghost use Rattle.meta_validator.specs.Numbering.{nodes_of};
+ghost use Rattle.meta_validator.specs.Regions.{ArePassing};
 ghost use Rattle.meta_validator.specs.Reporting.{findings_of};
-ghost use Rattle.meta_validator.specs.Without.{IsWithout, without_kind};
+ghost use Rattle.meta_validator.specs.Searching.{ordered, called_in, inside_of, cost, unentered, IsSearch, IsGoing, IsSought, IsClosing, NeverComesBack};
+ghost use Rattle.meta_validator.specs.Table.{is_set_at};
 
 use crate::cycles::has_no_cycle;
 use crate::facts::Facts;
-use crate::findings::Finding;
-use crate::leading::{has_cycle, leads_back};
-use crate::marks::{marked, who_listens};
-use crate::table::{Kind, Question, Table, is_set};
+use crate::findings::{Finding, kind_of_node};
+use crate::names::rule_number;
+use crate::passing::passing;
+use crate::table::{Kind, is_set};
 use meta_base::runtime::Span;
 use meta_nodes::ParserRule;
 use std::alloc::{AllocError, Global};
-
-/// What a node does where calls of a rule count as neither.
-fn kind_without(kind: Kind, rule: usize) -> Kind
-    ensures { result ≡ without_kind rule kind }
-{
-    match kind {
-        Kind::Call(called) => { if called == rule { Kind::Taking } else { kind } }
-        Kind::EndCall(called) => { if called == rule { Kind::End } else { kind } }
-        _ => kind,
-    }
-}
-
-/// The table where calls of a rule count as neither.
-fn table_without(alloc: Global, table: &Table, rule: usize) -> Result<Table, AllocError>
-    ensures { IfOk result (λ other. IsWithout rule table.now other) }
-{
-    let mut kinds = Vec::new(alloc);
-    for kind in &table.kinds {
-        kinds.push(kind_without(*kind, rule))?;
-    }
-    let mut roots = Vec::new(alloc);
-    for root in &table.roots {
-        roots.push(*root)?;
-    }
-    Ok(Table { kinds, roots })
-}
-
-/// Copies the flags from one place up to another.
-fn copy_flags(from: &[bool], first: usize, last: usize, to: &mut Vec<bool>) {
-    for node in 0..to.len() {
-        if first <= node && node <= last {
-            to[node] = is_set(from, node);
-        }
-    }
-}
-
-/// Which nodes may take nothing where a call of the rule in whose body they stand counts as neither. Only
-/// for rules that may take nothing does this differ from the facts.
-fn passing(alloc: Global, facts: &Facts) -> Result<Vec<bool>, AllocError> {
-    let mut passing = facts.nullable.clone()?;
-    let mut first: usize = 0;
-    for rule in 0..facts.table.roots.len() {
-        let root = facts.table.roots[rule];
-        if is_set(facts.nullable.as_slice(), root) {
-            let table = table_without(alloc, &facts.table, rule)?;
-            let listeners = who_listens(alloc, &table)?;
-            let marks = marked(alloc, &table, &listeners, Question::TakesNothing)?;
-            copy_flags(marks.as_slice(), first, root, &mut passing);
-        }
-        first = root.saturating_add(1);
-    }
-    Ok(passing)
-}
+use std::mem;
 
 /// What is to be done.
 #[derive(Clone, Copy, Debug, PartialEq, Eq)]
@@ -80,6 +33,17 @@ pub enum Task {
     Visit(usize),
     /// The rule at the end of the chain is left.
     Leave,
+}
+
+/// What a walk has come to.
+#[derive(Drop)]
+pub struct Walk {
+    /// Which rules were entered.
+    pub entered: Vec<bool>,
+    /// The rules that were entered and not left, from the start on.
+    pub chain: Vec<usize>,
+    /// What is to be done, what comes first at the end.
+    pub tasks: Vec<Task>,
 }
 
 /// The call that closes a chain of rules.
@@ -91,123 +55,189 @@ pub struct ClosedChain {
     pub call: usize,
 }
 
-/// Enters a rule, unless it was entered.
-fn enter_rule(
-    facts: &Facts,
-    seen: &[bool],
-    chain: &mut Vec<usize>,
-    tasks: &mut Vec<Task>,
-    rule: usize,
-) -> Result<(), AllocError>
-    ensures { OnOk result (tasks.new.len ≤ tasks.old.len + 2) }
+/// Enters a rule, whose body has that root.
+fn enter_rule(walk: &mut Walk, rule: usize, root: usize) -> Result<(), AllocError>
+    requires { rule < walk.old.entered.len }
+    ensures entered { OnOk result (walk.new.entered.items ≡ slice_set walk.old.entered.items rule true) }
+    ensures chain { OnOk result (walk.new.chain.items ≡ walk.old.chain.items ++ rule ∷ []) }
+    ensures tasks { OnOk result (walk.new.tasks.items
+        ≡ (walk.old.tasks.items ++ Task.Leave ∷ []) ++ Task.Visit root ∷ []) }
 {
-    if let Some(root) = facts.table.roots.get(rule) {
-        if !is_set(seen, *root) {
-            chain.push(rule)?;
-            tasks.push(Task::Leave)?;
-            tasks.push(Task::Visit(*root))?;
-        }
-    }
+    walk.chain.push(rule)?;
+    walk.tasks.push(Task::Leave)?;
+    walk.tasks.push(Task::Visit(root))?;
+    walk.entered[rule] = true;
     Ok(())
 }
 
-/// Puts what is to be done for a node on the list, what comes first in the text last.
-fn visit_operands(
-    facts: &Facts,
-    passing: &[bool],
-    seen: &[bool],
-    chain: &mut Vec<usize>,
-    tasks: &mut Vec<Task>,
-    kind: Kind,
-) -> Result<(), AllocError>
-    ensures { OnOk result (tasks.new.len ≤ tasks.old.len + 2) }
+/// The rule that a node calls, if it is a call.
+fn called_by(kind: Option<Kind>) -> Option<usize>
+    ensures { result ≡ called_in kind }
 {
     match kind {
-        Kind::Taking | Kind::Still | Kind::End => Ok(()),
-        Kind::Call(called) | Kind::EndCall(called) => enter_rule(facts, seen, chain, tasks, called),
-        Kind::Ahead(body)
-        | Kind::NotAhead(body)
-        | Kind::Free(body)
-        | Kind::Inside(body)
-        | Kind::Again(body)
-        | Kind::OnceAgain(body) => {
-            tasks.push(Task::Visit(body))?;
-            Ok(())
-        }
-        Kind::Seq(first, second) => {
-            if is_set(passing, first) {
-                tasks.push(Task::Visit(second))?;
-            }
-            tasks.push(Task::Visit(first))?;
-            Ok(())
-        }
-        Kind::Choice(first, second) => {
-            tasks.push(Task::Visit(second))?;
-            tasks.push(Task::Visit(first))?;
-            Ok(())
-        }
+        Some(Kind::Call(rule)) => Some(rule),
+        Some(Kind::EndCall(rule)) => Some(rule),
+        _ => None,
     }
 }
 
-/// Walks over a node that was not come to before.
-fn visit(
-    facts: &Facts,
-    passing: &[bool],
-    seen: &mut Vec<bool>,
-    chain: &mut Vec<usize>,
-    tasks: &mut Vec<Task>,
-    node: usize,
-) -> Result<(), AllocError>
-    ensures fewer { OnOk result (4 * unset seen.new.items + length tasks.new.items
-        ≤ 4 * unset seen.old.items + length tasks.old.items) }
+/// Puts a node that is to be walked over on the list.
+fn push_node(tasks: &mut Vec<Task>, node: usize) -> Result<(), AllocError>
+    ensures { OnOk result (tasks.new.items ≡ tasks.old.items ++ Task.Visit node ∷ []) }
 {
-    if node >= seen.len() || node >= facts.table.kinds.len() {
-        return Ok(());
-    }
-    if is_set(seen.as_slice(), node) {
-        return Ok(());
-    }
-    seen[node] = true;
-    visit_operands(
-        facts,
-        passing,
-        seen.as_slice(),
-        chain,
-        tasks,
-        facts.table.kinds[node],
-    )?;
+    tasks.push(Task::Visit(node))?;
     Ok(())
 }
 
-fn is_call_of(facts: &Facts, node: usize, rule: usize) -> bool {
-    match facts.table.kinds.get(node) {
-        Some(Kind::Call(called)) => *called == rule,
-        Some(Kind::EndCall(called)) => *called == rule,
-        _ => false,
+/// Puts two nodes that are to be walked over on the list, the first one last.
+fn push_nodes(tasks: &mut Vec<Task>, first: usize, second: usize) -> Result<(), AllocError>
+    ensures { OnOk result (tasks.new.items ≡ tasks.old.items ++ Task.Visit second ∷ Task.Visit first ∷ []) }
+{
+    push_node(tasks, second)?;
+    push_node(tasks, first)?;
+    Ok(())
+}
+
+/// Puts what is inside a node on the list, what comes first in the text last.
+fn push_inside(
+    tasks: &mut Vec<Task>,
+    passing: &[bool],
+    kind: Option<Kind>,
+) -> Result<(), AllocError>
+    ensures { OnOk result (tasks.new.items ≡ tasks.old.items ++ inside_of passing.now kind) }
+{
+    match kind {
+        Some(Kind::Ahead(body)) => push_node(tasks, body),
+        Some(Kind::NotAhead(body)) => push_node(tasks, body),
+        Some(Kind::Free(body)) => push_node(tasks, body),
+        Some(Kind::Inside(body)) => push_node(tasks, body),
+        Some(Kind::Again(body)) => push_node(tasks, body),
+        Some(Kind::OnceAgain(body)) => push_node(tasks, body),
+        Some(Kind::Seq(first, second)) => {
+            if is_set(passing, first) {
+                push_nodes(tasks, first, second)
+            } else {
+                push_node(tasks, first)
+            }
+        }
+        Some(Kind::Choice(first, second)) => push_nodes(tasks, first, second),
+        _ => Ok(()),
     }
 }
 
-/// The first call of a rule to which the walk from that rule comes, and the rules by which it came.
-fn sought(
-    alloc: Global,
+/// Walks over a call of a rule that is not the start: it is entered, unless it was.
+fn walk_call(facts: &Facts, walk: &mut Walk, rule: usize) -> Result<(), AllocError>
+    requires roots { rule < facts.now.table.roots.len }
+    requires flags { rule < walk.old.entered.len }
+    ensures known { OnOk result (is_set_at walk.old.entered.items rule ≡ true → walk.new ≡ walk.old) }
+    ensures entered { OnOk result (is_set_at walk.old.entered.items rule ≡ false
+        → walk.new.entered.items ≡ slice_set walk.old.entered.items rule true) }
+    ensures chain { OnOk result (is_set_at walk.old.entered.items rule ≡ false
+        → walk.new.chain.items ≡ walk.old.chain.items ++ rule ∷ []) }
+    ensures tasks { OnOk result (is_set_at walk.old.entered.items rule ≡ false → (root : ℕ)
+        → slice_get facts.now.table.roots.items rule ≡ Some root
+        → walk.new.tasks.items ≡ (walk.old.tasks.items ++ Task.Leave ∷ []) ++ Task.Visit root ∷ []) }
+{
+    if is_set(walk.entered.as_slice(), rule) {
+        return Ok(());
+    }
+    let root = facts.table.root_at(rule);
+    enter_rule(walk, rule, root)
+}
+
+/// Walks over a node: whether it is a call of the start, which closes the chain.
+fn walk_node<'i>(
+    rules: &[ParserRule<'i>],
     facts: &Facts,
     passing: &[bool],
     start: usize,
-) -> Result<Option<ClosedChain>, AllocError> {
-    let mut seen = vec![in alloc; false; facts.table.kinds.len()]?;
-    let mut chain = Vec::new(alloc);
-    let mut tasks = Vec::new(alloc);
-    enter_rule(facts, seen.as_slice(), &mut chain, &mut tasks, start)?;
-    while let Some(task) = tasks.pop() {
+    walk: &mut Walk,
+    node: usize,
+) -> Result<bool, AllocError>
+    requires facts { AreFacts rules.now facts.now }
+    requires passing { ArePassing rules.now facts.now.table.roots.items passing.now }
+    requires going { (todo : List Task) × (path : List ℕ)
+        × IsSearch rules.now facts.now.table.roots.items start walk.old.entered.items
+        (Task.Visit node ∷ todo) path
+        × (walk.old.tasks.items ≡ ordered todo) × (walk.old.chain.items ≡ ordered path) }
+    ensures closes { IfOk result (λ closes. closes ≡ true
+        → IsClosing rules.now facts.now.table.roots.items start node walk.new.chain.items) }
+    ensures goes_on { IfOk result (λ closes. closes ≡ false → IsGoing rules.now facts.now.table.roots.items
+        start walk.new.entered.items walk.new.tasks.items walk.new.chain.items) }
+    ensures less { IfOk result (λ closes. closes ≡ false
+        → cost (nodes_of rules.now) walk.new.tasks.items
+        + unentered walk.new.entered.items (rule_views rules.now)
+        < cost (nodes_of rules.now) (walk.old.tasks.items ++ Task.Visit node ∷ [])
+        + unentered walk.old.entered.items (rule_views rules.now)) }
+{
+    let kind = kind_of_node(facts, node);
+    match called_by(kind) {
+        Some(called) => {
+            if called == start {
+                return Ok(true);
+            }
+            walk_call(facts, walk, called)?;
+        }
+        None => push_inside(&mut walk.tasks, passing, kind)?,
+    }
+    Ok(false)
+}
+
+/// The walk from a rule, begun: the rule is entered.
+fn begun<'i>(
+    alloc: Global,
+    rules: &[ParserRule<'i>],
+    facts: &Facts,
+    start: usize,
+) -> Result<Walk, AllocError>
+    requires facts { AreFacts rules.now facts.now }
+    requires inside { start < length rules.now }
+    requires last { (r : SpannedRule) → slice_get (rule_views rules.now) start ≡ Some r
+        → Means (rule_views rules.now) r.name start }
+    ensures { IfOk result (λ walk. IsGoing rules.now facts.now.table.roots.items
+        start walk.entered.items walk.tasks.items walk.chain.items) }
+{
+    let mut walk = Walk {
+        entered: vec![in alloc; false; facts.table.roots.len()]?,
+        chain: Vec::new(alloc),
+        tasks: Vec::new(alloc),
+    };
+    let root = facts.table.root_at(start);
+    enter_rule(&mut walk, start, root)?;
+    Ok(walk)
+}
+
+/// The first call of a rule to which the walk from that rule comes, and the rules by which it came.
+fn sought<'i>(
+    alloc: Global,
+    rules: &[ParserRule<'i>],
+    facts: &Facts,
+    passing: &[bool],
+    start: usize,
+) -> Result<Option<ClosedChain>, AllocError>
+    requires facts { AreFacts rules.now facts.now }
+    requires passing { ArePassing rules.now facts.now.table.roots.items passing.now }
+    requires inside { start < length rules.now }
+    requires last { (r : SpannedRule) → slice_get (rule_views rules.now) start ≡ Some r
+        → Means (rule_views rules.now) r.name start }
+    ensures none { IfOk result (λ found. IfNone found
+        (IsSought rules.now facts.now.table.roots.items start None
+        × NeverComesBack rules.now facts.now.table.roots.items start)) }
+    ensures some { IfOk result (λ found. IfSome found (λ closed.
+        IsClosing rules.now facts.now.table.roots.items start closed.call closed.chain.items)) }
+{
+    let mut walk = begun(alloc, rules, facts, start)?;
+    while let Some(task) = walk.tasks.pop() {
         match task {
             Task::Leave => {
-                let _left = chain.pop();
+                let _left = walk.chain.pop();
             }
             Task::Visit(node) => {
-                if is_call_of(facts, node, start) {
+                let closes = walk_node(rules, facts, passing, start, &mut walk, node)?;
+                if closes {
+                    let chain = mem::replace(&mut walk.chain, Vec::new(alloc));
                     return Ok(Some(ClosedChain { chain, call: node }));
                 }
-                visit(facts, passing, &mut seen, &mut chain, &mut tasks, node)?;
             }
         }
     }
@@ -253,35 +283,76 @@ fn told_chain<'i>(
     Ok(Finding { message, span })
 }
 
-/// For each name the first chain that closes, sought from its last rule; and the place of the first of
-/// these rules.
+/// Whether the rule at a place is the last of its name.
+fn is_last<'i>(rules: &[ParserRule<'i>], facts: &Facts, place: usize) -> bool
+    requires facts { AreFacts rules.now facts.now }
+    requires inside { place < length rules.now }
+    ensures yes { result ≡ true → (r : SpannedRule) → slice_get (rule_views rules.now) place ≡ Some r
+        → Means (rule_views rules.now) r.name place }
+    ensures no { result ≡ false → (r : SpannedRule) → slice_get (rule_views rules.now) place ≡ Some r
+        → Means (rule_views rules.now) r.name place → ⊥ }
+{
+    match rule_number(rules, &facts.names, &rules[place].name) {
+        Some(last) => last == place,
+        None => false,
+    }
+}
+
+/// What is found of the rule at a place as one that calls itself: only of the last rule of a name.
+fn recursion_at<'i>(
+    alloc: Global,
+    rules: &[ParserRule<'i>],
+    facts: &Facts,
+    spans: &[Span<'i>],
+    passing: &[bool],
+    place: usize,
+) -> Result<Option<Finding<'i>>, AllocError>
+    requires facts { AreFacts rules.now facts.now }
+    requires passing { ArePassing rules.now facts.now.table.roots.items passing.now }
+    requires inside { place < length rules.now }
+    ensures none { IfOk result (λ found. IfNone found
+        (NeverComesBack rules.now facts.now.table.roots.items place)) }
+    ensures some { IfOk result (λ found. OnSome found ((n : Text) × Leads (grammar_of rules.now) n n)) }
+{
+    if !is_last(rules, facts, place) {
+        return Ok(None);
+    }
+    match sought(alloc, rules, facts, passing, place)? {
+        None => Ok(None),
+        Some(closed) => {
+            let finding = told_chain(alloc, rules, spans, &closed, &rules[place])?;
+            Ok(Some(finding))
+        }
+    }
+}
+
+/// What is found of left recursion, rule by rule.
 fn closed_chains<'i>(
     alloc: Global,
     rules: &[ParserRule<'i>],
     facts: &Facts,
     spans: &[Span<'i>],
-) -> Result<(Vec<Finding<'i>>, usize), AllocError> {
-    let passing = passing(alloc, facts)?;
+) -> Result<Vec<Finding<'i>>, AllocError>
+    requires { AreFacts rules.now facts.now }
+    ensures none { IfOk result (λ found. found.items ≡ [] → (place : ℕ) → place < length rules.now
+        → NeverComesBack rules.now facts.now.table.roots.items place) }
+    ensures some { IfOk result (λ found. (found.items ≡ [] → ⊥)
+        → (n : Text) × Leads (grammar_of rules.now) n n) }
+{
+    let passing = passing(alloc, rules, facts)?;
     let mut found = Vec::new(alloc);
-    let mut first = 0;
     for place in 0..rules.len() {
-        if facts.names.place_of(&rules[place].name) == Some(place) {
-            if let Some(closed) = sought(alloc, facts, passing.as_slice(), place)? {
-                if found.is_empty() {
-                    first = place;
-                }
-                found.push(told_chain(alloc, rules, spans, &closed, &rules[place])?)?;
-            }
+        let finding = recursion_at(alloc, rules, facts, spans, passing.as_slice(), place)?;
+        if let Some(finding) = finding {
+            found.push(finding)?;
         }
     }
-    Ok((found, first))
+    Ok(found)
 }
 
-/// What is found of left recursion: at most one for a name, and something exactly where left calls have a
-/// cycle. Where the search found a chain, its rule is asked whether it leads to itself; else all are. That
-/// the search finds a chain where there is a cycle is not proved; found none, the first rule would be
-/// reported.
-pub fn recursions<'i>(
+/// What is found of left recursion: at most one for a name. Where left calls have no cycle, which one pass
+/// over the nodes makes certain, nothing is; else it is sought from each rule that is the last of its name.
+pub(crate) fn recursions<'i>(
     alloc: Global,
     rules: &[ParserRule<'i>],
     facts: &Facts,
@@ -293,29 +364,10 @@ pub fn recursions<'i>(
     ensures some { IfOk result (λ found. (findings_of found.items ≡ [] → ⊥) → (n : Text)
         × Leads (grammar_of rules.now) n n) }
 {
-    if rules.is_empty() {
-        return Ok(Vec::new(alloc));
-    }
     let falls = has_no_cycle(alloc, rules, facts)?;
     if falls {
         return Ok(Vec::new(alloc));
     }
-    let (found, first) = closed_chains(alloc, rules, facts, spans)?;
-    if !found.is_empty() && first < rules.len() {
-        let back = leads_back(alloc, rules, facts, first)?;
-        if back {
-            return Ok(found);
-        }
-    }
-    let cycle = has_cycle(alloc, rules, facts)?;
-    if !cycle {
-        return Ok(Vec::new(alloc));
-    }
-    let mut others = Vec::new(alloc);
-    let message = String::from_str(alloc, "left calls have a cycle")?;
-    others.push(Finding {
-        message,
-        span: rules[0].span,
-    })?;
-    Ok(others)
+    let found = closed_chains(alloc, rules, facts, spans)?;
+    Ok(found)
 }

@@ -1,10 +1,10 @@
 // All that is found in rules, as errors.
 ghost use Rattle.std.specs.Prelude.{◌≡◌, [], IfOk, IfErr, OnOk, alloc_error};
-ghost use Rattle.meta_base.specs.WellFormed.{IsWellFormed};
+ghost use Rattle.meta_base.specs.Pieces.Saying.{SaysAt, Tell};
+ghost use Rattle.meta_base.specs.Language.WellFormed.{IsWellFormed};
 ghost use Rattle.meta_nodes.specs.Nodes.{rule_views};
 ghost use Rattle.meta_validator.specs.Findings.{AreFound, AreAllFound, IsSortedBySpan};
 ghost use Rattle.meta_validator.specs.Names.{grammar_of};
-ghost use Rattle.meta_validator.specs.Reported.{Tells, AreTold};
 ghost use Rattle.meta_validator.specs.Reporting.{finding_of, findings_of};
 
 use crate::facts::facts_of;
@@ -42,7 +42,7 @@ fn sort_by_span<'i>(found: &mut Vec<Finding<'i>>) -> Result<(), AllocError>
 }
 
 /// All that is found in rules, by place.
-pub fn sorted_findings<'i>(
+pub(crate) fn sorted_findings<'i>(
     alloc: Global,
     rules: &[ParserRule<'i>],
 ) -> Result<Vec<Finding<'i>>, AllocError>
@@ -57,7 +57,8 @@ pub fn sorted_findings<'i>(
 
 /// The error that tells of a finding.
 fn error_of<'i>(alloc: Global, finding: &Finding<'i>) -> Result<Error<Rule>, Fault>
-    ensures tells { IfOk result (λ error. Tells (finding_of finding.now) error) }
+    ensures tells { IfOk result (λ error.
+        SaysAt (finding_of finding.now).message (finding_of finding.now).span error) }
     ensures memory { IfErr result (λ fault. fault ≡ Fault.Memory alloc_error) }
 {
     let message = String::from_str(alloc, finding.message.as_str()).map_err(Fault::Memory)?;
@@ -67,8 +68,8 @@ fn error_of<'i>(alloc: Global, finding: &Finding<'i>) -> Result<Error<Rule>, Fau
 }
 
 /// The errors that tell of findings, in their order.
-pub fn errors_of<'i>(alloc: Global, found: &[Finding<'i>]) -> Result<Vec<Error<Rule>>, Fault>
-    ensures told { IfOk result (λ errors. AreTold (findings_of found.now) errors.items) }
+pub(crate) fn errors_of<'i>(alloc: Global, found: &[Finding<'i>]) -> Result<Vec<Error<Rule>>, Fault>
+    ensures told { IfOk result (λ errors. Tell (findings_of found.now) errors.items) }
     ensures memory { IfErr result (λ fault. fault ≡ Fault.Memory alloc_error) }
 {
     let mut errors = Vec::new(alloc);

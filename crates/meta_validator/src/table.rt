@@ -49,7 +49,7 @@ pub struct Table {
 }
 
 /// Whether a flag is set.
-pub fn is_set(flags: &[bool], place: usize) -> bool
+pub(crate) fn is_set(flags: &[bool], place: usize) -> bool
     ensures { result ≡ is_set_at flags.now place }
 {
     match flags.get(place) {
@@ -60,7 +60,7 @@ pub fn is_set(flags: &[bool], place: usize) -> bool
 
 impl Table {
     /// What the node of a number does.
-    pub fn kind_at(&self, node: usize) -> Kind
+    pub(crate) fn kind_at(&self, node: usize) -> Kind
         requires { node < self.now.kinds.len }
         ensures { slice_get self.now.kinds.items node ≡ Some result }
     {
@@ -68,7 +68,7 @@ impl Table {
     }
 
     /// The node of a rule's body.
-    pub fn root_at(&self, rule: usize) -> usize
+    pub(crate) fn root_at(&self, rule: usize) -> usize
         requires { rule < self.now.roots.len }
         ensures { slice_get self.now.roots.items rule ≡ Some result }
     {
@@ -86,7 +86,7 @@ impl Table {
     }
 
     /// Whether the answer for a node is yes by the answers for others.
-    pub fn fires(&self, question: Question, marks: &[bool], kind: Kind) -> bool
+    pub(crate) fn fires(&self, question: Question, marks: &[bool], kind: Kind) -> bool
         ensures { result ≡ fires question self.now.roots.items (is_set_at marks.now) kind }
     {
         match kind {

@@ -1,7 +1,10 @@
 // The table of all rules.
 ghost use Rattle.std.specs.Prelude.{◌≡◌, IfOk};
 ghost use Rattle.meta_validator.specs.Facts.{AreTabled};
+ghost use Rattle.meta_validator.specs.Layout.{AreNumbered};
 ghost use Rattle.meta_validator.specs.NameMaps.{KnowsRules};
+ghost use Rattle.meta_validator.specs.Names.{grammar_of, kind_in};
+ghost use Rattle.meta_validator.specs.Numbering.{nodes_of};
 
 use crate::names::Names;
 use crate::numbering::number;
@@ -9,22 +12,33 @@ use crate::table::Table;
 use meta_nodes::ParserRule;
 use std::alloc::{AllocError, Global};
 
-/// The nodes of all rules, and which of them are the rules' bodies.
-pub fn tabulated<'i>(
+/// The nodes of all rules, and which of them are the rules' bodies; and for each node the number of the first
+/// one inside it.
+pub(crate) fn tabulated<'i>(
     alloc: Global,
     rules: &[ParserRule<'i>],
     names: &Names,
-) -> Result<Table, AllocError>
+) -> Result<(Table, Vec<usize>), AllocError>
     requires { KnowsRules rules.now names.now }
-    ensures { IfOk result (λ table. AreTabled rules.now table) }
+    ensures table { IfOk result (λ made. AreTabled rules.now made.0) }
+    ensures starts { IfOk result (λ made. AreNumbered (kind_in (grammar_of rules.now)) (nodes_of rules.now)
+        made.0.kinds.items made.1.items) }
 {
     let mut table = Table {
         kinds: Vec::new(alloc),
         roots: Vec::new(alloc),
     };
+    let mut starts = Vec::new(alloc);
     for place in 0..rules.len() {
-        let root = number(rules, names, &rules[place].node.expr, &mut table.kinds)?;
+        let root = number(
+            alloc,
+            rules,
+            names,
+            &rules[place].node.expr,
+            &mut table.kinds,
+            &mut starts,
+        )?;
         table.roots.push(root)?;
     }
-    Ok(table)
+    Ok((table, starts))
 }

@@ -1,7 +1,7 @@
 // What may take nothing, and what cannot fail.
 ghost use Rattle.std.specs.Prelude.{◌≡◌, ◌↔◌, [], IsTrue, IfOk, IfErr, alloc_error};
 ghost use Rattle.std.specs.Bool.{Decides};
-ghost use Rattle.meta_base.specs.WellFormed.{IsNullable, CannotFail, IsWellFormed};
+ghost use Rattle.meta_base.specs.Language.WellFormed.{IsNullable, CannotFail, IsWellFormed};
 ghost use Rattle.meta_nodes.specs.Erasure.{without_spans, rules_without_spans};
 ghost use Rattle.meta_nodes.specs.Nodes.{rule_views, unplaced};
 ghost use Rattle.meta_validator.specs.Facts.{Asked};
@@ -84,8 +84,8 @@ fn answer<'i>(
         (Asked question (grammar_of rules.now) (without_spans (unplaced expr.now)))) }
 {
     let names = names_of(alloc, rules)?;
-    let mut table = tabulated(alloc, rules, &names)?;
-    let own = number(rules, &names, expr, &mut table.kinds)?;
+    let (mut table, mut starts) = tabulated(alloc, rules, &names)?;
+    let own = number(alloc, rules, &names, expr, &mut table.kinds, &mut starts)?;
     let listeners = who_listens(alloc, &table)?;
     let marks = marked(alloc, &table, &listeners, question)?;
     let answer = is_set(marks.as_slice(), own);

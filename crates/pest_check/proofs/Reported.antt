@@ -1,5 +1,5 @@
 -- What an outcome was, by what is said of it.
-use Rattle.std.proofs.Common.{◌≡◌, ℕ, List, Result, Ok, Err, IfOk, IfErr, subst}
+use Rattle.std.proofs.Common.{◌≡◌, ◌⊎◌, inl, inr, ℕ, List, Result, Ok, Err, IfOk, IfErr, arith, subst}
 use Rattle.std.specs.Prelude.{IsErrAnd}
 use Rattle.std.specs.declared.alloc.Global.{Global}
 use Rattle.std.specs.declared.string.String.{String}
@@ -21,3 +21,8 @@ module _ {X : Type 0} where
   pub value : (outcome : Result X Fault) (answer : Result X Report) (x : X) (P : X → Type 0) → IfOk outcome P → IfOk outcome (λ v. answer ≡ Ok v) → IfErr outcome (λ fault. IsErrAnd answer (IsReportOf fault)) → answer ≡ Ok x → P x
   value (Ok v) answer x P p a b e = let same : v ≡ x = cc in subst P same p
   value (Err fault) answer x P p a b e = absurd (rw e at b)
+
+-- rules that were written, or could not be, are neither status of what cannot be read
+pub not_three : (status : ℕ) → (status ≡ 0) ⊎ (status ≡ 4) → status ≡ 3 → ⊥
+not_three status (inl e) three = omega (arith, e, three)
+not_three status (inr e) three = omega (arith, e, three)

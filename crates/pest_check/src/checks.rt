@@ -21,9 +21,9 @@ const UNWRITABLE: u8 = 4;
 
 /// Prints the rules of a grammar to `out`, a line each as `name = modifier{ expr }`, and answers 0.
 ///
-/// Otherwise one text with a line break behind it goes to `err`: the report of a text that is refused (1), `out of
-/// memory` (2), `cannot read` where there is no input or it isn't UTF-8 (3), `cannot write` where `out` refuses a write
-/// (4). A write that `err` refuses changes no answer.
+/// Otherwise one text with a line break behind it goes to `err`: the report of a text that is refused (1),
+/// `out of memory` (2), `cannot read` where there is no input or it isn't UTF-8 (3), `cannot write` where
+/// `out` refuses a write (4). A write that `err` refuses changes no answer.
 pub fn run<W: Write, E: Write>(alloc: Global, input: Option<&[u8]>, out: &mut W, err: &mut E) -> u8
     ensures known { result ≤ 4 }
     ensures unread { IfNone input.entry (result ≡ 3) }

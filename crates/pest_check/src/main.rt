@@ -7,8 +7,8 @@ use std::io::Read;
 use std::process::ExitCode;
 use std::{env, fs};
 
-/// The grammar's bytes: those of the file that the one argument names, or of standard input where there is none.
-/// None where they can't be read, or where a second argument stands.
+/// The grammar's bytes: those of the file that the one argument names, or of standard input where there is
+/// none. None where they can't be read, or where a second argument stands.
 fn input(rt: &HostRuntime) -> Option<Vec<u8>> {
     let mut args = env::args(rt).ok()?;
     args.next();

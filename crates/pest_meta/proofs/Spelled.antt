@@ -1,21 +1,21 @@
 -- A text has one list of trees at most, and is read in one way at most.
-use Rattle.std.proofs.Common.{◌≡◌, ◌≢◌, ℕ, List, [], Option, Some, None, MatchOption, false, alloc_error, refl, sym, ap, subst, inl, inr, ◌∙◌}
+use Rattle.std.proofs.Common.{◌≡◌, ◌≢◌, ℕ, List, [], Option, Some, None, MatchOption, false, ◌⊎◌, alloc_error, refl, sym, ap, subst, inl, inr, ◌∙◌}
 use Rattle.std.specs.Borrow.{Bor}
 use Rattle.meta_ast.specs.Optimized.{optimized_rules_of}
 use Rattle.meta_ast.specs.declared.optimized.OptimizedRule.{OptimizedRule}
-use Rattle.meta_base.specs.Expression.{Grammar}
+use Rattle.meta_base.specs.Language.Expression.{Grammar}
 use Rattle.meta_optimizer.specs.Passes.{IsOptimized}
-use Rattle.meta_base.specs.State.{Classes, State, Trees, Success, Failure}
-use Rattle.meta_base.specs.NamedTrees.{named}
-use Rattle.meta_base.specs.Saying.{Tell}
-use Rattle.meta_base.specs.Pairs.{IsSamePairs, pairs_text, pairs_trees}
+use Rattle.meta_base.specs.Language.State.{Classes, State, Trees, Success, Failure}
+use Rattle.meta_base.specs.Pieces.NamedTrees.{named}
+use Rattle.meta_base.specs.Pieces.Saying.{Tell}
+use Rattle.meta_base.specs.Pieces.Pairs.{IsSamePairs, pairs_text, pairs_trees}
 use Rattle.meta_base.specs.declared.grammar.Rule.{Rule}
 use Rattle.meta_base.specs.declared.grammar.Rule.TheVariants as rule_is
 use Rattle.meta_base.specs.declared.runtime.errors.Error.{Error}
 use Rattle.meta_base.specs.declared.runtime.faults.Fault as code
 use Rattle.meta_base.specs.declared.runtime.faults.Fault.TheVariants as fault_is
 use Rattle.meta_base.specs.declared.runtime.tokens.Pairs.{Pairs}
-use Rattle.meta_base.proofs.Deterministic.{same}
+use Rattle.meta_base.proofs.OneOutcome.{same}
 use Rattle.meta_nodes.specs.Erasure.{rules_without_spans}
 use Rattle.meta_nodes.specs.Spanned.{SpannedRule}
 use Rattle.meta_reader.specs.Faults.{Fault, first_fault}
@@ -25,7 +25,9 @@ use Rattle.meta_reader.proofs.Uniqueness.{rules_once}
 use Rattle.meta_syntax.specs.MetaGrammar.{meta_grammar}
 use Rattle.meta_syntax.specs.Parses.{AreOfAGrammar, FailsAt, ParseRefuses}
 use Rattle.meta_names.specs.GrammarNames.{AreWrittenAt, complaints_of, first_calls_of, IsRefusal as IsNameRefusal}
-use Rattle.pest_meta.specs.Spelling.{AreAccepted, AreFaulty, AreRejected, Give, HasTrees, IsAnswer, complaints_in, IsNoGrammar, IsRefusal, Spells}
+use Rattle.meta_validator.specs.Reported.{AreReported}
+use Rattle.meta_validator.proofs.NothingElse.{nothing_else}
+use Rattle.pest_meta.specs.Spelling.{AreAccepted, AreFaulty, AreRejected, Give, HasAnswer, HasRefusal, HasTrees, HaveFindings, IsAnswer, complaints_in, IsMisnamed, IsNoGrammar, IsRefusal, IsRefusedGrammar, Spells}
 
 -- no property name stands for anything
 abbrev empty_classes : Classes
@@ -59,6 +61,28 @@ spells_once text rules others s t =
 
 pub trees_or_fails : (text : List ℕ) (trees : Trees) (errors : List (Error Rule)) → HasTrees text trees → IsNoGrammar text errors → ⊥
 trees_or_fails text trees errors h n = fails_so text n.says.place trees n.says.fails h
+
+-- accepted trees are not refused for what is found in their rules
+accepted_or_found : (text : List ℕ) (trees : Trees) (rules : Grammar) (errors : List (Error Rule)) → AreAccepted text trees rules → HaveFindings text trees errors → ⊥
+accepted_or_found text trees rules errors a h =
+    let read = rules_once h.give.reads a.give.reads in
+    h.some (nothing_else a.give.read errors a.nothing_found (subst (λ rs. AreReported rs errors) read h.tell))
+
+-- nor for anything else
+answered_or_refused : (text : List ℕ) (builtins : List (Bor (List ℕ))) (answer : List OptimizedRule) (errors : List (Error Rule)) → IsAnswer text builtins answer → IsRefusedGrammar text errors → ⊥
+answered_or_refused text builtins answer errors a r = go r.why
+  where
+    trees : r.trees ≡ a.trees
+    trees = trees_once text r.trees a.trees r.of_text a.of_text
+
+    go : IsMisnamed text r.trees errors ⊎ (AreFaulty text r.trees errors ⊎ HaveFindings text r.trees errors) → ⊥
+    go (inl m) = m.some (subst (λ us. complaints_in text us ≡ []) (sym trees) a.well_named)
+    go (inr (inl f)) = faulty_give_none text a.trees errors a.spelled (subst (λ us. AreFaulty text us errors) trees f) a.accepted.give
+    go (inr (inr h)) = accepted_or_found text a.trees a.spelled errors a.accepted (subst (λ us. HaveFindings text us errors) trees h)
+
+pub not_both : (text : List ℕ) → HasAnswer text → HasRefusal text → ⊥
+not_both text (builtins, answer, a) (errors, inl n) = trees_or_fails text a.trees errors a.of_text n
+not_both text (builtins, answer, a) (errors, inr r) = answered_or_refused text builtins answer errors a r
 
 -- what is refused before anything is read is no grammar
 pub no_grammar : (text : List ℕ) (fault : code.Fault) → ParseRefuses rule_is.grammar_rules text fault → IsRefusal text fault

@@ -1,23 +1,31 @@
 -- Laws of what a text spells.
 use Rattle.std.specs.Prelude.{◌≡◌, ℕ, List}
-use Rattle.meta_base.specs.Expression.{Grammar}
-use Rattle.meta_base.specs.State.{Trees}
+use Rattle.meta_base.specs.Language.Expression.{Grammar}
+use Rattle.meta_base.specs.Language.State.{Trees}
 use Rattle.meta_base.specs.declared.grammar.Rule.{Rule}
 use Rattle.meta_base.specs.declared.runtime.errors.Error.{Error}
-use Rattle.pest_meta.specs.Spelling.{AreFaulty, Give, HasTrees, IsNoGrammar, Spells}
+use Rattle.pest_meta.specs.Spelling.{AreFaulty, Give, HasAnswer, HasRefusal, HasTrees, IsNoGrammar, Spells}
 
 -- a text has one list of trees at most
 abbrev pub HasOneListOfTrees : Type 0
-HasOneListOfTrees = (text : List ℕ) (trees others : Trees) → HasTrees text trees → HasTrees text others → trees ≡ others
+HasOneListOfTrees = (text : List ℕ) (trees others : Trees) → HasTrees text trees → HasTrees text others
+    → trees ≡ others
 
 -- a text that has trees is a grammar
 abbrev pub HasTreesOrFails : Type 0
-HasTreesOrFails = (text : List ℕ) (trees : Trees) (errors : List (Error Rule)) → HasTrees text trees → IsNoGrammar text errors → ⊥
+HasTreesOrFails = (text : List ℕ) (trees : Trees) (errors : List (Error Rule)) → HasTrees text trees
+    → IsNoGrammar text errors → ⊥
 
 -- trees that have a fault give no rules
 abbrev pub FaultyGiveNothing : Type 0
-FaultyGiveNothing = (text : List ℕ) (trees : Trees) (errors : List (Error Rule)) (rules : Grammar) → AreFaulty text trees errors → Give text trees rules → ⊥
+FaultyGiveNothing = (text : List ℕ) (trees : Trees) (errors : List (Error Rule)) (rules : Grammar)
+    → AreFaulty text trees errors → Give text trees rules → ⊥
 
 -- a text spells one list of rules at most
 abbrev pub SpellsOneGrammar : Type 0
-SpellsOneGrammar = (text : List ℕ) (rules others : Grammar) → Spells text rules → Spells text others → rules ≡ others
+SpellsOneGrammar = (text : List ℕ) (rules others : Grammar) → Spells text rules → Spells text others
+    → rules ≡ others
+
+-- a text is not both answered and refused
+abbrev pub IsNotBoth : Type 0
+IsNotBoth = (text : List ℕ) → HasAnswer text → HasRefusal text → ⊥

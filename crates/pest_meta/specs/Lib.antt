@@ -1,3 +1,4 @@
 pub mod Laws
+pub mod Promises
 pub mod Reports
 pub mod Spelling

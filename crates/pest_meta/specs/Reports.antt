@@ -1,7 +1,7 @@
 -- What is said of a fault.
 use Rattle.std.specs.Prelude.{◌≡◌, ℕ, List, [], ◌∷◌, ◌++◌, codes, string_bytes, ⊤}
 use Rattle.std.specs.List.{join_by}
-use Rattle.meta_base.specs.PrintedError.{error_text}
+use Rattle.meta_base.specs.Pieces.PrintedError.{error_text}
 use Rattle.meta_base.specs.declared.grammar.Rule.{Rule}
 use Rattle.meta_base.specs.declared.runtime.errors.Error.{Error}
 use Rattle.meta_base.specs.declared.runtime.faults.Fault.{Fault}

@@ -1,10 +1,10 @@
 -- What a text spells, and what is answered for it.
 use Rattle.std.specs.Prelude.{◌≡◌, ◌≢◌, ◌⊎◌, ℕ, List, [], Some, None, ⊤}
 use Rattle.std.specs.Borrow.{Bor}
-use Rattle.meta_base.specs.Expression.{Grammar}
-use Rattle.meta_base.specs.Saying.{Complaint, Tell}
-use Rattle.meta_base.specs.State.{Trees}
-use Rattle.meta_base.specs.WellFormed.{IsWellFormed}
+use Rattle.meta_base.specs.Language.Expression.{Grammar}
+use Rattle.meta_base.specs.Pieces.Saying.{Complaint, Tell}
+use Rattle.meta_base.specs.Language.State.{Trees}
+use Rattle.meta_base.specs.Language.WellFormed.{IsWellFormed}
 use Rattle.meta_base.specs.declared.grammar.Rule.{Rule}
 use Rattle.meta_base.specs.declared.grammar.Rule.TheVariants as rule_is
 use Rattle.meta_base.specs.declared.runtime.errors.Error.{Error}
@@ -63,18 +63,21 @@ pub record HaveFindings (text : List ℕ) (trees : Trees) (errors : List (Error 
   pub some : errors ≢ []
   pub tell : AreReported give.read errors
 
--- why trees of a text are not accepted: memory is wanting, or they have a fault, or something is found in their rules
+-- why trees of a text are not accepted: memory is wanting, or they have a fault, or something is found in
+-- their rules
 abbrev pub AreRejected : List ℕ → Trees → code.Fault → Type 0
 AreRejected text trees (fault_is.Memory e) = ⊤
-AreRejected text trees (fault_is.Grammar errors) = AreFaulty text trees errors.items ⊎ HaveFindings text trees errors.items
+AreRejected text trees (fault_is.Grammar errors) = AreFaulty text trees errors.items
+    ⊎ HaveFindings text trees errors.items
 
 -- what there is to say of the names in trees of a text: keywords, names defined twice, undefined names
 abbrev pub complaints_in : List ℕ → Trees → List Complaint
 complaints_in text trees = name_complaints (definitions text trees) (calls text trees)
 
--- the rules that the text spells are accepted, and optimized; its names are in order, and the builtins are those that
--- it calls, each once, in the order of their first calls
-pub record IsAnswer (text : List ℕ) (builtins : List (Bor (List ℕ))) (answer : List OptimizedRule) : Type 0 where
+-- the rules that the text spells are accepted, and optimized; its names are in order, and the builtins are
+-- those that it calls, each once, in the order of their first calls
+pub record IsAnswer (text : List ℕ) (builtins : List (Bor (List ℕ)))
+    (answer : List OptimizedRule) : Type 0 where
   pub trees : Trees
   pub of_text : HasTrees text trees
   pub well_named : complaints_in text trees ≡ []
@@ -106,7 +109,8 @@ IsRefusal text (fault_is.Grammar errors) = IsNoGrammar text errors.items ⊎ IsR
 
 -- there is an answer for the text
 abbrev pub HasAnswer : List ℕ → Type 0
-HasAnswer text = (builtins : List (Bor (List ℕ))) × (answer : List OptimizedRule) × IsAnswer text builtins answer
+HasAnswer text = (builtins : List (Bor (List ℕ))) × (answer : List OptimizedRule)
+    × IsAnswer text builtins answer
 
 -- there is a reason to refuse the text
 abbrev pub HasRefusal : List ℕ → Type 0

@@ -7,6 +7,10 @@ mod report;
 pub mod validator;
 
 ghost use Rattle.std.specs.Prelude.{IfErr, IfOk};
+ghost use Rattle.meta_ast.specs.Optimized.{optimized_rules_of};
+ghost use Rattle.meta_base.specs.Language.WellFormed.{IsPlain};
+ghost use Rattle.pest_meta.specs.Promises.{Ends, HasOutcomesOf, IsSound, OfSpelled};
+ghost use Rattle.meta_restorer.specs.Agreeing.{AgreesLoosely, WrappersSuffice};
 ghost use Rattle.pest_meta.specs.Spelling.{IsAnswer, IsRefusal};
 
 pub use meta_ast::ast;
@@ -23,16 +27,27 @@ use validator::validate_pairs;
 
 /// The builtins that a grammar uses, and its optimized rules.
 ///
-/// The builtins are the names that it calls and doesn't define, each once, in the order of their first calls, each as
-/// it is written there. The rules are those that the text spells, in order, with their names and types.
+/// The builtins are the names that it calls and doesn't define, each once, in the order of their first calls,
+/// each as it is written there. The rules are those that the text spells, in order, with their names and
+/// types. Where `POP_ALL` is named nowhere and `WHITESPACE` and `COMMENT` reach no `POP`, it does not matter
+/// for them what a failed `POP` leaves of the stack.
 ///
-/// Refused where memory is; where the text is no grammar, with one syntax error; where its names are not in order, with
-/// the errors of `validator::validate_pairs`; and where its rules are not, with those of `parser::consume_rules`.
+/// Refused where memory is; where the text is no grammar, with one syntax error; where its names are not in
+/// order, with the errors of `validator::validate_pairs`; and where its rules are not, with those of
+/// `parser::consume_rules`.
 pub fn parse_and_optimize<'i>(
     alloc: Global,
     grammar: &'i str,
 ) -> Result<(Vec<&'i str>, Vec<OptimizedRule>), Fault>
     ensures answer { IfOk result (λ answer. IsAnswer grammar.entry.now answer.0.items answer.1.items) }
+    ensures sound { IfOk result (λ answer. OfSpelled grammar.entry.now IsSound) }
+    ensures outcomes { IfOk result (λ answer. OfSpelled grammar.entry.now
+        (λ rules. HasOutcomesOf rules (optimized_rules_of answer.1.items))) }
+    ensures ends { IfOk result (λ answer. OfSpelled grammar.entry.now (λ rules. IsPlain rules → Ends rules)) }
+    ensures answer_ends { IfOk result (λ answer. OfSpelled grammar.entry.now
+        (λ rules. IsPlain rules → Ends (optimized_rules_of answer.1.items))) }
+    ensures agrees { IfOk result (λ answer. WrappersSuffice (optimized_rules_of answer.1.items)
+        → AgreesLoosely (optimized_rules_of answer.1.items)) }
     ensures refused { IfErr result (IsRefusal grammar.entry.now) }
 {
     let pairs = PestParser::parse(alloc, Rule::grammar_rules, grammar)?;

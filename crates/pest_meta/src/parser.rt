@@ -1,9 +1,9 @@
 //! From a grammar's text to its pairs, and from these to its rules.
 ghost use Rattle.std.specs.Prelude.{IfErr, IfOk};
 ghost use Rattle.meta_ast.specs.Ast.{rules_of};
-ghost use Rattle.meta_base.specs.NamedTrees.{named};
-ghost use Rattle.meta_base.specs.Pairs.{pairs_text, pairs_trees};
-ghost use Rattle.meta_base.specs.WellFormed.{HasReadableCounts};
+ghost use Rattle.meta_base.specs.Pieces.NamedTrees.{named};
+ghost use Rattle.meta_base.specs.Pieces.Pairs.{pairs_text, pairs_trees};
+ghost use Rattle.meta_base.specs.Language.WellFormed.{HasReadableCounts};
 ghost use Rattle.meta_syntax.specs.Parses.{AreOfAGrammar};
 ghost use Rattle.pest_meta.specs.Spelling.{AreAccepted, AreRejected};
 
@@ -17,15 +17,16 @@ pub use meta_reader::parser::{
 use meta_validator::validator::validate_ast;
 use std::alloc::Global;
 
-/// The rules that the pairs of a grammar's text spell, in order, without spans. `pairs` are all those of a parse of a
-/// text by `grammar_rules`.
+/// The rules that the pairs of a grammar's text spell, in order, without spans. `pairs` are all those of a
+/// parse of a text by `grammar_rules`.
 ///
-/// Refused where memory is; with the one error of the first fault, as `consume_rules_with_spans`; or with all errors
-/// that `validate_ast` finds in the rules.
+/// Refused where memory is; with the one error of the first fault, as `consume_rules_with_spans`; or with all
+/// errors that `validate_ast` finds in the rules.
 pub fn consume_rules(alloc: Global, pairs: Pairs<'_, Rule>) -> Result<Vec<ast::Rule>, Fault>
     requires { AreOfAGrammar pairs }
     ensures rules { IfOk result
-        (λ rules. AreAccepted (pairs_text pairs.entry) (named (pairs_trees pairs.entry)) (rules_of rules.items)) }
+        (λ rules. AreAccepted (pairs_text pairs.entry) (named (pairs_trees pairs.entry))
+        (rules_of rules.items)) }
     ensures counts { IfOk result (λ rules. HasReadableCounts (rules_of rules.items)) }
     ensures refused { IfErr result (AreRejected (pairs_text pairs.entry) (named (pairs_trees pairs.entry))) }
 {

@@ -15,7 +15,8 @@ pub enum Report {
     Text(String),
 }
 
-/// The value of an outcome, or what is said of its fault. Where memory is wanting for that text, it is `Memory` too.
+/// The value of an outcome, or what is said of its fault. Where memory is wanting for that text, it is
+/// `Memory` too.
 pub fn unwrap_or_report<T>(alloc: Global, outcome: Result<T, Fault>) -> Result<T, Report>
     ensures value { IfOk outcome (λ value. result ≡ Ok value) }
     ensures report { IfErr outcome (λ fault. IsErrAnd result (IsReportOf fault)) }

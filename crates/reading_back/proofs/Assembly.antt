@@ -1,8 +1,8 @@
 -- How terms, chains and expressions are put together.
 use Rattle.std.proofs.Common.{◌≡◌, refl, ◌∙◌, ap, ap₂, subst, ℕ, ◌+◌, List, ◌∷◌, true, codes}
-use Rattle.meta_base.specs.Text.{Text}
-use Rattle.meta_base.specs.Expression.{Expression, Seq, Choice, PosPred, NegPred, whitespace, comment}
-use Rattle.meta_base.specs.State.{Trees, None', Tree, Success, Failure, joined}
+use Rattle.meta_base.specs.Language.Text.{Text}
+use Rattle.meta_base.specs.Language.Expression.{Expression, Seq, Choice, PosPred, NegPred, whitespace, comment}
+use Rattle.meta_base.specs.Language.State.{Trees, None', Tree, Success, Failure, joined}
 use Rattle.meta_base.specs.declared.grammar.Rule.TheVariants as is
 use Rattle.meta_base.proofs.Steps.{joined_assoc}
 use Rattle.meta_syntax.specs.Shape.{Mark}

@@ -1,11 +1,11 @@
 -- Single characters: what differs from what, and what takes one.
 use Rattle.std.proofs.Common.{◌≡◌, refl, ap, subst, ℕ, ◌+◌, List, [], ◌∷◌, Bool, true, false, ◌||◌, ◌&&◌, nat_eq, if◌then◌else◌, codes, eqb-true, length}
-use Rattle.meta_base.specs.Text.{Text, size_of}
-use Rattle.meta_base.specs.Expression.{Str, Range, whitespace, comment}
-use Rattle.meta_base.specs.Matching.{begins}
-use Rattle.meta_base.specs.State.{moved, Mode, AtomicMode, None', Success, Failure}
-use Rattle.meta_base.specs.Builtins.{is_between, is_letter, is_lower, is_upper}
-use Rattle.meta_base.specs.Meaning.{Run}
+use Rattle.meta_base.specs.Language.Text.{Text, size_of}
+use Rattle.meta_base.specs.Language.Expression.{Str, Range, whitespace, comment}
+use Rattle.meta_base.specs.Language.Matching.{begins}
+use Rattle.meta_base.specs.Language.State.{moved, Mode, AtomicMode, None', Success, Failure}
+use Rattle.meta_base.specs.Language.Builtins.{is_between, is_letter, is_lower, is_upper}
+use Rattle.meta_base.specs.Language.Meaning.{Run}
 use Rattle.meta_base.specs.declared.grammar.Rule.TheVariants as is
 use Rattle.meta_syntax.specs.Firsts.{is_among}
 use Rattle.meta_syntax.specs.MetaGrammar.{rule, ◌or◌}

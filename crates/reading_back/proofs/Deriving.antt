@@ -1,12 +1,12 @@
 -- Derivations over the meta-grammar, whatever the classes are, from a position with an empty stack.
 use Rattle.std.proofs.Common.{◌≡◌, refl, sym, ℕ, ◌+◌, [], ◌∷◌, Bool, true, false, not, ◌&&◌, nat_eq}
-use Rattle.meta_base.specs.Text.{Text}
-use Rattle.meta_base.specs.Expression.{Expression, Str, Range, Ident, Seq, Rep, RepOnce, RepMinMax, Opt, NegPred, Choice, whitespace, comment}
-use Rattle.meta_base.specs.State.{Classes, State, Mode, NonAtomicMode, AtomicMode, CompoundAtomicMode, Between, Trees, None', Outcome, Success, Failure, joined}
-use Rattle.meta_base.specs.Matching.{text_outcome, character_outcome, range_set}
-use Rattle.meta_base.specs.Meaning as meaning
-use Rattle.meta_base.specs.Meaning.{Does, Task, Run, Turns, Skipping, body_mode, with_token, once_or_more, from_to, not_ahead, skipped}
-use Rattle.meta_base.specs.MetaRules.{name_of}
+use Rattle.meta_base.specs.Language.Text.{Text}
+use Rattle.meta_base.specs.Language.Expression.{Expression, Str, Range, Ident, Seq, Rep, RepOnce, RepMinMax, Opt, NegPred, Choice, whitespace, comment}
+use Rattle.meta_base.specs.Language.State.{Classes, State, Mode, NonAtomicMode, AtomicMode, CompoundAtomicMode, Between, Trees, None', Outcome, Success, Failure, joined}
+use Rattle.meta_base.specs.Language.Matching.{text_outcome, character_outcome, range_set}
+use Rattle.meta_base.specs.Language.Meaning as meaning
+use Rattle.meta_base.specs.Language.Meaning.{Does, Task, Run, Turns, Skipping, body_mode, with_token, once_or_more, from_to, not_ahead, skipped}
+use Rattle.meta_base.specs.Pieces.MetaRules.{name_of}
 use Rattle.meta_base.specs.declared.grammar.Rule.{Rule}
 use Rattle.meta_base.specs.declared.grammar.Rule.TheVariants as is
 use Rattle.meta_syntax.specs.declared.modes.Mode.TheVariants as in_mode

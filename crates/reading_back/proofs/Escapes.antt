@@ -4,12 +4,12 @@ use Rattle.std.proofs.lemmas.Bool.{lt-leb}
 use Rattle.std.proofs.lemmas.Str.{digit_value-digit_char}
 use Rattle.std.proofs.Math.Nat.{div-add-mod'}
 use Rattle.std.specs.Char.{digit_value}
-use Rattle.meta_base.specs.Text.{Text}
-use Rattle.meta_base.specs.Expression.{whitespace, comment}
-use Rattle.meta_base.specs.State.{AtomicMode, None', Success, Failure}
-use Rattle.meta_base.specs.Builtins.{is_between}
+use Rattle.meta_base.specs.Language.Text.{Text}
+use Rattle.meta_base.specs.Language.Expression.{whitespace, comment}
+use Rattle.meta_base.specs.Language.State.{AtomicMode, None', Success, Failure}
+use Rattle.meta_base.specs.Language.Builtins.{is_between}
 use Rattle.meta_ast.specs.Printing.{escaped, is_control, numbered, hex_digit}
-use Rattle.meta_base.specs.Meaning.{Run, from_to}
+use Rattle.meta_base.specs.Language.Meaning.{Run, from_to}
 use Rattle.meta_base.specs.declared.grammar.Rule.TheVariants as is
 use Rattle.meta_syntax.specs.MetaGrammar.{rule}
 use Rattle.meta_reader.specs.Literal as literal

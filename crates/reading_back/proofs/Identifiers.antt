@@ -1,13 +1,13 @@
 -- Names are what `identifier` accepts.
 use Rattle.std.proofs.Common.{◌≡◌, refl, sym, ap, subst, ℕ, [], ◌∷◌, ◌++◌, Bool, true, false, not, ◌&&◌, nat_eq, codes, if◌then◌else◌, append-nil}
-use Rattle.meta_base.specs.Text.{Text}
-use Rattle.meta_base.specs.Expression.{Ident, Str, whitespace, comment}
-use Rattle.meta_base.specs.State.{moved, NonAtomicMode, Classes, State, Trees, Success, Failure, None', Tree, AtomicMode}
-use Rattle.meta_base.specs.Matching.{begins}
-use Rattle.meta_base.specs.Meaning.{Does, Run}
-use Rattle.meta_base.specs.MetaRules.{name_of}
+use Rattle.meta_base.specs.Language.Text.{Text}
+use Rattle.meta_base.specs.Language.Expression.{Ident, Str, whitespace, comment}
+use Rattle.meta_base.specs.Language.State.{moved, NonAtomicMode, Classes, State, Trees, Success, Failure, None', Tree, AtomicMode}
+use Rattle.meta_base.specs.Language.Matching.{begins}
+use Rattle.meta_base.specs.Language.Meaning.{Does, Run}
+use Rattle.meta_base.specs.Pieces.MetaRules.{name_of}
 use Rattle.meta_base.specs.declared.grammar.Rule.TheVariants as is
-use Rattle.meta_base.proofs.Deterministic.{same}
+use Rattle.meta_base.proofs.OneOutcome.{same}
 use Rattle.meta_syntax.specs.MetaGrammar.{meta_grammar}
 use Rattle.reading_back.specs.ReadsBack.{IsIdentifier, NamesAreIdentifiers, is_name, is_name_start, is_name_character, are_name_characters}
 use Rattle.reading_back.proofs.Deriving.{at, Gives, Calls, str, call, neg_pred, seq_first, seq_second, right, atomic}

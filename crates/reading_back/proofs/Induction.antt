@@ -1,12 +1,12 @@
 -- Every writable expression's text is matched and read back, whatever stands behind it.
 use Rattle.std.proofs.Common.{ℕ, ◌+◌, List, [], ◌∷◌, ◌++◌, false, codes}
 use Rattle.std.specs.Str.{chars, IsUtf8}
-use Rattle.meta_base.specs.Text.{Text}
-use Rattle.meta_base.specs.Expression.{Expression, Str, Insens, Range, Ident, PeekSlice, PosPred, NegPred, Seq, Choice, Opt, Rep, RepOnce, RepExact, RepMin, RepMax, RepMinMax, Skip, Push, RestoreOnErr}
-use Rattle.meta_base.specs.State.{NonAtomicMode}
-use Rattle.meta_base.specs.Meaning.{Run}
-use Rattle.meta_base.specs.Expression as plain
-use Rattle.meta_base.proofs.Within.{fits}
+use Rattle.meta_base.specs.Language.Text.{Text}
+use Rattle.meta_base.specs.Language.Expression.{Expression, Str, Insens, Range, Ident, PeekSlice, PosPred, NegPred, Seq, Choice, Opt, Rep, RepOnce, RepExact, RepMin, RepMax, RepMinMax, Skip, Push, RestoreOnErr}
+use Rattle.meta_base.specs.Language.State.{NonAtomicMode}
+use Rattle.meta_base.specs.Language.Meaning.{Run}
+use Rattle.meta_base.specs.Language.Expression as plain
+use Rattle.meta_base.proofs.TreesAreNested.{fits}
 use Rattle.meta_ast.specs.Printing.{Place, Alone, AfterTilde, AfterBar, BeforePostfix}
 use Rattle.reading_back.specs.ReadsBack.{IsWritable}
 use Rattle.reading_back.proofs.PrintedBefore.{printed_before}

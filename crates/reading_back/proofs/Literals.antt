@@ -4,12 +4,12 @@ use Rattle.std.specs.List.{flat_map}
 use Rattle.std.specs.Str.{IsUtf8, all_scalars}
 use Rattle.std.proofs.Math.Utf8.{scalar, low_scalar}
 use Rattle.std.proofs.lemmas.List.Elements.{All-head, All-tail}
-use Rattle.meta_base.specs.Text.{Text, IsText, IsScalarValue}
-use Rattle.meta_base.specs.Expression as plain
-use Rattle.meta_base.specs.Expression.{Expression, Str, Insens, Range, Rep, Opt, NegPred, whitespace, comment}
-use Rattle.meta_base.specs.State.{State, NonAtomicMode, AtomicMode, CompoundAtomicMode, None', Tree, Trees, Success, Failure}
+use Rattle.meta_base.specs.Language.Text.{Text, IsText, IsScalarValue}
+use Rattle.meta_base.specs.Language.Expression as plain
+use Rattle.meta_base.specs.Language.Expression.{Expression, Str, Insens, Range, Rep, Opt, NegPred, whitespace, comment}
+use Rattle.meta_base.specs.Language.State.{State, NonAtomicMode, AtomicMode, CompoundAtomicMode, None', Tree, Trees, Success, Failure}
 use Rattle.meta_ast.specs.Printing.{escaped}
-use Rattle.meta_base.specs.Meaning.{Run, Turns}
+use Rattle.meta_base.specs.Language.Meaning.{Run, Turns}
 use Rattle.meta_base.specs.declared.grammar.Rule.TheVariants as is
 use Rattle.meta_syntax.specs.declared.modes.Mode.TheVariants as in_mode
 use Rattle.meta_syntax.specs.MetaGrammar.{rule, ◌or◌, ◌~◌, any, double_quote, backslash}

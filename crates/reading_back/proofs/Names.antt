@@ -1,11 +1,11 @@
 -- Names.
 use Rattle.std.proofs.Common.{◌≡◌, refl, sym, ◌∙◌, ap, ℕ, ◌+◌, List, [], ◌∷◌, ◌++◌, Bool, true, false, not, ◌||◌, ◌&&◌, nat_eq, codes, eqb-true}
 use Rattle.std.specs.Str.{IsUtf8}
-use Rattle.meta_base.specs.Text.{Text}
-use Rattle.meta_base.specs.Expression.{Expression, Str, Range, Ident, Seq, Rep, whitespace, comment}
-use Rattle.meta_base.specs.State.{NonAtomicMode, AtomicMode, None', Tree, Success, Failure}
-use Rattle.meta_base.specs.Matching.{begins}
-use Rattle.meta_base.specs.Meaning.{Run, Turns}
+use Rattle.meta_base.specs.Language.Text.{Text}
+use Rattle.meta_base.specs.Language.Expression.{Expression, Str, Range, Ident, Seq, Rep, whitespace, comment}
+use Rattle.meta_base.specs.Language.State.{NonAtomicMode, AtomicMode, None', Tree, Success, Failure}
+use Rattle.meta_base.specs.Language.Matching.{begins}
+use Rattle.meta_base.specs.Language.Meaning.{Run, Turns}
 use Rattle.meta_base.specs.declared.grammar.Rule.TheVariants as is
 use Rattle.meta_syntax.specs.Firsts.{is_among}
 use Rattle.meta_syntax.specs.MetaGrammar.{rule, ◌or◌}

@@ -1,8 +1,8 @@
 -- Nodes by their trees.
 use Rattle.std.proofs.Common.{◌≡◌, refl, ℕ, ◌+◌, List, [], ◌∷◌, false, nat_eq, codes}
-use Rattle.meta_base.specs.Text.{Text}
-use Rattle.meta_base.specs.Expression.{Expression, Push, whitespace, comment}
-use Rattle.meta_base.specs.State.{State, Trees, None', Tree, Success}
+use Rattle.meta_base.specs.Language.Text.{Text}
+use Rattle.meta_base.specs.Language.Expression.{Expression, Push, whitespace, comment}
+use Rattle.meta_base.specs.Language.State.{State, Trees, None', Tree, Success}
 use Rattle.meta_base.specs.declared.grammar.Rule.TheVariants as is
 use Rattle.meta_syntax.specs.Shape.{Mark}
 use Rattle.meta_nodes.specs.Spanned as spanned

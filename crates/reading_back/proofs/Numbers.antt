@@ -7,11 +7,11 @@ use Rattle.std.specs.Str.Parse.{AllDigits, IsNumeral, digits_value}
 use Rattle.std.proofs.lemmas.Fmt.{IsAscii-from_digits}
 use Rattle.std.proofs.lemmas.Str.{encodes-IsAscii}
 use Rattle.std.proofs.lemmas.Str.Parse.{digit_from_value}
-use Rattle.meta_base.specs.Text.{Text}
-use Rattle.meta_base.specs.Expression.{Expression, Range, Rep, whitespace, comment}
-use Rattle.meta_base.specs.State.{AtomicMode, None', Tree, Trees, Success, Failure, joined}
-use Rattle.meta_base.specs.Builtins.{is_between}
-use Rattle.meta_base.specs.Meaning.{Run, Turns}
+use Rattle.meta_base.specs.Language.Text.{Text}
+use Rattle.meta_base.specs.Language.Expression.{Expression, Range, Rep, whitespace, comment}
+use Rattle.meta_base.specs.Language.State.{AtomicMode, None', Tree, Trees, Success, Failure, joined}
+use Rattle.meta_base.specs.Language.Builtins.{is_between}
+use Rattle.meta_base.specs.Language.Meaning.{Run, Turns}
 use Rattle.meta_base.specs.declared.grammar.Rule.TheVariants as is
 use Rattle.meta_syntax.specs.MetaGrammar.{body_of}
 use Rattle.meta_syntax.specs.Shape.{Mark}

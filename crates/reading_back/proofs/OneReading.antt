@@ -1,8 +1,8 @@
 -- A text is read in one way at most, up to nesting.
 use Rattle.std.proofs.Common.{◌≡◌, sym, ◌∙◌, ap, refl, subst, [], ◌∷◌, false, codes}
-use Rattle.meta_base.specs.Expression.{Expression, Ident, NegPred, Opt, Grammar}
-use Rattle.meta_base.specs.State.{State, Trees, Success}
-use Rattle.meta_base.proofs.Deterministic.{same}
+use Rattle.meta_base.specs.Language.Expression.{Expression, Ident, NegPred, Opt, Grammar}
+use Rattle.meta_base.specs.Language.State.{State, Trees, Success}
+use Rattle.meta_base.proofs.OneOutcome.{same}
 use Rattle.meta_syntax.specs.MetaGrammar.{meta_grammar}
 use Rattle.meta_nodes.specs.Erasure.{rules_without_spans}
 use Rattle.meta_reader.specs.Reading.{ReadsRules}

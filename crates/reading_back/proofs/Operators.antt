@@ -4,10 +4,10 @@ use Rattle.std.specs.Str.{IsUtf8}
 use Rattle.std.specs.Fmt.{decimal}
 use Rattle.std.specs.Str.Parse.{IsNumeral, digits_value}
 use Rattle.std.proofs.lemmas.Fmt.{decimal_is_IsNumeral}
-use Rattle.meta_base.specs.Text.{Text}
-use Rattle.meta_base.specs.Expression.{Expression, Opt, Rep, RepOnce, RepExact, RepMin, RepMax, RepMinMax, whitespace, comment}
-use Rattle.meta_base.specs.State.{NonAtomicMode, None', Tree, Trees, Success, Failure}
-use Rattle.meta_base.specs.Meaning.{Run}
+use Rattle.meta_base.specs.Language.Text.{Text}
+use Rattle.meta_base.specs.Language.Expression.{Expression, Opt, Rep, RepOnce, RepExact, RepMin, RepMax, RepMinMax, whitespace, comment}
+use Rattle.meta_base.specs.Language.State.{NonAtomicMode, None', Tree, Trees, Success, Failure}
+use Rattle.meta_base.specs.Language.Meaning.{Run}
 use Rattle.meta_base.specs.declared.grammar.Rule.TheVariants as is
 use Rattle.meta_nodes.specs.Spanned as spanned
 use Rattle.meta_nodes.specs.Spanned.{Unary}

@@ -4,15 +4,15 @@
 -- that skipping leads on to K.
 use Rattle.std.proofs.Common.{◌≡◌, refl, ap, subst, ℕ, List, ◌∷◌, true, false, codes, None}
 use Rattle.std.specs.Str.{chars}
-use Rattle.meta_base.specs.Text.{Text}
-use Rattle.meta_base.specs.Expression as plain
-use Rattle.meta_base.specs.Expression.{Expression, Ident, Rep, Seq, Choice}
-use Rattle.meta_base.specs.State.{State, NonAtomicMode, Trees, None', Tree, Success, joined}
-use Rattle.meta_base.specs.Meaning.{Task, Run, Turns, Skipping}
-use Rattle.meta_base.specs.Places.{Stands}
+use Rattle.meta_base.specs.Language.Text.{Text}
+use Rattle.meta_base.specs.Language.Expression as plain
+use Rattle.meta_base.specs.Language.Expression.{Expression, Ident, Rep, Seq, Choice}
+use Rattle.meta_base.specs.Language.State.{State, NonAtomicMode, Trees, None', Tree, Success, joined}
+use Rattle.meta_base.specs.Language.Meaning.{Task, Run, Turns, Skipping}
+use Rattle.meta_base.specs.Language.Places.{Stands}
 use Rattle.meta_base.specs.declared.grammar.Rule.TheVariants as is
 use Rattle.meta_base.proofs.Steps.{joined_assoc, joined_nil}
-use Rattle.meta_base.proofs.Within.{fits}
+use Rattle.meta_base.proofs.TreesAreNested.{fits}
 use Rattle.meta_syntax.specs.MetaGrammar.{rule, ◌~◌}
 use Rattle.meta_syntax.specs.Firsts.{may_begin}
 use Rattle.meta_nodes.specs.Spanned as spanned

@@ -8,11 +8,11 @@ use Rattle.std.specs.Str.Parse.{AllDigits, IsNumeral, digits_value, signed_digit
 use Rattle.std.proofs.lemmas.Fmt.{decimal_is_IsNumeral, first_decimal, IsAscii-signed}
 use Rattle.std.proofs.lemmas.Str.{encodes-IsAscii}
 use Rattle.std.proofs.lemmas.Str.Parse.{digit_from_value}
-use Rattle.meta_base.specs.Text.{Text}
-use Rattle.meta_base.specs.Expression as plain
-use Rattle.meta_base.specs.Expression.{Expression, PeekSlice, whitespace, comment}
-use Rattle.meta_base.specs.State.{State, NonAtomicMode, AtomicMode, None', Tree, Trees, Success, Failure}
-use Rattle.meta_base.specs.Meaning.{Run}
+use Rattle.meta_base.specs.Language.Text.{Text}
+use Rattle.meta_base.specs.Language.Expression as plain
+use Rattle.meta_base.specs.Language.Expression.{Expression, PeekSlice, whitespace, comment}
+use Rattle.meta_base.specs.Language.State.{State, NonAtomicMode, AtomicMode, None', Tree, Trees, Success, Failure}
+use Rattle.meta_base.specs.Language.Meaning.{Run}
 use Rattle.meta_base.specs.declared.grammar.Rule.TheVariants as is
 use Rattle.meta_syntax.specs.MetaGrammar.{rule}
 use Rattle.meta_syntax.specs.Shape.{Mark}

@@ -8,9 +8,9 @@ use Rattle.std.proofs.lemmas.Fmt.{decimal_is_IsNumeral}
 use Rattle.std.proofs.lemmas.List.Elements.{All-head, All-tail}
 use Rattle.std.proofs.lemmas.Str.{chars-encodes}
 use Rattle.std.proofs.lemmas.Str.Parse.{digit_from_value}
-use Rattle.meta_base.specs.Text.{Text, IsText, IsScalarValue}
-use Rattle.meta_base.specs.Builtins.{is_between}
-use Rattle.meta_base.specs.Expression.{Expression, Str, Insens, Range, Ident, PeekSlice, PosPred, NegPred, Seq, Choice, Opt, Rep, RepOnce, RepExact, RepMin, RepMax, RepMinMax, Skip, Push, RestoreOnErr, RuleType, Normal, Silent, Atomic, CompoundAtomic, NonAtomic, Rule, Grammar}
+use Rattle.meta_base.specs.Language.Text.{Text, IsText, IsScalarValue}
+use Rattle.meta_base.specs.Language.Builtins.{is_between}
+use Rattle.meta_base.specs.Language.Expression.{Expression, Str, Insens, Range, Ident, PeekSlice, PosPred, NegPred, Seq, Choice, Opt, Rep, RepOnce, RepExact, RepMin, RepMax, RepMinMax, Skip, Push, RestoreOnErr, RuleType, Normal, Silent, Atomic, CompoundAtomic, NonAtomic, Rule, Grammar}
 use Rattle.meta_ast.specs.Printing.{escaped, is_control, numbered, hex_digit}
 use Rattle.meta_reader.specs.Faults.{fits_i32}
 use Rattle.meta_ast.specs.Printing.{Place, Alone, AfterTilde, AfterBar, BeforePostfix, slice_end}
@@ -68,7 +68,7 @@ words (c ∷ n) h = one (word_scalar c (and_left (is_name_character c) (are_name
 name : (n : Text) → is_name n ≡ true → IsTextOf n
 name [] h = record { all = refl }
 name (c ∷ n) h =
-    let i = and_right (not (Rattle.meta_base.specs.Matching.begins nat_eq (codes "PUSH") (c ∷ n))) (is_name_start c && are_name_characters n) h in
+    let i = and_right (not (Rattle.meta_base.specs.Language.Matching.begins nat_eq (codes "PUSH") (c ∷ n))) (is_name_start c && are_name_characters n) h in
     one (word_scalar c (start_is_word c (and_left (is_name_start c) (are_name_characters n) i))) (words n (and_right (is_name_start c) (are_name_characters n) i))
 
 -- literals

@@ -2,12 +2,12 @@
 use Rattle.std.proofs.Common.{◌≡◌, refl, sym, ◌∙◌, ap, subst, ℕ, ◌+◌, List, [], ◌∷◌, ◌++◌, true, codes, Some, All}
 use Rattle.std.specs.Str.{chars, IsUtf8}
 use Rattle.std.proofs.lemmas.List.Elements.{All-head, All-tail}
-use Rattle.meta_base.specs.Text.{Text}
-use Rattle.meta_base.specs.Expression as plain
-use Rattle.meta_base.specs.Expression.{Expression, Ident, Rule, RuleType, Normal, Silent, Atomic, CompoundAtomic, NonAtomic, Grammar, whitespace, comment}
-use Rattle.meta_base.specs.State.{State, NonAtomicMode, AtomicMode, Between, Trees, None', Tree, Success, Failure, joined}
-use Rattle.meta_base.specs.Meaning.{Does, Run, Turns}
-use Rattle.meta_base.specs.MetaRules.{name_of}
+use Rattle.meta_base.specs.Language.Text.{Text}
+use Rattle.meta_base.specs.Language.Expression as plain
+use Rattle.meta_base.specs.Language.Expression.{Expression, Ident, Rule, RuleType, Normal, Silent, Atomic, CompoundAtomic, NonAtomic, Grammar, whitespace, comment}
+use Rattle.meta_base.specs.Language.State.{State, NonAtomicMode, AtomicMode, Between, Trees, None', Tree, Success, Failure, joined}
+use Rattle.meta_base.specs.Language.Meaning.{Does, Run, Turns}
+use Rattle.meta_base.specs.Pieces.MetaRules.{name_of}
 use Rattle.meta_base.specs.declared.grammar.Rule.TheVariants as is
 use Rattle.meta_base.proofs.Steps.{joined_assoc}
 use Rattle.meta_syntax.specs.declared.modes.Mode.TheVariants as in_mode
@@ -17,7 +17,7 @@ use Rattle.meta_syntax.proofs.Steps.{ran_soi, ran_end}
 use Rattle.meta_nodes.specs.Spanned.{Spanned, SpannedRule}
 use Rattle.meta_nodes.specs.Erasure.{without_spans, rules_without_spans}
 use Rattle.meta_reader.specs.Reading as reading
-use Rattle.meta_reader.specs.Reading.{AnExpression, Reads, ReadsRule, ReadsRules, defined, end_of_input, normal, modified, written, piece}
+use Rattle.meta_reader.specs.Reading.{AnExpression, Reads, ReadsRule, ReadsRules, defined, end_of_input, normal, modified, characters_between, piece}
 use Rattle.meta_reader.specs.Faults.{own_fault}
 use Rattle.meta_ast.specs.Printing.{Alone, printed}
 use Rattle.reading_back.specs.Nesting.{nested_right, nested_rules}
@@ -96,7 +96,7 @@ record ModifierAt (text : List ℕ) (ty : RuleType) (p : ℕ) (t : Text) : Type 
   pub faultless : IsFaultless text trees
   pub reads : (i j a b c d e f g h : ℕ) (body : Trees) (x : Spanned) → Reads text AnExpression body x
       → ReadsRule text (Mark (codes "identifier") i j (Mark (codes "assignment_operator") a b (joined trees (Braced c d e f g h body))))
-      (Some (record { name = written text i j; span = piece text i j; type_of = ty; body = x }))
+      (Some (record { name = characters_between text i j; span = piece text i j; type_of = ty; body = x }))
 
 modifier_at : (text : List ℕ) (ty : RuleType) (p : ℕ) (t : Text) → ModifierAt text ty p t
 unfolding whitespace comment own_fault
@@ -188,7 +188,7 @@ module _ (text : List ℕ) (utf8 : IsUtf8 text) where
       let closed : Trees = Mark (codes "closing_brace") b.place (b.place + 1) None' in
       let rest : Trees = joined (joined (joined m.trees opened) body) closed in
       let same_rest : rest ≡ joined m.trees (joined opened (joined body closed)) = joined_assoc (joined m.trees opened) body closed ∙ joined_assoc m.trees opened (joined body closed) in
-      let said : SpannedRule = record { name = written text p q; span = piece text p q; type_of = ty; body = b.said } in
+      let said : SpannedRule = record { name = characters_between text p q; span = piece text p q; type_of = ty; body = b.said } in
       let around : Trees → Trees = λ us. Mark (codes "identifier") p q (Mark (codes "assignment_operator") (q + 1) (q + 1 + 1) us) in
       record {
         place = b.place + 1;

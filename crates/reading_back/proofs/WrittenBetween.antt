@@ -8,9 +8,9 @@ use Rattle.std.proofs.Math.Utf8.{encodes}
 use Rattle.std.proofs.Math.Seq.{drop-append_seam, take-append_seam}
 use Rattle.std.proofs.lemmas.List.Sums.{sum_by-append}
 use Rattle.std.proofs.lemmas.Str.{encodes-append, chars-encodes, scalars-chars}
-use Rattle.meta_base.specs.Text.{Text, size_of}
+use Rattle.meta_base.specs.Language.Text.{Text, size_of}
 use Rattle.meta_base.proofs.InBytes.{sizes, split_bytes}
-use Rattle.meta_reader.specs.Reading.{written}
+use Rattle.meta_reader.specs.Reading.{characters_between}
 use Rattle.reading_back.proofs.Parts.{IsLeftAt}
 
 scalars_parts : (front back : Text) → scalars (front ++ back) ≡ true → (scalars front ≡ true) × (scalars back ≡ true)
@@ -42,5 +42,5 @@ module _ (text : List ℕ) (utf8 : IsUtf8 text) where
     scalars_word : scalars w ≡ true
     scalars_word = (scalars_parts w K (scalars_parts from.front (w ++ K) (ap scalars (sym from.split) ∙ scalars-chars text utf8)).1).0
 
-    pub written_is : written text p q ≡ w
+    pub written_is : characters_between text p q ≡ w
     written_is = ap chars slice_is ∙ chars-encodes w scalars_word

@@ -1,6 +1,6 @@
 -- Sequences and choices nested to the right, as the rotations leave them.
 use Rattle.std.specs.Prelude.{map}
-use Rattle.meta_base.specs.Expression.{Expression, Rule, Grammar, PosPred, NegPred, Seq, Choice, Opt, Rep, RepOnce, RepExact, RepMin, RepMax, RepMinMax, Push, RestoreOnErr}
+use Rattle.meta_base.specs.Language.Expression.{Expression, Rule, Grammar, PosPred, NegPred, Seq, Choice, Opt, Rep, RepOnce, RepExact, RepMin, RepMax, RepMinMax, Push, RestoreOnErr}
 
 -- one expression after another, where the first is nested to the right already
 abbrev pub sequence_of : Expression → Expression → Expression

@@ -1,6 +1,6 @@
 -- How some expressions are printed.
 use Rattle.std.specs.Prelude.{◌≡◌, pos, negsuc, [], ◌∷◌, ◌++◌, Some, None, codes}
-use Rattle.meta_base.specs.Expression.{Str, Insens, Range, Ident, PeekSlice, PosPred, NegPred, Seq, Choice, Opt, Rep, RepMinMax, Skip, Push, RestoreOnErr}
+use Rattle.meta_base.specs.Language.Expression.{Str, Insens, Range, Ident, PeekSlice, PosPred, NegPred, Seq, Choice, Opt, Rep, RepMinMax, Skip, Push, RestoreOnErr}
 use Rattle.meta_ast.specs.Printing.{printed}
 
 pub record PrintedRows : Type 0 where

@@ -1,13 +1,13 @@
 -- What is printed is read back.
 use Rattle.std.specs.Prelude.{◌≡◌, ℕ, ℤ, ◌<◌, ◌≤◌, ◌^◌, List, [], ◌∷◌, ◌++◌, Option, Some, None, Bool, true, false, ◌||◌, ◌&&◌, not, nat_eq, codes, length, ◌↔◌, All}
 use Rattle.std.specs.Str.{IsUtf8, chars}
-use Rattle.meta_base.specs.Text.{Text, IsText}
-use Rattle.meta_base.specs.Builtins.{is_letter, is_between}
-use Rattle.meta_base.specs.Matching.{begins}
-use Rattle.meta_base.specs.Expression.{Expression, Str, Insens, Range, Ident, PeekSlice, PosPred, NegPred, Seq, Choice, Opt, Rep, RepOnce, RepExact, RepMin, RepMax, RepMinMax, Skip, Push, RestoreOnErr, RuleType, Normal, Silent, Atomic, CompoundAtomic, NonAtomic, Rule, Grammar}
-use Rattle.meta_base.specs.State.{Classes, NonAtomicMode, State, Success, Trees}
-use Rattle.meta_base.specs.Meaning.{Matches}
-use Rattle.meta_base.specs.MetaRules.{name_of}
+use Rattle.meta_base.specs.Language.Text.{Text, IsText}
+use Rattle.meta_base.specs.Language.Builtins.{is_letter, is_between}
+use Rattle.meta_base.specs.Language.Matching.{begins}
+use Rattle.meta_base.specs.Language.Expression.{Expression, Str, Insens, Range, Ident, PeekSlice, PosPred, NegPred, Seq, Choice, Opt, Rep, RepOnce, RepExact, RepMin, RepMax, RepMinMax, Skip, Push, RestoreOnErr, RuleType, Normal, Silent, Atomic, CompoundAtomic, NonAtomic, Rule, Grammar}
+use Rattle.meta_base.specs.Language.State.{Classes, NonAtomicMode, State, Success, Trees}
+use Rattle.meta_base.specs.Language.Meaning.{Matches}
+use Rattle.meta_base.specs.Pieces.MetaRules.{name_of}
 use Rattle.meta_syntax.specs.MetaGrammar.{meta_grammar}
 use Rattle.meta_base.specs.declared.grammar.Rule.TheVariants.{grammar_rules, identifier}
 use Rattle.meta_syntax.specs.Parses.{Spells}

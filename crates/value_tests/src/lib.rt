@@ -1,15 +1,10 @@
-//! Tests of values: what they are, how they are compared, copied, printed and optimized, and of texts' places and errors.
+//! Tests of texts' places, errors and pairs, and of a long chain. What calls answer on texts, and values that
+//! no text is read as, are rows of
+//! `meta_rows`.
 #![tactic(auto)]
 
 #[cfg(test)]
-mod expressions;
-#[cfg(test)]
-mod literals;
-#[cfg(test)]
-mod optimized;
-#[cfg(test)]
-mod passes;
+mod chain;
+pub mod mapped;
 #[cfg(test)]
 mod runtime;
-#[cfg(test)]
-mod values;

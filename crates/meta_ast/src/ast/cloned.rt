@@ -1,10 +1,14 @@
 //! Clones of rules and expressions. A clone that is given equals its source.
-ghost use Rattle.std.specs.Prelude.{◌≡◌, IfOk};
+ghost use Rattle.std.specs.Prelude.{◌≡◌, ◌*◌, IfOk, ⊤};
+ghost use Rattle.meta_base.specs.Language.Expression.{Expression};
 ghost use Rattle.meta_ast.specs.Ast.{expression_of, rule_of_code};
+ghost use Rattle.meta_ast.specs.Weight.{weight};
+ghost use Rattle.meta_ast.specs.Copying.{with_operand, waits_of};
 
 use super::{Expr, Rule};
+use crate::rebuilt::{Rebuild, Step, rebuilt};
 use crate::texts::copy_texts;
-use std::alloc::AllocError;
+use std::alloc::{AllocError, Global};
 
 impl Clone for Rule {
     ghost is_clone = { λ rule copy. rule_of_code copy ≡ rule_of_code rule };
@@ -26,8 +30,129 @@ impl Clone for Expr {
     }
 }
 
+// What stands around an operand while that is copied.
+#[derive(Drop)]
+enum Around<'a> {
+    PosPred,
+    NegPred,
+    Opt,
+    Rep,
+    RepOnce,
+    RepExact(u32),
+    RepMin(u32),
+    RepMax(u32),
+    RepMinMax(u32, u32),
+    Push,
+    // A `~` or a `|` whose left side is copied, with the right one; and with the copy of the left one.
+    FirstOfSeq(&'a Expr),
+    FirstOfChoice(&'a Expr),
+    SecondOfSeq(Expr),
+    SecondOfChoice(Expr),
+}
+
+impl<'a> Rebuild for Around<'a> {
+    type Source = &'a Expr;
+
+    type Target = Expr;
+
+    ghost Meaning = { Expression };
+
+    ghost says = { λ expr. expression_of expr.now };
+
+    ghost made = { λ expr. expression_of expr };
+
+    ghost fills = { λ around operand. with_operand around operand };
+
+    ghost is_right = { λ _. ⊤ };
+
+    ghost is_ready = { λ _. ⊤ };
+
+    ghost size = { λ expr. 4 * weight (expression_of expr.now) };
+
+    ghost waits = { λ around. waits_of around };
+
+    fn open(expr: &'a Expr) -> Result<Step<&'a Expr, Around<'a>, Expr>, AllocError> {
+        match expr {
+            Expr::Str(text) => Ok(Step::Made(Expr::Str(text.clone()?))),
+            Expr::Insens(text) => Ok(Step::Made(Expr::Insens(text.clone()?))),
+            Expr::Range(first, last) => Ok(Step::Made(Expr::Range(first.clone()?, last.clone()?))),
+            Expr::Ident(name) => Ok(Step::Made(Expr::Ident(name.clone()?))),
+            Expr::PeekSlice(start, end) => Ok(Step::Made(Expr::PeekSlice(*start, *end))),
+            Expr::Skip(texts) => Ok(Step::Made(Expr::Skip(copy_texts(texts)?))),
+            Expr::PosPred(inner) => Ok(Step::Inside(Around::PosPred, inner.as_ref())),
+            Expr::NegPred(inner) => Ok(Step::Inside(Around::NegPred, inner.as_ref())),
+            Expr::Opt(inner) => Ok(Step::Inside(Around::Opt, inner.as_ref())),
+            Expr::Rep(inner) => Ok(Step::Inside(Around::Rep, inner.as_ref())),
+            Expr::RepOnce(inner) => Ok(Step::Inside(Around::RepOnce, inner.as_ref())),
+            Expr::RepExact(inner, count) => Ok(Step::Inside(
+                Around::RepExact(*count),
+                inner.as_ref(),
+            )),
+            Expr::RepMin(inner, least) => Ok(Step::Inside(Around::RepMin(*least), inner.as_ref())),
+            Expr::RepMax(inner, greatest) => Ok(Step::Inside(
+                Around::RepMax(*greatest),
+                inner.as_ref(),
+            )),
+            Expr::RepMinMax(inner, least, greatest) => Ok(Step::Inside(
+                Around::RepMinMax(*least, *greatest),
+                inner.as_ref(),
+            )),
+            Expr::Push(inner) => Ok(Step::Inside(Around::Push, inner.as_ref())),
+            Expr::Seq(left, right) => Ok(Step::Inside(
+                Around::FirstOfSeq(right.as_ref()),
+                left.as_ref(),
+            )),
+            Expr::Choice(left, right) => Ok(Step::Inside(
+                Around::FirstOfChoice(right.as_ref()),
+                left.as_ref(),
+            )),
+        }
+    }
+
+    fn close(
+        self,
+        alloc: Global,
+        operand: Expr,
+    ) -> Result<Step<&'a Expr, Around<'a>, Expr>, AllocError> {
+        match self {
+            Around::FirstOfSeq(right) => Ok(Step::Inside(Around::SecondOfSeq(operand), right)),
+            Around::FirstOfChoice(right) => Ok(Step::Inside(
+                Around::SecondOfChoice(operand),
+                right,
+            )),
+            Around::PosPred => Ok(Step::Made(Expr::PosPred(Box::new(alloc, operand)?))),
+            Around::NegPred => Ok(Step::Made(Expr::NegPred(Box::new(alloc, operand)?))),
+            Around::Opt => Ok(Step::Made(Expr::Opt(Box::new(alloc, operand)?))),
+            Around::Rep => Ok(Step::Made(Expr::Rep(Box::new(alloc, operand)?))),
+            Around::RepOnce => Ok(Step::Made(Expr::RepOnce(Box::new(alloc, operand)?))),
+            Around::RepExact(count) => Ok(Step::Made(Expr::RepExact(
+                Box::new(alloc, operand)?,
+                count,
+            ))),
+            Around::RepMin(least) => Ok(Step::Made(Expr::RepMin(Box::new(alloc, operand)?, least))),
+            Around::RepMax(greatest) => Ok(Step::Made(Expr::RepMax(
+                Box::new(alloc, operand)?,
+                greatest,
+            ))),
+            Around::RepMinMax(least, greatest) => Ok(Step::Made(Expr::RepMinMax(
+                Box::new(alloc, operand)?,
+                least,
+                greatest,
+            ))),
+            Around::Push => Ok(Step::Made(Expr::Push(Box::new(alloc, operand)?))),
+            Around::SecondOfSeq(left) => Ok(Step::Made(Expr::Seq(
+                Box::new(alloc, left)?,
+                Box::new(alloc, operand)?,
+            ))),
+            Around::SecondOfChoice(left) => Ok(Step::Made(Expr::Choice(
+                Box::new(alloc, left)?,
+                Box::new(alloc, operand)?,
+            ))),
+        }
+    }
+}
+
 // The same expression again.
-#[cycle(copy)]
 fn copy(expr: &Expr) -> Result<Expr, AllocError>
     ensures { IfOk result (λ copy. expression_of copy ≡ expression_of expr.now) }
 {
@@ -37,26 +162,19 @@ fn copy(expr: &Expr) -> Result<Expr, AllocError>
         Expr::Range(first, last) => Ok(Expr::Range(first.clone()?, last.clone()?)),
         Expr::Ident(name) => Ok(Expr::Ident(name.clone()?)),
         Expr::PeekSlice(start, end) => Ok(Expr::PeekSlice(*start, *end)),
-        Expr::PosPred(inner) => Ok(Expr::PosPred(copy_boxed(inner)?)),
-        Expr::NegPred(inner) => Ok(Expr::NegPred(copy_boxed(inner)?)),
-        Expr::Seq(left, right) => Ok(Expr::Seq(copy_boxed(left)?, copy_boxed(right)?)),
-        Expr::Choice(left, right) => Ok(Expr::Choice(copy_boxed(left)?, copy_boxed(right)?)),
-        Expr::Opt(inner) => Ok(Expr::Opt(copy_boxed(inner)?)),
-        Expr::Rep(inner) => Ok(Expr::Rep(copy_boxed(inner)?)),
-        Expr::RepOnce(inner) => Ok(Expr::RepOnce(copy_boxed(inner)?)),
-        Expr::RepExact(inner, count) => Ok(Expr::RepExact(copy_boxed(inner)?, *count)),
-        Expr::RepMin(inner, min) => Ok(Expr::RepMin(copy_boxed(inner)?, *min)),
-        Expr::RepMax(inner, max) => Ok(Expr::RepMax(copy_boxed(inner)?, *max)),
-        Expr::RepMinMax(inner, min, max) => Ok(Expr::RepMinMax(copy_boxed(inner)?, *min, *max)),
         Expr::Skip(texts) => Ok(Expr::Skip(copy_texts(texts)?)),
-        Expr::Push(inner) => Ok(Expr::Push(copy_boxed(inner)?)),
+        Expr::PosPred(inner)
+        | Expr::NegPred(inner)
+        | Expr::Opt(inner)
+        | Expr::Rep(inner)
+        | Expr::RepOnce(inner)
+        | Expr::Push(inner) => { rebuilt::<Around<'_>>(*Box::allocator(inner), expr) }
+        Expr::RepExact(inner, _)
+        | Expr::RepMin(inner, _)
+        | Expr::RepMax(inner, _)
+        | Expr::RepMinMax(inner, _, _) => { rebuilt::<Around<'_>>(*Box::allocator(inner), expr) }
+        Expr::Seq(left, _) | Expr::Choice(left, _) => {
+            rebuilt::<Around<'_>>(*Box::allocator(left), expr)
+        }
     }
-}
-
-// The same in a box of its own, with the same allocator.
-#[cycle(copy)]
-fn copy_boxed(expr: &Box<Expr>) -> Result<Box<Expr>, AllocError>
-    ensures { IfOk result (λ copy. expression_of copy.value ≡ expression_of expr.now.value) }
-{
-    Ok(Box::new(*Box::allocator(expr), copy(expr)?)?)
 }

@@ -1,10 +1,14 @@
 //! Clones of optimized rules and expressions. A clone that is given equals its source.
-ghost use Rattle.std.specs.Prelude.{◌≡◌, IfOk};
+ghost use Rattle.std.specs.Prelude.{◌≡◌, ◌*◌, IfOk, ⊤};
+ghost use Rattle.meta_base.specs.Language.Expression.{Expression};
 ghost use Rattle.meta_ast.specs.Optimized.{optimized_expression_of, optimized_rule_of};
+ghost use Rattle.meta_ast.specs.Weight.{weight};
+ghost use Rattle.meta_ast.specs.OptimizedCopying.{with_operand, waits_of};
 
 use super::{OptimizedExpr, OptimizedRule};
+use crate::rebuilt::{Rebuild, Step, rebuilt};
 use crate::texts::copy_texts;
-use std::alloc::AllocError;
+use std::alloc::{AllocError, Global};
 
 impl Clone for OptimizedRule {
     ghost is_clone = { λ rule copy. optimized_rule_of copy ≡ optimized_rule_of rule };
@@ -26,43 +30,121 @@ impl Clone for OptimizedExpr {
     }
 }
 
-// The same expression again.
-#[cycle(copy)]
-fn copy(expr: &OptimizedExpr) -> Result<OptimizedExpr, AllocError>
-    ensures { IfOk result (λ copy. optimized_expression_of copy ≡ optimized_expression_of expr.now) }
-{
-    match expr {
-        OptimizedExpr::Str(text) => Ok(OptimizedExpr::Str(text.clone()?)),
-        OptimizedExpr::Insens(text) => Ok(OptimizedExpr::Insens(text.clone()?)),
-        OptimizedExpr::Range(first, last) => Ok(OptimizedExpr::Range(
-            first.clone()?,
-            last.clone()?,
-        )),
-        OptimizedExpr::Ident(name) => Ok(OptimizedExpr::Ident(name.clone()?)),
-        OptimizedExpr::PeekSlice(start, end) => Ok(OptimizedExpr::PeekSlice(*start, *end)),
-        OptimizedExpr::PosPred(inner) => Ok(OptimizedExpr::PosPred(copy_boxed(inner)?)),
-        OptimizedExpr::NegPred(inner) => Ok(OptimizedExpr::NegPred(copy_boxed(inner)?)),
-        OptimizedExpr::Seq(left, right) => Ok(OptimizedExpr::Seq(
-            copy_boxed(left)?,
-            copy_boxed(right)?,
-        )),
-        OptimizedExpr::Choice(left, right) => Ok(OptimizedExpr::Choice(
-            copy_boxed(left)?,
-            copy_boxed(right)?,
-        )),
-        OptimizedExpr::Opt(inner) => Ok(OptimizedExpr::Opt(copy_boxed(inner)?)),
-        OptimizedExpr::Rep(inner) => Ok(OptimizedExpr::Rep(copy_boxed(inner)?)),
-        OptimizedExpr::Skip(texts) => Ok(OptimizedExpr::Skip(copy_texts(texts)?)),
-        OptimizedExpr::Push(inner) => Ok(OptimizedExpr::Push(copy_boxed(inner)?)),
-        OptimizedExpr::RestoreOnErr(inner) => Ok(OptimizedExpr::RestoreOnErr(copy_boxed(inner)?)),
+// What stands around an operand while that is copied.
+#[derive(Drop)]
+enum Around<'a> {
+    PosPred,
+    NegPred,
+    Opt,
+    Rep,
+    Push,
+    RestoreOnErr,
+    // A `~` or a `|` whose left side is copied, with the right one; and with the copy of the left one.
+    FirstOfSeq(&'a OptimizedExpr),
+    FirstOfChoice(&'a OptimizedExpr),
+    SecondOfSeq(OptimizedExpr),
+    SecondOfChoice(OptimizedExpr),
+}
+
+impl<'a> Rebuild for Around<'a> {
+    type Source = &'a OptimizedExpr;
+
+    type Target = OptimizedExpr;
+
+    ghost Meaning = { Expression };
+
+    ghost says = { λ expr. optimized_expression_of expr.now };
+
+    ghost made = { λ expr. optimized_expression_of expr };
+
+    ghost fills = { λ around operand. with_operand around operand };
+
+    ghost is_right = { λ _. ⊤ };
+
+    ghost is_ready = { λ _. ⊤ };
+
+    ghost size = { λ expr. 4 * weight (optimized_expression_of expr.now) };
+
+    ghost waits = { λ around. waits_of around };
+
+    fn open(
+        expr: &'a OptimizedExpr,
+    ) -> Result<Step<&'a OptimizedExpr, Around<'a>, OptimizedExpr>, AllocError> {
+        use OptimizedExpr as E;
+        match expr {
+            E::Str(text) => Ok(Step::Made(E::Str(text.clone()?))),
+            E::Insens(text) => Ok(Step::Made(E::Insens(text.clone()?))),
+            E::Range(first, last) => Ok(Step::Made(E::Range(first.clone()?, last.clone()?))),
+            E::Ident(name) => Ok(Step::Made(E::Ident(name.clone()?))),
+            E::PeekSlice(start, end) => Ok(Step::Made(E::PeekSlice(*start, *end))),
+            E::Skip(texts) => Ok(Step::Made(E::Skip(copy_texts(texts)?))),
+            E::PosPred(inner) => Ok(Step::Inside(Around::PosPred, inner.as_ref())),
+            E::NegPred(inner) => Ok(Step::Inside(Around::NegPred, inner.as_ref())),
+            E::Opt(inner) => Ok(Step::Inside(Around::Opt, inner.as_ref())),
+            E::Rep(inner) => Ok(Step::Inside(Around::Rep, inner.as_ref())),
+            E::Push(inner) => Ok(Step::Inside(Around::Push, inner.as_ref())),
+            E::RestoreOnErr(inner) => Ok(Step::Inside(Around::RestoreOnErr, inner.as_ref())),
+            E::Seq(left, right) => Ok(Step::Inside(
+                Around::FirstOfSeq(right.as_ref()),
+                left.as_ref(),
+            )),
+            E::Choice(left, right) => Ok(Step::Inside(
+                Around::FirstOfChoice(right.as_ref()),
+                left.as_ref(),
+            )),
+        }
+    }
+
+    fn close(
+        self,
+        alloc: Global,
+        operand: OptimizedExpr,
+    ) -> Result<Step<&'a OptimizedExpr, Around<'a>, OptimizedExpr>, AllocError> {
+        use OptimizedExpr as E;
+        match self {
+            Around::FirstOfSeq(right) => Ok(Step::Inside(Around::SecondOfSeq(operand), right)),
+            Around::FirstOfChoice(right) => Ok(Step::Inside(
+                Around::SecondOfChoice(operand),
+                right,
+            )),
+            Around::PosPred => Ok(Step::Made(E::PosPred(Box::new(alloc, operand)?))),
+            Around::NegPred => Ok(Step::Made(E::NegPred(Box::new(alloc, operand)?))),
+            Around::Opt => Ok(Step::Made(E::Opt(Box::new(alloc, operand)?))),
+            Around::Rep => Ok(Step::Made(E::Rep(Box::new(alloc, operand)?))),
+            Around::Push => Ok(Step::Made(E::Push(Box::new(alloc, operand)?))),
+            Around::RestoreOnErr => Ok(Step::Made(E::RestoreOnErr(Box::new(alloc, operand)?))),
+            Around::SecondOfSeq(left) => Ok(Step::Made(E::Seq(
+                Box::new(alloc, left)?,
+                Box::new(alloc, operand)?,
+            ))),
+            Around::SecondOfChoice(left) => Ok(Step::Made(E::Choice(
+                Box::new(alloc, left)?,
+                Box::new(alloc, operand)?,
+            ))),
+        }
     }
 }
 
-// The same in a box of its own, with the same allocator.
-#[cycle(copy)]
-fn copy_boxed(expr: &Box<OptimizedExpr>) -> Result<Box<OptimizedExpr>, AllocError>
-    ensures { IfOk result
-        (λ copy. optimized_expression_of copy.value ≡ optimized_expression_of expr.now.value) }
+// The same expression again.
+fn copy(expr: &OptimizedExpr) -> Result<OptimizedExpr, AllocError>
+    ensures { IfOk result (λ copy. optimized_expression_of copy ≡ optimized_expression_of expr.now) }
 {
-    Ok(Box::new(*Box::allocator(expr), copy(expr)?)?)
+    use OptimizedExpr as E;
+    match expr {
+        E::Str(text) => Ok(E::Str(text.clone()?)),
+        E::Insens(text) => Ok(E::Insens(text.clone()?)),
+        E::Range(first, last) => Ok(E::Range(first.clone()?, last.clone()?)),
+        E::Ident(name) => Ok(E::Ident(name.clone()?)),
+        E::PeekSlice(start, end) => Ok(E::PeekSlice(*start, *end)),
+        E::Skip(texts) => Ok(E::Skip(copy_texts(texts)?)),
+        E::PosPred(inner)
+        | E::NegPred(inner)
+        | E::Opt(inner)
+        | E::Rep(inner)
+        | E::Push(inner)
+        | E::RestoreOnErr(inner) => { rebuilt::<Around<'_>>(*Box::allocator(inner), expr) }
+        E::Seq(left, _) | E::Choice(left, _) => {
+            rebuilt::<Around<'_>>(*Box::allocator(left), expr)
+        }
+    }
 }

@@ -1,11 +1,14 @@
 //! Equality of optimized rules and expressions: by structure, and exactly that.
-ghost use Rattle.std.specs.Prelude.{◌≡◌, ◌↔◌, IsTrue};
+ghost use Rattle.std.specs.Prelude.{◌≡◌, ◌↔◌, ◌+◌, ◌<◌, ◌&&◌, IsTrue, IfOk};
 ghost use Rattle.std.specs.Cmp.{on_equiv, partial_equiv_from_equiv};
-ghost use Rattle.meta_base.specs.Equality.{expression_eq, rule_eq, expression_eq_equiv, rule_eq_equiv};
+ghost use Rattle.meta_base.specs.Rewritings.Equality.{expression_eq, rule_eq, expression_eq_equiv, rule_eq_equiv};
 ghost use Rattle.meta_ast.specs.Optimized.{optimized_expression_of, optimized_rule_of};
+ghost use Rattle.meta_ast.specs.OptimizedSameness.{are_equal, heaviness};
+ghost use Rattle.meta_ast.specs.Weight.{weight};
 
 use super::{OptimizedExpr, OptimizedRule};
 use crate::texts::{same_text, same_texts};
+use std::alloc::{AllocError, Global};
 
 impl PartialEq for OptimizedRule {
     ghost eq = { λ a b. rule_eq (optimized_rule_of a) (optimized_rule_of b) };
@@ -35,12 +38,102 @@ impl PartialEq for OptimizedExpr {
         ensures exact { IsTrue result
             ↔ (optimized_expression_of self.now ≡ optimized_expression_of other.now) }
     {
-        same(self, other)
+        equal(self, other)
     }
 }
 
 impl Eq for OptimizedExpr {
     ghost laws = { on_equiv optimized_expression_of expression_eq_equiv };
+}
+
+// Whether two expressions are equal, with a list of what is left to be compared; by calls where there is no
+// memory for it.
+fn equal(a: &OptimizedExpr, b: &OptimizedExpr) -> bool
+    ensures { result ≡ expression_eq (optimized_expression_of a.now) (optimized_expression_of b.now) }
+{
+    match allocator_of(a) {
+        None => same(a, b),
+        Some(alloc) => match equal_by_list(alloc, a, b) {
+            Ok(answer) => answer,
+            Err(_) => same(a, b),
+        },
+    }
+}
+
+// The allocator of an expression's boxes.
+fn allocator_of(expr: &OptimizedExpr) -> Option<Global> {
+    match expr {
+        OptimizedExpr::PosPred(inner)
+        | OptimizedExpr::NegPred(inner)
+        | OptimizedExpr::Opt(inner)
+        | OptimizedExpr::Rep(inner)
+        | OptimizedExpr::Push(inner)
+        | OptimizedExpr::RestoreOnErr(inner) => { Some(*Box::allocator(inner)) }
+        OptimizedExpr::Seq(left, _) | OptimizedExpr::Choice(left, _) => Some(*Box::allocator(left)),
+        _ => None,
+    }
+}
+
+// Two expressions that are to be compared.
+#[derive(Drop)]
+struct Both<'a> {
+    first: &'a OptimizedExpr,
+    second: &'a OptimizedExpr,
+}
+
+// Whether two expressions are equal, by a loop. Refused where memory is.
+#[tactic(auto, using(crate::proofs::OptimizedSameness::are_equal_one, crate::proofs::OptimizedSameness::lighter))]
+fn equal_by_list(alloc: Global, a: &OptimizedExpr, b: &OptimizedExpr) -> Result<bool, AllocError>
+    ensures { IfOk result
+        (λ answer. answer ≡ expression_eq (optimized_expression_of a.now) (optimized_expression_of b.now)) }
+{
+    let mut others = Vec::new(alloc);
+    others.push(Both {
+        first: a,
+        second: b,
+    })?;
+    'both: while let Some(both) = others.pop() {
+        if !equal_outside(both.first, both.second, &mut others)? {
+            return Ok(false);
+        }
+    }
+    Ok(true)
+}
+
+// Whether two expressions are equal but for their operands, which are put on a list. Refused where memory is.
+#[tactic(auto, using(crate::proofs::OptimizedSameness::are_equal_last, crate::proofs::OptimizedSameness::heaviness_last))]
+fn equal_outside<'a>(
+    a: &'a OptimizedExpr,
+    b: &'a OptimizedExpr,
+    others: &mut Vec<Both<'a>>,
+) -> Result<bool, AllocError>
+    ensures same { IfOk result (λ answer. (answer && are_equal others.new.items)
+        ≡ (expression_eq (optimized_expression_of a.entry.now) (optimized_expression_of b.entry.now)
+        && are_equal others.old.items)) }
+    ensures work { IfOk result (λ _. heaviness others.new.items
+        < weight (optimized_expression_of a.entry.now) + heaviness others.old.items) }
+{
+    use OptimizedExpr as E;
+    match (a, b) {
+        (E::PosPred(first), E::PosPred(second))
+        | (E::NegPred(first), E::NegPred(second))
+        | (E::Opt(first), E::Opt(second))
+        | (E::Rep(first), E::Rep(second))
+        | (E::Push(first), E::Push(second))
+        | (E::RestoreOnErr(first), E::RestoreOnErr(second)) => {
+            others.push(Both { first, second })?;
+            Ok(true)
+        }
+        (E::Seq(first, x), E::Seq(second, y)) | (E::Choice(first, x), E::Choice(second, y)) => {
+            others.push(Both {
+                first: x,
+                second: y,
+            })?;
+            others.push(Both { first, second })?;
+            Ok(true)
+        }
+        (a, b) => Ok(same(a, b)),
+    }
 }
 
 // Whether two expressions are of one variant, with equal parts.

@@ -1,9 +1,9 @@
 // Errors, with the places and the line that they print.
 ghost use Rattle.std.specs.Prelude.{◌≡◌, Some, IfOk, IfErr, ◌++◌, filter, alloc_error, string_bytes};
 ghost use Rattle.std.specs.Str.{chars, encode_utf8_all};
-ghost use Rattle.meta_base.specs.Span.{span_text, span_start, span_end, position_text, position_offset};
-ghost use Rattle.meta_base.specs.LineColumn.{line_column};
-ghost use Rattle.meta_base.specs.PrintedError.{message_of, start_of, is_printed, printed_line, error_line, error_text};
+ghost use Rattle.meta_base.specs.Pieces.Span.{span_text, span_start, span_end, position_text, position_offset};
+ghost use Rattle.meta_base.specs.Pieces.LineColumn.{line_column};
+ghost use Rattle.meta_base.specs.Pieces.PrintedError.{message_of, start_of, is_printed, printed_line, error_line, error_text};
 
 use super::faults::Fault;
 use super::layout::{Margin, Underline};

@@ -2,7 +2,7 @@
 ghost use Rattle.std.specs.Prelude.{◌≡◌, ◌+◌, ◌-◌, ◌≤◌, Some, length, take, map, replicate};
 ghost use Rattle.std.specs.Fmt.{decimal, WritesOnOk};
 ghost use Rattle.std.specs.Str.{chars};
-ghost use Rattle.meta_base.specs.PrintedError.{blank_under, marks, marked_count, marks_under, start_of, underline, margin};
+ghost use Rattle.meta_base.specs.Pieces.PrintedError.{blank_under, marks, marked_count, marks_under, start_of, underline, margin};
 
 use super::errors::LineColLocation;
 use std::fmt;
@@ -75,7 +75,8 @@ fn marked_count(start: (usize, usize), end: (usize, usize), line: &str) -> usize
 
 /// Writes what stands under the first `count` characters of `line`: a tab for a tab, else a blank.
 fn write_blanks<W: fmt::Write>(f: &mut fmt::Formatter<W>, line: &str, count: usize) -> fmt::Result
-    ensures { WritesOnOk W.write_str_gives f.old result (map blank_under (take count (chars line.now))) f.new }
+    ensures { WritesOnOk W.write_str_gives f.old result
+        (map blank_under (take count (chars line.now))) f.new }
 {
     for c in line.chars().take(count) {
         f.write_str(if c == '\t' { "\t" } else { " " })?;

@@ -1,6 +1,6 @@
 // The ends of the line in which a place stands.
 ghost use Rattle.std.specs.Prelude.{◌≡◌};
-ghost use Rattle.meta_base.specs.LineColumn.{first_line, last_line};
+ghost use Rattle.meta_base.specs.Pieces.LineColumn.{first_line, last_line};
 
 /// What stands after the last `\n` of `text`, or all of it where there is none.
 pub(crate) fn last_line(text: &str) -> &str

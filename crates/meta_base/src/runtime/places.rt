@@ -1,7 +1,7 @@
 // Places in a text, and the parts between them.
 ghost use Rattle.std.specs.Prelude.{◌≡◌, ◌≤◌, ◌↔◌, IsSome, IfSome, take, drop, slice_range};
 ghost use Rattle.std.specs.Str.{IsCharBoundary};
-ghost use Rattle.meta_base.specs.LineColumn.{line_column};
+ghost use Rattle.meta_base.specs.Pieces.LineColumn.{line_column};
 
 use super::lines::last_line;
 
@@ -25,7 +25,7 @@ pub struct Position<'i> {
 }
 
 impl<'i> Span<'i> {
-    ghost use Rattle.meta_base.specs.Span.{span_text, span_start, span_end, position_text, position_offset};
+    ghost use Rattle.meta_base.specs.Pieces.Span.{span_text, span_start, span_end, position_text, position_offset};
 
     /// The part of `text` from byte `start` up to byte `end`, or `None` where the range is reversed,
     /// reaches past the end of the text, or has an end inside a character.
@@ -43,9 +43,9 @@ impl<'i> Span<'i> {
         }
     }
 
-    /// The part of `text` from byte `start` up to byte `end`, where these stand in it in this order, each between
-    /// two characters.
-    pub(crate) fn of(text: &'i str, start: usize, end: usize) -> Span<'i>
+    /// The part of `text` from byte `start` up to byte `end`, where these stand in it in this order, each
+    /// between two characters.
+    pub fn of(text: &'i str, start: usize, end: usize) -> Span<'i>
         requires ordered { start ≤ end }
         requires starts_at_character { IsCharBoundary text.now start }
         requires ends_at_character { IsCharBoundary text.now end }
@@ -108,7 +108,7 @@ impl<'i> Span<'i> {
 }
 
 impl<'i> Position<'i> {
-    ghost use Rattle.meta_base.specs.Span.{span_text, span_start, span_end, position_text, position_offset};
+    ghost use Rattle.meta_base.specs.Pieces.Span.{span_text, span_start, span_end, position_text, position_offset};
 
     /// The place before byte `pos` of `text`, or `None` where that is past the end or inside a
     /// character.

@@ -1,8 +1,8 @@
 // Pairs: rules with the parts of a text that they matched.
 ghost use Rattle.std.specs.Prelude.{◌≤◌, length};
 ghost use Rattle.std.specs.Str.{IsCharBoundary};
-ghost use Rattle.meta_base.specs.TokenTrees.{AreNested, AreNested-prop};
-ghost use Rattle.meta_base.specs.TreeViews.{trees_of};
+ghost use Rattle.meta_base.specs.Pieces.TokenTrees.{AreNested, AreNested-prop};
+ghost use Rattle.meta_base.specs.Pieces.TreeViews.{trees_of};
 
 use super::faults::Fault;
 use super::places::Span;
@@ -35,8 +35,8 @@ pub struct Pairs<'i, R> {
 
 impl<'i, R: Copy> Pair<'i, R> {
     ghost use Rattle.std.specs.Prelude.{◌≡◌, slice_range};
-    ghost use Rattle.meta_base.specs.Span.{span_text, span_start, span_end};
-    ghost use Rattle.meta_base.specs.Pairs.{pair_text, pair_rule, pair_start, pair_end, pair_inner, pairs_text, pairs_trees};
+    ghost use Rattle.meta_base.specs.Pieces.Span.{span_text, span_start, span_end};
+    ghost use Rattle.meta_base.specs.Pieces.Pairs.{pair_text, pair_rule, pair_start, pair_end, pair_inner, pairs_text, pairs_trees};
 
     /// The rule.
     pub fn as_rule(&self) -> R
@@ -65,7 +65,8 @@ impl<'i, R: Copy> Pair<'i, R> {
     pub fn into_inner(self) -> Pairs<'i, R>
         ensures text { pairs_text result ≡ pair_text self.entry }
         ensures trees { pairs_trees result ≡ pair_inner self.entry }
-        ensures nested { AreNested (pairs_text result) (pairs_trees result) (pair_start self.entry) (pair_end self.entry) }
+        ensures nested { AreNested (pairs_text result) (pairs_trees result)
+            (pair_start self.entry) (pair_end self.entry) }
     {
         Pairs {
             text: self.text,
@@ -76,8 +77,8 @@ impl<'i, R: Copy> Pair<'i, R> {
 
 impl<'i, R: Copy> Pairs<'i, R> {
     ghost use Rattle.std.specs.Prelude.{◌≡◌, IfOk, IfErr, alloc_error};
-    ghost use Rattle.meta_base.specs.TokenTrees.{preorder};
-    ghost use Rattle.meta_base.specs.Pairs.{pairs_text, pairs_trees, flat_text, flat_pairs};
+    ghost use Rattle.meta_base.specs.Pieces.TokenTrees.{preorder};
+    ghost use Rattle.meta_base.specs.Pieces.Pairs.{pairs_text, pairs_trees, flat_text, flat_pairs};
 
     /// The pairs of these trees of `text`. Of the trees the last comes first.
     pub fn new(text: &'i str, trees: Vec<TokenTree<R>>) -> Pairs<'i, R>
@@ -118,7 +119,7 @@ impl<'i, R: Copy> Pairs<'i, R> {
 }
 
 impl<'i, R: Copy> Clone for Pairs<'i, R> {
-    ghost use Rattle.meta_base.specs.Pairs.{IsSamePairs};
+    ghost use Rattle.meta_base.specs.Pieces.Pairs.{IsSamePairs};
 
     ghost is_clone = { IsSamePairs };
 
@@ -134,7 +135,7 @@ impl<'i, R: Copy> Iterator for Pairs<'i, R> {
     type Item = Pair<'i, R>;
 
     ghost use Rattle.std.specs.Iterator.{at_most};
-    ghost use Rattle.meta_base.specs.Pairs.{pairs_left, TakesFirstPair};
+    ghost use Rattle.meta_base.specs.Pieces.Pairs.{pairs_left, TakesFirstPair};
 
     ghost next_gives = { TakesFirstPair };
 
@@ -170,7 +171,7 @@ pub struct FlatPairs<'i, R> {
 
 impl<'i, R: Copy> FlatPairs<'i, R> {
     ghost use Rattle.std.specs.Prelude.{◌≡◌, ◌<◌, length, IfOk, OnErr};
-    ghost use Rattle.meta_base.specs.Pairs.{flat_text, flat_pairs, TakesFirstOfAll};
+    ghost use Rattle.meta_base.specs.Pieces.Pairs.{flat_text, flat_pairs, TakesFirstOfAll};
 
     /// Takes the next pair, which has its own copy of the pairs inside it. After an error it is lost.
     fn take_first(&mut self) -> Result<Option<Pair<'i, R>>, AllocError>
@@ -204,7 +205,7 @@ impl<'i, R: Copy> Iterator for FlatPairs<'i, R> {
 
     ghost use Rattle.std.specs.Prelude.{length};
     ghost use Rattle.std.specs.Iterator.{at_most};
-    ghost use Rattle.meta_base.specs.Pairs.{flat_pairs, TakesFirstOrFails};
+    ghost use Rattle.meta_base.specs.Pieces.Pairs.{flat_pairs, TakesFirstOrFails};
 
     ghost next_gives = { TakesFirstOrFails };
 

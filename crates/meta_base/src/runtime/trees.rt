@@ -1,7 +1,7 @@
 // The trees that pairs are made of.
 ghost use Rattle.std.specs.Prelude.{◌≡◌, IfOk, MatchOption, map};
-ghost use Rattle.meta_base.specs.TokenTrees.{NoTokens, Token};
-ghost use Rattle.meta_base.specs.TreeViews.{tree_of, trees_of};
+ghost use Rattle.meta_base.specs.Pieces.TokenTrees.{NoTokens, Token};
+ghost use Rattle.meta_base.specs.Pieces.TreeViews.{tree_of, trees_of};
 
 use std::alloc::{AllocError, Global};
 

@@ -1,24 +1,23 @@
 // Literals.
 ghost use Rattle.std.specs.Prelude.{◌≡◌, ◌<◌, ℕ, IfOk, IfSome, MatchOption, [], ◌∷◌, chars, length, string_bytes};
 ghost use Rattle.std.specs.Char.{IsScalar};
-ghost use Rattle.meta_base.specs.NamedTrees.{named_trees_of};
-ghost use Rattle.meta_reader.specs.Faults.{wrong_literal};
+ghost use Rattle.meta_base.specs.Pieces.NamedTrees.{named_trees_of};
 ghost use Rattle.meta_reader.specs.Literal.{braced, digits, escape, extended, two_digits};
 ghost use Rattle.meta_reader.specs.Pieces.{IsPiece, StandIn};
-ghost use Rattle.meta_reader.specs.Reading.{literal};
 ghost use Rattle.meta_syntax.specs.Shape.{IsQuoted};
-ghost use Rattle.meta_reader.specs.Views.{Answers, IsSameNumber, NamesFirst, Unescapes};
+ghost use Rattle.meta_reader.specs.Views.{AnswersLiteral, IsSameNumber, NamesFirst, Unescapes};
 
 use crate::parser::faults::{Cause, ReadError};
-use crate::parser::pieces::{refused, span_at, written};
+use crate::parser::pieces::{error_of, span_of, text_of};
 use meta_base::grammar::Rule;
 use meta_base::runtime::{FirstTree, TokenTree};
-use meta_syntax::trees::first_tree;
+use meta_syntax::trees::leading_tree;
 use std::alloc::{AllocError, Global};
 
 /// The first character of a text, and what follows it.
 fn first(text: &str) -> Option<(char, &str)>
-    ensures parts { MatchOption result (chars text.entry.now ≡ []) (λ x. chars text.entry.now ≡ x.0 ∷ chars x.1.now) }
+    ensures parts { MatchOption result (chars text.entry.now ≡ [])
+        (λ x. chars text.entry.now ≡ x.0 ∷ chars x.1.now) }
     ensures scalar { IfSome result (λ x. IsScalar x.0) }
     ensures shorter { IfSome result (λ x. length x.1.now < length text.entry.now) }
 {
@@ -29,7 +28,8 @@ fn first(text: &str) -> Option<(char, &str)>
     }
 }
 
-/// The number that one more hexadecimal digit makes of another, or, past the greatest scalar value, some number past it.
+/// The number that one more hexadecimal digit makes of another, or, past the greatest scalar value,
+/// some number past it.
 fn extended(value: u32, digit: char) -> u32
     ensures { (n : ℕ) → IsSameNumber value n → IsSameNumber result (extended n digit) }
 {
@@ -108,35 +108,24 @@ fn unescape(alloc: Global, text: &str) -> Result<Option<String>, AllocError>
     Ok(Some(read))
 }
 
-/// What the literal from `start` to `end` stands for, by the trees in it.
+/// What a literal stands for, `quoted` being the trees in it: a quote, what is quoted, a quote.
 /// An escape that names no character is a fault of the whole literal.
 pub fn literal<'i>(
     alloc: Global,
     text: &'i str,
-    start: usize,
-    end: usize,
-    inner: &[TokenTree<Rule>],
+    tree: FirstTree<'_, Rule>,
+    quoted: &[TokenTree<Rule>],
 ) -> Result<String, ReadError<'i>>
-    requires place { IsPiece text.now start end }
-    requires shape { IsQuoted (named_trees_of inner.now) }
-    requires nested { StandIn text.now (named_trees_of inner.now) }
-    ensures { Answers (wrong_literal text.entry.now start end (named_trees_of inner.now)) result (λ s. chars (string_bytes s) ≡ literal text.entry.now (named_trees_of inner.now)) }
+    requires place { IsPiece text.now tree.start tree.end }
+    requires shape { IsQuoted (named_trees_of quoted.now) }
+    requires nested { StandIn text.now (named_trees_of quoted.now) }
+    ensures { AnswersLiteral text.entry.now tree.entry.start tree.entry.end
+        (named_trees_of quoted.now) result }
 {
-    let Some(FirstTree { others, .. }) = first_tree(inner) else {
-        unreachable!()
-    };
-    let Some(
-        FirstTree {
-            start: from,
-            end: to,
-            ..
-        },
-    ) = first_tree(others)
-    else {
-        unreachable!()
-    };
-    match unescape(alloc, written(text, from, to))? {
+    let quote = leading_tree(quoted);
+    let inside = leading_tree(quote.others);
+    match unescape(alloc, text_of(text, inside))? {
         Some(read) => Ok(read),
-        None => Err(refused(Cause::NoScalarValue, span_at(text, start, end))),
+        None => Err(error_of(Cause::NoScalarValue, span_of(text, tree))),
     }
 }

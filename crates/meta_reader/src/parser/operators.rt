@@ -1,116 +1,85 @@
 // Postfix operators.
-ghost use Rattle.std.specs.Prelude.{◌≡◌, codes};
-ghost use Rattle.meta_base.specs.NamedTrees.{named_trees_of};
-ghost use Rattle.meta_base.specs.Span.{span_text};
-ghost use Rattle.meta_reader.specs.Faults.{first_fault};
+ghost use Rattle.std.specs.Prelude.{codes};
+ghost use Rattle.meta_base.specs.Pieces.NamedTrees.{named_trees_of};
+ghost use Rattle.meta_base.specs.Pieces.Span.{span_text};
 ghost use Rattle.meta_reader.specs.Pieces.{StandIn};
-ghost use Rattle.meta_reader.specs.Reading.{Postfix, Postfixed};
-ghost use Rattle.meta_base.specs.MetaRules.{name_of};
+ghost use Rattle.meta_base.specs.Pieces.MetaRules.{name_of};
 ghost use Rattle.meta_syntax.specs.Shape.{ArePostfixes, IsCounted, IsPostfix};
 ghost use Rattle.meta_nodes.specs.Spanned.{RepExact, RepMax, RepMin, RepMinMax};
-ghost use Rattle.meta_reader.specs.Views.{Answers, IsPostfixOf, StandsBefore};
-ghost use Rattle.meta_nodes.specs.Nodes.{piece_of, view};
+ghost use Rattle.meta_reader.specs.Views.{AnswersCount, AnswersPostfix, AnswersPostfixes, StandsBefore};
 
 use crate::parser::faults::ReadError;
 use crate::parser::pieces::{count, number, span_at};
 use meta_base::grammar::Rule;
 use meta_base::runtime::{FirstTree, Span, TokenTree};
 use meta_nodes::{ParserExpr, ParserNode};
-use meta_syntax::trees::first_tree;
+use meta_syntax::trees::{first_tree, leading_tree};
 use std::alloc::Global;
 
 /// The count of `{n}`, by the trees in it. A number that fits no `u32` is a fault, and so is 0.
 fn exact<'i>(text: &'i str, inner: &[TokenTree<Rule>]) -> Result<u32, ReadError<'i>>
     requires shape { IsCounted text.now (codes "repeat_exact") (named_trees_of inner.now) }
     requires nested { StandIn text.now (named_trees_of inner.now) }
-    ensures { Answers (first_fault text.entry.now (named_trees_of inner.now)) result (λ n. Postfix text.entry.now (codes "repeat_exact") (named_trees_of inner.now) (RepExact n)) }
+    ensures { AnswersCount text.entry.now (codes "repeat_exact") (named_trees_of inner.now) RepExact result }
 {
-    let Some(FirstTree { others, .. }) = first_tree(inner) else {
-        unreachable!()
-    };
-    let Some(FirstTree { start, end, .. }) = first_tree(others) else {
-        unreachable!()
-    };
-    count(text, start, end)
+    let brace = leading_tree(inner);
+    let times = leading_tree(brace.others);
+    count(text, times)
 }
 
 /// The least number of `{n,}`, by the trees in it. A number that fits no `u32` is a fault.
 fn at_least<'i>(text: &'i str, inner: &[TokenTree<Rule>]) -> Result<u32, ReadError<'i>>
     requires shape { IsCounted text.now (codes "repeat_min") (named_trees_of inner.now) }
     requires nested { StandIn text.now (named_trees_of inner.now) }
-    ensures { Answers (first_fault text.entry.now (named_trees_of inner.now)) result (λ n. Postfix text.entry.now (codes "repeat_min") (named_trees_of inner.now) (RepMin n)) }
+    ensures { AnswersCount text.entry.now (codes "repeat_min") (named_trees_of inner.now) RepMin result }
 {
-    let Some(FirstTree { others, .. }) = first_tree(inner) else {
-        unreachable!()
-    };
-    let Some(FirstTree { start, end, .. }) = first_tree(others) else {
-        unreachable!()
-    };
-    number(text, start, end)
+    let brace = leading_tree(inner);
+    let least = leading_tree(brace.others);
+    number(text, least)
 }
 
 /// The greatest number of `{,n}`, by the trees in it. A number that fits no `u32` is a fault, and so is 0.
 fn at_most<'i>(text: &'i str, inner: &[TokenTree<Rule>]) -> Result<u32, ReadError<'i>>
     requires shape { IsCounted text.now (codes "repeat_max") (named_trees_of inner.now) }
     requires nested { StandIn text.now (named_trees_of inner.now) }
-    ensures { Answers (first_fault text.entry.now (named_trees_of inner.now)) result (λ n. Postfix text.entry.now (codes "repeat_max") (named_trees_of inner.now) (RepMax n)) }
+    ensures { AnswersCount text.entry.now (codes "repeat_max") (named_trees_of inner.now) RepMax result }
 {
-    let Some(FirstTree { others, .. }) = first_tree(inner) else {
-        unreachable!()
-    };
-    let Some(FirstTree { others, .. }) = first_tree(others) else {
-        unreachable!()
-    };
-    let Some(FirstTree { start, end, .. }) = first_tree(others) else {
-        unreachable!()
-    };
-    count(text, start, end)
+    let brace = leading_tree(inner);
+    let comma = leading_tree(brace.others);
+    let most = leading_tree(comma.others);
+    count(text, most)
 }
 
-/// The numbers of `{m,n}`, by the trees in it. A number that fits no `u32` is a fault, and so is 0 as the second.
+/// The numbers of `{m,n}`, by the trees in it. A number that fits no `u32` is a fault, and so is 0 as
+/// the second.
 fn between<'i>(text: &'i str, inner: &[TokenTree<Rule>]) -> Result<(u32, u32), ReadError<'i>>
     requires shape { IsCounted text.now (codes "repeat_min_max") (named_trees_of inner.now) }
     requires nested { StandIn text.now (named_trees_of inner.now) }
-    ensures { Answers (first_fault text.entry.now (named_trees_of inner.now)) result (λ n. Postfix text.entry.now (codes "repeat_min_max") (named_trees_of inner.now) (RepMinMax n.0 n.1)) }
+    ensures { AnswersCount text.entry.now (codes "repeat_min_max") (named_trees_of inner.now)
+        (λ n. RepMinMax n.0 n.1) result }
 {
-    let Some(FirstTree { others, .. }) = first_tree(inner) else {
-        unreachable!()
-    };
-    let Some(
-        FirstTree {
-            start,
-            end,
-            others,
-            ..
-        },
-    ) = first_tree(others)
-    else {
-        unreachable!()
-    };
-    let least = number(text, start, end)?;
-    let Some(FirstTree { others, .. }) = first_tree(others) else {
-        unreachable!()
-    };
-    let Some(FirstTree { start, end, .. }) = first_tree(others) else {
-        unreachable!()
-    };
-    let most = count(text, start, end)?;
+    let brace = leading_tree(inner);
+    let first = leading_tree(brace.others);
+    let least = number(text, first)?;
+    let comma = leading_tree(first.others);
+    let second = leading_tree(comma.others);
+    let most = count(text, second)?;
     Ok((least, most))
 }
 
-/// What a postfix operator makes of a node: `span` is where it stands with the node, `inner` what it holds.
+/// What a postfix operator makes of a node: `span` is where it stands with the node.
 fn postfix<'i>(
     alloc: Global,
     node: ParserNode<'i>,
-    rule: Rule,
     span: Span<'i>,
-    inner: &[TokenTree<Rule>],
+    operator: FirstTree<'_, Rule>,
 ) -> Result<ParserNode<'i>, ReadError<'i>>
-    requires shape { IsPostfix (span_text span) (name_of rule) (named_trees_of inner.now) }
-    requires nested { StandIn (span_text span) (named_trees_of inner.now) }
-    ensures { Answers (first_fault (span_text span.entry) (named_trees_of inner.now)) result (IsPostfixOf (span_text span.entry) (name_of rule) (named_trees_of inner.now) (piece_of span.entry) node.entry) }
+    requires shape { IsPostfix (span_text span) (name_of operator.rule) (named_trees_of operator.inner.now) }
+    requires nested { StandIn (span_text span) (named_trees_of operator.inner.now) }
+    ensures { AnswersPostfix span.entry operator.entry node.entry result }
 {
-    match rule {
+    let inner = operator.inner;
+    match operator.rule {
         Rule::optional_operator => Ok(ParserNode {
             expr: ParserExpr::Opt(Box::new(alloc, node)?),
             span,
@@ -164,23 +133,14 @@ pub fn postfixed<'i>(
 ) -> Result<ParserNode<'i>, ReadError<'i>>
     requires shape { ArePostfixes text.now (named_trees_of operators.now) }
     requires place { StandsBefore text.now operand (named_trees_of operators.now) }
-    ensures { Answers (first_fault text.entry.now (named_trees_of operators.now)) result (λ n. Postfixed text.entry.now (view operand.entry) (named_trees_of operators.now) (view n)) }
+    ensures { AnswersPostfixes text.entry.now (named_trees_of operators.now) operand.entry result }
 {
     let mut node = operand;
     let mut rest = operators;
-    while let Some(
-        FirstTree {
-            rule,
-            end,
-            inner,
-            others,
-            ..
-        },
-    ) = first_tree(rest)
-    {
-        let span = span_at(text, node.span.start(), end);
-        node = postfix(alloc, node, rule, span, inner)?;
-        rest = others;
+    while let Some(operator) = first_tree(rest) {
+        let span = span_at(text, node.span.start(), operator.end);
+        node = postfix(alloc, node, span, operator)?;
+        rest = operator.others;
     }
     Ok(node)
 }

@@ -9,64 +9,76 @@ ghost use Rattle.meta_nodes.specs.Nodes.{piece_of};
 ghost use Rattle.meta_reader.specs.declared.parser.faults.ReadError.TheVariants.{Found};
 
 use crate::parser::faults::{Cause, Finding, ReadError};
-use meta_base::runtime::Span;
+use meta_base::grammar::Rule;
+use meta_base::runtime::{FirstTree, Span};
 
 /// The piece of the text from the byte `start` to the byte `end`.
 pub fn span_at<'i>(text: &'i str, start: usize, end: usize) -> Span<'i>
     requires { IsPiece text.now start end }
     ensures { piece_of result ≡ piece text.entry.now start end }
 {
-    Span::new(text, start, end).unwrap()
+    Span::of(text, start, end)
 }
 
-/// What is written there.
-pub fn written<'i>(text: &'i str, start: usize, end: usize) -> &'i str
-    requires { IsPiece text.now start end }
-    ensures { result.now ≡ slice_range text.entry.now start end }
+/// The piece of the text that a tree stands for.
+pub fn span_of<'i>(text: &'i str, tree: FirstTree<'_, Rule>) -> Span<'i>
+    requires { IsPiece text.now tree.start tree.end }
+    ensures { piece_of result ≡ piece text.entry.now tree.entry.start tree.entry.end }
 {
-    &text[start..end]
+    span_at(text, tree.start, tree.end)
+}
+
+/// The text that a tree stands for.
+pub fn text_of<'i>(text: &'i str, tree: FirstTree<'_, Rule>) -> &'i str
+    requires { IsPiece text.now tree.start tree.end }
+    ensures { result.now ≡ slice_range text.entry.now tree.entry.start tree.entry.end }
+{
+    &text[tree.start..tree.end]
 }
 
 /// The error that a fault is.
-pub fn refused<'i>(cause: Cause, span: Span<'i>) -> ReadError<'i>
+pub fn error_of<'i>(cause: Cause, span: Span<'i>) -> ReadError<'i>
     ensures { result ≡ Found (record { cause = cause; span = span.entry }) }
 {
     ReadError::Found(Finding { cause, span })
 }
 
-/// The number that is written there, as how often at least. A number that fits no `u32` is a fault.
-pub fn number<'i>(text: &'i str, start: usize, end: usize) -> Result<u32, ReadError<'i>>
-    requires place { IsPiece text.now start end }
-    requires digits { IsNumber text.now start end }
-    ensures { Answers (past_u32 text.entry.now start end) result (λ n. n ≡ number text.entry.now start end) }
+/// The number that a tree stands for, as how often at least. One that fits no `u32` is a fault.
+pub fn number<'i>(text: &'i str, tree: FirstTree<'_, Rule>) -> Result<u32, ReadError<'i>>
+    requires place { IsPiece text.now tree.start tree.end }
+    requires digits { IsNumber text.now tree.start tree.end }
+    ensures { Answers (past_u32 text.entry.now tree.entry.start tree.entry.end) result
+        (λ n. n ≡ number text.entry.now tree.entry.start tree.entry.end) }
 {
-    match written(text, start, end).parse::<u32>() {
+    match text_of(text, tree).parse::<u32>() {
         Ok(n) => Ok(n),
-        Err(_) => Err(refused(Cause::PastU32, span_at(text, start, end))),
+        Err(_) => Err(error_of(Cause::PastU32, span_of(text, tree))),
     }
 }
 
-/// The number that is written there, as how often at most. A number that fits no `u32` is a fault, and so is 0.
-pub fn count<'i>(text: &'i str, start: usize, end: usize) -> Result<u32, ReadError<'i>>
-    requires place { IsPiece text.now start end }
-    requires digits { IsNumber text.now start end }
-    ensures { Answers (not_a_count text.entry.now start end) result (λ n. n ≡ number text.entry.now start end) }
+/// The number that a tree stands for, as how often at most. One that fits no `u32` is a fault, and so is 0.
+pub fn count<'i>(text: &'i str, tree: FirstTree<'_, Rule>) -> Result<u32, ReadError<'i>>
+    requires place { IsPiece text.now tree.start tree.end }
+    requires digits { IsNumber text.now tree.start tree.end }
+    ensures { Answers (not_a_count text.entry.now tree.entry.start tree.entry.end) result
+        (λ n. n ≡ number text.entry.now tree.entry.start tree.entry.end) }
 {
-    let n = number(text, start, end)?;
+    let n = number(text, tree)?;
     if n == 0 {
-        return Err(refused(Cause::ZeroTimes, span_at(text, start, end)));
+        return Err(error_of(Cause::ZeroTimes, span_of(text, tree)));
     }
     Ok(n)
 }
 
-/// The number of a slice that is written there. A number that fits no `i32` is a fault.
-pub fn slice_number<'i>(text: &'i str, start: usize, end: usize) -> Result<i32, ReadError<'i>>
-    requires place { IsPiece text.now start end }
-    requires digits { IsInteger text.now start end }
-    ensures { Answers (past_i32 text.entry.now start end) result (λ n. n ≡ integer text.entry.now start end) }
+/// The number of a slice that a tree stands for. One that fits no `i32` is a fault.
+pub fn slice_number<'i>(text: &'i str, tree: FirstTree<'_, Rule>) -> Result<i32, ReadError<'i>>
+    requires place { IsPiece text.now tree.start tree.end }
+    requires digits { IsInteger text.now tree.start tree.end }
+    ensures { Answers (past_i32 text.entry.now tree.entry.start tree.entry.end) result
+        (λ n. n ≡ integer text.entry.now tree.entry.start tree.entry.end) }
 {
-    match written(text, start, end).parse::<i32>() {
+    match text_of(text, tree).parse::<i32>() {
         Ok(n) => Ok(n),
-        Err(_) => Err(refused(Cause::PastI32, span_at(text, start, end))),
+        Err(_) => Err(error_of(Cause::PastI32, span_of(text, tree))),
     }
 }

@@ -1,14 +1,15 @@
 // What errors call the rules of the meta-grammar.
 ghost use Rattle.std.specs.Prelude.{◌≡◌, alloc_error, string_bytes, MatchResult};
-ghost use Rattle.meta_base.specs.MetaRules.{name_of};
+ghost use Rattle.meta_base.specs.Pieces.MetaRules.{name_of};
 ghost use Rattle.meta_reader.specs.ShownNames.{shown_name};
 
 use meta_base::grammar::Rule;
 use meta_base::runtime::Fault;
 use std::alloc::Global;
 
-/// What errors call a rule: `rule`, `PUSH` and `PUSH_LITERAL`; a mark between grave accents for what is written as one;
-/// `//!` and `///` for the comments that document; its own name for any other, `EOI` included.
+/// What errors call a rule: `rule`, `PUSH` and `PUSH_LITERAL`; a mark between grave accents for what is
+/// written as one; `//!` and `///` for the comments that document; its own name for any other, `EOI`
+/// included.
 ///
 /// The one fault is a want of memory.
 pub fn rename_meta_rule(alloc: Global, rule: &Rule) -> Result<String, Fault>

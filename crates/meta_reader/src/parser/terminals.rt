@@ -1,65 +1,39 @@
 // Nodes that hold no expression.
-ghost use Rattle.std.specs.Prelude.{◌≡◌, codes};
-ghost use Rattle.meta_base.specs.State.{None', Tree};
-ghost use Rattle.meta_base.specs.NamedTrees.{named_trees_of};
-ghost use Rattle.meta_reader.specs.Pieces.{IsPiece, StandIn};
+ghost use Rattle.std.specs.Prelude.{codes};
+ghost use Rattle.meta_base.specs.Pieces.NamedTrees.{named_trees_of};
+ghost use Rattle.meta_reader.specs.Pieces.{StandIn};
 ghost use Rattle.meta_reader.specs.Reading.{ANode};
-ghost use Rattle.meta_base.specs.MetaRules.{name_of};
+ghost use Rattle.meta_base.specs.Pieces.MetaRules.{name_of};
 ghost use Rattle.meta_syntax.specs.Shape.{IsSlice, IsTerminal, MayBeNumber};
-ghost use Rattle.meta_reader.specs.Views.{AnswersBound, ReadsAs};
+ghost use Rattle.meta_reader.specs.Views.{AnswersBound, ReadsAs, alone, alone_as};
 
 use crate::parser::faults::{Cause, ReadError};
 use crate::parser::literal::literal;
-use crate::parser::pieces::{refused, slice_number, span_at, written};
+use crate::parser::pieces::{error_of, slice_number, span_of, text_of};
 use meta_base::grammar::Rule;
 use meta_base::runtime::{FirstTree, TokenTree};
 use meta_nodes::{ParserExpr, ParserNode};
-use meta_syntax::trees::first_tree;
+use meta_syntax::trees::leading_tree;
 use std::alloc::Global;
 
-/// The range from `start` to `end`, by the trees in it. A fault is its literals'.
+/// A range. A fault is its literals'.
 fn range<'i>(
     alloc: Global,
     text: &'i str,
-    start: usize,
-    end: usize,
-    inner: &[TokenTree<Rule>],
+    tree: FirstTree<'_, Rule>,
 ) -> Result<ParserNode<'i>, ReadError<'i>>
-    requires shape { IsTerminal text.now (codes "range") (named_trees_of inner.now) }
-    requires nested { StandIn text.now (Tree (codes "range") start end (named_trees_of inner.now) None') }
-    ensures { ReadsAs text.entry.now ANode (Tree (codes "range") start end (named_trees_of inner.now) None') result }
+    requires shape { IsTerminal text.now (codes "range") (named_trees_of tree.inner.now) }
+    requires nested { StandIn text.now (alone_as (codes "range") tree) }
+    ensures { ReadsAs text.entry.now ANode (alone_as (codes "range") tree.entry) result }
 {
-    let Some(
-        FirstTree {
-            start: low_start,
-            end: low_end,
-            inner: low,
-            others,
-            ..
-        },
-    ) = first_tree(inner)
-    else {
-        unreachable!()
-    };
-    let Some(FirstTree { others, .. }) = first_tree(others) else {
-        unreachable!()
-    };
-    let Some(
-        FirstTree {
-            start: high_start,
-            end: high_end,
-            inner: high,
-            ..
-        },
-    ) = first_tree(others)
-    else {
-        unreachable!()
-    };
-    let low = literal(alloc, text, low_start, low_end, low)?;
-    let high = literal(alloc, text, high_start, high_end, high)?;
+    let first = leading_tree(tree.inner);
+    let dots = leading_tree(first.others);
+    let last = leading_tree(dots.others);
+    let low = literal(alloc, text, first, first.inner)?;
+    let high = literal(alloc, text, last, last.inner)?;
     Ok(ParserNode {
         expr: ParserExpr::Range(low, high),
-        span: span_at(text, start, end),
+        span: span_of(text, tree),
     })
 }
 
@@ -72,95 +46,69 @@ fn bound<'i, 't>(
     requires nested { StandIn text.now (named_trees_of trees.now) }
     ensures { AnswersBound text.entry.now (named_trees_of trees.entry.now) result }
 {
-    let Some(
-        FirstTree {
-            rule,
-            start,
-            end,
-            others,
-            ..
-        },
-    ) = first_tree(trees)
-    else {
-        unreachable!()
-    };
-    match rule {
+    let tree = leading_tree(trees);
+    match tree.rule {
         Rule::integer => {
-            let n = slice_number(text, start, end)?;
-            Ok((Some(n), others))
+            let n = slice_number(text, tree)?;
+            Ok((Some(n), tree.others))
         }
         _ => Ok((None, trees)),
     }
 }
 
-/// The slice of the stack from `start` to `end`, by the trees in it. A fault is its numbers'.
-fn slice<'i>(
-    text: &'i str,
-    start: usize,
-    end: usize,
-    inner: &[TokenTree<Rule>],
-) -> Result<ParserNode<'i>, ReadError<'i>>
-    requires shape { IsSlice text.now (named_trees_of inner.now) }
-    requires nested { StandIn text.now (Tree (codes "peek_slice") start end (named_trees_of inner.now) None') }
-    ensures { ReadsAs text.entry.now ANode (Tree (codes "peek_slice") start end (named_trees_of inner.now) None') result }
+/// A slice of the stack. A fault is its numbers'.
+fn slice<'i>(text: &'i str, tree: FirstTree<'_, Rule>) -> Result<ParserNode<'i>, ReadError<'i>>
+    requires shape { IsSlice text.now (named_trees_of tree.inner.now) }
+    requires nested { StandIn text.now (alone_as (codes "peek_slice") tree) }
+    ensures { ReadsAs text.entry.now ANode (alone_as (codes "peek_slice") tree.entry) result }
 {
-    let Some(FirstTree { others, .. }) = first_tree(inner) else {
-        unreachable!()
-    };
-    let (low, rest) = bound(text, others)?;
-    let Some(FirstTree { others, .. }) = first_tree(rest) else {
-        unreachable!()
-    };
-    let (high, _) = bound(text, others)?;
-    let expr = ParserExpr::PeekSlice(low.unwrap_or(0), high);
+    let bracket = leading_tree(tree.inner);
+    let (low, rest) = bound(text, bracket.others)?;
+    let dots = leading_tree(rest);
+    let (high, _) = bound(text, dots.others)?;
     Ok(ParserNode {
-        expr,
-        span: span_at(text, start, end),
+        expr: ParserExpr::PeekSlice(low.unwrap_or(0), high),
+        span: span_of(text, tree),
     })
 }
 
-/// The node from `start` to `end` of a rule that holds no expression, by the trees in it, or its first fault.
+/// The node of a rule that holds no expression, or its first fault.
 pub fn terminal<'i>(
     alloc: Global,
     text: &'i str,
-    rule: Rule,
-    start: usize,
-    end: usize,
-    inner: &[TokenTree<Rule>],
+    tree: FirstTree<'_, Rule>,
 ) -> Result<ParserNode<'i>, ReadError<'i>>
-    requires shape { IsTerminal text.now (name_of rule) (named_trees_of inner.now) }
-    requires nested { StandIn text.now (Tree (name_of rule) start end (named_trees_of inner.now) None') }
-    ensures { ReadsAs text.entry.now ANode (Tree (name_of rule) start end (named_trees_of inner.now) None') result }
+    requires shape { IsTerminal text.now (name_of tree.rule) (named_trees_of tree.inner.now) }
+    requires nested { StandIn text.now (alone tree) }
+    ensures { ReadsAs text.entry.now ANode (alone tree.entry) result }
 {
-    let span = span_at(text, start, end);
-    match rule {
+    let span = span_of(text, tree);
+    match tree.rule {
         Rule::identifier => {
-            let name = String::from_str(alloc, written(text, start, end))?;
+            let name = String::from_str(alloc, text_of(text, tree))?;
             Ok(ParserNode {
                 expr: ParserExpr::Ident(name),
                 span,
             })
         }
         Rule::string => {
-            let read = literal(alloc, text, start, end, inner)?;
+            let read = literal(alloc, text, tree, tree.inner)?;
             Ok(ParserNode {
                 expr: ParserExpr::Str(read),
                 span,
             })
         }
         Rule::insensitive_string => {
-            let Some(FirstTree { inner, .. }) = first_tree(inner) else {
-                unreachable!()
-            };
-            let read = literal(alloc, text, start, end, inner)?;
+            let string = leading_tree(tree.inner);
+            let read = literal(alloc, text, tree, string.inner)?;
             Ok(ParserNode {
                 expr: ParserExpr::Insens(read),
                 span,
             })
         }
-        Rule::range => range(alloc, text, start, end, inner),
-        Rule::peek_slice => slice(text, start, end, inner),
-        Rule::_push_literal => Err(refused(Cause::PushLiteralCalled, span)),
+        Rule::range => range(alloc, text, tree),
+        Rule::peek_slice => slice(text, tree),
+        Rule::_push_literal => Err(error_of(Cause::PushLiteralCalled, span)),
         _ => unreachable!(),
     }
 }

@@ -3,11 +3,376 @@ use std::alloc::{AllocError, Global};
 use std::io::{self, ErrorKind, Write};
 use std::test::Fail;
 
-/// A writer that refuses every write but the first few.
+/// What the program makes of a text: its status, what it prints, and what it reports.
+fn checked(alloc: Global, text: &str) -> (u8, Vec<u8>, Vec<u8>) {
+    let mut out = Vec::new(alloc);
+    let mut err = Vec::new(alloc);
+    let status = run(alloc, Some(text.as_bytes()), &mut out, &mut err);
+    (status, out, err)
+}
+
+/// Texts with what is printed for them.
+static PRINTED: [(&str, &str); 29] = [
+    ("", ""),
+    (
+        "a = { \"x\" ~ b } b = { \"y\" }",
+        "a = { (\"x\" ~ b) }\nb = { \"y\" }\n",
+    ),
+    (
+        "a = { \"x\" | \"y\" | \"z\" }",
+        "a = { (\"x\" | \"y\" | \"z\") }\n",
+    ),
+    (
+        "a = { (\"x\" ~ \"y\") ~ \"z\" | \"c\" }",
+        "a = { ((\"x\" ~ \"y\" ~ \"z\") | \"c\") }\n",
+    ),
+    ("a = @{ \"x\" ~ \"y\" }", "a = @{ \"xy\" }\n"),
+    (
+        "a = _{ (((\"x\"))) } b = ${ a } c = !{ \"é\" ~ \"\t\" }",
+        "a = _{ \"x\" }\nb = ${ a }\nc = !{ (\"é\" ~ \"\\t\") }\n",
+    ),
+    ("a = { /* c */ \"x\" // d\n}", "a = { \"x\" }\n"),
+    ("a = { !e? } e = { \"e\" }", "a = { !e? }\ne = { \"e\" }\n"),
+    (
+        "a = { (!e)? } e = { \"e\" }",
+        "a = { (!e)? }\ne = { \"e\" }\n",
+    ),
+    (
+        "a = { PUSH(\"a\") ~ PEEK[0..-1] ~ POP }",
+        "a = { (PUSH(\"a\") ~ PEEK[0..-1] ~ POP) }\n",
+    ),
+    (
+        "a = { (\"x\"{2,3} ~ ^\"y\")* }",
+        "a = { ((\"x\" ~ \"x\" ~ \"x\"?) ~ ^\"y\")* }\n",
+    ),
+    ("a = { '\\''..'\"' }", "a = { ('\\''..'\"') }\n"),
+    (
+        "a = { \"\\u{85}é\\u{2028}\" }",
+        "a = { \"\\u{85}é\\u{2028}\" }\n",
+    ),
+    ("//! d\n/// e\na = { | \"x\"{0,} }", "a = { \"x\"* }\n"),
+    ("a = { PEEK_ALL* }", "a = { PEEK_ALL* }\n"),
+    (
+        "r = ${ (\"a\" ~ \"b\")* ~ \"a\" }",
+        "r = ${ (\"a\" ~ (\"b\" ~ \"a\")*) }\n",
+    ),
+    (
+        "r = @{ (\"a\" ~ \"b\")* ~ \"a\" }",
+        "r = @{ (\"ab\"* ~ \"a\") }\n",
+    ),
+    (
+        "s = @{ \"a\" | \"b\" } t = @{ (!s ~ ANY)* }",
+        "s = @{ (\"a\" | \"b\") }\nt = @{ (!(\"a\" | \"b\") ~ ANY)* }\n",
+    ),
+    (
+        "s = { \"a\" | \"b\" | \"c\" } t = @{ (!s ~ ANY)* }",
+        "s = { (\"a\" | \"b\" | \"c\") }\nt = @{ (!s ~ ANY)* }\n",
+    ),
+    (
+        "a = ${ \"x\" ~ \"y\" | \"x\" }",
+        "a = ${ (\"x\" ~ \"y\"?) }\n",
+    ),
+    (
+        "a = { \"x\" ~ \"y\" | \"x\" }",
+        "a = { ((\"x\" ~ \"y\") | \"x\") }\n",
+    ),
+    (
+        "a = @{ \"x\" ~ \"y\" | \"x\" }",
+        "a = @{ (\"xy\" | \"x\") }\n",
+    ),
+    ("a = { \"x\"{3,2} }", "a = { (\"x\" ~ \"x\") }\n"),
+    (
+        "WHITESPACE = _{ \" \" } a = { \"x\"+ }",
+        "WHITESPACE = _{ \" \" }\na = { (\"x\" ~ \"x\"*) }\n",
+    ),
+    (
+        "WHITESPACE = _{ b } b = !{ \"x\"? ~ \"y\" }",
+        "WHITESPACE = _{ b }\nb = !{ (\"x\"? ~ \"y\") }\n",
+    ),
+    ("a = { (| \"x\") }", "a = { \"x\" }\n"),
+    ("a = { #t = \"x\" }", "a = { \"x\" }\n"),
+    ("a = { POP | PEEK }", "a = { (POP | PEEK) }\n"),
+    (
+        "a = { (PUSH(\"\") ~ PEEK)* }",
+        "a = { (PUSH(\"\") ~ PEEK)* }\n",
+    ),
+];
+
+#[test]
+fn grammars_are_printed(rt: HostRuntime) {
+    for (text, printed) in &PRINTED {
+        let (status, out, err) = checked(rt.alloc(), text);
+        assert_eq!(rt; status, 0, "at {text}");
+        assert!(rt; out.as_slice() == printed.as_bytes(), "at {text}");
+        assert!(rt; err.is_empty(), "at {text}");
+    }
+}
+
+/// What an error prints: its place as `line:column`, the number of the line, the line, what is under it, and
+/// the message.
+type Told = [&'static str; 5];
+
+/// Texts with the errors that are reported for them.
+static REFUSED: [(&str, &[Told]); 15] = [
+    (
+        "a = { b } a = { c }",
+        &[
+            [
+                "1:11",
+                "1",
+                "a = { b } a = { c }",
+                "          ^",
+                "rule a already defined",
+            ],
+            [
+                "1:7",
+                "1",
+                "a = { b } a = { c }",
+                "      ^",
+                "rule b is undefined",
+            ],
+            [
+                "1:17",
+                "1",
+                "a = { b } a = { c }",
+                "                ^",
+                "rule c is undefined",
+            ],
+        ],
+    ),
+    (
+        "ANY = { \"a\" } ANY = { b }",
+        &[
+            [
+                "1:1",
+                "1",
+                "ANY = { \"a\" } ANY = { b }",
+                "^-^",
+                "ANY is a pest keyword",
+            ],
+            [
+                "1:15",
+                "1",
+                "ANY = { \"a\" } ANY = { b }",
+                "              ^-^",
+                "ANY is a pest keyword",
+            ],
+            [
+                "1:15",
+                "1",
+                "ANY = { \"a\" } ANY = { b }",
+                "              ^-^",
+                "rule ANY already defined",
+            ],
+            [
+                "1:23",
+                "1",
+                "ANY = { \"a\" } ANY = { b }",
+                "                      ^",
+                "rule b is undefined",
+            ],
+        ],
+    ),
+    (
+        "a = { \"x\"{0} }",
+        &[[
+            "1:11",
+            "1",
+            "a = { \"x\"{0} }",
+            "          ^",
+            "cannot repeat 0 times",
+        ]],
+    ),
+    (
+        "a = { \"x\"{4294967296} }",
+        &[[
+            "1:11",
+            "1",
+            "a = { \"x\"{4294967296} }",
+            "          ^--------^",
+            "number cannot overflow u32",
+        ]],
+    ),
+    (
+        "a = { PEEK[0..2147483648] }",
+        &[[
+            "1:15",
+            "1",
+            "a = { PEEK[0..2147483648] }",
+            "              ^--------^",
+            "number cannot overflow i32",
+        ]],
+    ),
+    (
+        "a = { \"\\u{d800}\" }",
+        &[[
+            "1:7",
+            "1",
+            "a = { \"\\u{d800}\" }",
+            "      ^--------^",
+            "escape is not a Unicode scalar value",
+        ]],
+    ),
+    (
+        "a = { PUSH_LITERAL(\"x\") }",
+        &[[
+            "1:7",
+            "1",
+            "a = { PUSH_LITERAL(\"x\") }",
+            "      ^---------------^",
+            "PUSH_LITERAL requires feature grammar-extras",
+        ]],
+    ),
+    (
+        "a = { \"\"* | \"b\" }",
+        &[
+            [
+                "1:7",
+                "1",
+                "a = { \"\"* | \"b\" }",
+                "      ^-^",
+                "expression inside repetition cannot fail and will repeat infinitely",
+            ],
+            [
+                "1:7",
+                "1",
+                "a = { \"\"* | \"b\" }",
+                "      ^-^",
+                "expression cannot fail; following choices cannot be reached",
+            ],
+        ],
+    ),
+    (
+        "a = { \"x\"? ~ a }",
+        &[[
+            "1:14",
+            "1",
+            "a = { \"x\"? ~ a }",
+            "             ^",
+            "rule a is left-recursive (a -> a); pest::pratt_parser might be useful in this case",
+        ]],
+    ),
+    (
+        "a = { \"x\"",
+        &[[
+            "1:10",
+            "1",
+            "a = { \"x\"",
+            "         ^---",
+            "unknown parsing error",
+        ]],
+    ),
+    (
+        "a = { \"x\" ~ }",
+        &[[
+            "1:13",
+            "1",
+            "a = { \"x\" ~ }",
+            "            ^---",
+            "unknown parsing error",
+        ]],
+    ),
+    (
+        "PUSHx = { \"a\" }",
+        &[[
+            "1:1",
+            "1",
+            "PUSHx = { \"a\" }",
+            "^---",
+            "unknown parsing error",
+        ]],
+    ),
+    (
+        "a = { b }",
+        &[["1:7", "1", "a = { b }", "      ^", "rule b is undefined"]],
+    ),
+    (
+        "a = {\n b\n}",
+        &[["2:2", "2", " b", " ^", "rule b is undefined"]],
+    ),
+    (
+        "é = { \"x\" }",
+        &[["1:1", "1", "é = { \"x\" }", "^---", "unknown parsing error"]],
+    ),
+];
+
+/// What is reported of these errors.
+fn report(alloc: Global, errors: &[Told]) -> Result<String, AllocError> {
+    let mut text = String::from_str(alloc, "grammar error\n")?;
+    for [place, number, line, under, message] in errors {
+        write!(
+            text,
+            "\n --> {place}\n  |\n{number} | {line}\n  | {under}\n  |\n  = {message}\n"
+        )?;
+    }
+    Ok(text)
+}
+
+#[test]
+fn other_texts_are_refused(rt: HostRuntime) -> Result<(), Fail> {
+    for (text, errors) in &REFUSED {
+        let (status, out, err) = checked(rt.alloc(), text);
+        let wanted = report(rt.alloc(), errors)?;
+        assert_eq!(rt; status, 1, "at {text}");
+        assert!(rt; out.is_empty(), "at {text}");
+        assert!(rt; err.as_slice() == wanted.as_str().as_bytes(), "at {text}");
+    }
+    Ok(())
+}
+
+/// Bytes that are not UTF-8: of another encoding, never there, cut off, and half of a pair.
+static NO_TEXTS: [&[u8]; 4] = [
+    &[0x61, 0xe9, 0x62],
+    &[0xff],
+    &[0x61, 0xc3],
+    &[0xed, 0xa0, 0x80],
+];
+
+#[test]
+fn what_is_no_text_can_not_be_read(rt: HostRuntime) {
+    for number in 0..5 {
+        let mut out = Vec::new(rt.alloc());
+        let mut err = Vec::new(rt.alloc());
+        let input = NO_TEXTS.get(number).copied();
+        assert_eq!(rt; run(rt.alloc(), input, &mut out, &mut err), 3);
+        assert!(rt; out.is_empty());
+        assert!(rt; err.as_slice() == "cannot read\n".as_bytes());
+    }
+}
+
+#[test]
+fn each_beginning_of_a_grammar_has_its_answer(rt: HostRuntime) {
+    let text = "a = { \"x\" ~ b } b = { \"y\" }".as_bytes();
+    for length in 0..=text.len() {
+        let mut out = Vec::new(rt.alloc());
+        let mut err = Vec::new(rt.alloc());
+        let status = run(rt.alloc(), Some(&text[..length]), &mut out, &mut err);
+        let is_grammar = length == 0 || length == text.len();
+        assert_eq!(rt; status == 0, is_grammar, "at {length}");
+        assert_eq!(rt; status == 1, !is_grammar, "at {length}");
+        assert_eq!(rt; out.is_empty(), length < text.len(), "at {length}");
+        assert_eq!(rt; err.is_empty(), is_grammar, "at {length}");
+    }
+}
+
+/// A writer that takes some bytes at a time, and refuses all but the first few writes.
 #[derive(Drop)]
 struct Narrow {
     left: usize,
+    width: usize,
+    taken: usize,
     refused: bool,
+}
+
+impl Narrow {
+    fn new(left: usize, width: usize) -> Narrow {
+        Narrow {
+            left,
+            width,
+            taken: 0,
+            refused: false,
+        }
+    }
 }
 
 impl Write for Narrow {
@@ -17,7 +382,9 @@ impl Write for Narrow {
             return Err(io::Error::from(ErrorKind::BrokenPipe));
         }
         self.left -= 1;
-        Ok(buf.len())
+        let taken = buf.len().min(self.width);
+        self.taken = self.taken.saturating_add(taken);
+        Ok(taken)
     }
 
     fn flush(&mut self) -> io::Result<()> {
@@ -25,185 +392,53 @@ impl Write for Narrow {
     }
 }
 
-/// What the program makes of a text: its status, what it prints, and what it reports.
-fn checked(alloc: Global, text: &str) -> (u8, Vec<u8>, Vec<u8>) {
-    let mut out = Vec::new(alloc);
-    let mut err = Vec::new(alloc);
-    let status = run(alloc, Some(text.as_bytes()), &mut out, &mut err);
-    (status, out, err)
-}
-
-#[test]
-fn grammars_are_printed(rt: HostRuntime) {
-    let rows = [
-        (
-            "a = { \"x\" ~ b } b = { \"y\" }",
-            "a = { (\"x\" ~ b) }\nb = { \"y\" }\n",
-        ),
-        (
-            "a = { \"x\" | \"y\" | \"z\" }",
-            "a = { (\"x\" | \"y\" | \"z\") }\n",
-        ),
-        (
-            "a = { (\"x\" ~ \"y\") ~ \"z\" | \"c\" }",
-            "a = { ((\"x\" ~ \"y\" ~ \"z\") | \"c\") }\n",
-        ),
-        ("a = @{ \"x\" ~ \"y\" }", "a = @{ \"xy\" }\n"),
-        (
-            "a = _{ (((\"x\"))) } b = ${ a } c = !{ \"é\" ~ \"\t\" }",
-            "a = _{ \"x\" }\nb = ${ a }\nc = !{ (\"é\" ~ \"\\t\") }\n",
-        ),
-        ("a = { /* c */ \"x\" // d\n}", "a = { \"x\" }\n"),
-        ("a = { !e? } e = { \"e\" }", "a = { !e? }\ne = { \"e\" }\n"),
-        (
-            "a = { (!e)? } e = { \"e\" }",
-            "a = { (!e)? }\ne = { \"e\" }\n",
-        ),
-        (
-            "a = { PUSH(\"a\") ~ PEEK[0..-1] ~ POP }",
-            "a = { (PUSH(\"a\") ~ PEEK[0..-1] ~ POP) }\n",
-        ),
-        (
-            "a = { (\"x\"{2,3} ~ ^\"y\")* }",
-            "a = { ((\"x\" ~ \"x\" ~ \"x\"?) ~ ^\"y\")* }\n",
-        ),
-        ("a = { '\\''..'\"' }", "a = { ('\\''..'\"') }\n"),
-        (
-            "a = { \"\\u{85}é\\u{2028}\" }",
-            "a = { \"\\u{85}é\\u{2028}\" }\n",
-        ),
-        ("//! d\n/// e\na = { | \"x\"{0,} }", "a = { \"x\"* }\n"),
-        ("", ""),
-    ];
-    for (text, printed) in rows {
-        let (status, out, err) = checked(rt.alloc(), text);
-        assert_eq!(rt; status, 0, "at {text}");
-        assert!(rt; out.as_slice() == printed.as_bytes(), "at {text}");
-        assert!(rt; err.is_empty(), "at {text}");
-    }
-}
-
-/// Where an error stands, the place as `line:column`, its line, what is under that, and its message.
-fn report(alloc: Global, rows: [&str; 4]) -> Result<String, AllocError> {
-    let [place, line, under, message] = rows;
-    format!(in alloc;
-        "grammar error\n\n --> {place}\n  |\n1 | {line}\n  | {under}\n  |\n  = {message}\n"
-    )
-}
-
-#[test]
-fn other_texts_are_refused(rt: HostRuntime) -> Result<(), Fail> {
-    let rows = [
-        [
-            "1:10",
-            "a = { \"x\"",
-            "         ^---",
-            "unknown parsing error",
-        ],
-        [
-            "1:13",
-            "a = { \"x\" ~ }",
-            "            ^---",
-            "unknown parsing error",
-        ],
-        ["1:1", "PUSHx = { \"a\" }", "^---", "unknown parsing error"],
-        [
-            "1:11",
-            "a = { \"x\"{0} }",
-            "          ^",
-            "cannot repeat 0 times",
-        ],
-        [
-            "1:11",
-            "a = { \"x\"{4294967296} }",
-            "          ^--------^",
-            "number cannot overflow u32",
-        ],
-        [
-            "1:15",
-            "a = { PEEK[0..2147483648] }",
-            "              ^--------^",
-            "number cannot overflow i32",
-        ],
-        [
-            "1:7",
-            "a = { \"\\u{d800}\" }",
-            "      ^--------^",
-            "escape is not a Unicode scalar value",
-        ],
-        ["1:7", "a = { b }", "      ^", "rule b is undefined"],
-        [
-            "1:14",
-            "a = { \"x\"? ~ a }",
-            "             ^",
-            "rule a is left-recursive (a -> a); pest::pratt_parser might be useful in this case",
-        ],
-        [
-            "1:7",
-            "a = { PUSH_LITERAL(\"x\") }",
-            "      ^---------------^",
-            "PUSH_LITERAL requires feature grammar-extras",
-        ],
-    ];
-    for row in rows {
-        let [_, text, _, _] = row;
-        let (status, out, err) = checked(rt.alloc(), text);
-        let wanted = report(rt.alloc(), row)?;
-        assert_eq!(rt; status, 1, "at {text}");
-        assert!(rt; out.is_empty(), "at {text}");
-        assert!(rt; err.as_slice() == wanted.as_str().as_bytes(), "at {text}");
-    }
-    Ok(())
-}
-
-#[test]
-fn what_is_no_text_can_not_be_read(rt: HostRuntime) {
-    let latin = [0x61, 0xe9, 0x62];
-    for input in [None, Some(latin.as_slice())] {
-        let mut out = Vec::new(rt.alloc());
-        let mut err = Vec::new(rt.alloc());
-        assert_eq!(rt; run(rt.alloc(), input, &mut out, &mut err), 3);
-        assert!(rt; out.is_empty());
-        assert!(rt; err.as_slice() == "cannot read\n".as_bytes());
-    }
-}
-
+/// The Nth write is refused, for each N, where writes are taken whole, three bytes at a time, and one.
 #[test]
 fn each_refused_write_is_told(rt: HostRuntime) {
-    let text = "a = @{ (\"x\" ~ b) | \"c\" } b = { \"y\" }".as_bytes();
-    let mut was_refused = false;
-    let mut was_printed = false;
-    for left in 0..100 {
-        let mut out = Narrow {
-            left,
-            refused: false,
-        };
-        let mut err = Vec::new(rt.alloc());
-        let status = run(rt.alloc(), Some(text), &mut out, &mut err);
-        if out.refused {
-            was_refused = true;
-            assert_eq!(rt; status, 4, "at {left}");
-            assert!(rt; err.as_slice() == "cannot write\n".as_bytes(), "at {left}");
-        } else {
-            was_printed = true;
-            assert_eq!(rt; status, 0, "at {left}");
+    let text = "a = @{ (\"x\" ~ b) | \"c\" } b = { \"y\" }";
+    let (_, whole, _) = checked(rt.alloc(), text);
+    for width in [1000, 3, 1] {
+        let mut was_refused = false;
+        let mut was_printed = false;
+        for left in 0..100 {
+            let mut out = Narrow::new(left, width);
+            let mut err = Vec::new(rt.alloc());
+            let status = run(rt.alloc(), Some(text.as_bytes()), &mut out, &mut err);
+            if out.refused {
+                was_refused = true;
+                assert_eq!(rt; status, 4, "at {left}");
+                assert!(rt; err.as_slice() == "cannot write\n".as_bytes(), "at {left}");
+            } else {
+                was_printed = true;
+                assert_eq!(rt; status, 0, "at {left}");
+                assert_eq!(rt; out.taken, whole.len(), "at {left}");
+            }
         }
+        assert!(rt; was_refused && was_printed);
     }
-    assert!(rt; was_refused && was_printed);
+}
+
+/// A writer that takes nothing.
+#[test]
+fn a_write_that_takes_nothing_is_told(rt: HostRuntime) {
+    let mut out = Narrow::new(100, 0);
+    let mut err = Vec::new(rt.alloc());
+    let text = "a = { \"x\" }".as_bytes();
+    assert_eq!(rt; run(rt.alloc(), Some(text), &mut out, &mut err), 4);
+    assert!(rt; err.as_slice() == "cannot write\n".as_bytes());
 }
 
 #[test]
 fn a_refused_report_changes_nothing(rt: HostRuntime) {
-    let mut out = Vec::new(rt.alloc());
-    let mut err = Narrow {
-        left: 0,
-        refused: false,
-    };
-    assert_eq!(rt;
-        run(rt.alloc(), Some("a = {".as_bytes()), &mut out, &mut err),
-        1
-    );
-    assert!(rt; err.refused);
+    for left in 0..8 {
+        let mut out = Vec::new(rt.alloc());
+        let mut err = Narrow::new(left, 5);
+        assert_eq!(rt;
+            run(rt.alloc(), Some("a = {".as_bytes()), &mut out, &mut err),
+            1
+        );
+        assert!(rt; err.refused && out.is_empty());
+    }
 }
 
 /// `count` times the text.
@@ -216,13 +451,29 @@ fn repeated(alloc: Global, text: &str, count: usize) -> Result<String, AllocErro
 }
 
 #[test]
-fn a_deep_grammar_is_printed(rt: HostRuntime) -> Result<(), Fail> {
-    let opened = repeated(rt.alloc(), "(", 400)?;
-    let closed = repeated(rt.alloc(), ")", 400)?;
-    let deep = format!(in rt.alloc(); "a = {{ {opened}\"x\"{closed} }}")?;
-    let (status, out, _) = checked(rt.alloc(), deep.as_str());
-    assert_eq!(rt; status, 0);
-    assert!(rt; out.as_slice() == "a = { \"x\" }\n".as_bytes());
+fn parentheses_are_closed_or_not(rt: HostRuntime) -> Result<(), Fail> {
+    for (count, wanted) in [(400, 0), (399, 1)] {
+        let opened = repeated(rt.alloc(), "(", 400)?;
+        let closed = repeated(rt.alloc(), ")", count)?;
+        let deep = format!(in rt.alloc(); "a = {{ {opened}\"x\"{closed} }}")?;
+        let (status, out, _) = checked(rt.alloc(), deep.as_str());
+        assert_eq!(rt; status, wanted);
+        let printed = if wanted == 0 { "a = { \"x\" }\n" } else { "" };
+        assert!(rt; out.as_slice() == printed.as_bytes());
+    }
+    Ok(())
+}
+
+#[test]
+fn comments_are_closed_or_not(rt: HostRuntime) -> Result<(), Fail> {
+    for (opened, closed, wanted) in [(400, 400, 0), (400, 0, 1), (8, 0, 1)] {
+        let opened = repeated(rt.alloc(), "/*", opened)?;
+        let closed = repeated(rt.alloc(), "*/", closed)?;
+        let text = format!(in rt.alloc(); "{opened}{closed}")?;
+        let (status, out, _) = checked(rt.alloc(), text.as_str());
+        assert_eq!(rt; status, wanted);
+        assert!(rt; out.is_empty());
+    }
     Ok(())
 }
 

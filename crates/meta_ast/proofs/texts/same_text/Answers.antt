@@ -1,7 +1,7 @@
 use Rattle.std.proofs.Common.{◌∙◌}
 use Rattle.std.proofs.lemmas.Bool.Decides.{Decides-at}
 use Rattle.meta_ast.specs.Ast.{text_of}
-use Rattle.meta_base.specs.Equality.{text_eq-Decides}
+use Rattle.meta_base.specs.Rewritings.Equality.{text_eq-Decides}
 use Rattle.meta_ast.proofs.Characters.{string_eq-text_of}
 use Rattle.meta_ast.proofs.texts.same_text.Goals as goal
 

@@ -1,7 +1,7 @@
 use Rattle.std.proofs.Common.{◌∙◌, map}
 use Rattle.std.proofs.lemmas.Bool.Decides.{Decides-at}
 use Rattle.meta_ast.specs.Ast.{text_of}
-use Rattle.meta_base.specs.Equality.{texts_eq-Decides}
+use Rattle.meta_base.specs.Rewritings.Equality.{texts_eq-Decides}
 use Rattle.meta_ast.proofs.Characters.{strings_eq-text_of}
 use Rattle.meta_ast.proofs.texts.same_texts.Goals as goal
 

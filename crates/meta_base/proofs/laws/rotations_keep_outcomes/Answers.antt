@@ -1,5 +1,5 @@
 use Rattle.meta_base.proofs.laws.rotations_keep_outcomes.Goals as goal
-use Rattle.meta_base.proofs.Keeping.{rotations_keep}
+use Rattle.meta_base.proofs.StepsKeepOutcomes.{rotations_keep}
 
 pub returns : goal.returns
 returns c = rotations_keep

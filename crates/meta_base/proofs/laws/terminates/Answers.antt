@@ -1,6 +1,6 @@
 use Rattle.meta_base.proofs.laws.terminates.Goals as goal
-use Rattle.meta_base.proofs.Ending.{ends}
-use Rattle.meta_base.proofs.Deterministic.{same}
+use Rattle.meta_base.proofs.Termination.{ends}
+use Rattle.meta_base.proofs.OneOutcome.{same}
 
 pub returns : goal.returns
 returns c = λ g classes start counted formed plain.

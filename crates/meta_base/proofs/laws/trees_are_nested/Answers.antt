@@ -1,4 +1,4 @@
-use Rattle.meta_base.proofs.Within.{fits}
+use Rattle.meta_base.proofs.TreesAreNested.{fits}
 use Rattle.meta_base.proofs.laws.trees_are_nested.Goals as goal
 
 pub returns : goal.returns

@@ -1,4 +1,4 @@
-use Rattle.meta_base.proofs.Certain.{nullable_of}
+use Rattle.meta_base.proofs.CannotFailIsNullable.{nullable_of}
 use Rattle.meta_base.proofs.laws.what_cannot_fail_is_nullable.Goals as goal
 
 pub returns : goal.returns

@@ -1,7 +1,7 @@
 use Rattle.std.proofs.Common.{◌≡◌, ◌++◌, map}
-use Rattle.meta_base.specs.NamedTrees.{named_trees_of}
-use Rattle.meta_base.specs.TreeViews.{trees_of}
-use Rattle.meta_base.specs.Saying.{piece_of}
+use Rattle.meta_base.specs.Pieces.NamedTrees.{named_trees_of}
+use Rattle.meta_base.specs.Pieces.TreeViews.{trees_of}
+use Rattle.meta_base.specs.Pieces.Saying.{piece_of}
 use Rattle.meta_names.specs.GrammarNames.{calls}
 use Rattle.meta_names.specs.Standing.{StandIn}
 use Rattle.meta_names.proofs.Trees.{count_of}

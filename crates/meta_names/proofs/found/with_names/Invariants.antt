@@ -1,6 +1,6 @@
 use Rattle.std.proofs.Common.{◌≡◌, ◌++◌, map}
-use Rattle.meta_base.specs.NamedTrees.{named_trees_of}
-use Rattle.meta_base.specs.Saying.{piece_of}
+use Rattle.meta_base.specs.Pieces.NamedTrees.{named_trees_of}
+use Rattle.meta_base.specs.Pieces.Saying.{piece_of}
 use Rattle.meta_names.specs.GrammarNames.{names_in}
 use Rattle.meta_names.proofs.Trees.{AllStand, waiting_names, waiting_count}
 use Rattle.meta_names.proofs.found.with_names.Given as goal

@@ -1,9 +1,9 @@
 use Rattle.std.proofs.Common.{◌≡◌, ◌∷◌, get_or, rules, subst}
 use Rattle.std.specs.Prelude.{bytes_eq}
 use Rattle.std.specs.HashSet.{contains_by}
-use Rattle.meta_base.specs.Saying.{piece_of, written}
-use Rattle.meta_base.specs.Text.{Text}
-use Rattle.meta_base.specs.Builtins.{is_one_of}
+use Rattle.meta_base.specs.Pieces.Saying.{piece_of, written}
+use Rattle.meta_base.specs.Language.Text.{Text}
+use Rattle.meta_base.specs.Language.Builtins.{is_one_of}
 use Rattle.meta_names.specs.NameSets.{HasNames}
 use Rattle.meta_names.proofs.Places.{has_more, pieces_left, later_more, later_less, was_there, was_not_there}
 use Rattle.meta_names.proofs.keywords.later.Goals as goal

@@ -1,6 +1,6 @@
 use Rattle.std.proofs.Common.{◌≡◌, List, [], ◌++◌, map, drop}
-use Rattle.meta_base.specs.Text.{Text}
-use Rattle.meta_base.specs.Saying.{piece_of}
+use Rattle.meta_base.specs.Language.Text.{Text}
+use Rattle.meta_base.specs.Pieces.Saying.{piece_of}
 use Rattle.meta_names.specs.Names.{later_places}
 use Rattle.meta_names.specs.NameSets.{HasNames}
 use Rattle.meta_names.proofs.keywords.later.Given as goal

@@ -1,7 +1,7 @@
 use Rattle.std.proofs.Common.{◌≡◌, ◌∙◌, IfOk, map, ap, filter, rules}
 use Rattle.std.proofs.lemmas.Result.{IfOk-weaker}
-use Rattle.meta_base.specs.Builtins.{is_one_of}
-use Rattle.meta_base.specs.Saying.{piece_of, written}
+use Rattle.meta_base.specs.Language.Builtins.{is_one_of}
+use Rattle.meta_base.specs.Pieces.Saying.{piece_of, written}
 use Rattle.meta_names.proofs.Places.{filter_pieces}
 use Rattle.meta_names.proofs.keywords.places_of.Goals as goal
 

@@ -1,5 +1,5 @@
 use Rattle.std.proofs.Common.{◌≡◌, [], append-nil, map, drop}
-use Rattle.meta_base.specs.Saying.{Tell, piece_of}
+use Rattle.meta_base.specs.Pieces.Saying.{Tell, piece_of}
 use Rattle.meta_names.specs.Names.{said}
 use Rattle.meta_names.proofs.Places.{none_left}
 use Rattle.meta_names.proofs.said.errors.Goals as goal

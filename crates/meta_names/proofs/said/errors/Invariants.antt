@@ -1,5 +1,5 @@
 use Rattle.std.proofs.Common.{List, ◌++◌, map, drop}
-use Rattle.meta_base.specs.Saying.{Tell, piece_of}
+use Rattle.meta_base.specs.Pieces.Saying.{Tell, piece_of}
 use Rattle.meta_base.specs.declared.grammar.Rule.{Rule}
 use Rattle.meta_base.specs.declared.runtime.errors.Error.{Error}
 use Rattle.meta_names.specs.Names.{said}

@@ -1,5 +1,5 @@
 use Rattle.std.proofs.Common.{◌∙◌, sym, ap}
-use Rattle.meta_base.specs.Builtins.{builtins, is_one_of}
+use Rattle.meta_base.specs.Language.Builtins.{builtins, is_one_of}
 use Rattle.meta_names.proofs.Names.{looked_up-found, looked_up-else}
 use Rattle.meta_names.proofs.tables.is_builtin.Goals as goal
 

@@ -1,5 +1,5 @@
 use Rattle.std.proofs.Common.{refl}
-use Rattle.meta_base.specs.Builtins.{property_names, general_categories, binary_properties, scripts}
+use Rattle.meta_base.specs.Language.Builtins.{property_names, general_categories, binary_properties, scripts}
 use Rattle.meta_names.proofs.tables.unicode_property_names.Goals as goal
 
 pub returns : goal.returns

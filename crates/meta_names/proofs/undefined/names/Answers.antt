@@ -1,5 +1,5 @@
 use Rattle.std.proofs.Common.{◌≡◌, get_or, rules}
-use Rattle.meta_base.specs.Saying.{piece_of}
+use Rattle.meta_base.specs.Pieces.Saying.{piece_of}
 use Rattle.meta_names.proofs.Places.{pieces_left, none_left, name_taken, all_taken}
 use Rattle.meta_names.proofs.undefined.names.Goals as goal
 

@@ -1,8 +1,8 @@
 use Rattle.std.proofs.Common.{◌≡◌, List, ℕ, map, drop, Bor}
 use Rattle.std.specs.Prelude.{◌||◌, bytes_eq}
 use Rattle.std.specs.HashSet.{contains_by}
-use Rattle.meta_base.specs.Builtins.{is_one_of}
-use Rattle.meta_base.specs.Saying.{piece_of, written}
+use Rattle.meta_base.specs.Language.Builtins.{is_one_of}
+use Rattle.meta_base.specs.Pieces.Saying.{piece_of, written}
 use Rattle.meta_names.proofs.undefined.names.Given as goal
 
 abbrev pub invariant-loop-place : goal.invariant-loop-place

@@ -1,5 +1,5 @@
 use Rattle.std.proofs.Common.{◌∙◌, ◌&&◌, not, map, ap}
-use Rattle.meta_base.specs.Saying.{piece_of, written}
+use Rattle.meta_base.specs.Pieces.Saying.{piece_of, written}
 use Rattle.meta_names.specs.Names.{is_builtin}
 use Rattle.meta_names.specs.NameSets.{is_outside}
 use Rattle.meta_names.proofs.Places.{filter_pieces, filter_same}

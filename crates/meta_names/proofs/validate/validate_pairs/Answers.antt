@@ -1,6 +1,6 @@
 use Rattle.std.proofs.Common.{◌≡◌, [], map, rules, arith}
 use Rattle.std.proofs.lemmas.Grind.{common_steps}
-use Rattle.meta_base.specs.Saying.{piece_of}
+use Rattle.meta_base.specs.Pieces.Saying.{piece_of}
 use Rattle.meta_names.specs.GrammarNames.{definitions_of, calls_of}
 use Rattle.meta_names.proofs.Places.{on_ok, tell_none}
 use Rattle.meta_names.proofs.validate.validate_pairs.Goals as goal

@@ -1,6 +1,6 @@
 use Rattle.std.proofs.Common.{ap, ap₂, arith}
 use Rattle.meta_ast.specs.Ast.{expression_of}
-use Rattle.meta_base.specs.Expression.{Seq, Choice}
+use Rattle.meta_base.specs.Language.Expression.{Seq, Choice}
 use Rattle.meta_nodes.specs.declared.erasure.Side.TheVariants as behind
 use Rattle.meta_nodes.proofs.Erasing.{side_put, side_less}
 use Rattle.meta_nodes.proofs.erasure.+erased.Goals as goal

@@ -1,6 +1,22 @@
+use Rattle.std.proofs.Common.{IfOk}
 use Rattle.meta_ast.specs.Ast.{rules_of}
-use Rattle.meta_optimizer.proofs.Composed.{optimized, answered}
+use Rattle.meta_ast.specs.Optimized.{optimized_rules_of}
+use Rattle.meta_restorer.proofs.Safe.{agree}
+use Rattle.meta_optimizer.proofs.Composed.{answered, answered_both, optimized}
+use Rattle.meta_optimizer.proofs.Wrapped.{have_no_wrappers}
 use Rattle.meta_optimizer.proofs.passes.optimize.Goals as goal
 
-pub returns-in-Ok-clause-rules : goal.returns-in-Ok-clause-rules
-returns-in-Ok-clause-rules c = answered c.optimized_rules.result (λ a f. optimized (rules_of c.args.rules.items) (f (rules_of c.args.rules.items) c.in-Ok.ensures)) c.optimized_rules.ensures.rules
+pub returns-in_ok-listing-in-Ok-clause-rules : goal.returns-in_ok-listing-in-Ok-clause-rules
+returns-in_ok-listing-in-Ok-clause-rules c =
+    let rules = rules_of c.args.rules.items in
+    let listing = optimized_rules_of c.in_ok-listing-in-Ok.listing.items in
+    let each = c.in_ok-listing-in-Ok.ensures.rules rules c.in-Ok.ensures in
+    answered_both c.restore_rules.result
+    (λ a f s. optimized rules listing (optimized_rules_of a.items) each (f (have_no_wrappers rules each)) s) c.restore_rules.ensures.restores c.restore_rules.ensures.erased
+
+pub returns-in_ok-listing-in-Ok-clause-agrees : goal.returns-in_ok-listing-in-Ok-clause-agrees
+returns-in_ok-listing-in-Ok-clause-agrees c =
+    let rules = rules_of c.args.rules.items in
+    let listing = optimized_rules_of c.in_ok-listing-in-Ok.listing.items in
+    let each = c.in_ok-listing-in-Ok.ensures.rules rules c.in-Ok.ensures in
+    answered c.restore_rules.result (λ a f w. agree listing (optimized_rules_of a.items) (f (have_no_wrappers rules each)) w) c.restore_rules.ensures.restores

@@ -1,8 +1,9 @@
-use Rattle.std.proofs.Common.{◌≡◌, ◌∙◌, ap}
-use Rattle.meta_base.specs.Erased.{erased}
-use Rattle.meta_base.specs.Expression.{Rule}
+use Rattle.std.proofs.Common.{◌≡◌, ◌∙◌, ap, sym, subst}
+use Rattle.meta_base.specs.Language.Expression.{Rule}
 use Rattle.meta_ast.specs.Ast.{expression_of}
-use Rattle.meta_optimizer.proofs.Erased.{no_wrapper}
+use Rattle.meta_ast.specs.Optimized.{optimized_expression_of}
+use Rattle.meta_restorer.specs.Changing.{HasNoWrappers}
+use Rattle.meta_optimizer.proofs.Wrapped.{bare}
 use Rattle.meta_optimizer.proofs.Unrolled.{by_joins, by_factors, by_listing}
 use Rattle.meta_optimizer.proofs.passes.optimized_rule.Goals as goal
 
@@ -15,6 +16,7 @@ pub returns-in-Ok-clause-body : goal.returns-in-Ok-clause-body
 returns-in-Ok-clause-body c = λ g h.
     let of_unrolled : c.in_ok-rule-3.rule.ty ≡ c.args.rule.ty = c.in_ok-rule-3.ensures.ty ∙ (c.in_ok-rule-2.ensures.ty ∙ c.in_ok-rule.ensures.ty) in
     let of_joined : c.in_ok-rule-4.rule.ty ≡ c.args.rule.ty = c.in_ok-rule-4.ensures.ty ∙ of_unrolled in
+    let said : optimized_expression_of c.in-Ok.rule.expr ≡ expression_of c.in_ok-rule-6.rule.expr = ap (λ (r : Rule). r.body) c.in-Ok.ensures in
     record {
       rotated = expression_of c.in_ok-rule.rule.expr;
       skipped = expression_of c.in_ok-rule-2.rule.expr;
@@ -26,5 +28,6 @@ returns-in-Ok-clause-body c = λ g h.
       unrolls = record { steps = c.in_ok-rule-3.ensures.steps; unrolled = c.in_ok-rule-3.ensures.unrolled };
       joins = rw of_unrolled at c.in_ok-rule-4.ensures.done;
       factors = record { steps = rw of_joined at c.in_ok-rule-5.ensures.steps; each_once = rw of_joined at c.in_ok-rule-5.ensures.factored };
-      lists = ap (λ (r : Rule). erased r.body) c.in-Ok.ensures ∙ (no_wrapper c.in_ok-rule-6.rule.expr ∙ c.in_ok-rule-6.ensures.listed);
+      lists = said ∙ c.in_ok-rule-6.ensures.listed;
+      bare = subst HasNoWrappers (sym said) (bare c.in_ok-rule-6.rule.expr);
     }

@@ -2,7 +2,7 @@ use Rattle.std.proofs.Common.{◌≡◌, length}
 use Rattle.std.specs.Vec.Iter.{into_iter_items, into_iter_len}
 use Rattle.meta_ast.specs.Ast.{rules_of}
 use Rattle.meta_ast.specs.Optimized.{optimized_rules_of}
-use Rattle.meta_base.specs.Expression.{Grammar}
+use Rattle.meta_base.specs.Language.Expression.{Grammar}
 use Rattle.meta_optimizer.specs.Bodies.{HoldsBodies}
 use Rattle.meta_optimizer.specs.Passes.{IsOptimizedBody}
 use Rattle.meta_optimizer.proofs.RuleByRule.{SoFar}

@@ -1,7 +1,7 @@
 use Rattle.std.proofs.Common.{◌≡◌, ◌+◌}
-use Rattle.meta_base.specs.Expression.{Expression, Choice}
+use Rattle.meta_base.specs.Language.Expression.{Expression, Choice}
 use Rattle.meta_ast.specs.Ast.{expression_of}
-use Rattle.meta_base.specs.Rewriting.{Rotates}
+use Rattle.meta_base.specs.Rewritings.Rewriting.{Rotates}
 use Rattle.meta_optimizer.specs.Here.{Exhausted}
 use Rattle.meta_optimizer.specs.Size.{size}
 use Rattle.meta_optimizer.proofs.rotator.choice.Given as goal

@@ -1,6 +1,6 @@
-use Rattle.meta_base.specs.Expression.{Grammar}
-use Rattle.meta_base.specs.Rewriting.{Many, SkipsUntil, done}
-use Rattle.meta_base.proofs.Keeping.{keeps}
+use Rattle.meta_base.specs.Language.Expression.{Grammar}
+use Rattle.meta_base.specs.Rewritings.Rewriting.{Many, SkipsUntil, done}
+use Rattle.meta_base.proofs.StepsKeepOutcomes.{keeps}
 use Rattle.meta_ast.specs.Ast.{expression_of, rule_of_code, rule_type_of}
 use Rattle.meta_optimizer.specs.Bodies.{HoldsBodies, SkippedHere}
 use Rattle.meta_optimizer.proofs.Skipping.{mapped, all_done, reached, nothing_done, chained}

@@ -1,6 +1,6 @@
 use Rattle.std.proofs.Common.{◌≡◌, ◌∙◌, sym, ap, codes, string_bytes, subst}
-use Rattle.meta_base.specs.Expression as e
-use Rattle.meta_base.specs.Rewriting.{SkipsUntil}
+use Rattle.meta_base.specs.Language.Expression as e
+use Rattle.meta_base.specs.Rewritings.Rewriting.{SkipsUntil}
 use Rattle.meta_ast.specs.Ast.{expression_of, text_of}
 use Rattle.meta_optimizer.specs.Bodies.{HoldsBodies}
 use Rattle.meta_optimizer.proofs.Skipping.{not_any, is_any, other_name, until, shape, any_shape, texts_differ, texts_same}

@@ -1,5 +1,5 @@
 use Rattle.std.proofs.Common.{◌+◌, ◌-◌, ◌*◌, ◌^◌, length, vec_len}
-use Rattle.meta_base.specs.Expression.{Grammar}
+use Rattle.meta_base.specs.Language.Expression.{Grammar}
 use Rattle.meta_ast.specs.Ast.{expression_of}
 use Rattle.meta_optimizer.specs.Bodies.{HoldsBodies}
 use Rattle.meta_optimizer.proofs.Looking.{Looking, left_over}

@@ -1,5 +1,5 @@
 use Rattle.std.proofs.Common.{◌≡◌, ◌∙◌, sym, ap, Some, None, true, false, string_bytes, rules}
-use Rattle.meta_base.specs.Rewriting.{literal, name}
+use Rattle.meta_base.specs.Rewritings.Rewriting.{literal, name}
 use Rattle.meta_ast.specs.Ast.{expression_of}
 use Rattle.meta_optimizer.specs.Bodies.{the_name, met_at, HasStrings}
 use Rattle.meta_optimizer.proofs.Following.{Follows, along, literal_has, finds, split_has, split_needs_first, split_fails_first, split_fails, met_so, not_met_so}

@@ -1,6 +1,6 @@
 use Rattle.std.proofs.Common.{◌≡◌, ◌∙◌, ◌-◌, refl, sym, ap, [], ◌∷◌, arith}
 use Rattle.std.proofs.lemmas.List.{append-nil, map-append}
-use Rattle.meta_base.specs.Expression as e
+use Rattle.meta_base.specs.Language.Expression as e
 use Rattle.meta_ast.specs.Ast.{expression_of, text_of}
 use Rattle.meta_optimizer.proofs.NamedStrings.{found, missing}
 use Rattle.meta_optimizer.proofs.Telling.{begun, finished, a_text, two_parts, a_body, is_positive, is_defined, have_last, less_by_text, less_by_choice, less_by_name, body_at, no_body_at, other_has_none}

@@ -1,5 +1,5 @@
 use Rattle.std.proofs.Common.{map}
-use Rattle.meta_base.specs.Expression.{Grammar}
+use Rattle.meta_base.specs.Language.Expression.{Grammar}
 use Rattle.meta_ast.specs.Ast.{expression_of, text_of}
 use Rattle.meta_optimizer.specs.Bodies.{HoldsBodies, HasStrings}
 use Rattle.meta_optimizer.proofs.Telling.{Telling, total}

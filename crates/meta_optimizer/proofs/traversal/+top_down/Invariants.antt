@@ -1,5 +1,5 @@
 use Rattle.std.proofs.Common.{◌≤◌, ◌+◌, ◌*◌}
-use Rattle.meta_base.specs.Expression.{Expression}
+use Rattle.meta_base.specs.Language.Expression.{Expression}
 use Rattle.meta_ast.specs.Ast.{expression_of}
 use Rattle.meta_optimizer.specs.Size.{size}
 use Rattle.meta_optimizer.specs.Sides.{put_behind}

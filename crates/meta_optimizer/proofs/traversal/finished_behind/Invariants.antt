@@ -1,5 +1,5 @@
 use Rattle.std.proofs.Common.{length}
-use Rattle.meta_base.specs.Expression.{Expression}
+use Rattle.meta_base.specs.Language.Expression.{Expression}
 use Rattle.meta_ast.specs.Ast.{expression_of}
 use Rattle.meta_optimizer.specs.Sides.{Behind}
 use Rattle.meta_optimizer.proofs.traversal.finished_behind.Given as goal

@@ -1,6 +1,6 @@
 use Rattle.std.proofs.Common.{◌≡◌, ◌∙◌, replicate, ◌-◌}
-use Rattle.meta_base.specs.Expression.{Opt}
-use Rattle.meta_base.specs.Meaning.{exactly}
+use Rattle.meta_base.specs.Language.Expression.{Opt}
+use Rattle.meta_base.specs.Language.Meaning.{exactly}
 use Rattle.meta_ast.specs.Ast.{expression_of}
 use Rattle.meta_optimizer.proofs.Walks.{carried}
 use Rattle.meta_optimizer.proofs.Unrolling.{few, more, first_optional}

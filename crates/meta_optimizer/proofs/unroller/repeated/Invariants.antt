@@ -1,6 +1,6 @@
 use Rattle.std.proofs.Common.{◌≡◌, List, ◌∷◌, ◌++◌, replicate}
-use Rattle.meta_base.specs.Expression.{Expression}
-use Rattle.meta_base.specs.Meaning.{in_sequence}
+use Rattle.meta_base.specs.Language.Expression.{Expression}
+use Rattle.meta_base.specs.Language.Meaning.{in_sequence}
 use Rattle.meta_ast.specs.Ast.{expression_of}
 use Rattle.meta_optimizer.proofs.unroller.repeated.Given as goal
 

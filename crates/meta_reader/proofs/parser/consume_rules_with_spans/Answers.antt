@@ -1,7 +1,7 @@
 use Rattle.std.proofs.Common.{length}
-use Rattle.meta_base.specs.NamedTrees.{named}
-use Rattle.meta_base.specs.Pairs.{pairs_text, pairs_trees}
-use Rattle.meta_reader.proofs.Pieces.{nested_named}
+use Rattle.meta_base.specs.Pieces.NamedTrees.{named}
+use Rattle.meta_base.specs.Pieces.Pairs.{pairs_text, pairs_trees}
+use Rattle.meta_reader.proofs.TreesStandInText.{nested_named}
 use Rattle.meta_reader.proofs.parser.consume_rules_with_spans.Goals as goal
 
 pub rules-requires-clause-nested : goal.rules-requires-clause-nested

@@ -1,13 +1,13 @@
 use Rattle.std.proofs.Common.{[], ◌∷◌, refl, append-nil}
 use Rattle.std.proofs.lemmas.Result.{err_from_is_err_and}
 use Rattle.meta_nodes.specs.Nodes.{rule_view}
-use Rattle.meta_reader.proofs.Answers.{first_in}
-use Rattle.meta_reader.proofs.Pieces.{stand_behind}
+use Rattle.meta_reader.proofs.FaultsInOrder.{first_in}
+use Rattle.meta_reader.proofs.TreesStandInText.{stand_behind}
 use Rattle.meta_reader.proofs.Rules.{left, nothing, init_reads, rule_first, other_first, rule_views-push}
 use Rattle.meta_reader.proofs.parser.rules.Goals as goal
 
-pub loop-token-init : goal.loop-token-init
-loop-token-init c = record {
+pub loop-tree-init : goal.loop-tree-init
+loop-tree-init c = record {
   shape = left c.requires.shape;
   nested = c.requires.nested;
   faults = refl;
@@ -16,48 +16,48 @@ loop-token-init c = record {
 
 pub rule-requires-clause-shape : goal.rule-requires-clause-shape
 rule-requires-clause-shape c =
-    let f = rule_first (rw (c.in-Some.ensures, c.in-grammar_rule.is) at c.loop-token.invariant.shape) in
+    let f = rule_first (rw (c.in-Some.ensures, c.in-grammar_rule.is) at c.loop-tree.invariant.shape) in
     f.inside
 
 pub returns-in_err-one : goal.returns-in_err-one
 returns-in_err-one c =
-    let f = rule_first (rw (c.in-Some.ensures, c.in-grammar_rule.is) at c.loop-token.invariant.shape) in
+    let f = rule_first (rw (c.in-Some.ensures, c.in-grammar_rule.is) at c.loop-tree.invariant.shape) in
     let p = err_from_is_err_and c.from_residual.result c.from_residual.ensures.1 in
-    rw (p.1, p.2, c.loop-token.invariant.faults, c.in-Some.ensures, c.in-grammar_rule.is, f.fault) (first_in _ _ _ (c.in_err-one.ensures))
+    rw (p.1, p.2, c.loop-tree.invariant.faults, c.in-Some.ensures, c.in-grammar_rule.is, f.fault) (first_in _ _ _ (c.in_err-one.ensures))
 
-pub loop-token-preserved-in_ok-push : goal.loop-token-preserved-in_ok-push
-loop-token-preserved-in_ok-push c =
-    let f = rule_first (rw (c.in-Some.ensures, c.in-grammar_rule.is) at c.loop-token.invariant.shape) in
+pub loop-tree-preserved-in-Continue-branch-3 : goal.loop-tree-preserved-in-Continue-branch-3
+loop-tree-preserved-in-Continue-branch-3 c =
+    let f = rule_first (rw (c.in-Some.ensures, c.in-grammar_rule.is) at c.loop-tree.invariant.shape) in
     let e = rw c.in-Some-2.is at c.in_ok-one.ensures in
     record {
       shape = f.behind;
-      nested = stand_behind (rw c.in-Some.ensures at c.loop-token.invariant.nested);
-      faults = rw (c.loop-token.invariant.faults, c.in-Some.ensures, c.in-grammar_rule.is, f.fault, e.0) refl;
-      reads = λ rs d. rw (c.in_ok-push.ensures.items, rule_views-push) (c.loop-token.invariant.reads (rule_view c.in-Some-2.one ∷ rs) (rw (c.in-Some.ensures, c.in-grammar_rule.is) (f.definition (rule_view c.in-Some-2.one) e.1 rs d)));
+      nested = stand_behind (rw c.in-Some.ensures at c.loop-tree.invariant.nested);
+      faults = rw (c.loop-tree.invariant.faults, c.in-Some.ensures, c.in-grammar_rule.is, f.fault, e.0) refl;
+      reads = λ rs d. rw (c.in_ok-push.ensures.items, rule_views-push) (c.loop-tree.invariant.reads (rule_view c.in-Some-2.one ∷ rs) (rw (c.in-Some.ensures, c.in-grammar_rule.is) (f.definition (rule_view c.in-Some-2.one) e.1 rs d)));
     }
 
-pub loop-token-preserved-in_default-2 : goal.loop-token-preserved-in_default-2
-loop-token-preserved-in_default-2 c =
-    let f = rule_first (rw (c.in-Some.ensures, c.in-grammar_rule.is) at c.loop-token.invariant.shape) in
+pub loop-tree-preserved-in_default-2 : goal.loop-tree-preserved-in_default-2
+loop-tree-preserved-in_default-2 c =
+    let f = rule_first (rw (c.in-Some.ensures, c.in-grammar_rule.is) at c.loop-tree.invariant.shape) in
     let e = rw c.in_default-2.is at c.in_ok-one.ensures in
     record {
       shape = f.behind;
-      nested = stand_behind (rw c.in-Some.ensures at c.loop-token.invariant.nested);
-      faults = rw (c.loop-token.invariant.faults, c.in-Some.ensures, c.in-grammar_rule.is, f.fault, e.0) refl;
-      reads = λ rs d. c.loop-token.invariant.reads rs (rw (c.in-Some.ensures, c.in-grammar_rule.is) (f.comment e.1 rs d));
+      nested = stand_behind (rw c.in-Some.ensures at c.loop-tree.invariant.nested);
+      faults = rw (c.loop-tree.invariant.faults, c.in-Some.ensures, c.in-grammar_rule.is, f.fault, e.0) refl;
+      reads = λ rs d. c.loop-tree.invariant.reads rs (rw (c.in-Some.ensures, c.in-grammar_rule.is) (f.comment e.1 rs d));
     }
 
-pub loop-token-preserved : goal.loop-token-preserved
-loop-token-preserved c =
-    let f = other_first c.in-Some.field-0.rule (rw c.in-Some.ensures at c.loop-token.invariant.shape) refl c.in_default-token.not-grammar_rule in
+pub loop-tree-preserved : goal.loop-tree-preserved
+loop-tree-preserved c =
+    let f = other_first c.in-Some.tree.rule (rw c.in-Some.ensures at c.loop-tree.invariant.shape) refl c.in_default-rule.not-grammar_rule in
     record {
       shape = f.behind;
-      nested = stand_behind (rw c.in-Some.ensures at c.loop-token.invariant.nested);
-      faults = rw (c.loop-token.invariant.faults, c.in-Some.ensures) f.fault;
-      reads = λ rs d. c.loop-token.invariant.reads rs (rw c.in-Some.ensures (f.reads rs d));
+      nested = stand_behind (rw c.in-Some.ensures at c.loop-tree.invariant.nested);
+      faults = rw (c.loop-tree.invariant.faults, c.in-Some.ensures) f.fault;
+      reads = λ rs d. c.loop-tree.invariant.reads rs (rw c.in-Some.ensures (f.reads rs d));
     }
 
 pub returns : goal.returns
 returns c =
-    let r = c.loop-token.invariant.reads [] (rw c.in_default.ensures nothing) in
-    (rw (c.loop-token.invariant.faults, c.in_default.ensures) refl, rw append-nil at r)
+    let r = c.loop-tree.invariant.reads [] (rw c.in_default.ensures nothing) in
+    (rw (c.loop-tree.invariant.faults, c.in_default.ensures) refl, rw append-nil at r)

@@ -1,5 +1,5 @@
 use Rattle.std.proofs.Common.{◌≡◌, ◌++◌, List}
-use Rattle.meta_base.specs.NamedTrees.{named_trees_of}
+use Rattle.meta_base.specs.Pieces.NamedTrees.{named_trees_of}
 use Rattle.meta_reader.specs.Faults.{first_fault}
 use Rattle.meta_reader.specs.Pieces.{StandIn}
 use Rattle.meta_reader.specs.Reading.{ReadsRules}
@@ -9,13 +9,14 @@ use Rattle.meta_nodes.specs.Nodes.{rule_views}
 use Rattle.meta_reader.proofs.Rules.{IsLeft, ReadsLeft}
 use Rattle.meta_reader.proofs.parser.rules.Given as goal
 
-abbrev pub invariant-loop-token : goal.invariant-loop-token
-invariant-loop-token l = record {
+abbrev pub invariant-loop-tree : goal.invariant-loop-tree
+invariant-loop-tree l = record {
   shape : IsLeft l.text (named_trees_of l.rest);
   nested : StandIn l.text (named_trees_of l.rest);
   faults : first_fault l.text (named_trees_of l.trees) ≡ first_fault l.text (named_trees_of l.rest);
-  reads : (rs : List SpannedRule) → ReadsLeft l.text (named_trees_of l.rest) rs → ReadsRules l.text (named_trees_of l.trees) (rule_views l.read.items ++ rs);
+  reads : (rs : List SpannedRule) → ReadsLeft l.text (named_trees_of l.rest) rs
+      → ReadsRules l.text (named_trees_of l.trees) (rule_views l.read.items ++ rs);
 }
 
-abbrev pub decreases-loop-token : goal.decreases-loop-token
-decreases-loop-token l = count_of (named_trees_of l.rest)
+abbrev pub decreases-loop-tree : goal.decreases-loop-tree
+decreases-loop-tree l = count_of (named_trees_of l.rest)

@@ -1,5 +1,5 @@
-use Rattle.meta_base.specs.Expression.{Ident}
-use Rattle.meta_base.specs.MetaRules.{name_of}
+use Rattle.meta_base.specs.Language.Expression.{Ident}
+use Rattle.meta_base.specs.Pieces.MetaRules.{name_of}
 use Rattle.meta_base.proofs.SomeRule.{names_readable}
 use Rattle.meta_syntax.specs.MetaGrammar.{meta_grammar}
 use Rattle.meta_syntax.proofs.Lookup.{each_ends}

@@ -1,5 +1,5 @@
 use Rattle.std.proofs.Common.{refl, List, [], chars, false, ℕ}
-use Rattle.meta_base.specs.Places.{Stands}
+use Rattle.meta_base.specs.Language.Places.{Stands}
 use Rattle.meta_base.specs.declared.grammar.Rule.TheVariants as is
 use Rattle.meta_syntax.proofs.Naming.{named_rule}
 use Rattle.meta_syntax.proofs.Yielding.{yields}

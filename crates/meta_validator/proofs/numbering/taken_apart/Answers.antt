@@ -1,51 +1,51 @@
 use Rattle.std.proofs.Common.{ap, refl}
 use Rattle.meta_ast.specs.Ast.{text_of}
-use Rattle.meta_base.specs.Expression as plain
+use Rattle.meta_base.specs.Language.Expression as plain
 use Rattle.meta_nodes.specs.Nodes.{view_at}
 use Rattle.meta_nodes.specs.Spanned as spanned
 use Rattle.meta_validator.proofs.numbering.taken_apart.Goals as goal
 
-pub returns-in-Str-clause-made : goal.returns-in-Str-clause-made
-returns-in-Str-clause-made c = (plain.Str (text_of c.in-Str.field-0), tt, (λ t. ap (view_at t) c.in-Str.is))
+pub returns-in-Str : goal.returns-in-Str
+returns-in-Str c = (plain.Str (text_of c.in-Str.field-0), tt, (λ t. ap (view_at t) c.in-Str.is))
 
-pub returns-in-Insens-clause-made : goal.returns-in-Insens-clause-made
-returns-in-Insens-clause-made c = (plain.Insens (text_of c.in-Insens.field-0), tt, (λ t. ap (view_at t) c.in-Insens.is))
+pub returns-in-Insens : goal.returns-in-Insens
+returns-in-Insens c = (plain.Insens (text_of c.in-Insens.field-0), tt, (λ t. ap (view_at t) c.in-Insens.is))
 
-pub returns-in-Range-clause-made : goal.returns-in-Range-clause-made
-returns-in-Range-clause-made c = (plain.Range (text_of c.in-Range.field-0) (text_of c.in-Range.field-1), tt, (λ t. ap (view_at t) c.in-Range.is))
+pub returns-in-Range : goal.returns-in-Range
+returns-in-Range c = (plain.Range (text_of c.in-Range.field-0) (text_of c.in-Range.field-1), tt, (λ t. ap (view_at t) c.in-Range.is))
 
-pub returns-in-Ident-clause-made : goal.returns-in-Ident-clause-made
-returns-in-Ident-clause-made c = (plain.Ident (text_of c.in-Ident.field-0), tt, (λ t. ap (view_at t) c.in-Ident.is))
+pub returns-in-Ident : goal.returns-in-Ident
+returns-in-Ident c = (plain.Ident (text_of c.in-Ident.field-0), tt, (λ t. ap (view_at t) c.in-Ident.is))
 
-pub returns-in-PeekSlice-clause-made : goal.returns-in-PeekSlice-clause-made
-returns-in-PeekSlice-clause-made c = (plain.PeekSlice c.in-PeekSlice.field-0 c.in-PeekSlice.field-1, tt, (λ t. ap (view_at t) c.in-PeekSlice.is))
+pub returns-in-PeekSlice : goal.returns-in-PeekSlice
+returns-in-PeekSlice c = (plain.PeekSlice c.in-PeekSlice.field-0 c.in-PeekSlice.field-1, tt, (λ t. ap (view_at t) c.in-PeekSlice.is))
 
-pub returns-in-PosPred-clause-made : goal.returns-in-PosPred-clause-made
-returns-in-PosPred-clause-made c = (spanned.PosPred, (λ t. rw c.deref.ensures (ap (view_at t) c.in-PosPred.is)), refl)
+pub returns-in-PosPred : goal.returns-in-PosPred
+returns-in-PosPred c = (spanned.PosPred, (λ t. rw c.deref.ensures (ap (view_at t) c.in-PosPred.is)), refl)
 
-pub returns-in-NegPred-clause-made : goal.returns-in-NegPred-clause-made
-returns-in-NegPred-clause-made c = (spanned.NegPred, (λ t. rw c.deref-in-NegPred.ensures (ap (view_at t) c.in-NegPred.is)), refl)
+pub returns-in-NegPred : goal.returns-in-NegPred
+returns-in-NegPred c = (spanned.NegPred, (λ t. rw c.deref-in-NegPred.ensures (ap (view_at t) c.in-NegPred.is)), refl)
 
-pub returns-in-Opt-clause-made : goal.returns-in-Opt-clause-made
-returns-in-Opt-clause-made c = (spanned.Opt, (λ t. rw c.deref-in-Opt.ensures (ap (view_at t) c.in-Opt.is)), refl)
+pub returns-in-Opt : goal.returns-in-Opt
+returns-in-Opt c = (spanned.Opt, (λ t. rw c.deref-in-Opt.ensures (ap (view_at t) c.in-Opt.is)), refl)
 
-pub returns-in-Push-clause-made : goal.returns-in-Push-clause-made
-returns-in-Push-clause-made c = (spanned.Push, (λ t. rw c.deref-in-Push.ensures (ap (view_at t) c.in-Push.is)), refl)
+pub returns-in-Push : goal.returns-in-Push
+returns-in-Push c = (spanned.Push, (λ t. rw c.deref-in-Push.ensures (ap (view_at t) c.in-Push.is)), refl)
 
-pub returns-in-Rep-clause-made : goal.returns-in-Rep-clause-made
-returns-in-Rep-clause-made c = (spanned.Rep, (λ t. rw c.deref-in-Rep.ensures (ap (view_at t) c.in-Rep.is)), refl)
+pub returns-in-Rep : goal.returns-in-Rep
+returns-in-Rep c = (spanned.Rep, (λ t. rw c.deref-in-Rep.ensures (ap (view_at t) c.in-Rep.is)), refl)
 
-pub returns-in-RepOnce-clause-made : goal.returns-in-RepOnce-clause-made
-returns-in-RepOnce-clause-made c = (spanned.RepOnce, (λ t. rw c.deref-in-RepOnce.ensures (ap (view_at t) c.in-RepOnce.is)), refl)
+pub returns-in-RepOnce : goal.returns-in-RepOnce
+returns-in-RepOnce c = (spanned.RepOnce, (λ t. rw c.deref-in-RepOnce.ensures (ap (view_at t) c.in-RepOnce.is)), refl)
 
-pub returns-in-RepExact-clause-made : goal.returns-in-RepExact-clause-made
-returns-in-RepExact-clause-made c = ((spanned.RepExact c.in-RepExact.count), (λ t. rw c.deref-in-RepExact.ensures (ap (view_at t) c.in-RepExact.is)), c.counted_wrap.ensures)
+pub returns-in-RepExact : goal.returns-in-RepExact
+returns-in-RepExact c = ((spanned.RepExact c.in-RepExact.count), (λ t. rw c.deref-in-RepExact.ensures (ap (view_at t) c.in-RepExact.is)), c.counted_wrap.ensures)
 
-pub returns-in-RepMin-clause-made : goal.returns-in-RepMin-clause-made
-returns-in-RepMin-clause-made c = ((spanned.RepMin c.in-RepMin.count), (λ t. rw c.deref-in-RepMin.ensures (ap (view_at t) c.in-RepMin.is)), c.repeated_wrap.ensures)
+pub returns-in-RepMin : goal.returns-in-RepMin
+returns-in-RepMin c = ((spanned.RepMin c.in-RepMin.count), (λ t. rw c.deref-in-RepMin.ensures (ap (view_at t) c.in-RepMin.is)), c.repeated_wrap.ensures)
 
-pub returns-in-RepMax-clause-made : goal.returns-in-RepMax-clause-made
-returns-in-RepMax-clause-made c = ((spanned.RepMax c.in-RepMax.field-1), (λ t. rw c.deref-in-RepMax.ensures (ap (view_at t) c.in-RepMax.is)), refl)
+pub returns-in-RepMax : goal.returns-in-RepMax
+returns-in-RepMax c = ((spanned.RepMax c.in-RepMax.field-1), (λ t. rw c.deref-in-RepMax.ensures (ap (view_at t) c.in-RepMax.is)), refl)
 
-pub returns-in-RepMinMax-clause-made : goal.returns-in-RepMinMax-clause-made
-returns-in-RepMinMax-clause-made c = ((spanned.RepMinMax c.in-RepMinMax.low c.in-RepMinMax.field-2), (λ t. rw c.deref-in-RepMinMax.ensures (ap (view_at t) c.in-RepMinMax.is)), c.counted_wrap-in-RepMinMax.ensures)
+pub returns-in-RepMinMax : goal.returns-in-RepMinMax
+returns-in-RepMinMax c = ((spanned.RepMinMax c.in-RepMinMax.low c.in-RepMinMax.field-2), (λ t. rw c.deref-in-RepMinMax.ensures (ap (view_at t) c.in-RepMinMax.is)), c.counted_wrap-in-RepMinMax.ensures)

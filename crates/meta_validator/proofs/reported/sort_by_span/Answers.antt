@@ -1,6 +1,6 @@
 use Rattle.std.proofs.Common.{rules}
 use Rattle.std.proofs.lemmas.List.Sorted.{answers_always}
-use Rattle.meta_base.specs.Span.{span_start, span_end}
+use Rattle.meta_base.specs.Pieces.Span.{span_start, span_end}
 use Rattle.meta_validator.proofs.SortedLemmas.{sorted_findings}
 use Rattle.meta_validator.proofs.reported.sort_by_span.Goals as goal
 

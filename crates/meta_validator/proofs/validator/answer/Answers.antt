@@ -21,9 +21,9 @@ returns c =
     let all = nodes_of rs ++ postorder x in
     let kinds = c.number.new.kinds in
     let t : Table = record c.in_ok-table.table { kinds = kinds } in
-    let nodes = c.in_ok-own.ensures.nodes (nodes_of rs) (record { text = []; start = 0; end = 0 }) c.in_ok-table.ensures.nodes in
-    let at = found_last (nodes_of rs) x c.in_ok-own.own (sym nodes.alike ∙ c.in_ok-own.ensures.last) in
-    let table = table_of rs t (postorder x) nodes c.in_ok-table.ensures.roots in
+    let nodes = c.in_ok-own.ensures.nodes (nodes_of rs) (record { text = []; start = 0; end = 0 }) c.in_ok-table.ensures.starts in
+    let at = found_last (nodes_of rs) x c.in_ok-own.own (sym nodes.kinds.alike ∙ c.in_ok-own.ensures.last) in
+    let table = table_of rs t (postorder x) nodes.kinds c.in_ok-table.ensures.table.roots in
     let right = answers rs t table c.args.question c.in_ok-marks.marks.items c.in_ok-marks.ensures.sound c.in_ok-marks.ensures.closed in
-    let d = right c.in_ok-own.own (without_spans x) (says names kinds.items c.in_ok-own.own x (stands_at names all kinds.items nodes x c.in_ok-own.own at)) in
+    let d = right c.in_ok-own.own (without_spans x) (says names kinds.items c.in_ok-own.own x (stands_at names all kinds.items nodes.kinds x c.in_ok-own.own at)) in
     subst (λ b. Decides b (Asked c.args.question (grammar_of rs) (without_spans x))) (sym (c.is_set-answer.ensures ∙ ap (λ m. is_set_at m c.in_ok-own.own) c.as_slice.ensures.value)) d

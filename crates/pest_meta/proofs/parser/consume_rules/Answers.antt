@@ -1,8 +1,8 @@
 use Rattle.std.proofs.Common.{◌≡◌, ◌≢◌, [], inr, refl, rules, subst, arith}
 use Rattle.std.proofs.lemmas.Grind.{common_steps}
 use Rattle.meta_ast.specs.Ast.{rules_of}
-use Rattle.meta_base.specs.NamedTrees.{named}
-use Rattle.meta_base.specs.Pairs.{pairs_text, pairs_trees}
+use Rattle.meta_base.specs.Pieces.NamedTrees.{named}
+use Rattle.meta_base.specs.Pieces.Pairs.{pairs_text, pairs_trees}
 use Rattle.meta_nodes.specs.Erasure.{rules_without_spans}
 use Rattle.meta_nodes.specs.Nodes.{rule_views}
 use Rattle.meta_reader.proofs.ReadableCounts.{counts_readable}

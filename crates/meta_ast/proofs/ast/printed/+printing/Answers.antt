@@ -1,7 +1,7 @@
 use Rattle.std.proofs.Common.{◌≡◌, ◌+◌, ◌*◌, ◌++◌, ap, ◌∙◌, codes, refl, arith, rules}
 use Rattle.std.proofs.Output.{has_written_append, has_written_of_eq}
 use Rattle.meta_ast.specs.Ast.{expression_of}
-use Rattle.meta_ast.proofs.Weight.{weight}
+use Rattle.meta_ast.specs.Weight.{weight}
 use Rattle.meta_ast.proofs.WrittenBytes.{alone-not-Seq, alone-not-Choice, one_part_more}
 use Rattle.meta_ast.proofs.ast.printed.+printing.Goals as goal
 

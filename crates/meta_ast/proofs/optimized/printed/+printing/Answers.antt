@@ -1,7 +1,7 @@
 use Rattle.std.proofs.Common.{◌≡◌, ◌+◌, ◌*◌, ◌++◌, ap, ◌∙◌, codes, refl, arith, rules}
 use Rattle.std.proofs.Output.{has_written_append, has_written_of_eq}
 use Rattle.meta_ast.specs.Optimized.{optimized_expression_of}
-use Rattle.meta_ast.proofs.Weight.{weight}
+use Rattle.meta_ast.specs.Weight.{weight}
 use Rattle.meta_ast.proofs.WrittenBytes.{optimized_alone-not-Seq, optimized_alone-not-Choice, one_part_more}
 use Rattle.meta_ast.proofs.optimized.printed.+printing.Goals as goal
 

@@ -2,7 +2,7 @@ use Rattle.std.proofs.Common.{◌≡◌, ◌≤◌, ◌+◌, ◌*◌, ◌++◌, 
 use Rattle.std.specs.Fmt.{HasWritten, IsPlainFormatter}
 use Rattle.meta_ast.specs.Optimized.{optimized_expression_of}
 use Rattle.meta_ast.specs.PrintedBytes.{optimized_bytes}
-use Rattle.meta_ast.proofs.Weight.{weight}
+use Rattle.meta_ast.specs.Weight.{weight}
 use Rattle.meta_ast.proofs.optimized.printed.+printing.Given as goal
 
 abbrev pub decreases-fmt_alone : goal.decreases-fmt_alone

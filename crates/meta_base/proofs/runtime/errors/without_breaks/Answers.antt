@@ -2,7 +2,7 @@ use Rattle.std.proofs.Common.{rules, tests}
 use Rattle.std.proofs.lemmas.Iterator.{YieldsList-from_chars, text_from_collect}
 use Rattle.std.proofs.lemmas.Iterator.Consumers.{YieldsList-at, YieldsList-from_chain, YieldsList-from_filter}
 use Rattle.std.proofs.lemmas.Str.{chars-append}
-use Rattle.meta_base.specs.PrintedError.{is_printed}
+use Rattle.meta_base.specs.Pieces.PrintedError.{is_printed}
 use Rattle.meta_base.proofs.runtime.errors.without_breaks.Goals as goal
 
 pub returns : goal.returns

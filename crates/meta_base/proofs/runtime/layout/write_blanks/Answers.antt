@@ -4,7 +4,7 @@ use Rattle.std.proofs.lemmas.List.{map-id}
 use Rattle.std.proofs.lemmas.Iterator.{YieldsList-from_chars, YieldsList-from_take}
 use Rattle.std.proofs.lemmas.Iterator.Consumers.{YieldsList-at, YieldsList-end}
 use Rattle.std.proofs.Output.{has_written_of_eq}
-use Rattle.meta_base.specs.PrintedError.{blank_under}
+use Rattle.meta_base.specs.Pieces.PrintedError.{blank_under}
 use Rattle.meta_base.proofs.runtime.layout.write_blanks.Goals as goal
 
 pub returns : goal.returns

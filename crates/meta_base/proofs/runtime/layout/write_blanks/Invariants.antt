@@ -1,6 +1,6 @@
 use Rattle.std.proofs.Common.{map}
 use Rattle.std.specs.Fmt.{HasWritten, IsPlainFormatter}
-use Rattle.meta_base.specs.PrintedError.{blank_under}
+use Rattle.meta_base.specs.Pieces.PrintedError.{blank_under}
 use Rattle.meta_base.proofs.runtime.layout.write_blanks.Given as goal
 
 abbrev pub invariant-loop-c : goal.invariant-loop-c

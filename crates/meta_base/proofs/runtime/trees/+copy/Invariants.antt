@@ -1,5 +1,5 @@
 use Rattle.std.proofs.Common.{◌≡◌, map, take}
-use Rattle.meta_base.specs.TreeViews.{tree_of}
+use Rattle.meta_base.specs.Pieces.TreeViews.{tree_of}
 use Rattle.meta_base.proofs.runtime.trees.+copy.Given as goal
 
 abbrev pub invariant-copies-loop-tree : goal.invariant-copies-loop-tree

@@ -1,15 +1,15 @@
-use Rattle.meta_reader.proofs.Answers.{answers_as}
+use Rattle.meta_reader.proofs.FaultsInOrder.{answers_as}
 use Rattle.meta_reader.proofs.Operators.{min_trees}
-use Rattle.meta_reader.proofs.Pieces.{first_piece, stand_behind}
+use Rattle.meta_reader.proofs.TreesStandInText.{first_piece, stand_behind}
 use Rattle.meta_reader.proofs.parser.operators.at_least.Goals as goal
 
 pub number-requires : goal.number-requires
 number-requires c =
-    let h = min_trees (rw (c.in-Some.ensures, c.in-Some-first_tree.ensures) at c.requires.shape) in
-    let k = rw (c.in-Some.ensures, c.in-Some-first_tree.ensures) at c.requires.nested in
+    let h = min_trees (rw (c.leading_tree-brace.ensures, c.leading_tree-least.ensures) at c.requires.shape) in
+    let k = rw (c.leading_tree-brace.ensures, c.leading_tree-least.ensures) at c.requires.nested in
     record { place = first_piece (stand_behind k); digits = h.digits }
 
 pub returns : goal.returns
 returns c =
-    let h = min_trees (rw (c.in-Some.ensures, c.in-Some-first_tree.ensures) at c.requires.shape) in
-    rw (c.in-Some.ensures, c.in-Some-first_tree.ensures) (answers_as _ _ _ _ _ h.fault h.says c.number.ensures)
+    let h = min_trees (rw (c.leading_tree-brace.ensures, c.leading_tree-least.ensures) at c.requires.shape) in
+    rw (c.leading_tree-brace.ensures, c.leading_tree-least.ensures) (answers_as _ _ _ _ _ h.fault h.says c.number.ensures)

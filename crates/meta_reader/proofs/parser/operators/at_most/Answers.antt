@@ -1,15 +1,15 @@
-use Rattle.meta_reader.proofs.Answers.{answers_as}
+use Rattle.meta_reader.proofs.FaultsInOrder.{answers_as}
 use Rattle.meta_reader.proofs.Operators.{max_trees}
-use Rattle.meta_reader.proofs.Pieces.{first_piece, stand_behind}
+use Rattle.meta_reader.proofs.TreesStandInText.{first_piece, stand_behind}
 use Rattle.meta_reader.proofs.parser.operators.at_most.Goals as goal
 
 pub count-requires : goal.count-requires
 count-requires c =
-    let h = max_trees (rw (c.in-Some.ensures, c.in-Some-first_tree.ensures, c.in-Some-first_tree-2.ensures) at c.requires.shape) in
-    let k = rw (c.in-Some.ensures, c.in-Some-first_tree.ensures, c.in-Some-first_tree-2.ensures) at c.requires.nested in
+    let h = max_trees (rw (c.leading_tree-brace.ensures, c.leading_tree-comma.ensures, c.leading_tree-most.ensures) at c.requires.shape) in
+    let k = rw (c.leading_tree-brace.ensures, c.leading_tree-comma.ensures, c.leading_tree-most.ensures) at c.requires.nested in
     record { place = first_piece (stand_behind (stand_behind k)); digits = h.digits }
 
 pub returns : goal.returns
 returns c =
-    let h = max_trees (rw (c.in-Some.ensures, c.in-Some-first_tree.ensures, c.in-Some-first_tree-2.ensures) at c.requires.shape) in
-    rw (c.in-Some.ensures, c.in-Some-first_tree.ensures, c.in-Some-first_tree-2.ensures) (answers_as _ _ _ _ _ h.fault h.says c.count.ensures)
+    let h = max_trees (rw (c.leading_tree-brace.ensures, c.leading_tree-comma.ensures, c.leading_tree-most.ensures) at c.requires.shape) in
+    rw (c.leading_tree-brace.ensures, c.leading_tree-comma.ensures, c.leading_tree-most.ensures) (answers_as _ _ _ _ _ h.fault h.says c.count.ensures)

@@ -7,7 +7,7 @@ use Rattle.meta_reader.proofs.parser.operators.postfix.Goals as goal
 pub unreachable-requires : goal.unreachable-requires
 unreachable-requires c =
     let n = c.in_default in
-    postfix_rule c.args.rule c.requires.shape refl n.not-optional_operator n.not-repeat_operator n.not-repeat_once_operator n.not-repeat_exact n.not-repeat_min n.not-repeat_max n.not-repeat_min_max
+    postfix_rule c.args.operator.rule c.requires.shape refl n.not-optional_operator n.not-repeat_operator n.not-repeat_once_operator n.not-repeat_exact n.not-repeat_min n.not-repeat_max n.not-repeat_min_max
 
 pub returns-in_ok-new-in-optional_operator : goal.returns-in_ok-new-in-optional_operator
 returns-in_ok-new-in-optional_operator c =

@@ -1,5 +1,5 @@
 use Rattle.std.proofs.Common.{◌≡◌}
-use Rattle.meta_base.specs.NamedTrees.{named_trees_of}
+use Rattle.meta_base.specs.Pieces.NamedTrees.{named_trees_of}
 use Rattle.meta_reader.specs.Faults.{first_fault}
 use Rattle.meta_reader.specs.Reading.{Postfixed}
 use Rattle.meta_syntax.specs.Shape.{ArePostfixes}
@@ -8,13 +8,14 @@ use Rattle.meta_reader.specs.Views.{StandsBefore, count_of}
 use Rattle.meta_nodes.specs.Nodes.{view}
 use Rattle.meta_reader.proofs.parser.operators.postfixed.Given as goal
 
-abbrev pub invariant-loop-rule : goal.invariant-loop-rule
-invariant-loop-rule l = record {
+abbrev pub invariant-loop-operator : goal.invariant-loop-operator
+invariant-loop-operator l = record {
   shape : ArePostfixes l.text (named_trees_of l.rest);
   place : StandsBefore l.text l.node (named_trees_of l.rest);
   faults : first_fault l.text (named_trees_of l.operators) ≡ first_fault l.text (named_trees_of l.rest);
-  reads : (y : Spanned) → Postfixed l.text (view l.node) (named_trees_of l.rest) y → Postfixed l.text (view l.fn.operand) (named_trees_of l.operators) y;
+  reads : (y : Spanned) → Postfixed l.text (view l.node) (named_trees_of l.rest) y
+      → Postfixed l.text (view l.fn.operand) (named_trees_of l.operators) y;
 }
 
-abbrev pub decreases-loop-rule : goal.decreases-loop-rule
-decreases-loop-rule l = count_of (named_trees_of l.rest)
+abbrev pub decreases-loop-operator : goal.decreases-loop-operator
+decreases-loop-operator l = count_of (named_trees_of l.rest)

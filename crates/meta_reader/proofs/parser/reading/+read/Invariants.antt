@@ -1,5 +1,5 @@
 use Rattle.std.proofs.Common.{◌≡◌, ◌+◌, ◌*◌, ◌≤◌, ◌<◌}
-use Rattle.meta_base.specs.NamedTrees.{named_trees_of}
+use Rattle.meta_base.specs.Pieces.NamedTrees.{named_trees_of}
 use Rattle.meta_reader.specs.Faults.{first_fault}
 use Rattle.meta_reader.specs.Pieces.{StandIn}
 use Rattle.meta_syntax.specs.Shape.{IsMore}
@@ -15,22 +15,25 @@ abbrev pub decreases-sequence : goal.decreases-sequence
 decreases-sequence l = 2 * count_of (named_trees_of l.trees.now)
 
 abbrev pub decreases-term : goal.decreases-term
-decreases-term l = 2 * count_of (named_trees_of l.trees.now)
+decreases-term l = 2 * count_of (named_trees_of l.trees.now) + 1
+
+abbrev pub decreases-operand : goal.decreases-operand
+decreases-operand l = 2 * count_of (named_trees_of l.trees.now)
 
 abbrev pub decreases-group : goal.decreases-group
-decreases-group l = 2 * count_of (named_trees_of l.trees.now)
+decreases-group l = 2 * count_of (named_trees_of l.paren.others.now)
 
 abbrev pub decreases-node : goal.decreases-node
-decreases-node l = 2 * count_of (named_trees_of l.inner.now) + 1
+decreases-node l = 2 * count_of (named_trees_of l.tree.inner.now) + 1
 
 abbrev pub decreases-push : goal.decreases-push
-decreases-push l = 2 * count_of (named_trees_of l.trees.now)
+decreases-push l = 2 * count_of (named_trees_of l.tree.inner.now)
 
-abbrev pub decreases-expression-loop-others : goal.decreases-expression-loop-others
-decreases-expression-loop-others l = count_of (named_trees_of l.rest)
+abbrev pub decreases-expression-loop-bar : goal.decreases-expression-loop-bar
+decreases-expression-loop-bar l = count_of (named_trees_of l.rest)
 
-abbrev pub invariant-expression-loop-others : goal.invariant-expression-loop-others
-invariant-expression-loop-others l = record {
+abbrev pub invariant-expression-loop-bar : goal.invariant-expression-loop-bar
+invariant-expression-loop-bar l = record {
   shape : IsRest l.text (named_trees_of l.rest);
   nested : StandIn l.text (named_trees_of l.rest);
   faults : first_fault l.text (named_trees_of l.trees) ≡ first_fault l.text (named_trees_of l.rest);

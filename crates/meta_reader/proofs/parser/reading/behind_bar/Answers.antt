@@ -9,4 +9,4 @@ pub returns-in-choice_operator : goal.returns-in-choice_operator
 returns-in-choice_operator c = λ text h. rw (c.in-Some.ensures, c.in-choice_operator.is) (with_bar (rw (c.in-Some.ensures, c.in-choice_operator.is) at h))
 
 pub returns-in_default-rule : goal.returns-in_default-rule
-returns-in_default-rule c = λ text h. rw c.in-Some.ensures (without_bar c.in-Some.field-0.rule (rw c.in-Some.ensures at h) refl c.in_default-rule.not-choice_operator)
+returns-in_default-rule c = λ text h. rw c.in-Some.ensures (without_bar c.in-Some.tree.rule (rw c.in-Some.ensures at h) refl c.in_default-rule.not-choice_operator)

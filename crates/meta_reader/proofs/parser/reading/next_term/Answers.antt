@@ -7,7 +7,7 @@ pub returns-in_default : goal.returns-in_default
 returns-in_default c = λ text h. rw c.in_default.ensures at_end
 
 pub returns-in_default-rule : goal.returns-in_default-rule
-returns-in_default-rule c = λ text h. rw c.in-Some.ensures (no_tilde c.in-Some.field-0.rule (rw c.in-Some.ensures at h) refl c.in_default-rule.not-sequence_operator)
+returns-in_default-rule c = λ text h. rw c.in-Some.ensures (no_tilde c.in-Some.tilde.rule (rw c.in-Some.ensures at h) refl c.in_default-rule.not-sequence_operator)
 
 pub returns-in_default-first_tree : goal.returns-in_default-first_tree
 returns-in_default-first_tree c = λ text h. absurd (lone_tilde (rw (c.in-Some.ensures, c.in-sequence_operator.is, c.in_default-first_tree.ensures) at h))

@@ -1,12 +1,21 @@
-use Rattle.std.proofs.Common.{rules, ap, ◌∙◌}
-use Rattle.meta_base.specs.State.{None'}
+use Rattle.std.proofs.Common.{rules, refl, sym, true, length, ◌≡◌, ◌<◌, ap, ◌∙◌, arith}
+use Rattle.meta_base.specs.Language.Expression.{Ident}
+use Rattle.meta_base.specs.Pieces.MetaRules.{name_of}
+use Rattle.meta_base.specs.Language.State.{None'}
 use Rattle.meta_base.proofs.Steps.{ran_str, ran_range}
-use Rattle.meta_syntax.specs.Entries.{seen}
-use Rattle.meta_syntax.specs.Forms.{IsSpelled}
+use Rattle.meta_syntax.specs.Entries.{named_entries}
+use Rattle.meta_syntax.specs.Forms.{IsSpelled, all_take, expression_of}
+use Rattle.meta_syntax.specs.Sets.{spelled_by}
 use Rattle.meta_syntax.specs.Runs.{IsLeft, IsSound}
 use Rattle.meta_syntax.proofs.EntryLists.{adds_tree, not_grown}
 use Rattle.meta_syntax.proofs.Memory.{failed_within, fails_again, sound_on}
-use Rattle.meta_syntax.proofs.Steps.{call_failed, call_found, copies_if_ok, cut_opened, fails_first, fails_not, fails_once, fails_second, fails_start, finds_blanks, finds_comments, finds_left, finds_no_opt, finds_no_rep, finds_no_skipping, finds_not, finds_once, finds_opt, finds_rep, finds_seq, finds_skipped, finds_start, finds_turns, gives_leaving, ran_any, right_if_ok, so_far_blank, so_far_comment, so_far_turn}
+use Rattle.meta_syntax.proofs.Steps.{call_failed, call_found, copies_if_ok, cut_opened, fails_first, fails_not, fails_once, fails_second, fails_start, finds_blanks, finds_comments, finds_left, finds_no_opt, finds_no_rep, finds_no_skipping, finds_not, finds_once, finds_opt, finds_rep, finds_seq, finds_skipped, finds_start, finds_turns, gives_leaving, ran_any, right_if_ok, so_far_nothing, so_far_blank, so_far_comment, so_far_turn}
+use Rattle.meta_syntax.proofs.Choices.{failed_at, found_among, found_at, goes_on_at}
+use Rattle.meta_base.specs.declared.grammar.Rule.TheVariants as is
+use Rattle.meta_syntax.specs.MetaGrammar.{body_of}
+use Rattle.meta_syntax.specs.declared.sets.Set.TheVariants as set
+use Rattle.meta_syntax.proofs.Quoted.{finds_quoted, so_far_escape, unseen}
+use Rattle.meta_syntax.proofs.SetCharacters.{finds_characters, finds_tight, so_far_further, so_far_past}
 use Rattle.meta_syntax.proofs.recognize.Recognizer.+recognize.Goals as goal
 
 pub run-returns-in-Str-clause-means : goal.run-returns-in-Str-clause-means
@@ -47,6 +56,36 @@ choice-returns-in-None-clause-means t c =
     let x = rw c.in-None.is at c.in_ok-after.ensures.means in
     right_if_ok _ _ _ _ _ _ _ _ _ _ _ _ x c.run-in-None.ensures.means
 
+pub first_of-returns-in-Some-clause-means : goal.first_of-returns-in-Some-clause-means
+first_of-returns-in-Some-clause-means t c = let x = rw c.in-Some.is at c.in_ok-after.ensures.means in found_among (Ident (name_of c.args.first)) c.args.others.now x
+
+pub first_of-loop-rule-init : goal.first_of-loop-rule-init
+first_of-loop-rule-init t c =
+    let x = rw c.in_default.is at c.in_ok-after.ensures.means in
+    record { means = x; sound = search rules }
+
+pub first_of-loop-rule-preserved : goal.first_of-loop-rule-preserved
+first_of-loop-rule-preserved t c =
+    let h : c.loop-rule.rule-index < length c.args.others.now = omega arith in
+    let x = rw c.in_default-2.is at c.in_ok-after-2.ensures.means in
+    record {
+      means = failed_at (Ident (name_of c.args.first)) c.args.others.now c.loop-rule.rule-index _ h c.loop-rule.invariant.means x;
+      sound = search rules;
+    }
+
+pub first_of-returns-in-Some-2-clause-goes_on : goal.first_of-returns-in-Some-2-clause-goes_on
+first_of-returns-in-Some-2-clause-goes_on t c =
+    let h : c.loop-rule.rule-index < length c.args.others.now = omega arith in
+    let k : all_take c.args.others.now ≡ true = search rules in
+    let g = rw c.in-Some-2.is at c.in_ok-after-2.ensures.goes_on in
+    goes_on_at c.args.text.now c.args.rest.now _ c.args.others.now c.loop-rule.rule-index _ h k g
+
+pub first_of-returns-in-Some-2-clause-means : goal.first_of-returns-in-Some-2-clause-means
+first_of-returns-in-Some-2-clause-means t c =
+    let h : c.loop-rule.rule-index < length c.args.others.now = omega arith in
+    let y = rw c.in-Some-2.is at c.in_ok-after-2.ensures.means in
+    found_at (Ident (name_of c.args.first)) c.args.others.now c.loop-rule.rule-index _ h c.loop-rule.invariant.means y
+
 pub option-returns-in-Some-clause-means : goal.option-returns-in-Some-clause-means
 option-returns-in-Some-clause-means t c = let x = rw c.in-Some.is at c.in_ok-after.ensures.means in finds_opt x
 
@@ -56,7 +95,7 @@ option-returns-in-None-clause-means t c = let x = rw c.in-None.is at c.in_ok-aft
 pub negation-returns-in-Some-clause-means : goal.negation-returns-in-Some-clause-means
 negation-returns-in-Some-clause-means t c =
     let x = rw c.in-Some.is at c.in_ok-run.ensures.means in
-    fails_not x c.cut.ensures c.written-mark.ensures
+    fails_not x c.cut.ensures c.count_of_entries-mark.ensures
 
 pub negation-returns-in-None-clause-means : goal.negation-returns-in-None-clause-means
 negation-returns-in-None-clause-means t c = let x = rw c.in-None.is at c.in_ok-run.ensures.means in finds_not x
@@ -86,7 +125,7 @@ pub sequence-returns-in-None-clause-means : goal.sequence-returns-in-None-clause
 sequence-returns-in-None-clause-means t c =
     let x = rw c.in-Some.is at c.in_ok-after.ensures.means in
     let y = rw c.in-None.is at c.in_ok-last.ensures.means in
-    fails_second x c.in_ok-next.ensures.means y c.cut.ensures c.written-mark.ensures
+    fails_second x c.in_ok-next.ensures.means y c.cut.ensures c.count_of_entries-mark.ensures
 
 pub repetition-returns-in_ok-last-in-Some-clause-means : goal.repetition-returns-in_ok-last-in-Some-clause-means
 repetition-returns-in_ok-last-in-Some-clause-means t c =
@@ -110,7 +149,7 @@ turns-loop-next-preserved t c =
 pub turns-returns-in-None-clause-means : goal.turns-returns-in-None-clause-means
 turns-returns-in-None-clause-means t c =
     let x = rw c.in-None.is at c.in_ok-after.ensures.means in
-    finds_turns c.loop-next.invariant.means c.in_ok-next.ensures.means x c.cut.ensures c.written-mark.ensures
+    finds_turns c.loop-next.invariant.means c.in_ok-next.ensures.means x c.cut.ensures c.count_of_entries-mark.ensures
 
 pub blanks-loop-after-preserved : goal.blanks-loop-after-preserved
 blanks-loop-after-preserved t c =
@@ -144,7 +183,7 @@ pub skip-returns-then-is_left_alone-clause-means : goal.skip-returns-then-is_lef
 skip-returns-then-is_left_alone-clause-means t c =
     rw c.in-NonAtomic.is (record {
       trees = None';
-      added = not_grown (seen c.args.self.now.entries.items);
+      added = not_grown (named_entries c.args.self.now.entries.items);
       ran = λ classes. c.is_left_alone.ensures c.if-is_left_alone.true c.args.text.now classes c.args.self.now.furthest;
     })
 
@@ -164,7 +203,7 @@ call-returns-in-Some-clause-means t c =
     let l : IsLeft c.args.text.now c.args.rest.now = search rules in
     record {
       trees = None';
-      added = not_grown (seen c.args.self.now.entries.items);
+      added = not_grown (named_entries c.args.self.now.entries.items);
       ran = λ classes. c.in-Some.ensures.means c.args.text.now l classes c.args.mode c.args.self.now.furthest;
     }
 
@@ -173,37 +212,114 @@ call-returns-in-Some-rejection-clause-sound t c =
     let s : IsSound c.args.text.now c.args.self.now = search rules in
     sound_on c.args.text.now c.args.self.now c.in-Some-rejection.furthest s c.in-Some-rejection.ensures.further
 
-pub call-returns-then-has_failed-clause-means : goal.call-returns-then-has_failed-clause-means
-call-returns-then-has_failed-clause-means t c =
+pub characters-loop-set-init : goal.characters-loop-set-init
+characters-loop-set-init t c =
+    let l : IsLeft c.args.text.now c.args.from.now = search rules in
+    let o : expression_of c.args.body.now ≡ spelled_by c.args.set = search rules in
+    let k = c.is_tight.ensures c.if-not-is_tight.false in
+    record {
+      text = search rules;
+      means = so_far_past _ _ o (c.past-rest.ensures.means c.args.text.now c.args.mode l k);
+      left = (c.past-rest.ensures.goes_on c.args.text.now l).left;
+      shorter = (c.past-rest.ensures.goes_on c.args.text.now l).shorter;
+      sound = search rules;
+    }
+
+pub characters-loop-set-preserved : goal.characters-loop-set-preserved
+characters-loop-set-preserved t c =
+    let x = rw c.in-Some.is at c.in_ok-after-2.ensures.means in
+    let g = rw c.in-Some.is at c.in_ok-after-2.ensures.goes_on in
+    let o : expression_of c.args.body.now ≡ spelled_by c.args.set = search rules in
+    let k = c.is_tight.ensures c.if-not-is_tight.false in
+    let p = c.past-rest-in-Some.ensures.goes_on c.args.text.now g.left in
+    let y = so_far_turn c.loop-set.invariant.means (finds_tight c.args.mode k) x in
+    record {
+      text = search rules;
+      means = so_far_further o y (c.past-rest-in-Some.ensures.means c.args.text.now c.args.mode g.left k);
+      left = p.left;
+      shorter = omega (arith, p.shorter, g.shorter, c.loop-set.invariant.shorter);
+      sound = search rules;
+    }
+
+pub characters-returns-then-ends-clause-means : goal.characters-returns-then-ends-clause-means
+characters-returns-then-ends-clause-means t c =
+    let o : expression_of c.args.body.now ≡ spelled_by c.args.set = search rules in
+    let k = c.is_tight.ensures c.if-not-is_tight.false in
+    finds_characters c.args.mode k c.loop-set.invariant.means
+    (record { kept = refl; ran = λ classes. rw o (c.ends.ensures c.if-ends.true c.args.text.now c.args.mode classes _ k) })
+
+pub characters-returns-in-None-clause-means : goal.characters-returns-in-None-clause-means
+characters-returns-in-None-clause-means t c =
+    let x = rw c.in-None.is at c.in_ok-after-2.ensures.means in
+    finds_characters c.args.mode (c.is_tight.ensures c.if-not-is_tight.false) c.loop-set.invariant.means x
+
+pub quoted-returns-then-is_seen_from-clause-means : goal.quoted-returns-then-is_seen_from-clause-means
+quoted-returns-then-is_seen_from-clause-means t c =
+    let o : expression_of c.args.spelled.now ≡ body_of is.inner_str = search rules in
+    rw (← o) c.copies.ensures.means
+
+pub quoted-loop-next-init : goal.quoted-loop-next-init
+quoted-loop-next-init t c = record {
+  text = search rules;
+  means = so_far_nothing _ _ _ _ _;
+  left = search rules;
+  shorter = search rules;
+  sound = search rules;
+}
+
+pub quoted-loop-next-preserved : goal.quoted-loop-next-preserved
+quoted-loop-next-preserved t c =
+    let o : expression_of c.args.body.now ≡ spelled_by set.Quoted = search rules in
+    let y = rw o at c.in_ok-next.ensures.means in
+    let w = rw c.in-Some.is at c.in_ok-after.ensures.means in
+    let g = rw c.in-Some.is at c.in_ok-after.ensures.goes_on in
+    record {
+      text = search rules;
+      means = so_far_escape c.loop-next.invariant.means y w;
+      left = g.left;
+      shorter = omega (arith, g.shorter, c.in_ok-next.ensures.goes_on.shorter, c.loop-next.invariant.shorter);
+      sound = search rules;
+    }
+
+pub quoted-returns-in-None-clause-means : goal.quoted-returns-in-None-clause-means
+quoted-returns-in-None-clause-means t c =
+    let o : expression_of c.args.body.now ≡ spelled_by set.Quoted = search rules in
+    let y = rw o at c.in_ok-next.ensures.means in
+    let w = rw c.in-None.is at c.in_ok-after.ensures.means in
+    let k = unseen c.args.mode (sym c.is_seen_from.ensures ∙ c.if-is_seen_from.false) in
+    rw k (finds_quoted c.loop-next.invariant.means y w)
+
+pub called-returns-then-has_failed-clause-means : goal.called-returns-then-has_failed-clause-means
+called-returns-then-has_failed-clause-means t c =
     let l : IsLeft c.args.text.now c.args.rest.now = search rules in
     let s : IsSound c.args.text.now c.args.self.now = search rules in
     fails_again c.args.rule _ _ _ _ _ (c.has_failed.ensures c.args.text.now s l c.if-has_failed.true)
 
-pub call-returns-in_ok-close-in-Some-2-clause-means : goal.call-returns-in_ok-close-in-Some-2-clause-means
-call-returns-in_ok-close-in-Some-2-clause-means t c =
+pub called-returns-in_ok-close-in-Some-2-clause-means : goal.called-returns-in_ok-close-in-Some-2-clause-means
+called-returns-in_ok-close-in-Some-2-clause-means t c =
     let x = rw c.in-Some-2.is at c.in_ok-after.ensures.means in
-    let r = c.in-Some-row_of.ensures in
+    let r = c.in-Some.ensures in
     record {
       trees = _;
-      added = adds_tree _ _ _ _ _ c.args.self.now.entries.items c.open.new.entries.items c.run.new.self.entries.items c.close.new.entries.items x.trees c.in_ok-open.ensures x.added c.written-first.ensures c.in_ok-close-in-Some-2.ensures;
+      added = adds_tree _ _ _ _ _ c.args.self.now.entries.items c.open.new.entries.items c.run.new.self.entries.items c.close.new.entries.items x.trees c.in_ok-open.ensures x.added c.count_of_entries-first.ensures c.in_ok-close-in-Some-2.ensures;
       ran = λ classes. call_found c.args.rule _ _ _ _ r.defined c.body_mode-inner_mode.ensures.means r.body r.kind _ (x.ran classes) c.gives_token-gives.ensures;
     }
 
-pub call-returns-in_ok-remember-in-None-clause-sound : goal.call-returns-in_ok-remember-in-None-clause-sound
-call-returns-in_ok-remember-in-None-clause-sound t c =
+pub called-returns-in_ok-remember-in-None-clause-sound : goal.called-returns-in_ok-remember-in-None-clause-sound
+called-returns-in_ok-remember-in-None-clause-sound t c =
     let x = rw c.in-None.is at c.in_ok-after.ensures.means in
-    let r = c.in-Some-row_of.ensures in
+    let r = c.in-Some.ensures in
     let l : IsLeft c.args.text.now c.args.rest.now = search rules in
     c.in_ok-remember-in-None.ensures.sound c.args.text.now
-    (sound_on c.args.text.now c.run.new.self c.noted-self.result c.in_ok-after.ensures.sound c.noted-self.ensures.further) l
-    (failed_within c.args.rule _ _ _ _ _ (λ classes. call_failed c.args.rule _ _ _ _ r.defined c.body_mode-inner_mode.ensures.means r.body r.kind _ (x.ran classes) c.call_counts.ensures c.noted-self.ensures.value))
+    (sound_on c.args.text.now c.run.new.self c.furthest_with-self.result c.in_ok-after.ensures.sound c.furthest_with-self.ensures.further) l
+    (failed_within c.args.rule _ _ _ _ _ (λ classes. call_failed c.args.rule _ _ _ _ r.defined c.body_mode-inner_mode.ensures.means r.body r.kind _ (x.ran classes) c.call_counts.ensures c.furthest_with-self.ensures.value))
 
-pub call-returns-in_ok-remember-in-None-clause-means : goal.call-returns-in_ok-remember-in-None-clause-means
-call-returns-in_ok-remember-in-None-clause-means t c =
+pub called-returns-in_ok-remember-in-None-clause-means : goal.called-returns-in_ok-remember-in-None-clause-means
+called-returns-in_ok-remember-in-None-clause-means t c =
     let x = rw c.in-None.is at c.in_ok-after.ensures.means in
-    let r = c.in-Some-row_of.ensures in
+    let r = c.in-Some.ensures in
     let m = c.in_ok-remember-in-None.ensures in
     record {
-      kept = ap (λ v. seen v.items) m.entries ∙ cut_opened c.args.self.now.entries.items c.open.new.entries.items c.run.new.self.entries.items c.cut.new.entries.items c.written-first.result _ c.in_ok-open.ensures x.kept c.cut.ensures c.written-first.ensures;
-      ran = λ classes. call_failed c.args.rule _ _ _ _ r.defined c.body_mode-inner_mode.ensures.means r.body r.kind _ (x.ran classes) c.call_counts.ensures (m.furthest ∙ c.noted-self.ensures.value);
+      kept = ap (λ v. named_entries v.items) m.entries ∙ cut_opened c.args.self.now.entries.items c.open.new.entries.items c.run.new.self.entries.items c.cut.new.entries.items c.count_of_entries-first.result _ c.in_ok-open.ensures x.kept c.cut.ensures c.count_of_entries-first.ensures;
+      ran = λ classes. call_failed c.args.rule _ _ _ _ r.defined c.body_mode-inner_mode.ensures.means r.body r.kind _ (x.ran classes) c.call_counts.ensures (m.furthest ∙ c.furthest_with-self.ensures.value);
     }

@@ -1,14 +1,51 @@
-use Rattle.std.proofs.Common.{◌+◌, ◌≤◌, length, max, if◌then◌else◌}
+use Rattle.std.proofs.Common.{◌+◌, ◌≤◌, ◌∷◌, length, max, take, if◌then◌else◌}
 use denote.Shadow.{shadow}
 use denote.Text.{Utf8}
-use Rattle.meta_base.specs.Meaning.{Turns}
-use Rattle.meta_syntax.specs.Forms.{cost, null, expression_of, rank_of}
-use Rattle.meta_syntax.specs.Runs.{IsLeft, IsSound, measure, mode_of, skips_in, skips_in_call}
+use Rattle.meta_base.specs.Language.Expression.{Ident}
+use Rattle.meta_base.specs.Language.Meaning.{Run, Turns}
+use Rattle.meta_base.specs.Pieces.MetaRules.{name_of}
+use Rattle.meta_syntax.specs.Forms.{choice_among, cost, greatest_rank, null, expression_of, rank_of}
+use Rattle.meta_syntax.specs.Runs.{Fails, IsLeft, IsSound, measure, mode_of, skips_in, skips_in_call}
+use Rattle.meta_syntax.proofs.Quoted.{text_of_string}
+use Rattle.meta_base.specs.Language.State.{AtomicMode}
 use Rattle.meta_syntax.proofs.Steps.{SoFar, blanks, comments}
 use Rattle.meta_syntax.proofs.recognize.Recognizer.+recognize.Given as goal
 
 abbrev pub decreases-call : goal.decreases-call
-decreases-call l = measure l.rest.now (skips_in_call l.rule l.mode) (rank_of l.rule + 1)
+decreases-call l = measure l.rest.now (skips_in_call l.rule l.mode) (rank_of l.rule + 2)
+
+abbrev pub decreases-called : goal.decreases-called
+decreases-called l = measure l.rest.now (skips_in_call l.rule l.mode) (rank_of l.rule + 1)
+
+abbrev pub decreases-characters : goal.decreases-characters
+decreases-characters l = measure l.from.now (skips_in l.mode) (2 + cost l.body.now)
+
+abbrev pub decreases-quoted : goal.decreases-quoted
+decreases-quoted l = measure l.from.now (skips_in l.mode) (6 + max (cost l.body.now) (cost l.spelled.now))
+
+abbrev pub invariant-quoted-loop-next : goal.invariant-quoted-loop-next
+invariant-quoted-loop-next l = record {
+  text : shadow (Utf8 l.rest);
+  means : SoFar (Run AtomicMode text_of_string) l.text l.from l.fn.self.entries.items l.fn.self.furthest l.rest l.self.entries.items l.self.furthest;
+  left : IsLeft l.text l.rest;
+  shorter : length l.rest ≤ length l.from;
+  sound : IsSound l.text l.self;
+}
+
+abbrev pub decreases-quoted-loop-next : goal.decreases-quoted-loop-next
+decreases-quoted-loop-next l = length l.rest
+
+abbrev pub invariant-characters-loop-set : goal.invariant-characters-loop-set
+invariant-characters-loop-set l = record {
+  text : shadow (Utf8 l.rest);
+  means : SoFar (Turns (mode_of l.mode) (expression_of l.body)) l.text l.from l.fn.self.entries.items l.fn.self.furthest l.rest l.self.entries.items l.self.furthest;
+  left : IsLeft l.text l.rest;
+  shorter : length l.rest ≤ length l.from;
+  sound : IsSound l.text l.self;
+}
+
+abbrev pub decreases-characters-loop-set : goal.decreases-characters-loop-set
+decreases-characters-loop-set l = length l.rest
 
 abbrev pub decreases-run : goal.decreases-run
 decreases-run l = measure l.rest.now (skips_in l.mode) (cost l.form.now)
@@ -18,6 +55,15 @@ decreases-copies l = measure l.rest.now (skips_in l.mode) (1 + cost l.spelled.no
 
 abbrev pub decreases-choice : goal.decreases-choice
 decreases-choice l = measure l.rest.now (skips_in l.mode) (1 + max (cost l.first.now) (cost l.second.now))
+
+abbrev pub decreases-first_of : goal.decreases-first_of
+decreases-first_of l = measure l.rest.now (skips_in l.mode) (3 + greatest_rank (l.first ∷ l.others.now))
+
+abbrev pub invariant-first_of-loop-rule : goal.invariant-first_of-loop-rule
+invariant-first_of-loop-rule l = record {
+  means : Fails (Run (mode_of l.mode) (choice_among (Ident (name_of l.fn.first)) (take l.rule-index l.others))) l.text l.rest l.fn.self.entries.items l.self.entries.items l.fn.self.furthest l.self.furthest;
+  sound : IsSound l.text l.self;
+}
 
 abbrev pub decreases-option : goal.decreases-option
 decreases-option l = measure l.rest.now (skips_in l.mode) (1 + cost l.body.now)

@@ -8,4 +8,4 @@ returns-clause-fails c = λ classes.
     fails_at_once c.args.rule c.args.mode c.in_ok-first.first classes _ _ _ _
     (sym c.may_begin.ensures ∙ c.if-may_begin.false)
     (chars_past_char _ _ _ c.utf8.rest (sym c.chars.ensures.rest ∙ c.in_ok-first.ensures.steps.0))
-    (rw (← c.is_noted_at_once.ensures) c.noted.ensures.value)
+    (rw (← c.is_noted_at_once.ensures) c.furthest_with.ensures.value)

@@ -1,7 +1,7 @@
 use Rattle.std.proofs.Common.{rules, ◌≡◌, ◌+◌}
 use Rattle.std.proofs.lemmas.Str.{chars_from_encodes}
-use Rattle.meta_base.specs.LineColumn.{line_number, column_number}
-use Rattle.meta_base.specs.Span.{position_text, position_offset}
+use Rattle.meta_base.specs.Pieces.LineColumn.{line_number, column_number}
+use Rattle.meta_base.specs.Pieces.Span.{position_text, position_offset}
 use Rattle.meta_base.proofs.runtime.places.Position.line_col.Goals as goal
 
 pub returns : goal.returns

@@ -1,6 +1,6 @@
 use Rattle.std.proofs.Common.{length, refl, ap, arith, rules}
-use Rattle.meta_base.specs.TokenTrees.{preorder}
-use Rattle.meta_base.specs.TreeViews.{trees_of}
+use Rattle.meta_base.specs.Pieces.TokenTrees.{preorder}
+use Rattle.meta_base.specs.Pieces.TreeViews.{trees_of}
 use Rattle.meta_base.proofs.runtime.tokens.FlatPairsIterator.next.Goals as goal
 
 pub returns-in-Err-clause-steps : goal.returns-in-Err-clause-steps

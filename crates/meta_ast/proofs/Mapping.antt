@@ -1,0 +1,230 @@
+-- How maps go on: one node more, one frame less; and how they stop.
+use Rattle.std.proofs.Common.{◌≡◌, List, [], ◌∷◌, ◌++◌, refl, ap, ◌∙◌, subst, sym, Result, Ok, Err}
+use Rattle.meta_base.specs.Language.Expression.{Expression}
+use Rattle.meta_base.specs.Language.Expression as e
+use Rattle.meta_base.specs.declared.runtime.faults.Fault.{Fault}
+use Rattle.meta_ast.specs.Operands.{operands, over}
+use Rattle.meta_ast.specs.Maps.{Progress, Becomes, answered, refused, stayed, TopDown, EachTopDown, BottomUp, EachBottomUp, met, none_met, next_met, left, none_left, next_left}
+use Rattle.meta_ast.specs.Frames.{Unary, around, joined, AllClose, ClosesTopDown, ClosesBottomUp, EndsTopDown, EndsBottomUp}
+use Rattle.meta_ast.proofs.Frames.{operands-around, over-around, operands-joined, over-joined, over-nil, over-operands, last_closes, split_last}
+use Rattle.meta_ast.specs.declared.walks.Joint.{Joint}
+use Rattle.meta_ast.specs.declared.walks.Frame.{Frame}
+use Rattle.meta_ast.specs.declared.walks.Frame.TheVariants as frame
+use Rattle.meta_ast.specs.declared.walks.Onward.TheVariants as onward
+
+module _ {F E : Type 0} (says : E → Expression) (step : F → E → Result E Fault → F → Type 0) where
+  answers : {f g : F} {x y : E} → step f x (Ok y) g → Becomes says step (Ok f) (says x) (says y) (Ok g)
+  answers {x = x} {y = y} c = answered (record { node = x; answer = y; node_says = refl; answer_says = refl; called = c })
+
+  refuses : {f g : F} {x : E} {fault : Fault} → step f x (Err fault) g → Becomes says step (Ok f) (says x) (says x) (Err fault)
+  refuses {g = g} {x = x} c = refused (record { node = x; after = g; node_says = refl; called = c })
+
+  met_around : (u : Unary) {f g h : Progress F} {a m x y : Expression} → Becomes says step f a m g → m ≡ around u x → TopDown says step g x y h → TopDown says step f a (around u y) h
+  met_around u {f = f} {g = g} {h = h} {a = a} {m = m} {x = x} {y = y} c p t =
+      let d : EachTopDown says step g (operands m) (y ∷ []) h = rw (p, operands-around u x) (next_met t none_met) in
+      subst (λ z. TopDown says step f a z h) (ap (λ z. over z (y ∷ [])) p ∙ over-around u x y) (met c d)
+
+  met_joined : (j : Joint) {f g h k : Progress F} {a m x y v w : Expression} → Becomes says step f a m g → m ≡ joined j x y → TopDown says step g x v h → TopDown says step h y w k → TopDown says step f a (joined j v w) k
+  met_joined j {f = f} {g = g} {k = k} {a = a} {m = m} {x = x} {y = y} {v = v} {w = w} c p t s =
+      let d : EachTopDown says step g (operands m) (v ∷ (w ∷ [])) k = rw (p, operands-joined j x y) (next_met t (next_met s none_met)) in
+      subst (λ z. TopDown says step f a z k) (ap (λ z. over z (v ∷ (w ∷ []))) p ∙ over-joined j x y v w) (met c d)
+
+  pub met_leaf : {f g : Progress F} {a m : Expression} → Becomes says step f a m g → operands m ≡ [] → TopDown says step f a m g
+  met_leaf {f = f} {g = g} {a = a} {m = m} c p =
+      let d : EachTopDown says step g (operands m) [] g = rw p none_met in
+      subst (λ z. TopDown says step f a z g) (over-nil m) (met c d)
+
+  left_around : (u : Unary) {f g h : Progress F} {a b x y : Expression} → a ≡ around u x → BottomUp says step f x y g → Becomes says step g (around u y) b h → BottomUp says step f a b h
+  left_around u {f = f} {g = g} {h = h} {a = a} {b = b} {x = x} {y = y} p t c =
+      let d : EachBottomUp says step f (operands a) (y ∷ []) g = rw (p, operands-around u x) (next_left t none_left) in
+      left d (subst (λ z. Becomes says step g z b h) (sym (ap (λ z. over z (y ∷ [])) p ∙ over-around u x y)) c)
+
+  left_joined : (j : Joint) {f g h k : Progress F} {a b x y v w : Expression} → a ≡ joined j x y → BottomUp says step f x v g → BottomUp says step g y w h → Becomes says step h (joined j v w) b k → BottomUp says step f a b k
+  left_joined j {f = f} {h = h} {k = k} {a = a} {b = b} {x = x} {y = y} {v = v} {w = w} p t s c =
+      let d : EachBottomUp says step f (operands a) (v ∷ (w ∷ [])) h = rw (p, operands-joined j x y) (next_left t (next_left s none_left)) in
+      left d (subst (λ z. Becomes says step h z b k) (sym (ap (λ z. over z (v ∷ (w ∷ []))) p ∙ over-joined j x y v w)) c)
+
+  pub left_leaf : {f g : Progress F} {a b : Expression} → operands a ≡ [] → Becomes says step f a b g → BottomUp says step f a b g
+  left_leaf {f = f} {g = g} {a = a} {b = b} p c =
+      let d : EachBottomUp says step f (operands a) [] f = rw p none_left in
+      left d (subst (λ z. Becomes says step f z b g) (sym (over-nil a)) c)
+
+  -- where a call answered a fault, nothing changes
+  stays_top_down : (fault : Fault) (x : Expression) → TopDown says step (Err fault) x x (Err fault)
+  stays_top_down fault (e.Str s) = met stayed none_met
+  stays_top_down fault (e.Insens s) = met stayed none_met
+  stays_top_down fault (e.Range s t) = met stayed none_met
+  stays_top_down fault (e.Ident s) = met stayed none_met
+  stays_top_down fault (e.PeekSlice i j) = met stayed none_met
+  stays_top_down fault (e.Skip ss) = met stayed none_met
+  stays_top_down fault (e.RestoreOnErr x) = met stayed none_met
+  stays_top_down fault (e.PosPred x) = met stayed (next_met (stays_top_down fault x) none_met)
+  stays_top_down fault (e.NegPred x) = met stayed (next_met (stays_top_down fault x) none_met)
+  stays_top_down fault (e.Opt x) = met stayed (next_met (stays_top_down fault x) none_met)
+  stays_top_down fault (e.Rep x) = met stayed (next_met (stays_top_down fault x) none_met)
+  stays_top_down fault (e.RepOnce x) = met stayed (next_met (stays_top_down fault x) none_met)
+  stays_top_down fault (e.RepExact x i) = met stayed (next_met (stays_top_down fault x) none_met)
+  stays_top_down fault (e.RepMin x i) = met stayed (next_met (stays_top_down fault x) none_met)
+  stays_top_down fault (e.RepMax x i) = met stayed (next_met (stays_top_down fault x) none_met)
+  stays_top_down fault (e.RepMinMax x i j) = met stayed (next_met (stays_top_down fault x) none_met)
+  stays_top_down fault (e.Push x) = met stayed (next_met (stays_top_down fault x) none_met)
+  stays_top_down fault (e.Seq x y) = met stayed (next_met (stays_top_down fault x) (next_met (stays_top_down fault y) none_met))
+  stays_top_down fault (e.Choice x y) = met stayed (next_met (stays_top_down fault x) (next_met (stays_top_down fault y) none_met))
+
+  each_stays_top_down : (fault : Fault) (x : Expression) → EachTopDown says step (Err fault) (operands x) (operands x) (Err fault)
+  each_stays_top_down fault (e.Str s) = none_met
+  each_stays_top_down fault (e.Insens s) = none_met
+  each_stays_top_down fault (e.Range s t) = none_met
+  each_stays_top_down fault (e.Ident s) = none_met
+  each_stays_top_down fault (e.PeekSlice i j) = none_met
+  each_stays_top_down fault (e.Skip ss) = none_met
+  each_stays_top_down fault (e.RestoreOnErr x) = none_met
+  each_stays_top_down fault (e.PosPred x) = next_met (stays_top_down fault x) none_met
+  each_stays_top_down fault (e.NegPred x) = next_met (stays_top_down fault x) none_met
+  each_stays_top_down fault (e.Opt x) = next_met (stays_top_down fault x) none_met
+  each_stays_top_down fault (e.Rep x) = next_met (stays_top_down fault x) none_met
+  each_stays_top_down fault (e.RepOnce x) = next_met (stays_top_down fault x) none_met
+  each_stays_top_down fault (e.RepExact x i) = next_met (stays_top_down fault x) none_met
+  each_stays_top_down fault (e.RepMin x i) = next_met (stays_top_down fault x) none_met
+  each_stays_top_down fault (e.RepMax x i) = next_met (stays_top_down fault x) none_met
+  each_stays_top_down fault (e.RepMinMax x i j) = next_met (stays_top_down fault x) none_met
+  each_stays_top_down fault (e.Push x) = next_met (stays_top_down fault x) none_met
+  each_stays_top_down fault (e.Seq x y) = next_met (stays_top_down fault x) (next_met (stays_top_down fault y) none_met)
+  each_stays_top_down fault (e.Choice x y) = next_met (stays_top_down fault x) (next_met (stays_top_down fault y) none_met)
+
+  stays_bottom_up : (fault : Fault) (x : Expression) → BottomUp says step (Err fault) x x (Err fault)
+  stays_bottom_up fault (e.Str s) = left none_left stayed
+  stays_bottom_up fault (e.Insens s) = left none_left stayed
+  stays_bottom_up fault (e.Range s t) = left none_left stayed
+  stays_bottom_up fault (e.Ident s) = left none_left stayed
+  stays_bottom_up fault (e.PeekSlice i j) = left none_left stayed
+  stays_bottom_up fault (e.Skip ss) = left none_left stayed
+  stays_bottom_up fault (e.RestoreOnErr x) = left none_left stayed
+  stays_bottom_up fault (e.PosPred x) = left (next_left (stays_bottom_up fault x) none_left) stayed
+  stays_bottom_up fault (e.NegPred x) = left (next_left (stays_bottom_up fault x) none_left) stayed
+  stays_bottom_up fault (e.Opt x) = left (next_left (stays_bottom_up fault x) none_left) stayed
+  stays_bottom_up fault (e.Rep x) = left (next_left (stays_bottom_up fault x) none_left) stayed
+  stays_bottom_up fault (e.RepOnce x) = left (next_left (stays_bottom_up fault x) none_left) stayed
+  stays_bottom_up fault (e.RepExact x i) = left (next_left (stays_bottom_up fault x) none_left) stayed
+  stays_bottom_up fault (e.RepMin x i) = left (next_left (stays_bottom_up fault x) none_left) stayed
+  stays_bottom_up fault (e.RepMax x i) = left (next_left (stays_bottom_up fault x) none_left) stayed
+  stays_bottom_up fault (e.RepMinMax x i j) = left (next_left (stays_bottom_up fault x) none_left) stayed
+  stays_bottom_up fault (e.Push x) = left (next_left (stays_bottom_up fault x) none_left) stayed
+  stays_bottom_up fault (e.Seq x y) = left (next_left (stays_bottom_up fault x) (next_left (stays_bottom_up fault y) none_left)) stayed
+  stays_bottom_up fault (e.Choice x y) = left (next_left (stays_bottom_up fault x) (next_left (stays_bottom_up fault y) none_left)) stayed
+
+  module _ {S : Type 0} (stands_for : S → Unary) where
+    -- a node without operands
+    pub down_leaf : (ks : List (Frame E S)) (o y l : E) (f g : F) → step f o (Ok y) g → says l ≡ says y → operands (says y) ≡ []
+        → (w : Expression) (k : Progress F) → AllClose (ClosesTopDown says stands_for step) ks (Ok g) (says l) w k → EndsTopDown says stands_for step (onward.Next o) ks (Ok f) w k
+    down_leaf ks o y l f g c p q w k a = (says y, Ok g, met_leaf (answers c) q, rw p at a)
+
+    -- a node with one operand, which is to be met next
+    pub down_one : (ks ls : List (Frame E S)) (s : S) (o y x : E) (f g : F) → step f o (Ok y) g → says y ≡ around (stands_for s) (says x) → ls ≡ ks ++ (frame.Around s ∷ [])
+        → (w : Expression) (k : Progress F) → EndsTopDown says stands_for step (onward.Next x) ls (Ok g) w k → EndsTopDown says stands_for step (onward.Next o) ks (Ok f) w k
+    down_one ks ls s o y x f g c p q w k (d, h, t, a) =
+        let i = split_last (ClosesTopDown says stands_for step) ks (frame.Around s) h k d w (rw q at a) in
+        (i.middle, i.state, rw (i.last.0, i.last.1) (met_around (stands_for s) (answers c) p t), i.others)
+
+    -- a node with two, of which the left one is to be met next
+    pub down_two : (ks ls : List (Frame E S)) (j : Joint) (o z x y : E) (f g : F) → step f o (Ok z) g → says z ≡ joined j (says x) (says y) → ls ≡ ks ++ (frame.Before j y ∷ [])
+        → (w : Expression) (k : Progress F) → EndsTopDown says stands_for step (onward.Next x) ls (Ok g) w k → EndsTopDown says stands_for step (onward.Next o) ks (Ok f) w k
+    down_two ks ls j o z x y f g c p q w k (d, h, t, a) =
+        let i = split_last (ClosesTopDown says stands_for step) ks (frame.Before j y) h k d w (rw q at a) in
+        (i.middle, i.state, rw i.last.2 (met_joined j (answers c) p t i.last.1), i.others)
+
+    -- the last frame is closed
+    pub up_around : (ks ls : List (Frame E S)) (s : S) (x y : E) (f : Progress F) → says y ≡ around (stands_for s) (says x) → ls ≡ ks ++ (frame.Around s ∷ [])
+        → (w : Expression) (k : Progress F) → AllClose (ClosesTopDown says stands_for step) ks f (says y) w k → AllClose (ClosesTopDown says stands_for step) ls f (says x) w k
+    up_around ks ls s x y f p q w k a = rw q (last_closes (ClosesTopDown says stands_for step) ks (frame.Around s) f k f (says x) (says y) w (p, refl) a)
+
+    pub up_after : (ks ls : List (Frame E S)) (j : Joint) (l x y : E) (f : Progress F) → says y ≡ joined j (says l) (says x) → ls ≡ ks ++ (frame.After j l ∷ [])
+        → (w : Expression) (k : Progress F) → AllClose (ClosesTopDown says stands_for step) ks f (says y) w k → AllClose (ClosesTopDown says stands_for step) ls f (says x) w k
+    up_after ks ls j l x y f p q w k a = rw q (last_closes (ClosesTopDown says stands_for step) ks (frame.After j l) f k f (says x) (says y) w (p, refl) a)
+
+    -- the left side is done, and the right one is to be met next
+    pub over_to_right : (ks ls ms : List (Frame E S)) (j : Joint) (x y : E) (f : Progress F) → ls ≡ ks ++ (frame.After j x ∷ []) → ms ≡ ks ++ (frame.Before j y ∷ [])
+        → (w : Expression) (k : Progress F) → EndsTopDown says stands_for step (onward.Next y) ls f w k → AllClose (ClosesTopDown says stands_for step) ms f (says x) w k
+    over_to_right ks ls ms j x y f q r w k (d, h, t, a) =
+        let i = split_last (ClosesTopDown says stands_for step) ks (frame.After j x) h k d w (rw q at a) in
+        rw r (last_closes (ClosesTopDown says stands_for step) ks (frame.Before j y) f k i.state (says x) i.middle w (d, rw i.last.1 t, i.last.0) i.others)
+
+    -- the same of maps from the leaves up
+    pub open_leaf : (ks : List (Frame E S)) (o l y : E) (f g : F) → step f l (Ok y) g → says l ≡ says o → operands (says o) ≡ []
+        → (w : Expression) (k : Progress F) → AllClose (ClosesBottomUp says stands_for step) ks (Ok g) (says y) w k → EndsBottomUp says stands_for step (onward.Next o) ks (Ok f) w k
+    open_leaf ks o l y f g c p q w k a = (says y, Ok g, left_leaf q (rw p at (answers c)), a)
+
+    pub open_one : (ks ls : List (Frame E S)) (s : S) (o x : E) (f : Progress F) → says o ≡ around (stands_for s) (says x) → ls ≡ ks ++ (frame.Around s ∷ [])
+        → (w : Expression) (k : Progress F) → EndsBottomUp says stands_for step (onward.Next x) ls f w k → EndsBottomUp says stands_for step (onward.Next o) ks f w k
+    open_one ks ls s o x f p q w k (d, h, t, a) =
+        let i = split_last (ClosesBottomUp says stands_for step) ks (frame.Around s) h k d w (rw q at a) in
+        (i.middle, i.state, left_around (stands_for s) p t i.last, i.others)
+
+    pub open_two : (ks ls : List (Frame E S)) (j : Joint) (o x y : E) (f : Progress F) → says o ≡ joined j (says x) (says y) → ls ≡ ks ++ (frame.Before j y ∷ [])
+        → (w : Expression) (k : Progress F) → EndsBottomUp says stands_for step (onward.Next x) ls f w k → EndsBottomUp says stands_for step (onward.Next o) ks f w k
+    open_two ks ls j o x y f p q w k (d, h, t, a) =
+        let i = split_last (ClosesBottomUp says stands_for step) ks (frame.Before j y) h k d w (rw q at a) in
+        (i.middle, i.state, left_joined j p t i.last.2 i.last.3, i.others)
+
+    pub close_around : (ks ls : List (Frame E S)) (s : S) (x z y : E) (f g : F) → says z ≡ around (stands_for s) (says x) → step f z (Ok y) g → ls ≡ ks ++ (frame.Around s ∷ [])
+        → (w : Expression) (k : Progress F) → AllClose (ClosesBottomUp says stands_for step) ks (Ok g) (says y) w k → AllClose (ClosesBottomUp says stands_for step) ls (Ok f) (says x) w k
+    close_around ks ls s x z y f g p c q w k a = rw q (last_closes (ClosesBottomUp says stands_for step) ks (frame.Around s) (Ok f) k (Ok g) (says x) (says y) w (rw p at (answers c)) a)
+
+    pub close_after : (ks ls : List (Frame E S)) (j : Joint) (l x z y : E) (f g : F) → says z ≡ joined j (says l) (says x) → step f z (Ok y) g → ls ≡ ks ++ (frame.After j l ∷ [])
+        → (w : Expression) (k : Progress F) → AllClose (ClosesBottomUp says stands_for step) ks (Ok g) (says y) w k → AllClose (ClosesBottomUp says stands_for step) ls (Ok f) (says x) w k
+    close_after ks ls j l x z y f g p c q w k a = rw q (last_closes (ClosesBottomUp says stands_for step) ks (frame.After j l) (Ok f) k (Ok g) (says x) (says y) w (rw p at (answers c)) a)
+
+    pub turn_to_right : (ks ls ms : List (Frame E S)) (j : Joint) (x y : E) (f : Progress F) → ls ≡ ks ++ (frame.After j x ∷ []) → ms ≡ ks ++ (frame.Before j y ∷ [])
+        → (w : Expression) (k : Progress F) → EndsBottomUp says stands_for step (onward.Next y) ls f w k → AllClose (ClosesBottomUp says stands_for step) ms f (says x) w k
+    turn_to_right ks ls ms j x y f q r w k (d, h, t, a) =
+        let i = split_last (ClosesBottomUp says stands_for step) ks (frame.After j x) h k d w (rw q at a) in
+        rw r (last_closes (ClosesBottomUp says stands_for step) ks (frame.Before j y) f k i.state (says x) i.middle w (d, h, t, i.last) i.others)
+
+    -- a call answers a fault: all that is left stays
+    pub record IsLeft (Closes : Frame E S → Progress F → Expression → Expression → Progress F → Type 0) (ks : List (Frame E S)) (fault : Fault) (d : Expression) : Type 0 where
+      pub whole : Expression
+      pub closes : AllClose Closes ks (Err fault) d whole (Err fault)
+
+    left_top_down : (ks : List (Frame E S)) (fault : Fault) (d : Expression) → IsLeft (ClosesTopDown says stands_for step) ks fault d
+    left_top_down [] fault d = record { whole = d; closes = (refl, refl) }
+    left_top_down (frame.Around s ∷ ks) fault d =
+        let i = left_top_down ks fault d in record { whole = around (stands_for s) i.whole; closes = (i.whole, Err fault, i.closes, (refl, refl)) }
+    left_top_down (frame.Before j x ∷ ks) fault d =
+        let i = left_top_down ks fault d in
+        record { whole = joined j i.whole (says x); closes = (i.whole, Err fault, i.closes, (says x, stays_top_down fault (says x), refl)) }
+    left_top_down (frame.After j x ∷ ks) fault d =
+        let i = left_top_down ks fault d in record { whole = joined j (says x) i.whole; closes = (i.whole, Err fault, i.closes, (refl, refl)) }
+
+    left_bottom_up : (ks : List (Frame E S)) (fault : Fault) (d : Expression) → IsLeft (ClosesBottomUp says stands_for step) ks fault d
+    left_bottom_up [] fault d = record { whole = d; closes = (refl, refl) }
+    left_bottom_up (frame.Around s ∷ ks) fault d =
+        let i = left_bottom_up ks fault d in record { whole = around (stands_for s) i.whole; closes = (i.whole, Err fault, i.closes, stayed) }
+    left_bottom_up (frame.Before j x ∷ ks) fault d =
+        let i = left_bottom_up ks fault d in
+        record { whole = joined j i.whole (says x); closes = (i.whole, Err fault, i.closes, (says x, Err fault, stays_bottom_up fault (says x), stayed)) }
+    left_bottom_up (frame.After j x ∷ ks) fault d =
+        let i = left_bottom_up ks fault d in record { whole = joined j (says x) i.whole; closes = (i.whole, Err fault, i.closes, stayed) }
+
+    pub stops_at : (ks : List (Frame E S)) (o : E) (f g : F) (fault : Fault) → step f o (Err fault) g → (w : Expression) × EndsTopDown says stands_for step (onward.Next o) ks (Ok f) w (Err fault)
+    stops_at ks o f g fault c =
+        let i = left_top_down ks fault (says o) in
+        let t : TopDown says step (Ok f) (says o) (over (says o) (operands (says o))) (Err fault) = met (refuses c) (each_stays_top_down fault (says o)) in
+        (i.whole, (says o, Err fault, subst (λ z. TopDown says step (Ok f) (says o) z (Err fault)) (over-operands (says o)) t, i.closes))
+
+    pub stops_at_leaf : (ks : List (Frame E S)) (o l : E) (f g : F) (fault : Fault) → step f l (Err fault) g → says l ≡ says o → operands (says o) ≡ [] → (w : Expression) × EndsBottomUp says stands_for step (onward.Next o) ks (Ok f) w (Err fault)
+    stops_at_leaf ks o l f g fault c p q =
+        let i = left_bottom_up ks fault (says o) in
+        let t : Becomes says step (Ok f) (says o) (says o) (Err fault) = rw p at (refuses c) in
+        (i.whole, (says o, Err fault, left_leaf q t, i.closes))
+
+    pub stops_around : (ks ls : List (Frame E S)) (s : S) (x z : E) (f g : F) (fault : Fault) → says z ≡ around (stands_for s) (says x) → step f z (Err fault) g → ls ≡ ks ++ (frame.Around s ∷ []) → (w : Expression) × AllClose (ClosesBottomUp says stands_for step) ls (Ok f) (says x) w (Err fault)
+    stops_around ks ls s x z f g fault p c q =
+        let i = left_bottom_up ks fault (around (stands_for s) (says x)) in
+        let t : Becomes says step (Ok f) (around (stands_for s) (says x)) (around (stands_for s) (says x)) (Err fault) = rw p at (refuses c) in
+        (i.whole, rw q (last_closes (ClosesBottomUp says stands_for step) ks (frame.Around s) (Ok f) (Err fault) (Err fault) (says x) (around (stands_for s) (says x)) i.whole t i.closes))
+
+    pub stops_after : (ks ls : List (Frame E S)) (j : Joint) (l x z : E) (f g : F) (fault : Fault) → says z ≡ joined j (says l) (says x) → step f z (Err fault) g → ls ≡ ks ++ (frame.After j l ∷ []) → (w : Expression) × AllClose (ClosesBottomUp says stands_for step) ls (Ok f) (says x) w (Err fault)
+    stops_after ks ls j l x z f g fault p c q =
+        let i = left_bottom_up ks fault (joined j (says l) (says x)) in
+        let t : Becomes says step (Ok f) (joined j (says l) (says x)) (joined j (says l) (says x)) (Err fault) = rw p at (refuses c) in
+        (i.whole, rw q (last_closes (ClosesBottomUp says stands_for step) ks (frame.After j l) (Ok f) (Err fault) (Err fault) (says x) (joined j (says l) (says x)) i.whole t i.closes))

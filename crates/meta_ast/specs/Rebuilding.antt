@@ -1,0 +1,36 @@
+-- What is said of trees that are made of other trees, an operand at a time.
+use Rattle.std.specs.Prelude.{ℕ, ◌+◌, List, [], ◌∷◌, ⊤}
+use Rattle.meta_ast.specs.declared.rebuilt.Step.{Step}
+use Rattle.meta_ast.specs.declared.rebuilt.Step.TheVariants as is
+
+-- `says` and `made` are what a tree means, and `fills` is what an operand means inside what stands around it
+module _ {S A T M : Type 0} (says : S → M) (made : T → M) (fills : A → M → M) where
+  -- what comes of a step
+  abbrev pub meaning_of : Step S A T → M
+  meaning_of (is.Made t) = made t
+  meaning_of (is.Inside a s) = fills a (says s)
+
+-- what an operand means inside all that stands around it, the last of it innermost
+abbrev pub filled : {A M : Type 0} → (A → M → M) → List A → M → M
+filled fills [] m = m
+filled fills (a ∷ others) m = fills a (filled fills others m)
+
+-- how much is left to be done
+module _ {S A T : Type 0} (size : S → ℕ) (waits : A → ℕ) where
+  abbrev pub work_of : Step S A T → ℕ
+  work_of (is.Made t) = 0
+  work_of (is.Inside a s) = 1 + (waits a + size s)
+
+abbrev pub waiting : {A : Type 0} → (A → ℕ) → List A → ℕ
+waiting waits [] = 0
+waiting waits (a ∷ others) = waits a + waiting waits others
+
+-- what is left may be gone on with
+module _ {S A T : Type 0} (is_right : S → Type 0) (is_ready : A → Type 0) where
+  abbrev pub GoesOn : Step S A T → Type 0
+  GoesOn (is.Made t) = ⊤
+  GoesOn (is.Inside a s) = is_ready a × is_right s
+
+abbrev pub AreReady : {A : Type 0} → (A → Type 0) → List A → Type 0
+AreReady is_ready [] = ⊤
+AreReady is_ready (a ∷ others) = is_ready a × AreReady is_ready others

@@ -1,0 +1,20 @@
+-- Expressions that are to be compared.
+use Rattle.std.specs.Prelude.{ℕ, ◌+◌, Bool, true, ◌&&◌, List, [], ◌∷◌}
+use Rattle.meta_base.specs.Rewritings.Equality.{expression_eq}
+use Rattle.meta_ast.specs.Ast.{expression_of}
+use Rattle.meta_ast.specs.Weight.{weight}
+use Rattle.meta_ast.specs.declared.ast.compared.Both.{Both}
+
+-- whether two are
+abbrev pub is_equal : Both → Bool
+is_equal p = expression_eq (expression_of p.first.now) (expression_of p.second.now)
+
+-- whether all are, two by two
+abbrev pub are_equal : List Both → Bool
+are_equal [] = true
+are_equal (p ∷ ps) = is_equal p && are_equal ps
+
+-- how much there is to be compared
+abbrev pub heaviness : List Both → ℕ
+heaviness [] = 0
+heaviness (p ∷ ps) = weight (expression_of p.first.now) + heaviness ps

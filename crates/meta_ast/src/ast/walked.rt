@@ -1,0 +1,177 @@
+//! Maps of expressions, and all that stands in them one by one.
+ghost use Rattle.std.specs.Prelude.{◌≡◌, alloc_error, IfErr, IfOk};
+ghost use Rattle.meta_ast.specs.Ast.{expression_of};
+ghost use Rattle.meta_ast.specs.ExprWalks.{expressions_left, unary_of};
+ghost use Rattle.meta_ast.specs.Maps.{MapsTopDown, RefusesTopDown, MapsBottomUp, RefusesBottomUp, NeverGrows};
+ghost use Rattle.meta_ast.specs.Operands.{preorder};
+
+use super::Expr;
+use crate::walks::{Joint, Node, Tree, boxed, map_bottom_up, map_top_down, take_first};
+use meta_base::runtime::Fault;
+use std::alloc::{AllocError, Global};
+
+impl Expr {
+    /// The expression and all that stands in it, each before what stands in it, the left side before the
+    /// right. The only fault is a want of memory.
+    pub fn iter_top_down(&self, alloc: Global) -> Result<ExprTopDownIterator, Fault>
+        ensures whole { IfOk result (λ iter. expressions_left iter ≡ preorder (expression_of self.now)) }
+        ensures memory { IfErr result (λ fault. fault ≡ Fault.Memory alloc_error) }
+    {
+        ExprTopDownIterator::new(alloc, self)
+    }
+
+    /// The expression with `f` done at it, then at each operand of its answer, and so on down; the left side
+    /// comes before the right. `f` answers no more nodes than it gets. Refused where memory is, or with the
+    /// first `Err` that
+    /// `f` answers.
+    pub fn map_top_down<F>(self, alloc: Global, f: F) -> Result<Expr, Fault>
+    where
+        F: FnMut(Expr) -> Result<Expr, Fault> + Drop,
+        requires callable { F.IsAlwaysCallable f }
+        requires smaller { NeverGrows expression_of F.step }
+        ensures mapped { IfOk result (MapsTopDown expression_of F.step f self) }
+        ensures refused { IfErr result (RefusesTopDown expression_of F.step f self) }
+    {
+        map_top_down(alloc, self, f)
+    }
+
+    /// The expression with `f` done at what stands in each node, the left side before the right, and then at
+    /// the node with what that gives in it. Refused where memory is, or with the first `Err` that `f`
+    /// answers.
+    pub fn map_bottom_up<F>(self, alloc: Global, f: F) -> Result<Expr, Fault>
+    where
+        F: FnMut(Expr) -> Result<Expr, Fault> + Drop,
+        requires { F.IsAlwaysCallable f }
+        ensures mapped { IfOk result (MapsBottomUp expression_of F.step f self) }
+        ensures refused { IfErr result (RefusesBottomUp expression_of F.step f self) }
+    {
+        map_bottom_up(alloc, self, f)
+    }
+}
+
+/// An expression and all that stands in it, each before what stands in it, the left side before the right,
+/// and each as often as it stands there. After an error there are none.
+#[derive(Drop)]
+pub struct ExprTopDownIterator {
+    /// Those whose turn is still to come, with what stands in them. The last comes first.
+    stack: Vec<Expr>,
+}
+
+impl ExprTopDownIterator {
+    /// What `Expr::iter_top_down` answers.
+    pub fn new(alloc: Global, expr: &Expr) -> Result<ExprTopDownIterator, Fault>
+        ensures whole { IfOk result (λ iter. expressions_left iter ≡ preorder (expression_of expr.now)) }
+        ensures memory { IfErr result (λ fault. fault ≡ Fault.Memory alloc_error) }
+    {
+        let mut stack = Vec::new(alloc);
+        match stack.push(expr.copy().map_err(Fault::Memory)?) {
+            Ok(()) => Ok(ExprTopDownIterator { stack }),
+            Err(refused) => Err(Fault::Memory(refused.into())),
+        }
+    }
+}
+
+impl Iterator for ExprTopDownIterator {
+    type Item = Result<Expr, Fault>;
+
+    ghost use Rattle.std.specs.Prelude.{length};
+    ghost use Rattle.std.specs.Iterator.{at_most};
+    ghost use Rattle.meta_ast.specs.TopDownIterators.{GivesFirstOrFails};
+
+    ghost next_gives = { GivesFirstOrFails expression_of expressions_left };
+
+    ghost remaining = { λ iter. at_most (length (expressions_left iter)) };
+
+    fn next(&mut self) -> Option<Result<Expr, Fault>> {
+        match take_first(&mut self.stack) {
+            Ok(given) => given.map(Ok),
+            Err(error) => {
+                self.stack.clear();
+                Some(Err(Fault::Memory(error)))
+            }
+        }
+    }
+}
+
+/// What stands round one operand of an expression.
+#[derive(Drop)]
+pub(crate) enum Sign {
+    PosPred,
+    NegPred,
+    Opt,
+    Rep,
+    RepOnce,
+    RepExact(u32),
+    RepMin(u32),
+    RepMax(u32),
+    RepMinMax(u32, u32),
+    Push,
+}
+
+impl Tree for Expr {
+    type Sign = Sign;
+
+    ghost says = { expression_of };
+
+    ghost stands_for = { unary_of };
+
+    fn open(self) -> Node<Expr, Sign> {
+        match self {
+            Expr::PosPred(inner) => Node::One(Sign::PosPred, Box::into_inner(inner)),
+            Expr::NegPred(inner) => Node::One(Sign::NegPred, Box::into_inner(inner)),
+            Expr::Seq(left, right) => {
+                Node::Two(
+                    Joint::Sequence,
+                    Box::into_inner(left),
+                    Box::into_inner(right),
+                )
+            }
+            Expr::Choice(left, right) => {
+                Node::Two(Joint::Choice, Box::into_inner(left), Box::into_inner(right))
+            }
+            Expr::Opt(inner) => Node::One(Sign::Opt, Box::into_inner(inner)),
+            Expr::Rep(inner) => Node::One(Sign::Rep, Box::into_inner(inner)),
+            Expr::RepOnce(inner) => Node::One(Sign::RepOnce, Box::into_inner(inner)),
+            Expr::RepExact(inner, count) => Node::One(
+                Sign::RepExact(count),
+                Box::into_inner(inner),
+            ),
+            Expr::RepMin(inner, min) => Node::One(Sign::RepMin(min), Box::into_inner(inner)),
+            Expr::RepMax(inner, max) => Node::One(Sign::RepMax(max), Box::into_inner(inner)),
+            Expr::RepMinMax(inner, min, max) => {
+                Node::One(Sign::RepMinMax(min, max), Box::into_inner(inner))
+            }
+            Expr::Push(inner) => Node::One(Sign::Push, Box::into_inner(inner)),
+            leaf => Node::Leaf(leaf),
+        }
+    }
+
+    fn enclose(alloc: Global, sign: Sign, operand: Expr) -> Result<Expr, Fault> {
+        let inner = boxed(alloc, operand)?;
+        match sign {
+            Sign::PosPred => Ok(Expr::PosPred(inner)),
+            Sign::NegPred => Ok(Expr::NegPred(inner)),
+            Sign::Opt => Ok(Expr::Opt(inner)),
+            Sign::Rep => Ok(Expr::Rep(inner)),
+            Sign::RepOnce => Ok(Expr::RepOnce(inner)),
+            Sign::RepExact(count) => Ok(Expr::RepExact(inner, count)),
+            Sign::RepMin(min) => Ok(Expr::RepMin(inner, min)),
+            Sign::RepMax(max) => Ok(Expr::RepMax(inner, max)),
+            Sign::RepMinMax(min, max) => Ok(Expr::RepMinMax(inner, min, max)),
+            Sign::Push => Ok(Expr::Push(inner)),
+        }
+    }
+
+    fn join(alloc: Global, joint: Joint, left: Expr, right: Expr) -> Result<Expr, Fault> {
+        let left = boxed(alloc, left)?;
+        let right = boxed(alloc, right)?;
+        match joint {
+            Joint::Sequence => Ok(Expr::Seq(left, right)),
+            Joint::Choice => Ok(Expr::Choice(left, right)),
+        }
+    }
+
+    fn copy(&self) -> Result<Expr, AllocError> {
+        self.clone()
+    }
+}

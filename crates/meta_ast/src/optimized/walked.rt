@@ -1,0 +1,165 @@
+//! Maps of optimized expressions, and all that stands in them one by one. What lies below a wrapper is not
+//! met.
+ghost use Rattle.std.specs.Prelude.{◌≡◌, alloc_error, IfErr, IfOk};
+ghost use Rattle.meta_ast.specs.Optimized.{optimized_expression_of};
+ghost use Rattle.meta_ast.specs.OptimizedWalks.{optimized_expressions_left, optimized_unary_of};
+ghost use Rattle.meta_ast.specs.Maps.{MapsTopDown, RefusesTopDown, MapsBottomUp, RefusesBottomUp, NeverGrows};
+ghost use Rattle.meta_ast.specs.Operands.{preorder};
+
+use super::OptimizedExpr;
+use crate::walks::{Joint, Node, Tree, boxed, map_bottom_up, map_top_down, take_first};
+use meta_base::runtime::Fault;
+use std::alloc::{AllocError, Global};
+
+impl OptimizedExpr {
+    /// The expression and all that stands in it, each before what stands in it, the left side before the
+    /// right. The only fault is a want of memory.
+    pub fn iter_top_down(&self, alloc: Global) -> Result<OptimizedExprTopDownIterator, Fault>
+        ensures whole { IfOk result
+            (λ iter. optimized_expressions_left iter ≡ preorder (optimized_expression_of self.now)) }
+        ensures memory { IfErr result (λ fault. fault ≡ Fault.Memory alloc_error) }
+    {
+        OptimizedExprTopDownIterator::new(alloc, self)
+    }
+
+    /// The expression with `f` done at it, then at each operand of its answer, and so on down; the left side
+    /// comes before the right. `f` answers no more nodes than it gets. Refused where memory is, or with the
+    /// first `Err` that
+    /// `f` answers.
+    pub fn map_top_down<F>(self, alloc: Global, f: F) -> Result<OptimizedExpr, Fault>
+    where
+        F: FnMut(OptimizedExpr) -> Result<OptimizedExpr, Fault> + Drop,
+        requires callable { F.IsAlwaysCallable f }
+        requires smaller { NeverGrows optimized_expression_of F.step }
+        ensures mapped { IfOk result (MapsTopDown optimized_expression_of F.step f self) }
+        ensures refused { IfErr result (RefusesTopDown optimized_expression_of F.step f self) }
+    {
+        map_top_down(alloc, self, f)
+    }
+
+    /// The expression with `f` done at what stands in each node, the left side before the right, and then at
+    /// the node with what that gives in it. Refused where memory is, or with the first `Err` that `f`
+    /// answers.
+    pub fn map_bottom_up<F>(self, alloc: Global, f: F) -> Result<OptimizedExpr, Fault>
+    where
+        F: FnMut(OptimizedExpr) -> Result<OptimizedExpr, Fault> + Drop,
+        requires { F.IsAlwaysCallable f }
+        ensures mapped { IfOk result (MapsBottomUp optimized_expression_of F.step f self) }
+        ensures refused { IfErr result (RefusesBottomUp optimized_expression_of F.step f self) }
+    {
+        map_bottom_up(alloc, self, f)
+    }
+}
+
+/// An expression and all that stands in it, each before what stands in it, the left side before the right,
+/// and each as often as it stands there. After an error there are none.
+#[derive(Drop)]
+pub struct OptimizedExprTopDownIterator {
+    /// Those whose turn is still to come, with what stands in them. The last comes first.
+    stack: Vec<OptimizedExpr>,
+}
+
+impl OptimizedExprTopDownIterator {
+    /// What `OptimizedExpr::iter_top_down` answers.
+    pub fn new(alloc: Global, expr: &OptimizedExpr) -> Result<OptimizedExprTopDownIterator, Fault>
+        ensures whole { IfOk result
+            (λ iter. optimized_expressions_left iter ≡ preorder (optimized_expression_of expr.now)) }
+        ensures memory { IfErr result (λ fault. fault ≡ Fault.Memory alloc_error) }
+    {
+        let mut stack = Vec::new(alloc);
+        match stack.push(expr.copy().map_err(Fault::Memory)?) {
+            Ok(()) => Ok(OptimizedExprTopDownIterator { stack }),
+            Err(refused) => Err(Fault::Memory(refused.into())),
+        }
+    }
+}
+
+impl Iterator for OptimizedExprTopDownIterator {
+    type Item = Result<OptimizedExpr, Fault>;
+
+    ghost use Rattle.std.specs.Prelude.{length};
+    ghost use Rattle.std.specs.Iterator.{at_most};
+    ghost use Rattle.meta_ast.specs.TopDownIterators.{GivesFirstOrFails};
+
+    ghost next_gives = { GivesFirstOrFails optimized_expression_of optimized_expressions_left };
+
+    ghost remaining = { λ iter. at_most (length (optimized_expressions_left iter)) };
+
+    fn next(&mut self) -> Option<Result<OptimizedExpr, Fault>> {
+        match take_first(&mut self.stack) {
+            Ok(given) => given.map(Ok),
+            Err(error) => {
+                self.stack.clear();
+                Some(Err(Fault::Memory(error)))
+            }
+        }
+    }
+}
+
+/// What stands round one operand of an expression.
+#[derive(Drop)]
+pub(crate) enum Sign {
+    PosPred,
+    NegPred,
+    Opt,
+    Rep,
+    Push,
+}
+
+impl Tree for OptimizedExpr {
+    type Sign = Sign;
+
+    ghost says = { optimized_expression_of };
+
+    ghost stands_for = { optimized_unary_of };
+
+    fn open(self) -> Node<OptimizedExpr, Sign> {
+        match self {
+            OptimizedExpr::PosPred(inner) => Node::One(Sign::PosPred, Box::into_inner(inner)),
+            OptimizedExpr::NegPred(inner) => Node::One(Sign::NegPred, Box::into_inner(inner)),
+            OptimizedExpr::Seq(left, right) => {
+                Node::Two(
+                    Joint::Sequence,
+                    Box::into_inner(left),
+                    Box::into_inner(right),
+                )
+            }
+            OptimizedExpr::Choice(left, right) => {
+                Node::Two(Joint::Choice, Box::into_inner(left), Box::into_inner(right))
+            }
+            OptimizedExpr::Opt(inner) => Node::One(Sign::Opt, Box::into_inner(inner)),
+            OptimizedExpr::Rep(inner) => Node::One(Sign::Rep, Box::into_inner(inner)),
+            OptimizedExpr::Push(inner) => Node::One(Sign::Push, Box::into_inner(inner)),
+            leaf => Node::Leaf(leaf),
+        }
+    }
+
+    fn enclose(alloc: Global, sign: Sign, operand: OptimizedExpr) -> Result<OptimizedExpr, Fault> {
+        let inner = boxed(alloc, operand)?;
+        match sign {
+            Sign::PosPred => Ok(OptimizedExpr::PosPred(inner)),
+            Sign::NegPred => Ok(OptimizedExpr::NegPred(inner)),
+            Sign::Opt => Ok(OptimizedExpr::Opt(inner)),
+            Sign::Rep => Ok(OptimizedExpr::Rep(inner)),
+            Sign::Push => Ok(OptimizedExpr::Push(inner)),
+        }
+    }
+
+    fn join(
+        alloc: Global,
+        joint: Joint,
+        left: OptimizedExpr,
+        right: OptimizedExpr,
+    ) -> Result<OptimizedExpr, Fault> {
+        let left = boxed(alloc, left)?;
+        let right = boxed(alloc, right)?;
+        match joint {
+            Joint::Sequence => Ok(OptimizedExpr::Seq(left, right)),
+            Joint::Choice => Ok(OptimizedExpr::Choice(left, right)),
+        }
+    }
+
+    fn copy(&self) -> Result<OptimizedExpr, AllocError> {
+        self.clone()
+    }
+}

@@ -1,0 +1,103 @@
+//! What the maps and the iterators of both kinds of expressions share: each is written once, over trees that
+//! are taken apart and put together again.
+//!
+//! A map keeps the frames round the place where it is on a list of its own, so no nesting of an expression
+//! takes depth.
+mod bottom_up;
+mod preorder;
+mod top_down;
+
+ghost use Rattle.std.specs.Prelude.{◌≡◌, ◌++◌, ◌∷◌, [], alloc_error, IfErr, IfOk, OnOk};
+ghost use Rattle.meta_base.specs.Language.Expression.{Expression};
+ghost use Rattle.meta_ast.specs.Frames.{Unary, around, joined, IsOpened};
+
+pub(crate) use bottom_up::map_bottom_up;
+use meta_base::runtime::Fault;
+pub(crate) use preorder::take_first;
+use std::alloc::{AllocError, Global};
+pub(crate) use top_down::map_top_down;
+
+/// What stands between two operands.
+#[derive(Drop)]
+pub(crate) enum Joint {
+    Sequence,
+    Choice,
+}
+
+/// An expression that was taken apart.
+#[derive(Drop)]
+pub(crate) enum Node<E, S> {
+    /// It has no operands, or is a wrapper.
+    Leaf(E),
+    One(S, E),
+    Two(Joint, E, E),
+}
+
+/// What stands round an operand that a map is at.
+#[derive(Drop)]
+pub(crate) enum Frame<E, S> {
+    Around(S),
+    /// The operand is the left one, and the right one is still to be met.
+    Before(Joint, E),
+    /// The operand is the right one, and the left one is done.
+    After(Joint, E),
+}
+
+/// How a map goes on.
+#[derive(Drop)]
+pub(crate) enum Onward<E> {
+    /// This is to be met next.
+    Next(E),
+    /// All is met, and this is the whole.
+    Whole(E),
+}
+
+/// Expressions that can be taken apart and put together again.
+pub(crate) trait Tree: Drop {
+    /// What may stand round one operand.
+    type Sign: Drop;
+
+    ghost says: { Self → Expression };
+
+    ghost stands_for: { Self.Sign → Unary };
+
+    /// Its sign and operands.
+    fn open(self) -> Node<Self, Self::Sign>
+        ensures { IsOpened says stands_for (says self) result };
+
+    /// An operand in its sign.
+    fn enclose(alloc: Global, sign: Self::Sign, operand: Self) -> Result<Self, Fault>
+        ensures whole { IfOk result (λ whole. says whole ≡ around (stands_for sign) (says operand)) }
+        ensures memory { IfErr result (λ fault. fault ≡ Fault.Memory alloc_error) };
+
+    /// Two operands side by side.
+    fn join(alloc: Global, joint: Joint, left: Self, right: Self) -> Result<Self, Fault>
+        ensures whole { IfOk result (λ whole. says whole ≡ joined joint (says left) (says right)) }
+        ensures memory { IfErr result (λ fault. fault ≡ Fault.Memory alloc_error) };
+
+    /// The same expression again.
+    fn copy(&self) -> Result<Self, AllocError>
+        ensures { IfOk result (λ copy. says copy ≡ says self.now) };
+}
+
+// Puts a frame behind the others.
+fn keep<E: Drop, S: Drop>(frames: &mut Vec<Frame<E, S>>, frame: Frame<E, S>) -> Result<(), Fault>
+    ensures kept { OnOk result (frames.new.items ≡ frames.old.items ++ (frame ∷ [])) }
+    ensures memory { IfErr result (λ fault. fault ≡ Fault.Memory alloc_error) }
+{
+    match frames.push(frame) {
+        Ok(()) => Ok(()),
+        Err(refused) => Err(Fault::Memory(refused.into())),
+    }
+}
+
+/// An operand in a box of its own.
+pub(crate) fn boxed<E: Drop>(alloc: Global, operand: E) -> Result<Box<E>, Fault>
+    ensures boxed { IfOk result (λ b. b.value ≡ operand) }
+    ensures memory { IfErr result (λ fault. fault ≡ Fault.Memory alloc_error) }
+{
+    match Box::new(alloc, operand) {
+        Ok(boxed) => Ok(boxed),
+        Err(refused) => Err(Fault::Memory(refused.into())),
+    }
+}

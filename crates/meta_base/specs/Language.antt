@@ -1,0 +1,13 @@
+-- What grammars are, and what they match.
+pub mod Builtins
+pub mod Expression
+pub mod FurthestFailure
+pub mod Grammar
+pub mod LooseMeaning
+pub mod Matching
+pub mod Meaning
+pub mod Places
+pub mod Ran
+pub mod State
+pub mod Text
+pub mod WellFormed

@@ -1,0 +1,10 @@
+-- Pieces of a text, trees over them, and errors that tell of them.
+pub mod LineColumn
+pub mod MetaRules
+pub mod NamedTrees
+pub mod Pairs
+pub mod PrintedError
+pub mod Saying
+pub mod Span
+pub mod TokenTrees
+pub mod TreeViews

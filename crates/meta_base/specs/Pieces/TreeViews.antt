@@ -1,0 +1,21 @@
+-- The token trees that pairs stand for.
+use Rattle.std.specs.Prelude.{List, map, fold}
+use Rattle.meta_base.specs.Pieces.TokenTrees.{TokenTrees, NoTokens, Token, followed_by}
+use Rattle.meta_base.specs.declared.runtime.trees.TokenTree.{TokenTree, fold-TokenTree}
+use Rattle.meta_base.specs.declared.runtime.trees.TokenTree.TheOpen.{TokenTree-F}
+
+-- trees that are kept with the last one first
+abbrev pub in_order : {R : Type 0} → List (TokenTrees R) → TokenTrees R
+in_order trees = fold (λ others tree. followed_by tree others) NoTokens trees
+
+-- one level, with each tree inside already seen as its token tree
+abbrev pub tree_step : {R : Type 0} → TokenTree-F R (TokenTrees R) → TokenTrees R
+tree_step tree = Token tree.rule tree.start tree.end (in_order tree.inner.items) NoTokens
+
+-- the token tree of the code
+abbrev pub tree_of : {R : Type 0} → TokenTree R → TokenTrees R
+tree_of {R} = fold-TokenTree R (TokenTrees R) tree_step
+
+-- the token trees of the code, kept with the last one first
+abbrev pub trees_of : {R : Type 0} → List (TokenTree R) → TokenTrees R
+trees_of trees = in_order (map tree_of trees)

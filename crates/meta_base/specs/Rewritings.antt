@@ -1,0 +1,7 @@
+-- What the optimizer may do to rules.
+pub mod Equality
+pub mod Erased
+pub mod Listing
+pub mod Replacing
+pub mod Rewriting
+pub mod Wrapping

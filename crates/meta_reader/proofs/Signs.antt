@@ -1,0 +1,181 @@
+-- Signs of predicates: what stands behind them, and what they make of it.
+use Rattle.std.proofs.Common.{◌≡◌, ◌≤◌, ℕ, List, [], ◌∷◌, ◌++◌, true, false, Some, refl, sym, ap, ◌∙◌, subst, arith}
+use Rattle.std.proofs.lemmas.List.Elements.{All-nil, All-push, All-pop}
+use Rattle.std.specs.Prelude.{codes, All}
+use Rattle.std.specs.Str.{IsCharBoundary}
+use Rattle.meta_base.specs.Language.Text.{Text}
+use Rattle.meta_base.specs.Language.State.{Trees, None', Tree}
+use Rattle.meta_base.specs.Pieces.Span.{span_text, span_start, span_end}
+use Rattle.meta_base.specs.Pieces.MetaRules.{name_of}
+use Rattle.meta_base.specs.declared.grammar.Rule.{Rule}
+use Rattle.meta_base.specs.declared.grammar.Rule.TheVariants as rule_is
+use Rattle.meta_base.proofs.MetaNames.{name_of-injective}
+use Rattle.meta_syntax.specs.Shape.{Mark, IsTerm, tagged, predicate, grouped, bare, terminal, positive, negative}
+use Rattle.meta_nodes.specs.Spanned.{Spanned, One, Unary, PosPred, NegPred, end_of}
+use Rattle.meta_nodes.specs.Nodes.{view, piece_of}
+use Rattle.meta_nodes.specs.declared.node.ParserNode.{ParserNode}
+use Rattle.meta_reader.specs.Faults.{first_fault, own_fault}
+use Rattle.meta_reader.specs.Pieces.{IsPiece, Nested, StandIn}
+use Rattle.meta_reader.specs.Reading as reading
+use Rattle.meta_reader.specs.Reading.{Reads, ATerm, piece}
+use Rattle.meta_reader.specs.Signs as signs
+use Rattle.meta_reader.specs.Signs.{predicate_of, signed, IsOperand, SignsStand, IsBehindSigns}
+use Rattle.meta_reader.specs.Views.{count_of}
+use Rattle.meta_reader.specs.declared.parser.signs.Sign.{Sign}
+use Rattle.meta_reader.proofs.Chains.{same_text}
+use Rattle.meta_reader.proofs.Nodes.{start_of-view, end_of-view}
+use Rattle.meta_reader.proofs.SpansArePieces.{piece_in}
+use Rattle.meta_reader.proofs.TreesStandInText.{nested_order}
+use Rattle.meta_reader.proofs.Terms.{tag_tree, positive_tree, negative_tree}
+use Rattle.meta_reader.proofs.NodesStandInTrees.{reads_within}
+
+-- one sign more
+pub signed-push : (text : List ℕ) (signs : List Sign) (sign : Sign) (x : Spanned)
+    → signed text (signs ++ sign ∷ []) x
+    ≡ signed text signs (One (piece text sign.start (end_of x)) (predicate_of sign.is_negative) x)
+signed-push text [] sign x = refl
+signed-push text (s ∷ signs) sign x =
+    ap (λ y. One (piece text s.start (end_of x)) (predicate_of s.is_negative) y) (signed-push text signs sign x)
+
+-- what is left of a term, behind the signs so far
+pub record IsLeftOfTerm (text : List ℕ) (us : Trees) (signs : List Sign) (vs : Trees) : Type 0 where
+  pub shape : IsTerm text vs
+  pub faults : first_fault text us ≡ first_fault text vs
+  pub shorter : count_of vs ≤ count_of us
+  pub reads : (x : Spanned) → Reads text ATerm vs x → Reads text ATerm us (signed text signs x)
+  pub stand : StandIn text us → SignsStand text signs vs
+
+pub term_start : {text : List ℕ} {us : Trees} → IsTerm text us → IsLeftOfTerm text us [] us
+term_start {text} {us} h = record {
+  shape = h;
+  faults = refl;
+  shorter = omega arith;
+  reads = λ x d. d;
+  stand = λ s. record { from = s.from; to = s.to; nested = s.nested; before = All-nil _ };
+}
+
+-- signs stand before what is behind the first tree
+stand_next : {text : List ℕ} {signs : List Sign} {r : Text} {i j : ℕ} {inner us : Trees}
+    → SignsStand text signs (Tree r i j inner us) → SignsStand text signs us
+stand_next {text} {r = r} {i = i} {j = j} {inner = inner} s =
+    let o = nested_order text inner i j s.nested.3 in
+    record {
+      from = j;
+      to = s.to;
+      nested = s.nested.4;
+      before = λ k d h. let b = s.before k d h in (b.0, omega (arith, b.1, s.nested.0, o));
+    }
+
+-- and so does the sign that the first tree is
+stand_push : {text : List ℕ} {signs : List Sign} {r : Text} {j : ℕ} {inner us : Trees} (sign : Sign)
+    → SignsStand text signs (Tree r sign.start j inner us) → SignsStand text (signs ++ sign ∷ []) us
+stand_push {text} {signs} {r} {j} {inner} {us} sign s =
+    let t = stand_next s in
+    let o = nested_order text inner sign.start j s.nested.3 in
+    record {
+      from = j;
+      to = s.to;
+      nested = s.nested.4;
+      before = All-push (λ (b : Sign). IsCharBoundary text b.start × (b.start ≤ j)) signs sign
+          (λ k d h. let b = s.before k d h in (b.0, omega (arith, b.1, s.nested.0, o))) (s.nested.1, o);
+    }
+
+pub term_tag : {text : List ℕ} {us : Trees} {signs : List Sign} {n : Text}
+    {i j k l : ℕ} {inner vs ws : Trees}
+    → IsLeftOfTerm text us signs (Tree (codes "tag_id") i j inner (Tree n k l vs ws)) → IsLeftOfTerm text us signs ws
+term_tag h =
+    let g = tag_tree h.shape in
+    record {
+      shape = g.0;
+      faults = h.faults ∙ g.1;
+      shorter = omega (arith, h.shorter);
+      reads = λ x d. h.reads x (g.2 x d);
+      stand = λ s. stand_next (stand_next (h.stand s));
+    }
+
+pub term_positive : {text : List ℕ} {us : Trees} {signs : List Sign} {i j : ℕ} {inner vs : Trees}
+    → IsLeftOfTerm text us signs (Tree (codes "positive_predicate_operator") i j inner vs)
+    → IsLeftOfTerm text us (signs ++ record { is_negative = false; start = i } ∷ []) vs
+term_positive {text} {us} {signs} {i} h =
+    let g = positive_tree h.shape in
+    record {
+      shape = g.operand;
+      faults = h.faults ∙ g.fault;
+      shorter = omega (arith, h.shorter);
+      reads = λ x d. rw signed-push (h.reads _ (g.reads x d));
+      stand = λ s. stand_push (record { is_negative = false; start = i }) (h.stand s);
+    }
+
+pub term_negative : {text : List ℕ} {us : Trees} {signs : List Sign} {i j : ℕ} {inner vs : Trees}
+    → IsLeftOfTerm text us signs (Tree (codes "negative_predicate_operator") i j inner vs)
+    → IsLeftOfTerm text us (signs ++ record { is_negative = true; start = i } ∷ []) vs
+term_negative {text} {us} {signs} {i} h =
+    let g = negative_tree h.shape in
+    record {
+      shape = g.operand;
+      faults = h.faults ∙ g.fault;
+      shorter = omega (arith, h.shorter);
+      reads = λ x d. rw signed-push (h.reads _ (g.reads x d));
+      stand = λ s. stand_push (record { is_negative = true; start = i }) (h.stand s);
+    }
+
+operand_tree : {text : List ℕ} {n : Text} {i j : ℕ} {inner us : Trees} (r : Rule)
+    → IsTerm text (Tree n i j inner us) → n ≡ name_of r → ¬ (r ≡ rule_is.tag_id)
+    → ¬ (r ≡ rule_is.positive_predicate_operator) → ¬ (r ≡ rule_is.negative_predicate_operator)
+    → IsOperand text (Tree n i j inner us)
+operand_tree r (tagged h) e a b c = absurd (a (name_of-injective r rule_is.tag_id (sym e)))
+operand_tree r (predicate positive h) e a b c = absurd (b (name_of-injective r rule_is.positive_predicate_operator (sym e)))
+operand_tree r (predicate negative h) e a b c = absurd (c (name_of-injective r rule_is.negative_predicate_operator (sym e)))
+operand_tree r (grouped h k) e a b c = signs.group h k
+operand_tree r (bare h k) e a b c = signs.node h k
+
+-- no sign is left
+pub term_operand : {text : List ℕ} {us : Trees} {ss : List Sign} {n : Text}
+    {i j : ℕ} {inner vs : Trees} (r : Rule)
+    → IsLeftOfTerm text us ss (Tree n i j inner vs) → n ≡ name_of r → ¬ (r ≡ rule_is.tag_id)
+    → ¬ (r ≡ rule_is.positive_predicate_operator) → ¬ (r ≡ rule_is.negative_predicate_operator)
+    → IsBehindSigns text us ss (Tree n i j inner vs)
+term_operand r h e a b c = record {
+  shape = operand_tree r h.shape e a b c;
+  faults = h.faults;
+  shorter = h.shorter;
+  reads = h.reads;
+  stand = h.stand;
+}
+
+-- from a sign to the end of what is read behind it
+sign_place : {text : List ℕ} {us : Trees} (n : ParserNode) (i from to : ℕ) → Nested text us from to
+    → Reads text ATerm us (view n) → IsCharBoundary text i × (i ≤ from)
+    → IsPiece (span_text n.span) i (span_end n.span)
+sign_place {text} n i from to h d a =
+    let w = reads_within text d from to h in
+    let e = same_text n from to d h in
+    let p = piece_in n.span e in
+    let b = rw (start_of-view n) at w.after in
+    let q : IsPiece text i (span_end n.span) = record { starts = a.0; ends = p.ends; order = omega (arith, a.1, b, p.order) } in
+    subst (λ u. IsPiece u i (span_end n.span)) (sym e) q
+
+pub signs_place : {text : List ℕ} {signs : List Sign} {us : Trees} (n : ParserNode)
+    → SignsStand text signs us → Reads text ATerm us (view n)
+    → All (λ sign. IsPiece (span_text n.span) sign.start (span_end n.span)) signs
+signs_place n s d = λ k t h. sign_place n _ s.from s.to s.nested d (s.before k t h)
+
+-- the last sign is taken off
+pub last_place : (n : ParserNode) (xs ys : List Sign) (sign : Sign) → xs ≡ ys ++ sign ∷ []
+    → All (λ s. IsPiece (span_text n.span) s.start (span_end n.span)) xs
+    → IsPiece (span_text n.span) sign.start (span_end n.span)
+    × All (λ s. IsPiece (span_text n.span) s.start (span_end n.span)) ys
+last_place n xs ys sign e h =
+    let p = All-pop (λ s. IsPiece (span_text n.span) s.start (span_end n.span)) xs ys (Some sign) e h in
+    (p.1, p.0)
+
+-- and put round the node
+pub last_sign : {text : List ℕ} (n x : ParserNode) (xs ys : List Sign) (sign : Sign) → xs ≡ ys ++ sign ∷ []
+    → piece_of x.span ≡ piece text sign.start (span_end n.span)
+    → view x ≡ One (piece_of x.span) (predicate_of sign.is_negative) (view n)
+    → signed text xs (view n) ≡ signed text ys (view x)
+last_sign {text} n x xs ys sign e f g =
+    let h = g ∙ ap (λ s. One s (predicate_of sign.is_negative) (view n)) f in
+    let k = ap (λ j. One (piece text sign.start j) (predicate_of sign.is_negative) (view n)) (end_of-view n) in
+    ap (λ ss. signed text ss (view n)) e ∙ signed-push text ys sign (view n)
+    ∙ ap (λ y. signed text ys y) (k ∙ sym h)

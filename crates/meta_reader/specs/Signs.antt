@@ -1,0 +1,50 @@
+-- The signs of predicates in a term, and what they stand before.
+use Rattle.std.specs.Prelude.{◌≡◌, ◌≤◌, ℕ, List, [], ◌∷◌, Bool, true, false, All, codes}
+use Rattle.std.specs.Str.{IsCharBoundary}
+use Rattle.meta_base.specs.Language.Text.{Text}
+use Rattle.meta_base.specs.Language.State.{Trees, Tree}
+use Rattle.meta_syntax.specs.Shape.{Mark, IsExpression, IsNode, ArePostfixes}
+use Rattle.meta_nodes.specs.Spanned.{Spanned, One, Unary, PosPred, NegPred, end_of}
+use Rattle.meta_reader.specs.Faults.{first_fault}
+use Rattle.meta_reader.specs.Pieces.{Nested, StandIn}
+use Rattle.meta_reader.specs.Reading.{Reads, ATerm, piece}
+use Rattle.meta_reader.specs.Views.{count_of}
+use Rattle.meta_reader.specs.declared.parser.signs.Sign.{Sign}
+
+-- `!` is the negative one
+abbrev pub predicate_of : Bool → Unary
+predicate_of true = NegPred
+predicate_of false = PosPred
+
+-- predicates round an expression, by their signs: each begins with its sign, and ends where the expression
+-- does
+abbrev pub signed : List ℕ → List Sign → Spanned → Spanned
+signed text [] x = x
+signed text (sign ∷ signs) x =
+    One (piece text sign.start (end_of x)) (predicate_of sign.is_negative) (signed text signs x)
+
+-- what stands behind all signs: an expression in parentheses or a node, and postfix operators
+pub data IsOperand (text : List ℕ) : Trees → Type 0 where
+  group : {open_at open_to body_at body_to close_at close_to : ℕ} {inner us : Trees}
+      → IsExpression text inner → ArePostfixes text us
+      → IsOperand text
+      (Mark (codes "opening_paren") open_at open_to
+      (Tree (codes "expression") body_at body_to inner
+      (Mark (codes "closing_paren") close_at close_to us)))
+  node : {r : Text} {from to : ℕ} {inner us : Trees}
+      → IsNode text r inner → ArePostfixes text us → IsOperand text (Tree r from to inner us)
+
+-- the signs stand in the text before the trees
+pub record SignsStand (text : List ℕ) (signs : List Sign) (us : Trees) : Type 0 where
+  pub from : ℕ
+  pub to : ℕ
+  pub nested : Nested text us from to
+  pub before : All (λ sign. IsCharBoundary text sign.start × (sign.start ≤ from)) signs
+
+-- a term's trees behind these signs
+pub record IsBehindSigns (text : List ℕ) (us : Trees) (signs : List Sign) (vs : Trees) : Type 0 where
+  pub shape : IsOperand text vs
+  pub faults : first_fault text us ≡ first_fault text vs
+  pub shorter : count_of vs ≤ count_of us
+  pub reads : (x : Spanned) → Reads text ATerm vs x → Reads text ATerm us (signed text signs x)
+  pub stand : StandIn text us → SignsStand text signs vs

@@ -1,0 +1,77 @@
+-- The builtins that count as changing the stack, by their names.
+use Rattle.std.proofs.Common.{◌≡◌, List, [], ◌∷◌, Option, Some, None, Bool, true, false, ◌&&◌, ◌||◌, if◌then◌else◌, bytes_eq, codes, refl, sym, ◌∙◌, ap, ◌⊎◌, inl, inr}
+use Rattle.std.proofs.lemmas.Slice.Eq.{bytes_eq-Decides}
+use Rattle.meta_base.specs.Language.Text.{Text}
+use Rattle.meta_base.specs.Language.Builtins.{Builtin, One, Property, Newline, Soi, Eoi, Peek, Pop, Drop, PeekAll, PopAll, Named, builtins, property_names, is_one_of, looked_up, builtin_of}
+use Rattle.meta_restorer.specs.Changing.{is_changer}
+
+-- a builtin that changes the stack has its name
+abbrev named_rightly : Builtin → Text → Bool
+named_rightly Pop n = bytes_eq n (codes "POP")
+named_rightly Drop n = bytes_eq n (codes "DROP")
+named_rightly PopAll n = bytes_eq n (codes "POP_ALL")
+named_rightly _ n = true
+
+abbrev all_named_rightly : List Named → Bool
+all_named_rightly [] = true
+all_named_rightly (b ∷ bs) = named_rightly b.builtin b.name && all_named_rightly bs
+
+both : (a b : Bool) → (a && b) ≡ true → (a ≡ true) × (b ≡ true)
+both true b h = (refl, h)
+both false b h = cc
+
+abbrev Rightly : Text → Option Builtin → Type 0
+Rightly n None = Unit {0}
+Rightly n (Some b) = named_rightly b n ≡ true
+
+rightly : (bs : List Named) (n : Text) → all_named_rightly bs ≡ true → Rightly n (looked_up bs n)
+rightly [] n h = go (is_one_of property_names n)
+  where
+    go : (b : Bool) → Rightly n (if b then Some (Property n) else None)
+    go true = refl
+    go false = tt
+rightly (b ∷ bs) n h = let k = both (named_rightly b.builtin b.name) (all_named_rightly bs) h in go (bytes_eq b.name n) refl k.0 (rightly bs n k.1)
+  where
+    go : (t : Bool) → bytes_eq b.name n ≡ t → named_rightly b.builtin b.name ≡ true → Rightly n (looked_up bs n) → Rightly n (if t then Some b.builtin else looked_up bs n)
+    go true e k i = sym (ap (named_rightly b.builtin) ((bytes_eq-Decides b.name n).0 e)) ∙ k
+    go false e k i = i
+
+all_are : all_named_rightly builtins ≡ true
+unfolding builtins
+all_are = refl
+
+known : (n : Text) → Rightly n (builtin_of n)
+known n = rightly builtins n all_are
+
+pub is_pop : (n : Text) → builtin_of n ≡ Some Pop → n ≡ codes "POP"
+is_pop n e = (bytes_eq-Decides n (codes "POP")).0 (rw e at (known n))
+
+is_drop : (n : Text) → builtin_of n ≡ Some Drop → n ≡ codes "DROP"
+is_drop n e = (bytes_eq-Decides n (codes "DROP")).0 (rw e at (known n))
+
+pub is_pop_all : (n : Text) → builtin_of n ≡ Some PopAll → n ≡ codes "POP_ALL"
+is_pop_all n e = (bytes_eq-Decides n (codes "POP_ALL")).0 (rw e at (known n))
+
+pub pop_named : (n : Text) → builtin_of n ≡ Some Pop → is_changer n ≡ true
+pop_named n e = ap is_changer (is_pop n e)
+
+pub drop_named : (n : Text) → builtin_of n ≡ Some Drop → is_changer n ≡ true
+drop_named n e = ap is_changer (is_drop n e)
+
+pop_found : builtin_of (codes "POP") ≡ Some Pop
+unfolding builtins
+pop_found = refl
+
+drop_found : builtin_of (codes "DROP") ≡ Some Drop
+unfolding builtins
+drop_found = refl
+
+pub either : (a b : Bool) → (a || b) ≡ true → (a ≡ true) ⊎ (b ≡ true)
+either true b h = inl refl
+either false b h = inr h
+
+pub changer_is : (n : Text) → is_changer n ≡ true → (builtin_of n ≡ Some Pop) ⊎ (builtin_of n ≡ Some Drop)
+changer_is n h = elim (either (bytes_eq n (codes "POP")) (bytes_eq n (codes "DROP")) h) [
+  | inl e ↦ inl (ap builtin_of ((bytes_eq-Decides n (codes "POP")).0 e) ∙ pop_found)
+  | inr e ↦ inr (ap builtin_of ((bytes_eq-Decides n (codes "DROP")).0 e) ∙ drop_found)
+]

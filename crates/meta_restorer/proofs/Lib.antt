@@ -1,0 +1,11 @@
+pub mod Marking
+pub mod Looking
+pub mod Naming
+pub mod Changers
+pub mod Said
+pub mod Deciding
+pub mod Telling
+pub mod Holding
+pub mod Behind
+pub mod Restoring
+pub mod Safe

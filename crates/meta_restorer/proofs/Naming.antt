@@ -1,0 +1,82 @@
+-- Names and the places of rules.
+use Rattle.std.proofs.Common.{◌≡◌, ℕ, suc, ◌+◌, ◌<◌, List, [], ◌∷◌, ◌++◌, Option, Some, None, Bool, true, false, if◌then◌else◌, bytes_eq, length, map, refl, sym, ◌∙◌, ap, arith, nat_eq, get_or, take, slice_get, String, Global, string_bytes}
+use Rattle.std.specs.Bool.{Decides}
+use Rattle.std.specs.Cmp.{unsigned_Decides}
+use Rattle.std.specs.Str.{chars, IsUtf8, IsAscii}
+use Rattle.std.proofs.lemmas.Bool.Decides.{same_from_decides}
+use Rattle.std.proofs.lemmas.Str.{encodes-chars, IsUtf8-string_bytes, chars-IsAscii, IsUtf8-from_ascii}
+use Rattle.std.proofs.Math.Utf8.{encodes}
+use Rattle.std.proofs.lemmas.Slice.Eq.{slice_eq-Decides, bytes_eq-Decides}
+use Rattle.std.proofs.lemmas.List.{take_more, length-take-le, map-append, length-map}
+use lib.Pointwise.{pointwise}
+use Rattle.meta_base.specs.Language.Text.{Text}
+use Rattle.meta_base.specs.Language.Expression.{Rule, Grammar, rule_of, or_else}
+use Rattle.meta_ast.specs.Ast.{text_of}
+use Rattle.meta_restorer.specs.Bodies.{NamedBody, said_by, rule_with, grammar_with}
+use Rattle.meta_restorer.specs.Names.{last_place}
+use Rattle.meta_restorer.specs.declared.bodies.Body.{Body}
+
+abbrev next : Bool → Option ℕ → Option ℕ
+next b q = elim q [ Some k ↦ Some (suc k) | None ↦ if b then Some 0 else None ]
+
+last_more : (g : Grammar) (r : Rule) (n : Text) → last_place (g ++ r ∷ []) n ≡ (if bytes_eq r.name n then Some (length g) else last_place g n)
+last_more [] r n = refl
+last_more (q ∷ g) r n = ap (next (bytes_eq q.name n)) (last_more g r n) ∙ go (bytes_eq r.name n)
+  where
+    go : (x : Bool) → next (bytes_eq q.name n) (if x then Some (length g) else last_place g n) ≡ (if x then Some (suc (length g)) else next (bytes_eq q.name n) (last_place g n))
+    go true = refl
+    go false = refl
+
+abbrev rules : List Body → Grammar
+rules bs = grammar_with (map said_by bs)
+
+rules-append : (bs ds : List Body) → rules (bs ++ ds) ≡ rules bs ++ rules ds
+rules-append bs ds = ap grammar_with (map-append said_by bs ds) ∙ map-append rule_with (map said_by bs) (map said_by ds)
+
+-- one name more was looked at
+pub name_step : (bs : List Body) (i : ℕ) (n : Text) (d : Body) (r : Bool) (found after : Option ℕ) → i < length bs → r ≡ bytes_eq (text_of (get_or bs i d).name.now) n → found ≡ last_place (rules (take i bs)) n
+    → after ≡ (if r then Some i else found) → after ≡ last_place (rules (take (i + 1) bs)) n
+name_step bs i n d r found after h q f g =
+    let l : length (rules (take i bs)) ≡ i = length-map (map said_by (take i bs)) rule_with ∙ length-map (take i bs) said_by ∙ length-take-le i bs (omega arith) in
+    let b : Bool = bytes_eq (text_of (get_or bs i d).name.now) n in
+    g ∙ (ap (λ x. if x then Some i else found) q ∙ (ap (λ z. if b then Some i else z) f
+    ∙ (ap (λ m. if b then Some m else last_place (rules (take i bs)) n) (sym l)
+    ∙ (sym (last_more (rules (take i bs)) (rule_with (said_by (get_or bs i d))) n)
+    ∙ (ap (λ z. last_place z n) (sym (rules-append (take i bs) (get_or bs i d ∷ []))) ∙ ap (λ z. last_place (rules z) n) (sym (take_more bs i d h)))))))
+
+-- two texts are equal where their bytes are
+utf8_eq : (bs ds : List ℕ) → IsUtf8 bs → IsUtf8 ds → pointwise nat_eq bs ds ≡ bytes_eq (chars bs) (chars ds)
+utf8_eq bs ds u v =
+    let d = slice_eq-Decides unsigned_Decides bs ds _ refl in
+    let e : Decides (pointwise nat_eq bs ds) (chars bs ≡ chars ds) = ((λ h. ap chars (d.0 h)), (λ h. d.1 (sym (encodes-chars bs u) ∙ ap encodes h ∙ encodes-chars ds v))) in
+    same_from_decides _ _ e (bytes_eq-Decides (chars bs) (chars ds))
+
+pub bytes_text_eq : (bs ds : List ℕ) → IsUtf8 bs → IsUtf8 ds → bytes_eq bs ds ≡ bytes_eq (chars bs) (chars ds)
+bytes_text_eq bs ds u v =
+    let d = bytes_eq-Decides bs ds in
+    let e : Decides (bytes_eq bs ds) (chars bs ≡ chars ds) = ((λ h. ap chars (d.0 h)), (λ h. d.1 (sym (encodes-chars bs u) ∙ ap encodes h ∙ encodes-chars ds v))) in
+    same_from_decides _ _ e (bytes_eq-Decides (chars bs) (chars ds))
+
+pub literal_eq : (s : String Global) (t : List ℕ) → IsAscii t → pointwise nat_eq (string_bytes s) t ≡ bytes_eq (text_of s) t
+literal_eq s t a = utf8_eq (string_bytes s) t (IsUtf8-string_bytes s) (IsUtf8-from_ascii t a) ∙ ap (λ u. bytes_eq (text_of s) u) (chars-IsAscii t a)
+
+-- the bytes of a string's characters are its own
+pub encodes-text_of : (s : String Global) → encodes (text_of s) ≡ string_bytes s
+encodes-text_of s = encodes-chars (string_bytes s) (IsUtf8-string_bytes s)
+
+-- a name means no rule, or the last of its name
+pub data Named (bs : List NamedBody) (n : Text) : Option ℕ → Type 0 where
+  absent : rule_of (grammar_with bs) n ≡ None → Named bs n None
+  named : {i : ℕ} (b : NamedBody) → slice_get bs i ≡ Some b → rule_of (grammar_with bs) n ≡ Some (rule_with b) → Named bs n (Some i)
+
+abbrev behind : NamedBody → Text → Option Rule → Option Rule
+behind q n z = or_else z (if bytes_eq (rule_with q).name n then Some (rule_with q) else None)
+
+pub resolved : (bs : List NamedBody) (n : Text) → Named bs n (last_place (grammar_with bs) n)
+resolved [] n = absent refl
+resolved (q ∷ bs) n = go (last_place (grammar_with bs) n) (resolved bs n) (bytes_eq (rule_with q).name n) refl
+  where
+    go : (o : Option ℕ) → Named bs n o → (b : Bool) → bytes_eq (rule_with q).name n ≡ b → Named (q ∷ bs) n (next b o)
+    go o (named b at e) t h = named b at (ap (behind q n) e)
+    go o (absent e) true h = named q refl (ap (behind q n) e ∙ ap (λ b. or_else None (if b then Some (rule_with q) else None)) h)
+    go o (absent e) false h = absent (ap (behind q n) e ∙ ap (λ b. or_else None (if b then Some (rule_with q) else None)) h)

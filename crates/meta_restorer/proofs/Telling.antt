@@ -1,0 +1,82 @@
+-- Marks that are right and closed tell which names change the stack.
+use Rattle.std.proofs.Common.{◌≡◌, ℕ, zero, suc, ◌<◌, List, [], ◌∷◌, Option, Some, None, Bool, true, false, ◌||◌, inl, inr, slice_get, length, refl, sym, ◌∙◌, ap, subst, arith, String, Global}
+use Rattle.meta_base.specs.Language.Text.{Text}
+use Rattle.meta_base.specs.Language.Expression.{Expression, Ident, Rule, rule_of}
+use Rattle.meta_base.specs.Rewritings.Wrapping.{ChangesStack, changes_push, changes_pop, changes_drop, changes_rule, changes_pos_pred, changes_neg_pred, changes_seq_left, changes_seq_right, changes_left, changes_right, changes_opt, changes_rep, changes_rep_once, changes_rep_exact, changes_rep_min, changes_rep_max, changes_rep_min_max}
+use Rattle.meta_ast.specs.Ast.{text_of}
+use Rattle.meta_ast.specs.Optimized.{optimized_expression_of}
+use Rattle.meta_restorer.specs.Bodies.{NamedBody, rule_with, grammar_with}
+use Rattle.meta_restorer.specs.Calls.{is_set_at, shows, number_changes, name_changes, Holds, holds, AreSound, AreClosed}
+use Rattle.meta_restorer.specs.Changing.{is_changer, changes_by}
+use Rattle.meta_restorer.specs.Names.{last_place, number_of, KnowsNames}
+use Rattle.meta_restorer.specs.Telling.{AreCallsOf, told, Tells}
+use Rattle.meta_restorer.specs.declared.calls.Calls.{Calls}
+use Rattle.meta_restorer.specs.declared.changes.Changes.{Changes}
+use Rattle.meta_restorer.specs.declared.names.Names.{Names}
+use Rattle.meta_restorer.proofs.Changers.{changer_is, drop_named, either, pop_named}
+use Rattle.meta_restorer.proofs.Deciding.{changing, or_left, or_right}
+use Rattle.meta_restorer.proofs.Naming.{Named, absent, named, resolved}
+use Rattle.meta_restorer.proofs.Said.{IsSaid, said}
+
+pub got_alike : {A B : Type 0} (xs : List A) (ys : List B) (k : ℕ) (x : A) → slice_get xs k ≡ Some x → length xs ≡ length ys → (y : B) × (slice_get ys k ≡ Some y)
+got_alike [] ys k x e l = cc
+got_alike (x ∷ xs) [] k z e l = absurd (omega arith)
+got_alike (x ∷ xs) (y ∷ ys) zero z e l = (y, refl)
+got_alike (x ∷ xs) (y ∷ ys) (suc k) z e l = got_alike xs ys k z e (omega arith)
+
+module _ (bs : List NamedBody) (names : Names) (cs : List Calls) (known : KnowsNames names (grammar_with bs)) (met : AreCallsOf names bs cs) where
+  -- a name changes the stack where its rule does
+  by_number : (marks : List Bool) → ((i : ℕ) (b : NamedBody) → slice_get bs i ≡ Some b → is_set_at marks i ≡ true → ChangesStack (grammar_with bs) (optimized_expression_of b.1))
+      → (s : String Global) → name_changes names marks (text_of s) ≡ true → ChangesStack (grammar_with bs) (Ident (text_of s))
+  by_number marks f s h = elim (either (is_changer (text_of s)) (number_changes marks (number_of names (text_of s))) h) [
+    | inl k ↦ elim (changer_is (text_of s) k) [ inl e ↦ changes_pop e | inr e ↦ changes_drop e ]
+    | inr k ↦ go (last_place (grammar_with bs) (text_of s)) (resolved bs (text_of s)) (sym (ap (number_changes marks) (known s)) ∙ k)
+  ]
+    where
+      go : (o : Option ℕ) → Named bs (text_of s) o → number_changes marks o ≡ true → ChangesStack (grammar_with bs) (Ident (text_of s))
+      go o (absent e) k = cc
+      go o (named {i = i} b at e) k = changes_rule e (f i b at k)
+
+  holding : {i : ℕ} → Holds cs i → (b : NamedBody) → slice_get bs i ≡ Some b → ChangesStack (grammar_with bs) (optimized_expression_of b.1)
+  holding (holds {i = i} {c = c} marks at sh f) b e =
+      changing (grammar_with bs) (name_changes names marks) (by_number marks (λ j d g k. holding (f j k) d g)) (optimized_expression_of b.1) (said b.1) (sym (met.show i b c e at marks) ∙ sh)
+
+  module _ (marks : List Bool) (closed : AreClosed cs marks) where
+    abbrev p : Text → Bool
+    p = name_changes names marks
+
+    marked_rule : (n : Text) (s : String Global) (r : Rule) → n ≡ text_of s → rule_of (grammar_with bs) n ≡ Some r → (IsSaid r.body → changes_by p r.body ≡ true) → p n ≡ true
+    marked_rule n s r k e f = or_right (is_changer n) (number_changes marks (number_of names n)) (ap (λ m. number_changes marks (number_of names m)) k ∙ (ap (number_changes marks) (known s) ∙ (ap (λ m. number_changes marks (last_place (grammar_with bs) m)) (sym k) ∙ go (last_place (grammar_with bs) n) (resolved bs n))))
+      where
+        go : (o : Option ℕ) → Named bs n o → number_changes marks o ≡ true
+        go o (absent a) = cc
+        go o (named {i = i} b at a) =
+            let same : rule_with b ≡ r = cc in
+            let own : changes_by p (optimized_expression_of b.1) ≡ true = ap (λ (q : Rule). changes_by p q.body) same ∙ f (subst (λ (q : Rule). IsSaid q.body) same (said b.1)) in
+            let (c, here) = got_alike bs cs i b at (sym met.alike) in
+            closed i c here (met.show i b c at here marks ∙ own)
+
+    complete : {e : Expression} → ChangesStack (grammar_with bs) e → IsSaid e → changes_by p e ≡ true
+    complete changes_push s = refl
+    complete (changes_pop {n = n} b) s = or_left (is_changer n) (number_changes marks (number_of names n)) (pop_named n b)
+    complete (changes_drop {n = n} b) s = or_left (is_changer n) (number_changes marks (number_of names n)) (drop_named n b)
+    complete (changes_rule {n = n} {r = r} e d) (s, k) = marked_rule n s r k e (λ h. complete d h)
+    complete (changes_pos_pred d) s = complete d s
+    complete (changes_neg_pred d) s = complete d s
+    complete (changes_seq_left {a = a} {b = b} d) s = or_left (changes_by p a) (changes_by p b) (complete d s.0)
+    complete (changes_seq_right {a = a} {b = b} d) s = or_right (changes_by p a) (changes_by p b) (complete d s.1)
+    complete (changes_left {a = a} {b = b} d) s = or_left (changes_by p a) (changes_by p b) (complete d s.0)
+    complete (changes_right {a = a} {b = b} d) s = or_right (changes_by p a) (changes_by p b) (complete d s.1)
+    complete (changes_opt d) s = complete d s
+    complete (changes_rep d) s = complete d s
+    complete (changes_rep_once d) s = complete d s
+    complete (changes_rep_exact d) s = complete d s
+    complete (changes_rep_min d) s = complete d s
+    complete (changes_rep_max d) s = complete d s
+    complete (changes_rep_min_max d) s = complete d s
+
+    pub tells : AreSound cs marks → (n : String Global) → (p (text_of n) ≡ true → ChangesStack (grammar_with bs) (Ident (text_of n))) × (ChangesStack (grammar_with bs) (Ident (text_of n)) → p (text_of n) ≡ true)
+    tells sound n = (
+      (λ h. by_number marks (λ i b at k. holding (sound.right i k) b at) n h),
+      (λ d. complete d (n, refl)),
+    )

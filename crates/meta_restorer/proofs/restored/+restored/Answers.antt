@@ -1,0 +1,29 @@
+use Rattle.std.proofs.Common.{◌≡◌, ◌≤◌, ◌∙◌, arith, ap, sym}
+use Rattle.meta_ast.specs.Optimized.{optimized_expression_of}
+use Rattle.meta_restorer.specs.Changing.{restored_by, wrapped_by}
+use Rattle.meta_restorer.specs.Sides.{put_behind}
+use Rattle.meta_restorer.specs.Telling.{told}
+use Rattle.meta_restorer.proofs.Behind.{put_behind-last, told_last}
+use Rattle.meta_restorer.proofs.restored.+restored.Goals as goal
+
+pub restored-along-preserved-in-Seq : goal.restored-along-preserved-in-Seq
+restored-along-preserved-in-Seq t c =
+    let p = told c.args.changes.now in
+    let made = rw c.into_inner.ensures at c.in_ok-left-in-Seq.ensures.made in
+    let all = rw c.in-Seq.is at c.along.invariant.made in
+    record {
+      left = rw c.in_ok-push-in-Seq.ensures.items (told_last p c.along.sides.items _ c.along.invariant.left c.in_ok-left-in-Seq.ensures.told);
+      made = rw (c.in_ok-push-in-Seq.ensures.items, put_behind-last, made, c.into_inner-rest.ensures) all;
+      smaller = rw c.into_inner-rest.ensures (omega (arith, rw c.in-Seq.is at c.along.invariant.smaller));
+    }
+
+pub restored-along-preserved : goal.restored-along-preserved
+restored-along-preserved t c =
+    let p = told c.args.changes.now in
+    let made = rw c.into_inner-in-Choice.ensures at c.in_ok-left-in-Choice.ensures.made in
+    let all = rw c.in-Choice.is at c.along.invariant.made in
+    record {
+      left = rw c.in_ok-push-in-Choice.ensures.items (told_last p c.along.sides.items _ c.along.invariant.left c.in_ok-left-in-Choice.ensures.told);
+      made = rw (c.in_ok-push-in-Choice.ensures.items, put_behind-last, made, c.into_inner-rest-in-Choice.ensures) all;
+      smaller = rw c.into_inner-rest-in-Choice.ensures (omega (arith, rw c.in-Choice.is at c.along.invariant.smaller));
+    }

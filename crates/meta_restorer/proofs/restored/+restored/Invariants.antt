@@ -1,0 +1,23 @@
+use Rattle.std.proofs.Common.{◌≡◌, ◌≤◌, ◌+◌, ◌*◌}
+use Rattle.meta_ast.specs.Optimized.{optimized_expression_of}
+use Rattle.meta_restorer.specs.Changing.{restored_by}
+use Rattle.meta_restorer.specs.Sides.{put_behind, AreTold}
+use Rattle.meta_restorer.specs.Size.{size}
+use Rattle.meta_restorer.specs.Telling.{told}
+use Rattle.meta_restorer.proofs.restored.+restored.Given as goal
+
+abbrev pub invariant-restored-along : goal.invariant-restored-along
+invariant-restored-along l = record {
+  left : AreTold (told l.changes) l.sides.items;
+  made : put_behind (told l.changes) l.sides.items (restored_by (told l.changes) (optimized_expression_of l.rest)) ≡ restored_by (told l.changes) (optimized_expression_of l.fn.expr);
+  smaller : size (optimized_expression_of l.rest) ≤ size (optimized_expression_of l.fn.expr);
+}
+
+abbrev pub decreases-restored-along : goal.decreases-restored-along
+decreases-restored-along l = size (optimized_expression_of l.rest)
+
+abbrev pub decreases-restored : goal.decreases-restored
+decreases-restored l = 2 * size (optimized_expression_of l.expr) + 1
+
+abbrev pub decreases-one : goal.decreases-one
+decreases-one l = 2 * size (optimized_expression_of l.expr)

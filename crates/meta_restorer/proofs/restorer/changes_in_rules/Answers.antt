@@ -1,0 +1,12 @@
+use Rattle.std.proofs.Common.{map, subst}
+use Rattle.meta_ast.specs.Optimized.{optimized_rules_of}
+use Rattle.meta_restorer.specs.Bodies.{said_by, grammar_with}
+use Rattle.meta_restorer.specs.Telling.{Tells}
+use Rattle.meta_restorer.proofs.Holding.{answered, tells_moved}
+use Rattle.meta_restorer.proofs.restorer.changes_in_rules.Goals as goal
+
+pub returns : goal.returns
+returns c =
+    let bs = map said_by c.in_ok-bodies.bodies.items in
+    answered c.changes_of.result
+    (λ changes t. tells_moved changes bs (optimized_rules_of c.args.rules.now) c.in_ok-bodies.ensures (subst (λ ds. Tells changes (grammar_with (map said_by ds))) c.deref.ensures.value t)) c.changes_of.ensures

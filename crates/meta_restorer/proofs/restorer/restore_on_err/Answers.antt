@@ -1,0 +1,20 @@
+use Rattle.std.proofs.Common.{◌≡◌, ◌∙◌, ap, sym, subst}
+use Rattle.meta_base.specs.Rewritings.Erased.{erased}
+use Rattle.meta_base.specs.Language.Expression.{Rule}
+use Rattle.meta_base.specs.Rewritings.Wrapping.{RestoresTo}
+use Rattle.meta_ast.specs.Optimized.{optimized_expression_of}
+use Rattle.meta_restorer.specs.Changing.{restored_by}
+use Rattle.meta_restorer.specs.Telling.{told}
+use Rattle.meta_restorer.proofs.Restoring.{restores, restored_same}
+use Rattle.meta_restorer.proofs.restorer.restore_on_err.Goals as goal
+
+pub returns-in-Ok-restored_rule-clause-restores : goal.returns-in-Ok-restored_rule-clause-restores
+returns-in-Ok-restored_rule-clause-restores c = λ g h k.
+    let x = c.args.rule.expr in
+    let p = told c.in-Ok.changes in
+    let body : optimized_expression_of c.in-Ok-restored_rule.rule.expr ≡ restored_by p (optimized_expression_of x) = ap (λ (r : Rule). r.body) c.in-Ok-restored_rule.ensures.whole in
+    subst (RestoresTo g (optimized_expression_of x)) (sym body) (restores p g (c.in-Ok.ensures g h) x k)
+
+pub returns-in-Ok-restored_rule-clause-erased : goal.returns-in-Ok-restored_rule-clause-erased
+returns-in-Ok-restored_rule-clause-erased c =
+    ap (λ (r : Rule). erased r.body) c.in-Ok-restored_rule.ensures.whole ∙ restored_same (told c.in-Ok.changes) (optimized_expression_of c.args.rule.expr)

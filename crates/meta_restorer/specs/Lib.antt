@@ -1,0 +1,10 @@
+pub mod Agreeing
+pub mod Bodies
+pub mod Calls
+pub mod Changing
+pub mod Faults
+pub mod Names
+pub mod Restoring
+pub mod Sides
+pub mod Size
+pub mod Telling

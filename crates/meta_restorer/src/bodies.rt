@@ -1,0 +1,49 @@
+// The bodies of rules, each with its rule's name.
+ghost use Rattle.std.specs.Prelude.{map, IfOk};
+ghost use Rattle.meta_base.specs.Language.Expression.{Grammar};
+ghost use Rattle.meta_ast.specs.Optimized.{optimized_rules_of};
+ghost use Rattle.meta_restorer.specs.Bodies.{said_by, grammar_with, HoldsOptimizedBodies, SameBodies};
+
+use meta_ast::optimized::{OptimizedExpr, OptimizedRule};
+use std::alloc::{AllocError, Global};
+use std::collections::HashMap;
+
+/// The body of a rule, and the rule's name.
+#[derive(Clone, Copy)]
+pub struct Body<'a> {
+    pub name: &'a String,
+    pub expr: &'a OptimizedExpr,
+}
+
+/// The bodies that a map holds.
+pub(crate) fn bodies_of_map<'a>(
+    alloc: Global,
+    rules: &'a HashMap<String, OptimizedExpr>,
+) -> Result<Vec<Body<'a>>, AllocError>
+    ensures { IfOk result (λ bodies. (g : Grammar) → HoldsOptimizedBodies rules.now g
+        → SameBodies (grammar_with (map said_by bodies.items)) g) }
+{
+    let mut bodies = Vec::new(alloc);
+    for (name, expr) in rules {
+        bodies.push(Body { name, expr })?;
+    }
+    Ok(bodies)
+}
+
+/// The bodies of rules, in order.
+pub(crate) fn bodies_of_rules<'a>(
+    alloc: Global,
+    rules: &'a [OptimizedRule],
+) -> Result<Vec<Body<'a>>, AllocError>
+    ensures { IfOk result
+        (λ bodies. SameBodies (grammar_with (map said_by bodies.items)) (optimized_rules_of rules.now)) }
+{
+    let mut bodies = Vec::new(alloc);
+    for rule in rules {
+        bodies.push(Body {
+            name: &rule.name,
+            expr: &rule.expr,
+        })?;
+    }
+    Ok(bodies)
+}

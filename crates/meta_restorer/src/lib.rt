@@ -1,0 +1,14 @@
+//! The restorer: wrappers round what may fail and changes the stack, where something is tried next.
+#![tactic(auto)]
+
+mod bodies;
+mod calls;
+mod changes;
+pub mod laws;
+mod marks;
+mod names;
+mod restored;
+mod restorer;
+mod sides;
+
+pub use restorer::{child_modifies_state, restore_on_err, restore_rules};

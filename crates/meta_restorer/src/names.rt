@@ -1,0 +1,52 @@
+// Names, resolved to the numbers of rules.
+ghost use Rattle.std.specs.Prelude.{◌≡◌, IfOk, map};
+ghost use Rattle.std.specs.Str.{IsAscii};
+ghost use Rattle.std.specs.Prelude.{bytes_eq};
+ghost use Rattle.meta_ast.specs.Ast.{text_of};
+ghost use Rattle.meta_restorer.specs.Bodies.{said_by, grammar_with};
+ghost use Rattle.meta_restorer.specs.Changing.{is_changer};
+ghost use Rattle.meta_restorer.specs.Names.{number_of, KnowsNames};
+
+use crate::bodies::Body;
+use std::alloc::{AllocError, Global};
+use std::collections::HashMap;
+
+/// For each name the number of the last rule of that name.
+#[derive(Drop)]
+pub struct Names {
+    pub numbers: HashMap<String, usize>,
+}
+
+/// The names of rules.
+pub(crate) fn names_of<'a>(alloc: Global, bodies: &[Body<'a>]) -> Result<Names, AllocError>
+    ensures { IfOk result (λ names. KnowsNames names (grammar_with (map said_by bodies.now))) }
+{
+    let mut numbers = HashMap::new(alloc);
+    for number in 0..bodies.len() {
+        let name = String::from_str(alloc, bodies[number].name.as_str())?;
+        numbers.insert(name, number)?;
+    }
+    Ok(Names { numbers })
+}
+
+/// The number of the rule that a name means, if it means one.
+pub(crate) fn number_of_name(names: &Names, name: &String) -> Option<usize>
+    ensures { result ≡ number_of names.now (text_of name.now) }
+{
+    names.numbers.get(name.as_str()).copied()
+}
+
+/// Whether a name is a literal's text.
+fn is_literal(name: &String, literal: &str) -> bool
+    requires { IsAscii literal.now }
+    ensures { result ≡ bytes_eq (text_of name.now) literal.now }
+{
+    name.as_str() == literal
+}
+
+/// Whether a name is that of a builtin that counts as changing the stack.
+pub(crate) fn is_changer_name(name: &String) -> bool
+    ensures { result ≡ is_changer (text_of name.now) }
+{
+    is_literal(name, "POP") || is_literal(name, "DROP")
+}

@@ -1,0 +1,158 @@
+//! Wrappers round what may fail and changes the stack.
+ghost use Rattle.std.specs.Prelude.{◌≡◌, IfErr, IfOk};
+ghost use Rattle.std.specs.Bool.{Decides};
+ghost use Rattle.meta_base.specs.Rewritings.Erased.{erased};
+ghost use Rattle.meta_base.specs.Language.Expression.{Grammar};
+ghost use Rattle.meta_base.specs.Rewritings.Wrapping.{ChangesStack, RestoresTo, EachRestored};
+ghost use Rattle.meta_ast.specs.Ast.{text_of};
+ghost use Rattle.meta_ast.specs.Optimized.{optimized_expression_of, optimized_rule_of, optimized_rules_of};
+ghost use Rattle.meta_restorer.specs.Bodies.{HoldsOptimizedBodies};
+ghost use Rattle.meta_restorer.specs.Changing.{HasNoWrappers, changes_by};
+ghost use Rattle.meta_restorer.specs.Faults.{IsMemory};
+ghost use Rattle.meta_restorer.specs.Restoring.{AreSameErased, HaveNoWrappers, restored_rule_by, restored_rules_by};
+ghost use Rattle.meta_restorer.specs.Telling.{Tells, told};
+
+use crate::bodies::{bodies_of_map, bodies_of_rules};
+use crate::calls::{Calls, is_shown, look};
+use crate::changes::{Changes, changes_of};
+use crate::restored::restored;
+use meta_ast::optimized::{OptimizedExpr, OptimizedRule};
+use meta_base::runtime::Fault;
+use std::alloc::{AllocError, Global};
+use std::collections::HashMap;
+
+/// Whether an expression changes the stack: a `PUSH`, `POP` or `DROP` is met in it, not below a wrapper, or
+/// in the body of a rule that is named there. `rules` holds the body of each rule at its name. `POP_ALL`
+/// does not count. Refused where memory is.
+pub fn child_modifies_state(
+    alloc: Global,
+    expr: &OptimizedExpr,
+    rules: &HashMap<String, OptimizedExpr>,
+) -> Result<bool, Fault>
+    ensures decides { IfOk result (λ yes. (g : Grammar) → HoldsOptimizedBodies rules.now g
+        → Decides yes (ChangesStack g (optimized_expression_of expr.now))) }
+    ensures memory { IfErr result IsMemory }
+{
+    match changes_in_map(alloc, rules) {
+        Ok(changes) => match is_changed(alloc, &changes, expr) {
+            Ok(yes) => Ok(yes),
+            Err(error) => Err(Fault::Memory(error)),
+        },
+        Err(error) => Err(Fault::Memory(error)),
+    }
+}
+
+/// The rule with wrappers: from the inside out, each operand of `?` and `*` and both sides of each `|` are
+/// wrapped where they change the stack as they then stand. `rules` holds the body of each rule at its name,
+/// as it was before any was restored. Name and type stay, and so does what stands below a wrapper. Refused
+/// where memory is.
+pub fn restore_on_err(
+    alloc: Global,
+    rule: OptimizedRule,
+    rules: &HashMap<String, OptimizedExpr>,
+) -> Result<OptimizedRule, Fault>
+    ensures name { IfOk result (λ r. text_of r.name ≡ text_of rule.name) }
+    ensures ty { IfOk result (λ r. r.ty ≡ rule.ty) }
+    ensures restores { IfOk result (λ r. (g : Grammar) → HoldsOptimizedBodies rules.now g
+        → HasNoWrappers (optimized_expression_of rule.expr)
+        → RestoresTo g (optimized_expression_of rule.expr) (optimized_expression_of r.expr)) }
+    ensures erased { IfOk result
+        (λ r. erased (optimized_expression_of r.expr) ≡ erased (optimized_expression_of rule.expr)) }
+    ensures memory { IfErr result IsMemory }
+{
+    match changes_in_map(alloc, rules) {
+        Ok(changes) => match restored_rule(alloc, &changes, rule) {
+            Ok(rule) => Ok(rule),
+            Err(error) => Err(Fault::Memory(error)),
+        },
+        Err(error) => Err(Fault::Memory(error)),
+    }
+}
+
+/// All rules with wrappers, as `restore_on_err` puts them: which rules change the stack is found out once,
+/// over the rules as they are handed in. Names, types and order stay. Refused where memory is.
+pub fn restore_rules(alloc: Global, rules: Vec<OptimizedRule>) -> Result<Vec<OptimizedRule>, Fault>
+    ensures restores { IfOk result (λ answer. HaveNoWrappers (optimized_rules_of rules.items)
+        → EachRestored (optimized_rules_of rules.items) (optimized_rules_of answer.items)) }
+    ensures erased { IfOk result
+        (λ answer. AreSameErased (optimized_rules_of rules.items) (optimized_rules_of answer.items)) }
+    ensures memory { IfErr result IsMemory }
+{
+    match changes_in_rules(alloc, &rules) {
+        Ok(changes) => match restored_rules(alloc, &changes, rules) {
+            Ok(rules) => Ok(rules),
+            Err(error) => Err(Fault::Memory(error)),
+        },
+        Err(error) => Err(Fault::Memory(error)),
+    }
+}
+
+// Which of the rules in a map change the stack.
+fn changes_in_map(
+    alloc: Global,
+    rules: &HashMap<String, OptimizedExpr>,
+) -> Result<Changes, AllocError>
+    ensures { IfOk result
+        (λ changes. (g : Grammar) → HoldsOptimizedBodies rules.now g → Tells changes g) }
+{
+    let bodies = bodies_of_map(alloc, rules)?;
+    changes_of(alloc, &bodies)
+}
+
+// Which rules change the stack.
+fn changes_in_rules(alloc: Global, rules: &[OptimizedRule]) -> Result<Changes, AllocError>
+    ensures { IfOk result (λ changes. Tells changes (optimized_rules_of rules.now)) }
+{
+    let bodies = bodies_of_rules(alloc, rules)?;
+    changes_of(alloc, &bodies)
+}
+
+// Whether an expression changes the stack.
+fn is_changed(alloc: Global, changes: &Changes, expr: &OptimizedExpr) -> Result<bool, AllocError>
+    ensures { IfOk result
+        (λ yes. yes ≡ changes_by (told changes.now) (optimized_expression_of expr.now)) }
+{
+    let mut calls = Calls {
+        changes: false,
+        rules: Vec::new(alloc),
+    };
+    look(&changes.names, expr, &mut calls)?;
+    Ok(is_shown(&calls, &changes.marks))
+}
+
+// A rule with wrappers.
+fn restored_rule(
+    alloc: Global,
+    changes: &Changes,
+    rule: OptimizedRule,
+) -> Result<OptimizedRule, AllocError>
+    ensures name { IfOk result (λ r. r.name ≡ rule.name) }
+    ensures ty { IfOk result (λ r. r.ty ≡ rule.ty) }
+    ensures whole { IfOk result
+        (λ r. optimized_rule_of r ≡ restored_rule_by (told changes.now) (optimized_rule_of rule)) }
+{
+    let OptimizedRule { name, ty, expr } = rule;
+    let restored = restored(alloc, changes, expr)?;
+    Ok(OptimizedRule {
+        name,
+        ty,
+        expr: restored.expr,
+    })
+}
+
+// Rules with wrappers.
+fn restored_rules(
+    alloc: Global,
+    changes: &Changes,
+    rules: Vec<OptimizedRule>,
+) -> Result<Vec<OptimizedRule>, AllocError>
+    ensures { IfOk result (λ answer. optimized_rules_of answer.items
+        ≡ restored_rules_by (told changes.now) (optimized_rules_of rules.items)) }
+{
+    let mut answer = Vec::new(alloc);
+    for rule in rules {
+        let rule = restored_rule(alloc, changes, rule)?;
+        answer.push(rule)?;
+    }
+    Ok(answer)
+}

@@ -1,0 +1,85 @@
+-- The table of rules is as it should be.
+use Rattle.std.proofs.Common.{◌≡◌, ℕ, List, Bool, true, false, ◌&&◌, not, ◌⊎◌, inl, inr, refl, sym, ◌∙◌, subst}
+use Rattle.meta_base.specs.Language.Expression.{whitespace, comment}
+use Rattle.meta_nodes.specs.declared.node.ParserRule.{ParserRule}
+use Rattle.meta_stacks.specs.Reports.{SkippingChangesStack, skips_in}
+use Rattle.meta_stack.specs.Answers.{AreSound, AreClosed}
+use Rattle.meta_stack.specs.Certain.{IsFlat, IsTableOf}
+use Rattle.meta_stack.specs.Expressions.{name_flag}
+use Rattle.meta_stack.specs.Names.{grammar_of, kind_in}
+use Rattle.meta_stack.specs.Numbering.{AreTabled}
+use Rattle.meta_stack.specs.Table.{IsOrdered, nodes_of}
+use Rattle.meta_stack.specs.declared.facts.Question.TheVariants as asks
+use Rattle.meta_stack.specs.declared.table.Node.{Node}
+use Rattle.meta_stack.specs.declared.table.Table.{Table}
+use Rattle.meta_stack.proofs.Answering as answering
+use Rattle.meta_stack.proofs.Flat.{bodies_inside, flat_ordered}
+use Rattle.meta_stack.proofs.FlagLemmas.{sound_answers}
+use Rattle.meta_stack.proofs.Least as least
+
+-- all that is known of a table besides the order of its nodes
+pub record IsUnordered (rules : List ParserRule) (t : Table) : Type 0 where
+  pub tabled : AreTabled rules (kind_in (grammar_of rules)) (nodes_of t) t.roots.items
+  pub skips : t.skips ≡ skips_in (grammar_of rules)
+  pub sound : AreSound asks.TakesNothing (nodes_of t) t.roots.items t.nullable.items
+  pub closed : AreClosed asks.TakesNothing (nodes_of t) t.roots.items t.nullable.items
+  pub calm : SkippingChangesStack (grammar_of rules) → ⊥
+  pub limit : t.limit ≡ 3067
+  pub turns : t.turns ≡ 64
+
+pub in_order : (rules : List ParserRule) (t : Table) → IsUnordered rules t → IsOrdered t → IsTableOf rules t
+in_order rules t h o = record {
+  tabled = h.tabled;
+  ordered = o;
+  inside = bodies_inside rules (kind_in (grammar_of rules)) t h.tabled;
+  skips = h.skips;
+  sound = h.sound;
+  nullable = sound_answers asks.TakesNothing (nodes_of t) t.roots.items t.nullable.items h.sound h.closed;
+  calm = h.calm;
+  limit = h.limit;
+  turns = h.turns;
+}
+
+-- so is the one in which no call is followed
+pub when_flat : (rules : List ParserRule) (t flat : Table) → IsUnordered rules t → IsFlat t flat → IsTableOf rules flat
+when_flat rules t flat h f =
+    let tabled = subst (λ z. AreTabled rules (kind_in (grammar_of rules)) (nodes_of flat) z) (sym f.roots)
+    (subst (λ z. AreTabled rules (kind_in (grammar_of rules)) z t.roots.items) (sym f.nodes) h.tabled) in
+    in_order rules flat (record {
+      tabled = tabled;
+      skips = f.skips ∙ h.skips;
+      sound = subst (λ z. AreSound asks.TakesNothing (nodes_of flat) flat.roots.items z) (sym f.nullable)
+          (subst (λ z. AreSound asks.TakesNothing (nodes_of flat) z t.nullable.items) (sym f.roots) (subst (λ z. AreSound asks.TakesNothing z t.roots.items t.nullable.items) (sym f.nodes) h.sound));
+      closed = subst (λ z. AreClosed asks.TakesNothing (nodes_of flat) flat.roots.items z) (sym f.nullable)
+          (subst (λ z. AreClosed asks.TakesNothing (nodes_of flat) z t.nullable.items) (sym f.roots) (subst (λ z. AreClosed asks.TakesNothing z t.roots.items t.nullable.items) (sym f.nodes) h.closed));
+      calm = h.calm;
+      limit = f.limit ∙ h.limit;
+      turns = f.turns ∙ h.turns;
+    }) (flat_ordered rules t flat tabled f)
+
+both_off : (a b : Bool) → (not a && not b) ≡ true → (a ≡ false) × (b ≡ false)
+both_off false false h = (refl, refl)
+both_off false true h = cc
+both_off true b h = cc
+
+one_on : (a b : Bool) → (not a && not b) ≡ false → (a ≡ true) ⊎ (b ≡ true)
+one_on true b h = inl refl
+one_on false true h = inr refl
+one_on false false h = cc
+
+module _ (rules : List ParserRule) (ns : List Node) (roots : List ℕ) (tabled : AreTabled rules (kind_in (grammar_of rules)) ns roots) (flags : List Bool)
+    (sound : AreSound asks.ChangesStack ns roots flags) (closed : AreClosed asks.ChangesStack ns roots flags) where
+  abbrev off : Bool
+  off = not (name_flag (grammar_of rules) roots flags whitespace) && not (name_flag (grammar_of rules) roots flags comment)
+
+  -- what is skipped leaves the stack alone, or changes it, as the flags say
+  pub is_calm : off ≡ true → SkippingChangesStack (grammar_of rules) → ⊥
+  is_calm h =
+      let (a, b) = both_off (name_flag (grammar_of rules) roots flags whitespace) (name_flag (grammar_of rules) roots flags comment) h in
+      answering.calm rules ns roots tabled flags (sound_answers asks.ChangesStack ns roots flags sound closed) a b
+
+  pub is_changed : off ≡ false → SkippingChangesStack (grammar_of rules)
+  is_changed h = elim (one_on (name_flag (grammar_of rules) roots flags whitespace) (name_flag (grammar_of rules) roots flags comment) h) [
+    | inl a ↦ inl (least.changes_name rules ns roots tabled flags sound whitespace a)
+    | inr b ↦ inr (least.changes_name rules ns roots tabled flags sound comment b)
+  ]

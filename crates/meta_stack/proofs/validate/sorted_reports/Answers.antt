@@ -1,0 +1,11 @@
+use Rattle.std.proofs.Common.{map}
+use Rattle.meta_nodes.specs.Nodes.{piece_of}
+use Rattle.meta_stack.proofs.validate.sorted_reports.Goals as goal
+
+pub returns : goal.returns
+returns c = record {
+  reports = map piece_of c.in_ok-found.found.items;
+  certain = c.in_ok-found.ensures.certain;
+  plain = c.in_ok-found.ensures.plain;
+  sorted = c.in_ok-sort_spans.ensures;
+}

@@ -1,0 +1,11 @@
+use Rattle.std.proofs.Common.{take}
+use Rattle.meta_stack.specs.Memory.{Meaning, IsRight}
+use Rattle.meta_stack.specs.Table.{IsMeaning}
+use Rattle.meta_stack.specs.Visiting.{FindsAll}
+use Rattle.meta_stack.proofs.validate.visit_all.Given as goal
+
+abbrev pub invariant-loop-rule : goal.invariant-loop-rule
+invariant-loop-rule l = record {
+  right : (meaning : Meaning) → IsMeaning l.table meaning → IsRight meaning l.memory;
+  found : FindsAll l.table (take l.rule l.table.roots.items) l.found.items;
+}

@@ -1,0 +1,84 @@
+-- What is asked of all nodes, and answered by the answers for their operands.
+use Rattle.std.specs.Prelude.{◌≡◌, ℕ, List, Option, Some, None, Bool, true, false, ◌&&◌, ◌||◌, slice_get, length}
+use Rattle.meta_base.specs.Language.Expression.{Expression, Grammar}
+use Rattle.meta_base.specs.Language.WellFormed.{IsNullable}
+use Rattle.meta_stacks.specs.Reports.{ChangesStack}
+use Rattle.meta_stack.specs.Flags.{is_set_at}
+use Rattle.meta_stack.specs.declared.table.Kind.{Kind}
+use Rattle.meta_stack.specs.declared.table.Kind.TheVariants as is
+use Rattle.meta_stack.specs.declared.table.Node.{Node}
+use Rattle.meta_stack.specs.declared.facts.Question.{Question}
+use Rattle.meta_stack.specs.declared.facts.Question.TheVariants as asks
+
+abbrev pub at_place : (ℕ → Bool) → Option ℕ → Bool
+at_place p None = false
+at_place p (Some i) = p i
+
+-- it may take nothing, by its operands
+abbrev pub null_kind : List ℕ → (ℕ → Bool) → Kind → Bool
+null_kind roots p (is.Call r) = at_place p (slice_get roots r)
+null_kind roots p (is.Push j) = p j
+null_kind roots p (is.Repeat j required optional endless) = p j
+null_kind roots p (is.Seq j k) = p j && p k
+null_kind roots p (is.Choice j k) = p j || p k
+null_kind roots p is.Still = false
+null_kind roots p is.Leaf = false
+null_kind roots p is.Peek = false
+null_kind roots p is.Pop = false
+null_kind roots p is.Drop = false
+null_kind roots p is.PeekAll = false
+null_kind roots p is.PopAll = false
+null_kind roots p (is.PosPred j) = false
+null_kind roots p (is.NegPred j) = false
+null_kind roots p (is.Opt j) = false
+
+-- it changes the stack outside predicates
+abbrev pub changing_kind : List ℕ → (ℕ → Bool) → Kind → Bool
+changing_kind roots p (is.Call r) = at_place p (slice_get roots r)
+changing_kind roots p (is.Push j) = true
+changing_kind roots p (is.Repeat j required optional endless) = p j
+changing_kind roots p (is.Seq j k) = p j || p k
+changing_kind roots p (is.Choice j k) = p j || p k
+changing_kind roots p (is.Opt j) = p j
+changing_kind roots p is.Pop = true
+changing_kind roots p is.Drop = true
+changing_kind roots p is.PopAll = true
+changing_kind roots p is.Still = false
+changing_kind roots p is.Leaf = false
+changing_kind roots p is.Peek = false
+changing_kind roots p is.PeekAll = false
+changing_kind roots p (is.PosPred j) = false
+changing_kind roots p (is.NegPred j) = false
+
+-- the answer for a node
+abbrev pub answer : Question → List ℕ → (ℕ → Bool) → Node → Bool
+answer asks.TakesNothing roots p n = n.free || null_kind roots p n.kind
+answer asks.ChangesStack roots p n = changing_kind roots p n.kind
+
+-- each flag is the answer for its node, by the flags of others
+abbrev pub AreAnswers : Question → List Node → List ℕ → List Bool → Type 0
+AreAnswers q ns roots flags = (i : ℕ) (n : Node) → slice_get ns i ≡ Some n
+    → is_set_at flags i ≡ answer q roots (is_set_at flags) n
+
+-- the answer for the node is yes: the least relation
+pub data Holds (q : Question) (ns : List Node) (roots : List ℕ) : ℕ → Type 0 where
+  holds : {i : ℕ} {n : Node} (p : ℕ → Bool) → slice_get ns i ≡ Some n → answer q roots p n ≡ true
+      → ((j : ℕ) → p j ≡ true → Holds q ns roots j) → Holds q ns roots i
+
+-- as many flags as nodes, and each flag is right
+pub record AreSound (q : Question) (ns : List Node) (roots : List ℕ) (flags : List Bool) : Type 0 where
+  pub alike : length flags ≡ length ns
+  pub right : (i : ℕ) → is_set_at flags i ≡ true → Holds q ns roots i
+
+-- a node whose answer is yes by the flags has its flag set
+abbrev pub IsClosedAt : Question → List Node → List ℕ → List Bool → ℕ → Type 0
+IsClosedAt q ns roots flags i = (n : Node) → slice_get ns i ≡ Some n
+    → answer q roots (is_set_at flags) n ≡ true → is_set_at flags i ≡ true
+
+abbrev pub AreClosed : Question → List Node → List ℕ → List Bool → Type 0
+AreClosed q ns roots flags = (i : ℕ) → IsClosedAt q ns roots flags i
+
+-- what a question asks of an expression
+abbrev pub Asked : Question → Grammar → Expression → Type 0
+Asked asks.TakesNothing g e = IsNullable g e
+Asked asks.ChangesStack g e = ChangesStack g e

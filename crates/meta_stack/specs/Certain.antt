@@ -1,0 +1,102 @@
+-- What is promised of the reports.
+use Rattle.std.specs.Prelude.{◌≡◌, ◌↔◌, ℕ, ◌+◌, List, [], Some, Bool, true, false, slice_get, map, length, replicate, codes, IsPermutation}
+use Rattle.std.specs.Ordering.{is_lt, ordering_then, nat_cmp}
+use Rattle.meta_base.specs.Pieces.Saying.{Complaint, Tell}
+use Rattle.meta_base.specs.declared.grammar.Rule.{Rule}
+use Rattle.meta_base.specs.declared.runtime.errors.Error.{Error}
+use Rattle.meta_base.specs.Language.Text.{Text}
+use Rattle.meta_base.specs.Language.WellFormed.{IsNullable}
+use Rattle.meta_nodes.specs.Erasure.{rules_without_spans, without_spans}
+use Rattle.meta_nodes.specs.Spanned.{Span, Spanned, SpannedRule}
+use Rattle.meta_nodes.specs.declared.node.ParserRule.{ParserRule}
+use Rattle.meta_stacks.specs.Reported.{IsCertainAt, ReportedFrom}
+use Rattle.meta_stacks.specs.Reports.{SkippingChangesStack, skips_in}
+use Rattle.meta_stacks.specs.Stack.{In}
+use Rattle.meta_stack.specs.Answers.{AreAnswers, AreSound}
+use Rattle.meta_stack.specs.Names.{grammar_of, kind_in}
+use Rattle.meta_stack.specs.Numbering.{AreTabled}
+use Rattle.meta_stack.specs.Table.{AreInside, IsOrdered, nodes_of}
+use Rattle.meta_stack.specs.Visiting.{AllReported}
+use Rattle.meta_stack.specs.declared.facts.Question.TheVariants as asks
+use Rattle.meta_stack.specs.declared.table.Table.{Table}
+
+-- each of these places is that of a repetition in some rule's own body that certainly has no outcome where it
+-- is reached
+abbrev pub AreCertain : List SpannedRule → List Span → Type 0
+AreCertain rules spans = (s : Span) → In s spans
+    → (r : ℕ) × (rule : SpannedRule) × (slice_get rules r ≡ Some rule)
+    × IsCertainAt (rules_without_spans rules) rule.body s
+
+-- one place stands before another: it starts before it, or where it does and ends before it
+abbrev pub is_before : Span → Span → Bool
+is_before s u = is_lt (ordering_then (nat_cmp s.start u.start) (nat_cmp s.end u.end))
+
+abbrev pub IsRising : List Span → Type 0
+IsRising spans = (i : ℕ) (s u : Span) → slice_get spans i ≡ Some s → slice_get spans (i + 1) ≡ Some u
+    → is_before u s ≡ false
+
+-- what is said of a repetition
+abbrev pub complaint_at : Span → Complaint
+complaint_at s = record {
+  message = codes "expression inside repetition is non-progressing and will repeat infinitely";
+  span = s;
+}
+
+-- the same places in their order
+pub record IsSorted (found sorted : List Span) : Type 0 where
+  pub same : IsPermutation found sorted
+  pub rising : IsRising sorted
+
+-- what the plain reading reports in the bodies of rules, one body after another; calls of the names that are
+-- taken for recursive are not followed
+pub record AreRead (rules : List SpannedRule) (spans : List Span) : Type 0 where
+  pub recursive : Text → Bool
+  pub nullable : Spanned → Bool
+  pub knows : (x : Spanned) → (nullable x ≡ true) ↔ IsNullable (rules_without_spans rules) (without_spans x)
+  pub limit : ℕ
+  pub turns : ℕ
+  pub most_turns : limit ≡ 3067
+  pub most_searched : turns ≡ 64
+  pub read : AllReported (ReportedFrom limit turns recursive (rules_without_spans rules) nullable)
+      (map (λ r. r.body) rules) spans
+
+-- these are the reports: none where what is skipped changes the stack, else what the plain reading reports
+pub record ArePlain (rules : List SpannedRule) (spans : List Span) : Type 0 where
+  pub silent : SkippingChangesStack (rules_without_spans rules) → spans ≡ []
+  pub plain : (SkippingChangesStack (rules_without_spans rules) → ⊥) → AreRead rules spans
+
+-- these are the reports in the order of their places; each of them is certain
+pub record AreReports (rules : List SpannedRule) (spans : List Span) : Type 0 where
+  pub reports : List Span
+  pub certain : AreCertain rules reports
+  pub plain : ArePlain rules reports
+  pub sorted : IsSorted reports spans
+
+-- the errors tell of the reports, in the order of their places
+pub record TellReports (rules : List SpannedRule) (errors : List (Error Rule)) : Type 0 where
+  pub spans : List Span
+  pub found : AreReports rules spans
+  pub told : Tell (map complaint_at spans) errors
+
+-- the table of rules in which what is skipped leaves the stack alone
+pub record IsTableOf (rules : List ParserRule) (t : Table) : Type 0 where
+  pub tabled : AreTabled rules (kind_in (grammar_of rules)) (nodes_of t) t.roots.items
+  pub ordered : IsOrdered t
+  pub inside : AreInside t
+  pub skips : t.skips ≡ skips_in (grammar_of rules)
+  pub sound : AreSound asks.TakesNothing (nodes_of t) t.roots.items t.nullable.items
+  pub nullable : AreAnswers asks.TakesNothing (nodes_of t) t.roots.items t.nullable.items
+  pub calm : SkippingChangesStack (grammar_of rules) → ⊥
+  pub limit : t.limit ≡ 3067
+  pub turns : t.turns ≡ 64
+
+-- the same table, where no call is followed
+pub record IsFlat (t flat : Table) : Type 0 where
+  pub nodes : nodes_of flat ≡ nodes_of t
+  pub roots : flat.roots.items ≡ t.roots.items
+  pub nullable : flat.nullable.items ≡ t.nullable.items
+  pub skips : flat.skips ≡ t.skips
+  pub limit : flat.limit ≡ t.limit
+  pub turns : flat.turns ≡ t.turns
+  pub recursive : flat.recursive.items ≡ replicate (length t.roots.items) true
+  pub ranks : flat.ranks.items ≡ []

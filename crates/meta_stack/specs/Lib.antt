@@ -1,0 +1,16 @@
+pub mod Flags
+pub mod Table
+pub mod Keys
+pub mod Memory
+pub mod Following
+pub mod Searching
+pub mod Visiting
+pub mod Names
+pub mod NameMaps
+pub mod Numbering
+pub mod Answers
+pub mod Told
+pub mod Reaching
+pub mod Expressions
+pub mod Certain
+pub mod NamedPlaces

@@ -1,0 +1,196 @@
+// Which nodes may take nothing, and which change the stack.
+ghost use Rattle.std.specs.Prelude.{◌≡◌, ◌<◌, ◌≤◌, ◌+◌, IfOk, true, false};
+ghost use Rattle.std.specs.Prelude.{slice_get};
+ghost use Rattle.meta_stack.specs.Flags.{is_set_at};
+ghost use Rattle.meta_stack.specs.Answers as spec;
+ghost use Rattle.meta_stack.specs.Answers.{AreSound, AreClosed, IsClosedAt};
+ghost use Rattle.meta_stack.specs.Reaching.{unset};
+
+use crate::table::{Kind, Node, is_set};
+use std::alloc::{AllocError, Global};
+
+/// What is asked of each node.
+#[derive(Clone, Copy, Debug, PartialEq, Eq)]
+pub enum Question {
+    /// Whether it may succeed without taking anything.
+    TakesNothing,
+    /// Whether it changes the stack, outside predicates.
+    ChangesStack,
+}
+
+/// Whether the flag of a rule's body is set.
+pub(crate) fn is_root_set(roots: &[usize], flags: &[bool], rule: usize) -> bool
+    ensures { result ≡ spec.at_place (is_set_at flags.now) (slice_get roots.now rule) }
+{
+    match roots.get(rule) {
+        Some(root) => is_set(flags, *root),
+        None => false,
+    }
+}
+
+/// Whether a node may take nothing by the flags of its operands.
+fn takes_nothing(roots: &[usize], flags: &[bool], kind: Kind) -> bool
+    ensures { result ≡ spec.null_kind roots.now (is_set_at flags.now) kind }
+{
+    match kind {
+        Kind::Call(rule) => is_root_set(roots, flags, rule),
+        Kind::Push(body) => is_set(flags, body),
+        Kind::Repeat(body, _, _, _) => is_set(flags, body),
+        Kind::Seq(first, second) => is_set(flags, first) && is_set(flags, second),
+        Kind::Choice(first, second) => is_set(flags, first) || is_set(flags, second),
+        Kind::Still => false,
+        Kind::Leaf => false,
+        Kind::Peek => false,
+        Kind::Pop => false,
+        Kind::Drop => false,
+        Kind::PeekAll => false,
+        Kind::PopAll => false,
+        Kind::PosPred(_) => false,
+        Kind::NegPred(_) => false,
+        Kind::Opt(_) => false,
+    }
+}
+
+/// Whether a node changes the stack by the flags of its operands.
+fn changes_stack(roots: &[usize], flags: &[bool], kind: Kind) -> bool
+    ensures { result ≡ spec.changing_kind roots.now (is_set_at flags.now) kind }
+{
+    match kind {
+        Kind::Call(rule) => is_root_set(roots, flags, rule),
+        Kind::Push(_) => true,
+        Kind::Repeat(body, _, _, _) => is_set(flags, body),
+        Kind::Seq(first, second) => is_set(flags, first) || is_set(flags, second),
+        Kind::Choice(first, second) => is_set(flags, first) || is_set(flags, second),
+        Kind::Opt(body) => is_set(flags, body),
+        Kind::Pop => true,
+        Kind::Drop => true,
+        Kind::PopAll => true,
+        Kind::Still => false,
+        Kind::Leaf => false,
+        Kind::Peek => false,
+        Kind::PeekAll => false,
+        Kind::PosPred(_) | Kind::NegPred(_) => false,
+    }
+}
+
+/// The answer for a node, by those for its operands.
+fn answer<'i>(question: Question, roots: &[usize], flags: &[bool], node: Node<'i>) -> bool
+    ensures { result ≡ spec.answer question roots.now (is_set_at flags.now) node.entry }
+{
+    match question {
+        Question::TakesNothing => node.free || takes_nothing(roots, flags, node.kind),
+        Question::ChangesStack => changes_stack(roots, flags, node.kind),
+    }
+}
+
+/// Sets the flag of a node whose answer is yes by the flags; whether it was set now.
+fn mark<'i>(
+    question: Question,
+    roots: &[usize],
+    nodes: &[Node<'i>],
+    flags: &mut Vec<bool>,
+    place: usize,
+) -> bool
+    requires { AreSound question nodes.now roots.now flags.old.items }
+    ensures sound { AreSound question nodes.now roots.now flags.new.items }
+    ensures same { result ≡ false → (flags.new.items ≡ flags.old.items)
+        × IsClosedAt question nodes.now roots.now flags.new.items place }
+    ensures fewer { result ≡ true → unset flags.new.items + 1 ≡ unset flags.old.items }
+{
+    if place >= nodes.len() {
+        return false;
+    }
+    if is_set(flags.as_slice(), place) {
+        return false;
+    }
+    if !answer(question, roots, flags.as_slice(), nodes[place]) {
+        return false;
+    }
+    flags[place] = true;
+    true
+}
+
+/// The first node of a rule, and its body.
+fn nodes_of_rule(roots: &[usize], rule: usize) -> (usize, usize) {
+    let first = match rule.checked_sub(1) {
+        None => 0,
+        Some(before) => match roots.get(before) {
+            None => 0,
+            Some(last) => *last,
+        },
+    };
+    match roots.get(rule) {
+        None => (first, first),
+        Some(root) => (first, *root),
+    }
+}
+
+/// Sets flags in one rule, from its first node to its body.
+fn mark_rule<'i>(
+    question: Question,
+    roots: &[usize],
+    nodes: &[Node<'i>],
+    flags: &mut Vec<bool>,
+    rule: usize,
+)
+    requires { AreSound question nodes.now roots.now flags.old.items }
+    ensures sound { AreSound question nodes.now roots.now flags.new.items }
+    ensures fewer { unset flags.new.items ≤ unset flags.old.items }
+{
+    let (first, root) = nodes_of_rule(roots, rule);
+    for place in first..root {
+        mark(question, roots, nodes, flags, place);
+    }
+    mark(question, roots, nodes, flags, root);
+}
+
+/// Sets flags in all rules, from the last to the first and back: so flags go far in one round, whichever
+/// rules call which.
+fn round<'i>(question: Question, roots: &[usize], nodes: &[Node<'i>], flags: &mut Vec<bool>)
+    requires { AreSound question nodes.now roots.now flags.old.items }
+    ensures sound { AreSound question nodes.now roots.now flags.new.items }
+    ensures fewer { unset flags.new.items ≤ unset flags.old.items }
+{
+    let count = roots.len();
+    for done in 0..count {
+        mark_rule(question, roots, nodes, flags, count - 1 - done);
+    }
+    for rule in 0..count {
+        mark_rule(question, roots, nodes, flags, rule);
+    }
+}
+
+/// Sets the flag of each node whose answer is yes by the flags; whether any was set.
+fn sweep<'i>(question: Question, roots: &[usize], nodes: &[Node<'i>], flags: &mut Vec<bool>) -> bool
+    requires { AreSound question nodes.now roots.now flags.old.items }
+    ensures sound { AreSound question nodes.now roots.now flags.new.items }
+    ensures closed { result ≡ false → AreClosed question nodes.now roots.now flags.new.items }
+    ensures fewer { result ≡ true → unset flags.new.items < unset flags.old.items }
+{
+    let mut added = false;
+    for place in 0..nodes.len() {
+        if mark(question, roots, nodes, flags, place) {
+            added = true;
+        }
+    }
+    added
+}
+
+/// The answers for all nodes: flags are set from those of the operands, until none is added.
+pub(crate) fn answers<'i>(
+    alloc: Global,
+    question: Question,
+    roots: &[usize],
+    nodes: &[Node<'i>],
+) -> Result<Vec<bool>, AllocError>
+    ensures sound { IfOk result (λ flags. AreSound question nodes.now roots.now flags.items) }
+    ensures closed { IfOk result (λ flags. AreClosed question nodes.now roots.now flags.items) }
+{
+    let mut flags = vec![in alloc; false; nodes.len()]?;
+    loop {
+        round(question, roots, nodes, &mut flags);
+        if !sweep(question, roots, nodes, &mut flags) {
+            return Ok(flags);
+        }
+    }
+}

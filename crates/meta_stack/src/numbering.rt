@@ -1,0 +1,236 @@
+// The nodes of all rules, numbered, each behind those inside it.
+ghost use Rattle.std.specs.Prelude.{◌≡◌, ◌<◌, ◌+◌, ◌++◌, [], IfOk, OnOk, List, length};
+ghost use Rattle.meta_ast.specs.Ast.{text_of};
+ghost use Rattle.meta_nodes.specs.Nodes.{view, view_at, piece_of};
+ghost use Rattle.meta_nodes.specs.Spanned as spanned;
+ghost use Rattle.meta_nodes.specs.Spanned.{Spanned};
+ghost use Rattle.meta_stack.specs.Names.{kind_in, grammar_of, is_end};
+ghost use Rattle.meta_stack.specs.NameMaps.{KnowsRules};
+ghost use Rattle.meta_stack.specs.Numbering.{AreSmaller, IsMadeOf, kind_of_code, AreNodes, AreTabled, text_kind, slice_kind, is_empty_text, is_free, wrap_kind, both_kind, postorder};
+
+use crate::names::{Names, is_literal, kind_of_name};
+use crate::table::{Kind, Node};
+use meta_nodes::{ParserExpr, ParserNode, ParserRule};
+use std::alloc::{AllocError, Global};
+
+/// What stands round one operand.
+#[derive(Clone, Copy, Debug, PartialEq, Eq)]
+pub enum Wrap {
+    Ahead,
+    NotAhead,
+    Maybe,
+    Pushed,
+    /// How often it has to succeed, how often more it may be tried, and whether it then goes on
+    /// without end.
+    Repeated(u32, u32, bool),
+}
+
+/// What a node is made of.
+pub enum Operands<'a, 'i> {
+    /// Nothing inside.
+    Nothing,
+    /// One operand, and what stands round it.
+    Inside(Wrap, &'a ParserNode<'i>),
+    /// Two, of a choice or a sequence.
+    Both(bool, &'a ParserNode<'i>, &'a ParserNode<'i>),
+}
+
+/// What an expression is made of.
+fn taken_apart<'a, 'i>(expr: &'a ParserExpr<'i>) -> Operands<'a, 'i>
+    ensures smaller { AreSmaller expr.now result }
+    ensures made { IsMadeOf expr.now result }
+{
+    match expr {
+        ParserExpr::Str(_) => Operands::Nothing,
+        ParserExpr::Insens(_) => Operands::Nothing,
+        ParserExpr::Range(_, _) => Operands::Nothing,
+        ParserExpr::Ident(_) => Operands::Nothing,
+        ParserExpr::PeekSlice(_, _) => Operands::Nothing,
+        ParserExpr::PosPred(body) => Operands::Inside(Wrap::Ahead, body),
+        ParserExpr::NegPred(body) => Operands::Inside(Wrap::NotAhead, body),
+        ParserExpr::Opt(body) => Operands::Inside(Wrap::Maybe, body),
+        ParserExpr::Push(body) => Operands::Inside(Wrap::Pushed, body),
+        ParserExpr::Seq(first, second) => Operands::Both(false, first, second),
+        ParserExpr::Choice(first, second) => Operands::Both(true, first, second),
+        ParserExpr::Rep(body) => Operands::Inside(Wrap::Repeated(0, 0, true), body),
+        ParserExpr::RepOnce(body) => Operands::Inside(Wrap::Repeated(1, 0, true), body),
+        ParserExpr::RepExact(body, count) => {
+            Operands::Inside(Wrap::Repeated(*count, 0, false), body)
+        }
+        ParserExpr::RepMin(body, count) => Operands::Inside(Wrap::Repeated(*count, 0, true), body),
+        ParserExpr::RepMax(body, count) => Operands::Inside(Wrap::Repeated(0, *count, false), body),
+        ParserExpr::RepMinMax(body, low, high) => {
+            Operands::Inside(
+                Wrap::Repeated((*low).min(*high), high.saturating_sub(*low), false),
+                body,
+            )
+        }
+    }
+}
+
+/// What an expression without operands does.
+fn kind_of_leaf<'i>(rules: &[ParserRule<'i>], names: &Names, expr: &ParserExpr<'i>) -> Kind
+    requires { KnowsRules rules.now names.now }
+    ensures { result ≡ kind_of_code (kind_in (grammar_of rules.now)) expr.now }
+{
+    match expr {
+        ParserExpr::Str(text) => kind_of_text(text),
+        ParserExpr::Insens(text) => kind_of_text(text),
+        ParserExpr::Ident(name) => kind_of_name(rules, names, name),
+        ParserExpr::PeekSlice(start, end) => kind_of_slice(*start, *end),
+        ParserExpr::Range(_, _) => Kind::Leaf,
+        ParserExpr::PosPred(_) => Kind::Leaf,
+        ParserExpr::NegPred(_) => Kind::Leaf,
+        ParserExpr::Opt(_) => Kind::Leaf,
+        ParserExpr::Push(_) => Kind::Leaf,
+        ParserExpr::Seq(_, _) => Kind::Leaf,
+        ParserExpr::Choice(_, _) => Kind::Leaf,
+        ParserExpr::Rep(_) => Kind::Leaf,
+        ParserExpr::RepOnce(_) => Kind::Leaf,
+        ParserExpr::RepExact(_, _) => Kind::Leaf,
+        ParserExpr::RepMin(_, _) => Kind::Leaf,
+        ParserExpr::RepMax(_, _) => Kind::Leaf,
+        ParserExpr::RepMinMax(_, _, _) => Kind::Leaf,
+    }
+}
+
+fn kind_of_text(text: &String) -> Kind
+    ensures { result ≡ text_kind (text_of text.now) }
+{
+    if text.is_empty() {
+        Kind::Still
+    } else {
+        Kind::Leaf
+    }
+}
+
+fn kind_of_slice(start: i32, end: Option<i32>) -> Kind
+    ensures { result ≡ slice_kind start end }
+{
+    if start != 0 {
+        return Kind::Leaf;
+    }
+    match end {
+        None => Kind::PeekAll,
+        Some(end) => if end == 0 { Kind::Still } else { Kind::Leaf },
+    }
+}
+
+fn is_empty_text(text: &String) -> bool
+    ensures { result ≡ is_empty_text (text_of text.now) }
+{
+    text.is_empty()
+}
+
+/// Whether a name is that of a builtin that takes nothing.
+fn is_end(name: &String) -> bool
+    ensures { result ≡ is_end (text_of name.now) }
+{
+    is_literal(name, "SOI") || is_literal(name, "EOI")
+}
+
+/// Whether an expression may take nothing, whatever its operands do.
+fn is_free<'i>(expr: &ParserExpr<'i>) -> bool
+    ensures { (t : spanned.Span) → result ≡ is_free (view_at t expr.now) }
+{
+    match expr {
+        ParserExpr::Str(text) => is_empty_text(text),
+        ParserExpr::Insens(text) => is_empty_text(text),
+        ParserExpr::Range(_, _) => false,
+        ParserExpr::Ident(name) => is_end(name),
+        ParserExpr::PeekSlice(_, _) => false,
+        ParserExpr::PosPred(_) => true,
+        ParserExpr::NegPred(_) => true,
+        ParserExpr::Opt(_) => true,
+        ParserExpr::Push(_) => false,
+        ParserExpr::Seq(_, _) => false,
+        ParserExpr::Choice(_, _) => false,
+        ParserExpr::Rep(_) => true,
+        ParserExpr::RepOnce(_) => false,
+        ParserExpr::RepExact(_, count) => *count == 0,
+        ParserExpr::RepMin(_, count) => *count == 0,
+        ParserExpr::RepMax(_, _) => true,
+        ParserExpr::RepMinMax(_, low, _) => *low == 0,
+    }
+}
+
+fn kind_of_wrap(wrap: Wrap, body: usize) -> Kind
+    ensures { result ≡ wrap_kind wrap body }
+{
+    match wrap {
+        Wrap::Ahead => Kind::PosPred(body),
+        Wrap::NotAhead => Kind::NegPred(body),
+        Wrap::Maybe => Kind::Opt(body),
+        Wrap::Pushed => Kind::Push(body),
+        Wrap::Repeated(required, optional, endless) => {
+            Kind::Repeat(body, required, optional, endless)
+        }
+    }
+}
+
+fn kind_of_both(choice: bool, first: usize, second: usize) -> Kind
+    ensures { result ≡ both_kind choice first second }
+{
+    if choice {
+        Kind::Choice(first, second)
+    } else {
+        Kind::Seq(first, second)
+    }
+}
+
+/// The nodes inside a node at the end of the list, and then the node itself: its number.
+fn number<'i>(
+    rules: &[ParserRule<'i>],
+    names: &Names,
+    rule: usize,
+    node: &ParserNode<'i>,
+    nodes: &mut Vec<Node<'i>>,
+) -> Result<usize, AllocError>
+    requires { KnowsRules rules.now names.now }
+    ensures last { IfOk result (λ own. length nodes.new.items ≡ own + 1) }
+    ensures nodes { OnOk result ((all : List Spanned)
+        → AreNodes (kind_in (grammar_of rules.now)) all nodes.old.items
+        → AreNodes (kind_in (grammar_of rules.now)) (all ++ postorder (view node.now)) nodes.new.items) }
+{
+    let kind = match taken_apart(&node.expr) {
+        Operands::Nothing => kind_of_leaf(rules, names, &node.expr),
+        Operands::Inside(wrap, body) => {
+            let inside = number(rules, names, rule, body, nodes)?;
+            kind_of_wrap(wrap, inside)
+        }
+        Operands::Both(choice, first, second) => {
+            let first = number(rules, names, rule, first, nodes)?;
+            let second = number(rules, names, rule, second, nodes)?;
+            kind_of_both(choice, first, second)
+        }
+    };
+    let own = nodes.len();
+    let free = is_free(&node.expr);
+    nodes.push(Node {
+        kind,
+        rule,
+        free,
+        span: node.span,
+    })?;
+    Ok(own)
+}
+
+/// The nodes of all rules at the end of a list, and which of them are the rules' bodies.
+pub(crate) fn number_all<'i>(
+    alloc: Global,
+    rules: &[ParserRule<'i>],
+    names: &Names,
+    nodes: &mut Vec<Node<'i>>,
+) -> Result<Vec<usize>, AllocError>
+    requires known { KnowsRules rules.now names.now }
+    requires none { nodes.old.items ≡ [] }
+    ensures { IfOk result (λ roots. AreTabled rules.now (kind_in
+        (grammar_of rules.now)) nodes.new.items roots.items) }
+{
+    let mut roots = Vec::new(alloc);
+    for place in 0..rules.len() {
+        let root = number(rules, names, place, &rules[place].node, nodes)?;
+        roots.push(root)?;
+    }
+    Ok(roots)
+}

@@ -1,0 +1,291 @@
+// The whole pass.
+ghost use Rattle.std.specs.Prelude.{◌≡◌, ◌&&◌, not, IfOk, IfErr, OnOk, MatchOption, alloc_error, map, is_some, [], ◌∷◌};
+ghost use Rattle.std.specs.Str.{IsAscii};
+ghost use Rattle.meta_base.specs.Language.Expression.{whitespace, comment};
+ghost use Rattle.meta_base.specs.Pieces.Saying.{Tell};
+ghost use Rattle.meta_nodes.specs.Nodes.{rule_views, piece_of};
+ghost use Rattle.meta_stacks.specs.Reports.{SkippingChangesStack, skips_in};
+ghost use Rattle.meta_stack.specs.Certain.{AreCertain, ArePlain, AreReports, IsFlat, IsSorted, IsTableOf, TellReports, complaint_at};
+ghost use Rattle.meta_stack.specs.Expressions.{body_flag, name_flag};
+ghost use Rattle.meta_stack.specs.NameMaps.{KnowsRules};
+ghost use Rattle.meta_stack.specs.Names.{grammar_of, last_place};
+ghost use Rattle.meta_stack.specs.Table.{AreInside, IsOrdered};
+ghost use Rattle.meta_stack.specs.Visiting.{FindsAll, Keeps};
+
+use crate::calls::{Calls, calls_of};
+use crate::facts::{Question, answers, is_root_set};
+use crate::memory::Memory;
+use crate::names::{Names, names_of};
+use crate::numbering::number_all;
+use crate::reader::read;
+use crate::table::Table;
+use crate::visits::visit;
+use meta_base::grammar::Rule;
+use meta_base::runtime::{Error, ErrorVariant, Fault, Span};
+use meta_nodes::ParserRule;
+use meta_stacks::Stack;
+use std::alloc::{AllocError, Global};
+
+/// How many turns of a repetition are followed at most: more than there are abstract stacks.
+const MOST_STACKS: usize = 3067;
+
+/// How many turns the loop search follows.
+const MOST_TURNS: usize = 64;
+
+/// Whether the flag of the body of the rule of that name is set.
+fn is_body_set<'i>(
+    rules: &[ParserRule<'i>],
+    names: &Names,
+    roots: &[usize],
+    flags: &[bool],
+    name: &str,
+) -> bool
+    requires known { KnowsRules rules.now names.now }
+    requires ascii { IsAscii name.now }
+    ensures { result ≡ body_flag roots.now flags.now (last_place (grammar_of rules.now) name.now) }
+{
+    match names.place_of(name) {
+        Some(rule) => is_root_set(roots, flags, rule),
+        None => false,
+    }
+}
+
+/// Whether there is a rule of that name.
+fn is_defined<'i>(rules: &[ParserRule<'i>], names: &Names, name: &str) -> bool
+    requires known { KnowsRules rules.now names.now }
+    requires ascii { IsAscii name.now }
+    ensures { result ≡ is_some (last_place (grammar_of rules.now) name.now) }
+{
+    names.place_of(name).is_some()
+}
+
+/// Whether something may be skipped between the parts of a sequence.
+fn is_skipping<'i>(rules: &[ParserRule<'i>], names: &Names) -> bool
+    requires { KnowsRules rules.now names.now }
+    ensures { result ≡ skips_in (grammar_of rules.now) }
+{
+    is_defined(rules, names, "WHITESPACE") || is_defined(rules, names, "COMMENT")
+}
+
+/// Whether what is skipped leaves the stack alone, by the flags of nodes that change it.
+fn leaves_stack<'i>(
+    rules: &[ParserRule<'i>],
+    names: &Names,
+    roots: &[usize],
+    flags: &[bool],
+) -> bool
+    requires { KnowsRules rules.now names.now }
+    ensures { result ≡ (not (name_flag (grammar_of rules.now) roots.now flags.now whitespace)
+        && not (name_flag (grammar_of rules.now) roots.now flags.now comment)) }
+{
+    !is_body_set(rules, names, roots, flags, "WHITESPACE")
+        && !is_body_set(rules, names, roots, flags, "COMMENT")
+}
+
+/// The same table, where no call is followed.
+fn flattened<'i>(alloc: Global, table: Table<'i>) -> Result<Table<'i>, AllocError>
+    ensures { IfOk result (λ flat. IsFlat table.entry flat) }
+{
+    let Table {
+        nodes,
+        roots,
+        recursive: _,
+        ranks: _,
+        nullable,
+        skips,
+        limit,
+        turns,
+    } = table;
+    let recursive = vec![in alloc; true; roots.len()]?;
+    Ok(Table {
+        nodes,
+        roots,
+        recursive,
+        ranks: Vec::new(alloc),
+        nullable,
+        skips,
+        limit,
+        turns,
+    })
+}
+
+/// The table of rules, where what is skipped leaves the stack alone.
+fn table_of<'i>(alloc: Global, rules: &[ParserRule<'i>]) -> Result<Option<Table<'i>>, AllocError>
+    ensures { IfOk result (λ found. MatchOption found (SkippingChangesStack (grammar_of rules.now))
+        (λ table. IsTableOf rules.now table)) }
+{
+    let names = names_of(alloc, rules)?;
+    let mut nodes = Vec::new(alloc);
+    let roots = number_all(alloc, rules, &names, &mut nodes)?;
+    let changing = answers(
+        alloc,
+        Question::ChangesStack,
+        roots.as_slice(),
+        nodes.as_slice(),
+    )?;
+    if !leaves_stack(rules, &names, roots.as_slice(), changing.as_slice()) {
+        return Ok(None);
+    }
+    let nullable = answers(
+        alloc,
+        Question::TakesNothing,
+        roots.as_slice(),
+        nodes.as_slice(),
+    )?;
+    let Calls { recursive, ranks } = calls_of(alloc, nodes.as_slice(), rules.len())?;
+    let table = Table {
+        nodes,
+        roots,
+        recursive,
+        ranks,
+        nullable,
+        skips: is_skipping(rules, &names),
+        limit: MOST_STACKS,
+        turns: MOST_TURNS,
+    };
+    if table.is_ordered() {
+        return Ok(Some(table));
+    }
+    let flat = flattened(alloc, table)?;
+    Ok(Some(flat))
+}
+
+/// The rules by their ranks, the lowest first.
+fn by_rank<'i>(alloc: Global, table: &Table<'i>) -> Result<Vec<usize>, AllocError> {
+    let mut order = Vec::new(alloc);
+    for rule in 0..table.roots.len() {
+        order.push(rule)?;
+    }
+    order.sort_by_key(|rule| table.rank_of_rule(*rule))?;
+    Ok(order)
+}
+
+/// Reads the body of a rule from where each rule begins.
+fn read_body<'i>(
+    alloc: Global,
+    table: &Table<'i>,
+    memory: &mut Memory,
+    rule: usize,
+) -> Result<(), AllocError>
+    requires { IsOrdered table.now }
+    ensures { OnOk result (Keeps table.now memory.old memory.new) }
+{
+    match table.roots.get(rule) {
+        None => Ok(()),
+        Some(root) => {
+            if *root < table.nodes.len() {
+                read(alloc, table, memory, *root, Stack::entry())?;
+            }
+            Ok(())
+        }
+    }
+}
+
+/// Reads all bodies, those of lower ranks first: so that no reading goes deep along calls.
+fn read_all<'i>(alloc: Global, table: &Table<'i>, memory: &mut Memory) -> Result<(), AllocError>
+    requires { IsOrdered table.now }
+    ensures { OnOk result (Keeps table.now memory.old memory.new) }
+{
+    let order = by_rank(alloc, table)?;
+    for rule in &order {
+        read_body(alloc, table, memory, *rule)?;
+    }
+    Ok(())
+}
+
+/// The repetitions that are reported in each rule's body, one body after another.
+fn visit_all<'i>(alloc: Global, table: &Table<'i>) -> Result<Vec<Span<'i>>, AllocError>
+    requires ordered { IsOrdered table.now }
+    requires inside { AreInside table.now }
+    ensures { IfOk result (λ found. FindsAll table.now table.now.roots.items found.items) }
+{
+    let start = [Stack::entry()];
+    let mut memory = Memory::new(alloc);
+    read_all(alloc, table, &mut memory)?;
+    let mut found = Vec::new(alloc);
+    for rule in 0..table.roots.len() {
+        visit(
+            alloc,
+            table,
+            &mut memory,
+            table.roots[rule],
+            &start,
+            &mut found,
+        )?;
+    }
+    Ok(found)
+}
+
+/// The places of all reports, one body after another.
+fn all_reports<'i>(alloc: Global, rules: &[ParserRule<'i>]) -> Result<Vec<Span<'i>>, AllocError>
+    ensures certain { IfOk result (λ found. AreCertain (rule_views rules.now) (map piece_of found.items)) }
+    ensures plain { IfOk result (λ found. ArePlain (rule_views rules.now) (map piece_of found.items)) }
+{
+    match table_of(alloc, rules)? {
+        None => Ok(Vec::new(alloc)),
+        Some(table) => visit_all(alloc, &table),
+    }
+}
+
+/// Puts places in order.
+fn sort_spans<'i>(found: &mut Vec<Span<'i>>) -> Result<(), AllocError>
+    ensures { OnOk result (IsSorted (map piece_of found.old.items) (map piece_of found.new.items)) }
+{
+    found.sort_by_key(|span| (span.start(), span.end()))?;
+    Ok(())
+}
+
+/// The places of all reports in order.
+fn sorted_reports<'i>(alloc: Global, rules: &[ParserRule<'i>]) -> Result<Vec<Span<'i>>, AllocError>
+    ensures { IfOk result (λ found. AreReports (rule_views rules.now) (map piece_of found.items)) }
+{
+    let mut found = all_reports(alloc, rules)?;
+    sort_spans(&mut found)?;
+    Ok(found)
+}
+
+/// The error that tells of a repetition.
+fn error_at<'i>(alloc: Global, span: Span<'i>) -> Result<Error<Rule>, Fault>
+    ensures tells { IfOk result (λ error. Tell (complaint_at (piece_of span.entry) ∷ []) (error ∷ [])) }
+    ensures memory { IfErr result (λ fault. fault ≡ Fault.Memory alloc_error) }
+{
+    let text = "expression inside repetition is non-progressing and will repeat infinitely";
+    let message = String::from_str(alloc, text).map_err(Fault::Memory)?;
+    let variant = ErrorVariant::CustomError { message };
+    let error = Error::new_from_span(alloc, variant, span)?;
+    Ok(error)
+}
+
+/// The errors that tell of repetitions, in their order.
+fn errors_at<'i>(alloc: Global, found: &[Span<'i>]) -> Result<Vec<Error<Rule>>, Fault>
+    ensures told { IfOk result (λ errors. Tell (map complaint_at (map piece_of found.now)) errors.items) }
+    ensures memory { IfErr result (λ fault. fault ≡ Fault.Memory alloc_error) }
+{
+    let mut errors = Vec::new(alloc);
+    for place in 0..found.len() {
+        let error = error_at(alloc, found[place])?;
+        match errors.push(error) {
+            Ok(()) => {}
+            Err(refused) => return Err(Fault::Memory(refused.into())),
+        }
+    }
+    Ok(errors)
+}
+
+/// The repetitions `e*`, `e+` and `e{n,}` that certainly never end by what is known of the stack, as
+/// `a = { POP_ALL ~ PEEK_ALL* }`, in the order of their places (by start, then end). Each error stands where
+/// the repetition does. The only fault is a want of memory.
+pub fn validate_stack_repetition<'i>(
+    alloc: Global,
+    rules: &Vec<ParserRule<'i>>,
+) -> Result<Vec<Error<Rule>>, Fault>
+    ensures exact { IfOk result (λ errors. TellReports (rule_views rules.now.items) errors.items) }
+    ensures memory { IfErr result (λ fault. fault ≡ Fault.Memory alloc_error) }
+{
+    let found = match sorted_reports(alloc, rules.as_slice()) {
+        Ok(found) => found,
+        Err(error) => return Err(Fault::Memory(error)),
+    };
+    let errors = errors_at(alloc, found.as_slice())?;
+    Ok(errors)
+}

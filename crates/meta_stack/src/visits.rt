@@ -1,0 +1,239 @@
+// The stacks from which the nodes of a rule's body are visited, and what is reported.
+ghost use Rattle.std.specs.Prelude.{◌≡◌, ◌<◌, IfOk, OnOk};
+ghost use Rattle.meta_stack.specs.Table.{IsOrdered, copies};
+ghost use Rattle.meta_stack.specs.Visiting.{Adds, AddsAll, AddsEach, AddsWhere, Collects, IsAfter, IsReport, IsStartOf, Tells, FindsIn};
+ghost use Rattle.meta_stacks.specs.Views.{stack_of};
+
+use crate::loops::loops;
+use crate::memory::Memory;
+use crate::reader::{follow, is_among, read, turn};
+use crate::table::{Parts, Table, is_set};
+use meta_base::runtime::Span;
+use meta_stacks::{Stack, Walk};
+use std::alloc::{AllocError, Global};
+
+/// Adds a stack to others, if it is not among them.
+fn add(stacks: &mut Vec<Stack>, stack: Stack) -> Result<(), AllocError>
+    ensures { OnOk result (Adds stacks.old.items stacks.new.items (stack_of stack)) }
+{
+    if !is_among(stacks, stack) {
+        stacks.push(stack)?;
+    }
+    Ok(())
+}
+
+/// The stacks from which walks of a trace start.
+fn add_all(stacks: &mut Vec<Stack>, trace: &[Walk]) -> Result<(), AllocError>
+    ensures { OnOk result (AddsAll stacks.old.items stacks.new.items trace.now) }
+{
+    for walk in trace {
+        if let Some(stack) = walk.here {
+            add(stacks, stack)?;
+        }
+    }
+    Ok(())
+}
+
+/// Adds stacks to others.
+fn add_each(stacks: &mut Vec<Stack>, more: &[Stack]) -> Result<(), AllocError>
+    ensures { OnOk result (AddsEach stacks.old.items stacks.new.items more.now) }
+{
+    for stack in more {
+        add(stacks, *stack)?;
+    }
+    Ok(())
+}
+
+/// Adds the stack after the first of two parts: after its failure for a choice, else after its
+/// success.
+fn add_after(
+    alloc: Global,
+    table: &Table,
+    memory: &mut Memory,
+    first: usize,
+    choice: bool,
+    stack: Stack,
+    found: &mut Vec<Stack>,
+) -> Result<(), AllocError>
+    requires inside { first < table.now.nodes.len }
+    requires ordered { IsOrdered table.now }
+    ensures { OnOk result (AddsWhere table.now memory.old memory.new (λ meaning b. IsAfter
+        (meaning first) choice (stack_of stack) b) found.old.items found.new.items) }
+{
+    let reading = read(alloc, table, memory, first, stack)?;
+    let next = reading.next_after(choice, stack);
+    if let Some(next) = next {
+        add(found, next)?;
+    }
+    Ok(())
+}
+
+/// The stacks after the first of two parts.
+fn after(
+    alloc: Global,
+    table: &Table,
+    memory: &mut Memory,
+    first: usize,
+    choice: bool,
+    stacks: &[Stack],
+) -> Result<Vec<Stack>, AllocError>
+    requires inside { first < table.now.nodes.len }
+    requires ordered { IsOrdered table.now }
+    ensures { IfOk result (λ after. Collects table.now memory.old memory.new (λ meaning. IsAfter
+        (meaning first) choice) stacks.now after.items) }
+{
+    let mut found = Vec::new(alloc);
+    for stack in stacks {
+        add_after(alloc, table, memory, first, choice, *stack, &mut found)?;
+    }
+    Ok(found)
+}
+
+/// Adds the stacks from which the copies of a repetition start.
+fn add_starts(
+    alloc: Global,
+    table: &Table,
+    memory: &mut Memory,
+    body: usize,
+    required: u32,
+    optional: u32,
+    endless: bool,
+    stack: Stack,
+    found: &mut Vec<Stack>,
+) -> Result<(), AllocError>
+    requires inside { body < table.now.nodes.len }
+    requires ordered { IsOrdered table.now }
+    ensures { OnOk result (AddsWhere table.now memory.old memory.new
+        (λ meaning b. IsStartOf table.now.limit (meaning body) (copies required optional endless)
+        (stack_of stack) b) found.old.items found.new.items) }
+{
+    let start = Walk {
+        here: Some(stack),
+        failing: false,
+        still: true,
+    };
+    let mut trace = Vec::new(alloc);
+    let first = follow(
+        alloc, table, memory, body, true, required, start, &mut trace,
+    )?;
+    add_all(found, &trace)?;
+    let mut trace = Vec::new(alloc);
+    let second = follow(
+        alloc, table, memory, body, false, optional, first, &mut trace,
+    )?;
+    add_all(found, &trace)?;
+    if !endless {
+        return Ok(());
+    }
+    let mut seen = Vec::new(alloc);
+    turn(alloc, table, memory, body, second, &mut seen)?;
+    add_each(found, &seen)
+}
+
+/// The stacks from which the copies of a repetition start.
+fn starts(
+    alloc: Global,
+    table: &Table,
+    memory: &mut Memory,
+    body: usize,
+    required: u32,
+    optional: u32,
+    endless: bool,
+    stacks: &[Stack],
+) -> Result<Vec<Stack>, AllocError>
+    requires inside { body < table.now.nodes.len }
+    requires ordered { IsOrdered table.now }
+    ensures { IfOk result (λ starts. Collects table.now memory.old memory.new
+        (λ meaning. IsStartOf table.now.limit (meaning body)
+        (copies required optional endless)) stacks.now starts.items) }
+{
+    let mut found = Vec::new(alloc);
+    for stack in stacks {
+        add_starts(
+            alloc, table, memory, body, required, optional, endless, *stack, &mut found,
+        )?;
+    }
+    Ok(found)
+}
+
+/// Whether the loop search finds a loop from one of the stacks.
+fn some_loops(
+    alloc: Global,
+    table: &Table,
+    memory: &mut Memory,
+    body: usize,
+    stacks: &[Stack],
+) -> Result<bool, AllocError>
+    requires inside { body < table.now.nodes.len }
+    requires ordered { IsOrdered table.now }
+    ensures { IfOk result (Tells table.now memory.old memory.new body stacks.now) }
+{
+    for stack in stacks {
+        if loops(alloc, table, memory, body, *stack, table.turns)? {
+            return Ok(true);
+        }
+    }
+    Ok(false)
+}
+
+/// Appends a repetition, where it is endless and what is repeated has a loop from one of the stacks and
+/// takes something if its parts do.
+fn report<'i>(
+    alloc: Global,
+    table: &Table<'i>,
+    memory: &mut Memory,
+    node: usize,
+    body: usize,
+    endless: bool,
+    stacks: &[Stack],
+    found: &mut Vec<Span<'i>>,
+) -> Result<(), AllocError>
+    requires inside { node < table.now.nodes.len }
+    requires body_inside { body < table.now.nodes.len }
+    requires ordered { IsOrdered table.now }
+    ensures { OnOk result
+        (IsReport table.now memory.old memory.new node body endless stacks.now
+        found.old.items found.new.items) }
+{
+    if !endless {
+        return Ok(());
+    }
+    if is_set(table.nullable.as_slice(), body) {
+        return Ok(());
+    }
+    if some_loops(alloc, table, memory, body, stacks)? {
+        found.push(table.node_at(node).span)?;
+    }
+    Ok(())
+}
+
+/// Visits a node from some stacks, and all that is inside it, and appends what is reported.
+pub fn visit<'i>(
+    alloc: Global,
+    table: &Table<'i>,
+    memory: &mut Memory,
+    node: usize,
+    stacks: &[Stack],
+    found: &mut Vec<Span<'i>>,
+) -> Result<(), AllocError>
+    requires inside { node < table.now.nodes.len }
+    requires ordered { IsOrdered table.now }
+    ensures { OnOk result
+        (FindsIn table.now memory.old memory.new node stacks.now found.old.items found.new.items) }
+{
+    match table.parts_at(node) {
+        Parts::Nothing => Ok(()),
+        Parts::Both(first, second, choice) => {
+            visit(alloc, table, memory, first, stacks, found)?;
+            let next = after(alloc, table, memory, first, choice, stacks)?;
+            visit(alloc, table, memory, second, &next, found)
+        }
+        Parts::Inside(body, required, optional, endless) => {
+            report(alloc, table, memory, node, body, endless, stacks, found)?;
+            let next = starts(
+                alloc, table, memory, body, required, optional, endless, stacks,
+            )?;
+            visit(alloc, table, memory, body, &next, found)
+        }
+    }
+}

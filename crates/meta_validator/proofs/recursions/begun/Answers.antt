@@ -1,0 +1,36 @@
+use Rattle.std.proofs.Common.{◌≡◌, ◌∙◌, ◌++◌, ◌∷◌, [], false, true, ap, sym, subst, refl, length, replicate, slice_get, Some, ℕ, zero, suc, rules}
+use Rattle.std.proofs.Math.ListN.{set}
+use Rattle.std.specs.Option.{option_map}
+use Rattle.std.proofs.lemmas.List.{length-replicate}
+use Rattle.std.proofs.lemmas.Option.{slice_get-map}
+use Rattle.meta_nodes.specs.Nodes.{rule_view, rule_views}
+use Rattle.meta_validator.specs.Searching.{IsGoing}
+use Rattle.meta_validator.specs.Table.{is_set_at}
+use Rattle.meta_validator.specs.declared.recursions.Task.TheVariants.{Visit, Leave}
+use Rattle.meta_validator.proofs.ReportingLemmas.{got_within}
+use Rattle.meta_validator.proofs.WalkSteps.{begun_going}
+use Rattle.meta_validator.proofs.recursions.begun.Goals as goal
+
+none_set : (n m : ℕ) → is_set_at (replicate n false) m ≡ false
+none_set zero m = refl
+none_set (suc n) zero = refl
+none_set (suc n) (suc m) = none_set n m
+
+pub returns : goal.returns
+returns c =
+    let rs = c.args.rules.now in
+    let facts = c.args.facts.now in
+    let roots = facts.table.roots.items in
+    let start = c.args.start in
+    let root = c.root_at-root.result in
+    let flags = c.in_ok-vec.field-0.items in
+    let unset : flags ≡ replicate c.len.result false = c.in_ok-vec.ensures.items_if_clones_equal (λ y h. search rules) in
+    let long : length flags ≡ length roots = ap (λ z. length z) unset ∙ (length-replicate c.len.result false ∙ (c.len.ensures ∙ facts.table.roots.ok.0)) in
+    let (rule, at) = got_within rs start c.requires.inside in
+    let here : slice_get (rule_views rs) start ≡ Some (rule_view rule) = slice_get-map rule_view rs start ∙ ap (option_map rule_view) at in
+    let going = begun_going rs facts c.requires.facts start root (rule_view rule) flags long (λ m. ap (λ z. is_set_at z m) unset ∙ none_set c.len.result m) here (c.requires.last (rule_view rule) here) c.root_at-root.ensures in
+    let new = c.enter_rule.new.walk in
+    let told = c.in_ok-enter_rule.ensures in
+    subst (λ z. IsGoing rs roots start z new.tasks.items new.chain.items) (sym told.entered)
+    (subst (λ z. IsGoing rs roots start (set flags start true) z new.chain.items) (sym (told.tasks ∙ ap (λ z. (z ++ Leave ∷ []) ++ Visit root ∷ []) c.new-2.ensures.items))
+    (subst (λ z. IsGoing rs roots start (set flags start true) (([] ++ Leave ∷ []) ++ Visit root ∷ []) z) (sym (told.chain ∙ ap (λ z. z ++ start ∷ []) c.new.ensures.items)) going))

@@ -1,0 +1,44 @@
+-- Which nodes are those of a rule's body.
+use Rattle.std.specs.Prelude.{◌≡◌, ℕ, zero, suc, ◌+◌, ◌<◌, ◌≤◌, List, Bool, Some, length, slice_get, unwrap_or}
+use Rattle.std.specs.Bool.{Decides}
+use Rattle.meta_base.specs.Language.WellFormed.{IsNullable}
+use Rattle.meta_nodes.specs.Erasure.{without_spans}
+use Rattle.meta_nodes.specs.Nodes.{rule_views}
+use Rattle.meta_nodes.specs.Spanned.{Spanned, SpannedRule}
+use Rattle.meta_nodes.specs.declared.node.ParserRule.{ParserRule}
+use Rattle.meta_validator.specs.LeftRecursion.{said, Means}
+use Rattle.meta_validator.specs.Numbering.{size, nodes_of}
+use Rattle.meta_validator.specs.Table.{is_set_at}
+use Rattle.meta_validator.specs.Walk.{without}
+
+-- the number of a rule's body
+abbrev pub root_of : List ℕ → ℕ → ℕ
+root_of roots k = unwrap_or (slice_get roots k) 0
+
+-- the number of the first node of a rule's body: it follows the body of the rule before
+abbrev pub first_of : List ℕ → ℕ → ℕ
+first_of roots zero = 0
+first_of roots (suc k) = suc (root_of roots k)
+
+-- the node of this number is one of the body of the rule at k, with all that is inside it
+pub record IsNodeOf (rules : List ParserRule) (roots : List ℕ) (k i : ℕ) (x : Spanned) : Type 0 where
+  pub node : slice_get (nodes_of rules) i ≡ Some x
+  pub first : first_of roots k + size x ≤ i + 1
+  pub last : i ≤ root_of roots k
+
+-- flags for the nodes of the rule at k, if it is the last of its name: what may take nothing where a call of
+-- that rule counts as one that takes something
+abbrev pub ArePassingAt : List ParserRule → List ℕ → List Bool → ℕ → Type 0
+ArePassingAt rules roots flags k = (i : ℕ) (r : SpannedRule) (x : Spanned)
+    → slice_get (rule_views rules) k ≡ Some r → Means (rule_views rules) r.name k → IsNodeOf rules roots k i x
+    → Decides (is_set_at flags i) (IsNullable (without r.name (said (rule_views rules))) (without_spans x))
+
+-- such flags for the nodes of all rules
+abbrev pub ArePassing : List ParserRule → List ℕ → List Bool → Type 0
+ArePassing rules roots flags = (k : ℕ) → ArePassingAt rules roots flags k
+
+-- such flags for the nodes of the first rules, and for no more nodes
+pub record ArePassingBelow (rules : List ParserRule) (roots : List ℕ) (m : ℕ) (flags : List Bool)
+    : Type 0 where
+  pub long : length flags ≡ first_of roots m
+  pub right : (k : ℕ) → k < m → ArePassingAt rules roots flags k

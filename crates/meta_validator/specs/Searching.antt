@@ -1,0 +1,162 @@
+-- The search for left recursion: what is still to be walked over, and what is known of what was.
+use Rattle.std.specs.Prelude.{◌≡◌, ◌⊎◌, ℕ, suc, ◌+◌, if◌then◌else◌, List, [], ◌∷◌, ◌++◌, Option, Some, None, Bool, true, false, ⊤, length, slice_get}
+use Rattle.std.specs.List.{Contains}
+use Rattle.meta_base.specs.Language.Text.{Text}
+use Rattle.meta_nodes.specs.Erasure.{without_spans}
+use Rattle.meta_nodes.specs.Nodes.{rule_views}
+use Rattle.meta_nodes.specs.Spanned.{Spanned, span_of, SpannedRule}
+use Rattle.meta_nodes.specs.declared.node.ParserRule.{ParserRule}
+use Rattle.meta_validator.specs.LeftRecursion.{Closed, said, Means, Walks}
+use Rattle.meta_validator.specs.Numbering.{nodes_of, size}
+use Rattle.meta_validator.specs.Regions.{IsNodeOf}
+use Rattle.meta_validator.specs.Table.{is_set_at}
+use Rattle.meta_validator.specs.Walk.{Walked, WalkLeads}
+use Rattle.meta_validator.specs.declared.recursions.Task.{Task}
+use Rattle.meta_validator.specs.declared.table.Kind.{Kind}
+use Rattle.meta_validator.specs.declared.table.Kind.TheVariants as is
+use Rattle.meta_validator.specs.declared.recursions.Task.TheVariants.{Visit, Leave}
+
+-- a list from its end to its start
+abbrev pub ordered : {A : Type 0} → List A → List A
+ordered [] = []
+ordered (x ∷ xs) = ordered xs ++ x ∷ []
+
+-- a path without its last rule
+abbrev pub rest : List ℕ → List ℕ
+rest [] = []
+rest (k ∷ path) = path
+
+-- what is to be done once the last rule of the path is left
+abbrev pub after : List Task → List Task
+after [] = []
+after (Leave ∷ todo) = todo
+after (Visit i ∷ todo) = after todo
+
+-- the rule that a node calls
+abbrev pub called_in : Option Kind → Option ℕ
+called_in (Some (is.Call k)) = Some k
+called_in (Some (is.EndCall k)) = Some k
+called_in _ = None
+
+-- what is to be walked over inside a node, what comes first in the text last
+abbrev pub inside_of : List Bool → Option Kind → List Task
+inside_of passing (Some (is.Ahead j)) = Visit j ∷ []
+inside_of passing (Some (is.NotAhead j)) = Visit j ∷ []
+inside_of passing (Some (is.Free j)) = Visit j ∷ []
+inside_of passing (Some (is.Inside j)) = Visit j ∷ []
+inside_of passing (Some (is.Again j)) = Visit j ∷ []
+inside_of passing (Some (is.OnceAgain j)) = Visit j ∷ []
+inside_of passing (Some (is.Seq j k)) =
+    if is_set_at passing j then Visit k ∷ Visit j ∷ [] else Visit j ∷ []
+inside_of passing (Some (is.Choice j k)) = Visit k ∷ Visit j ∷ []
+inside_of passing _ = []
+
+abbrev pub size_at : Option Spanned → ℕ
+size_at None = 0
+size_at (Some x) = size x
+
+-- how much there is to do: each node is walked over once, and each rule left once
+abbrev pub cost : List Spanned → List Task → ℕ
+cost nodes [] = 0
+cost nodes (Leave ∷ tasks) = suc (cost nodes tasks)
+cost nodes (Visit i ∷ tasks) = size_at (slice_get nodes i) + cost nodes tasks
+
+-- and how much in the rules that were not entered
+abbrev pub unentered : List Bool → List SpannedRule → ℕ
+unentered [] rules = 0
+unentered (b ∷ entered) [] = 0
+unentered (true ∷ entered) (r ∷ rules) = unentered entered rules
+unentered (false ∷ entered) (r ∷ rules) = size r.body + 2 + unentered entered rules
+
+module _ (rules : List ParserRule) (roots : List ℕ) (start : ℕ) where
+  abbrev pub views : List SpannedRule
+  views = rule_views rules
+
+  -- the walk over a part of the body of v comes to a call of the rule at this place
+  abbrev pub Calls : Text → Spanned → ℕ → Type 0
+  Calls v x k = (n : Text) × Walked (said views) v (without_spans x) n × Means views n k
+
+  abbrev pub name_of : Option SpannedRule → Text
+  name_of None = []
+  name_of (Some r) = r.name
+
+  -- the name of the last rule of a path, which is its first element here
+  abbrev pub last_name : List ℕ → Text
+  last_name [] = []
+  last_name (k ∷ path) = name_of (slice_get views k)
+
+  -- what the walk over the node of a number comes to
+  abbrev pub Comes : List ℕ → ℕ → Option Closed → Type 0
+  Comes path i o = (x : Spanned) → slice_get (nodes_of rules) i ≡ Some x
+      → Walks views start (ordered path) (last_name path) x o
+
+  -- what all that is to be done comes to first
+  abbrev pub Goes : List ℕ → List Task → Option Closed → Type 0
+  Goes path [] o = o ≡ None
+  Goes path (Leave ∷ todo) o = Goes (rest path) todo o
+  Goes path (Visit i ∷ todo) None = Comes path i None × Goes path todo None
+  Goes path (Visit i ∷ todo) (Some z) =
+      Comes path i (Some z) ⊎ (Comes path i None × Goes path todo (Some z))
+
+  -- a call that is still to be come to in the body of v, the last rule of the path
+  abbrev pub Owes : Text → List Task → ℕ → Type 0
+  Owes v [] k = ⊥
+  Owes v (Leave ∷ todo) k = ⊥
+  Owes v (Visit i ∷ todo) k =
+      ((x : Spanned) × (slice_get (nodes_of rules) i ≡ Some x) × Calls v x k) ⊎ Owes v todo k
+
+  -- each node that is to be walked over is one of the body of the last rule of its path
+  abbrev pub ArePlaced : List ℕ → List Task → Type 0
+  ArePlaced path [] = path ≡ []
+  ArePlaced path (Leave ∷ todo) = ArePlaced (rest path) todo
+  ArePlaced [] (Visit i ∷ todo) = ⊥
+  ArePlaced (k ∷ path) (Visit i ∷ todo) =
+      ((x : Spanned) × IsNodeOf rules roots k i x) × ArePlaced (k ∷ path) todo
+
+  -- a rule that was entered, and is not the start
+  abbrev pub IsKnown : List Bool → ℕ → Type 0
+  IsKnown entered k = (k ≡ start → ⊥) × (is_set_at entered k ≡ true)
+
+  -- a call in the body of a rule of the path is known, or still to be come to
+  abbrev pub AreCovered : List Bool → List ℕ → List Task → Type 0
+  AreCovered entered [] todo = ⊤
+  AreCovered entered (k ∷ path) todo = ((r : SpannedRule) (m : ℕ) → slice_get views k ≡ Some r
+      → Calls r.name r.body m → IsKnown entered m ⊎ Owes r.name todo m) × AreCovered entered path (after todo)
+
+  -- all calls of a rule that was entered and left are known
+  abbrev pub AreSettled : List Bool → List ℕ → Type 0
+  AreSettled entered path = (k : ℕ) → is_set_at entered k ≡ true → (Contains (ordered path) k → ⊥)
+      → (r : SpannedRule) (m : ℕ) → slice_get views k ≡ Some r → Calls r.name r.body m → IsKnown entered m
+
+  -- what is sought: what the walk over the body of the start comes to
+  abbrev pub IsSought : Option Closed → Type 0
+  IsSought o = (r : SpannedRule) → slice_get views start ≡ Some r
+      → Walks views start (start ∷ []) r.name r.body o
+
+  pub record IsSearch (entered : List Bool) (todo : List Task) (path : List ℕ) : Type 0 where
+    pub alike : length entered ≡ length views
+    pub placed : ArePlaced path todo
+    pub answers : (o : Option Closed) → Goes path todo o → IsSought o
+    pub covered : AreCovered entered path todo
+    pub settled : AreSettled entered path
+    pub begun : is_set_at entered start ≡ true
+    pub entered_all : (k : ℕ) → Contains (ordered path) k → is_set_at entered k ≡ true
+    pub last_ones : (k : ℕ) → Contains (ordered path) k → Means views (name_of (slice_get views k)) k
+
+  -- the search goes on
+  pub record IsGoing (entered : List Bool) (tasks : List Task) (chain : List ℕ) : Type 0 where
+    pub todo : List Task
+    pub path : List ℕ
+    pub are_tasks : tasks ≡ ordered todo
+    pub is_chain : chain ≡ ordered path
+    pub state : IsSearch entered todo path
+
+  -- a node closes the chain: its walk is what is sought
+  pub record IsClosing (node : ℕ) (chain : List ℕ) : Type 0 where
+    pub call : Spanned
+    pub here : slice_get (nodes_of rules) node ≡ Some call
+    pub sought : IsSought (Some (record { chain = chain; call = span_of call }))
+
+  -- no walk from the start comes back to it
+  abbrev pub NeverComesBack : Type 0
+  NeverComesBack = (n : Text) → Means views n start → WalkLeads (said views) n n → ⊥

@@ -1,0 +1,94 @@
+-- What is so of the grammar that an accepted text spells.
+use Rattle.std.proofs.Common.{◌≡◌, ℕ, List, [], subst, sym}
+use Rattle.std.proofs.lemmas.List.Elements.{All-contains}
+use Rattle.std.specs.Borrow.{Bor}
+use Rattle.std.specs.List.{All}
+use Rattle.std.specs.Str.{IsUtf8}
+use Rattle.meta_ast.specs.Optimized.{optimized_rules_of}
+use Rattle.meta_ast.specs.declared.optimized.OptimizedRule.{OptimizedRule}
+use Rattle.meta_base.specs.Language.Expression.{Expression, Grammar}
+use Rattle.meta_base.specs.Language.Grammar.{FitsItsTypes, IsGrammar}
+use Rattle.meta_base.specs.Rewritings.Rewriting.{KeepsAny}
+use Rattle.meta_base.specs.Language.State.{Trees}
+use Rattle.meta_base.specs.Language.Text.{IsText}
+use Rattle.meta_base.specs.Language.WellFormed.{InSomeRule, IsPlain, IsWellFormed}
+use Rattle.meta_base.proofs.OneOutcome.{same}
+use Rattle.meta_base.proofs.Termination.{ends}
+use Rattle.meta_base.proofs.ListingKeepsGrammars.{Finished, finished_grammar, finished_plain, finished_well_formed, wrapped_listing_finishes}
+use Rattle.meta_base.proofs.SomeRule.{names_readable}
+use Rattle.meta_base.proofs.StepsKeepGrammars.{grammar_along, plain_along, well_formed_along}
+use Rattle.meta_names.specs.GrammarNames.{calls, definitions}
+use Rattle.meta_nodes.specs.Erasure.{rules_without_spans}
+use Rattle.meta_nodes.specs.Spanned.{SpannedRule}
+use Rattle.meta_reader.proofs.ReadableCounts.{counts_readable}
+use Rattle.meta_reader.specs.Faults.{first_fault}
+use Rattle.meta_reader.specs.Reading.{ReadsRules}
+use Rattle.pest_meta.proofs.Fitting.{IsSound as AreSound, fits_given, handed_down}
+use Rattle.pest_meta.proofs.ReadParts.{InBody, rules_so}
+use Rattle.pest_meta.proofs.Spelled.{spells_once}
+use Rattle.pest_meta.proofs.WellNamed.{defined_texts, distinct_read, keeps_any, names_are_texts, no_keyword_read}
+use Rattle.pest_meta.proofs.WholeCharacters.{trees_on_characters}
+use Rattle.pest_meta.specs.Promises.{Ends, HasOutcomesOf, IsSound, OfSpelled}
+use Rattle.pest_meta.specs.Spelling.{Give, IsAnswer, Spells, complaints_in}
+
+module _ (text : List ℕ) (utf8 : IsUtf8 text) (us : Trees) (sound : AreSound text us) (h : complaints_in text us ≡ []) (rs : List SpannedRule) (d : ReadsRules text us rs) where
+  fits : (p : Expression) → InSomeRule (rules_without_spans rs) p → FitsItsTypes p
+  fits p i =
+      let P = InBody text (AreSound text) FitsItsTypes (handed_down text) (fits_given text) in
+      All-contains P (rules_without_spans rs) i.0 (rules_so text (AreSound text) FitsItsTypes (handed_down text) (fits_given text) d sound) i.1 p i.2
+
+  -- trees without a fault and without complaints on their names are read as a grammar
+  pub is_grammar : IsGrammar (rules_without_spans rs)
+  is_grammar = record {
+    distinct = distinct_read d (defined_texts text us sound.1) (calls text us) h;
+    no_keyword = no_keyword_read d (defined_texts text us sound.1) (calls text us) h;
+    names = names_are_texts d (defined_texts text us sound.1);
+    readable = counts_readable text d sound.0;
+    fits = fits;
+  }
+
+module _ (text : List ℕ) (utf8 : IsUtf8 text) (builtins : List (Bor (List ℕ))) (answer : List OptimizedRule) (a : IsAnswer text builtins answer) where
+  -- a grammar that the text spells is the one that was accepted
+  the_same : (g : Grammar) → Spells text g → a.spelled ≡ g
+  the_same g s = spells_once text a.spelled g (record { trees = a.trees; of_text = a.of_text; give = a.accepted.give }) s
+
+  accepted_is_grammar : IsGrammar a.spelled
+  accepted_is_grammar =
+      let give = a.accepted.give in
+      let sound : AreSound text a.trees = (give.faultless, trees_on_characters text utf8 a.trees a.of_text) in
+      subst IsGrammar (sym give.same) (is_grammar text utf8 a.trees sound a.well_named give.read give.reads)
+
+  pub spells_grammar : OfSpelled text IsSound
+  spells_grammar g s = subst IsSound (the_same g s) (accepted_is_grammar, a.accepted.well_formed)
+
+  optimized_outcomes : HasOutcomesOf a.spelled (optimized_rules_of answer)
+  optimized_outcomes =
+      let o = a.optimized in
+      let grammar = accepted_is_grammar in
+      record {
+        reached = o.reached;
+        chain = o.chain;
+        outcomes = o.outcomes (keeps_any a.spelled grammar.no_keyword);
+        grammar = (grammar_along a.spelled o.reached o.chain grammar, well_formed_along a.spelled o.reached o.chain (names_readable a.spelled grammar.readable) a.accepted.well_formed);
+        listing = o.lists;
+      }
+
+  pub answers_outcomes : OfSpelled text (λ g. HasOutcomesOf g (optimized_rules_of answer))
+  answers_outcomes g s = subst (λ h. HasOutcomesOf h (optimized_rules_of answer)) (the_same g s) optimized_outcomes
+
+-- a plain well-formed grammar ends
+sound_ends : (g : Grammar) → IsSound g → IsPlain g → Ends g
+sound_ends g h plain classes start =
+    let d = ends g classes start.name start.rule start.mode start.state (names_readable g h.0.readable) h.1 plain start.defined in
+    (d.0, d.1, λ p e. same g classes e d.1)
+
+finished_sound : (g h : Grammar) → Finished g h → IsSound g → IsSound h
+finished_sound g h f s = (finished_grammar g h f s.0, finished_well_formed g h f s.1)
+
+pub spelled_ends : (g : Grammar) → IsSound g → IsPlain g → Ends g
+spelled_ends = sound_ends
+
+pub answer_ends : (g answer : Grammar) → HasOutcomesOf g answer → IsPlain g → Ends answer
+answer_ends g answer o plain =
+    let finished = wrapped_listing_finishes o.reached answer o.listing in
+    sound_ends answer (finished_sound o.reached answer finished o.grammar) (finished_plain o.reached answer finished (plain_along g o.reached o.chain plain))

@@ -1,0 +1,30 @@
+-- What is promised of the grammar that an accepted text spells, and of the rules that are answered for it.
+use Rattle.std.specs.Prelude.{ℕ, List}
+use Rattle.meta_base.specs.Language.Expression.{Grammar}
+use Rattle.meta_base.specs.Language.Grammar.{IsGrammar}
+use Rattle.meta_base.specs.Rewritings.Rewriting.{Chain, EachBody, SameOutcomes}
+use Rattle.meta_base.specs.Language.State.{Classes}
+use Rattle.meta_base.specs.Language.WellFormed.{EndsFrom, IsPlain, IsWellFormed, Start}
+use Rattle.meta_optimizer.specs.Passes.{IsListing}
+use Rattle.pest_meta.specs.Spelling.{Spells}
+
+-- this holds of the grammar that the text spells
+abbrev pub OfSpelled : List ℕ → (Grammar → Type 0) → Type 0
+OfSpelled text P = (g : Grammar) → Spells text g → P g
+
+-- it is a grammar, and well-formed
+abbrev pub IsSound : Grammar → Type 0
+IsSound g = IsGrammar g × IsWellFormed g
+
+-- wherever it is started it has exactly one outcome
+abbrev pub Ends : Grammar → Type 0
+Ends g = (classes : Classes) (start : Start g) → EndsFrom g classes start
+
+-- rewritings lead to a grammar that has the same outcomes from everywhere, and of which the answer is the
+-- listing once wrappers are left out
+pub record HasOutcomesOf (g answer : Grammar) : Type 0 where
+  pub reached : Grammar
+  pub chain : Chain g reached
+  pub outcomes : SameOutcomes g reached
+  pub grammar : IsSound reached
+  pub listing : EachBody (λ y. IsListing) reached answer
