@@ -1,10 +1,13 @@
 pub mod Characters
 pub mod Literals
 pub mod WrittenBytes
+pub mod Sides
+pub mod OptimizedSides
 pub mod Frames
 pub mod Mapping
 pub mod Waiting
 pub mod Unchanged
 pub mod Rebuilding
+pub mod Weights
 pub mod Sameness
 pub mod OptimizedSameness

@@ -10,7 +10,8 @@ use Rattle.meta_ast.specs.Operands.{operands, over, count_of_nodes}
 abbrev pub Progress : Type 0 → Type 0
 Progress F = Result F Fault
 
--- `says x`: the expression that a value x of code says; `step f x r g`: a call of `f` at x answers r and leaves `g`
+-- `says x`: the expression that a value x of code says; `step f x r g`: a call of `f` at x answers r and
+-- leaves `g`
 module _ {F E : Type 0} (says : E → Expression) (step : F → E → Result E Fault → F → Type 0) where
   -- a call of `f` at `a` answered `b`, and left `g`
   pub record Answers (f : F) (a b : Expression) (g : F) : Type 0 where

@@ -1,5 +1,5 @@
 //! Texts as literals, and what expressions without parts print.
-ghost use Rattle.std.specs.Prelude.{◌<◌, encode_utf8_all};
+ghost use Rattle.std.specs.Prelude.{◌<◌, encode_utf8_all, replicate};
 ghost use Rattle.std.specs.Fmt.{WritesOnOk};
 ghost use Rattle.std.specs.Str.{chars};
 ghost use Rattle.meta_ast.specs.Printing.{bound_literal, escaped, literal, numbered};
@@ -50,6 +50,16 @@ fn fmt_numbered<W: fmt::Write>(f: &mut fmt::Formatter<W>, c: char) -> fmt::Resul
     ensures { WritesOnOk W.write_str_gives f.old result (encode_utf8_all (numbered c)) f.new }
 {
     write!(f, "\\u{{{:02x}}}", u32::from(c))
+}
+
+// Writes so many opening parentheses.
+pub(crate) fn fmt_openings<W: fmt::Write>(f: &mut fmt::Formatter<W>, count: usize) -> fmt::Result
+    ensures { WritesOnOk W.write_str_gives f.old result (replicate count 40) f.new }
+{
+    for turn in 0..count {
+        f.write_str("(")?;
+    }
+    Ok(())
 }
 
 // Writes a range: `('a'..'z')`.

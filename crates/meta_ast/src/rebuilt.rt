@@ -58,8 +58,8 @@ pub trait Rebuild: Drop {
         ensures ready { IfOk result (GoesOn is_right is_ready) };
 }
 
-/// The tree that is made of another one, with what stands around its operands as `R` says. Refused where
-/// memory is.
+/// The tree that is made of another one, with what stands around its operands as `R` says. The only fault is
+/// a want of memory.
 pub fn rebuilt<R: Rebuild>(alloc: Global, source: R::Source) -> Result<R::Target, AllocError>
     requires { R.is_right source }
     ensures { IfOk result (λ tree. R.made tree ≡ R.says source) }

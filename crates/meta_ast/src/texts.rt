@@ -21,7 +21,7 @@ pub fn same_texts(ss: &Vec<String>, ts: &Vec<String>) -> bool
     ss == ts
 }
 
-/// The same texts again, with the same allocators. Refused where memory is.
+/// The same texts again, with the same allocators. The only fault is a want of memory.
 pub fn copy_texts(texts: &Vec<String>) -> Result<Vec<String>, AllocError>
     ensures { IfOk result (λ copy. map text_of copy.items ≡ map text_of texts.now.items) }
 {

@@ -1,4 +1,4 @@
-// The names of the meta-grammar's rules.
+//! The names of the meta-grammar's rules.
 
 /// A rule of the meta-grammar, the grammar in which grammars are written; or `EOI`, the end of the text,
 /// which gives a token of its own.

@@ -1,4 +1,4 @@
-// Laws over the definitions alone.
+//! Laws over the definitions alone.
 ghost use Rattle.std.specs.Prelude.{◌≡◌, ◌↔◌};
 ghost use Rattle.meta_base.specs.Language.Expression.{Grammar, Expression, Rule};
 ghost use Rattle.meta_base.specs.Language.State.{Classes, Mode, IsRuleMode, State, Outcome};

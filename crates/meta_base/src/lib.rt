@@ -1,4 +1,4 @@
-// The base of the front end: what an expression means, and the types that every layer above speaks of.
+//! The base of the front end: what an expression means, and the types that every layer above speaks of.
 #![tactic(auto)]
 
 pub mod grammar;

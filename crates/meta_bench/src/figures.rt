@@ -1,69 +1,38 @@
-//! What reading a text takes.
+//! What the calls take on a text.
+use crate::stages::{STAGES, Stage, time_of};
 use anyhow::Result;
-use meta_base::grammar::Rule;
-use meta_reader::parser::consume_rules_with_spans;
-use meta_syntax::grammar::PestParser;
-use std::fmt;
 use std::time::{CpuClock, Duration};
 
-/// So many times a text is read at least, and so many bytes of it in all.
+/// So many times a text goes through a stage at least, and so many bytes of it in all.
 const TURNS: usize = 5;
 
 const BYTES: usize = 1_000_000;
 
-/// How many bytes a text has, and the least processor time that each call took for it.
+/// A stage that is measured, and the least processor time that it took.
 #[derive(Clone, Copy)]
+pub struct Figure {
+    pub name: &'static str,
+    stage: Stage,
+    least: Duration,
+}
+
+/// How many bytes a text has, and what each stage took for it. The first stage is the one that the others are
+/// compared with.
+#[derive(Drop)]
 pub struct Figures {
     pub bytes: usize,
-    tokens: Duration,
-    parse: Duration,
-    read: Duration,
+    pub stages: Vec<Figure>,
 }
 
-/// One call's part of a line: its milliseconds, nanoseconds a byte, million bytes a second, and how the
-/// nanoseconds a byte compare with those of another text.
-#[derive(Clone, Copy)]
-pub struct Part {
-    seconds: f64,
-    bytes: f64,
-    compared: f64,
-}
-
-impl fmt::Display for Part {
-    fn fmt<W: fmt::Write>(&self, f: &mut fmt::Formatter<W>) -> fmt::Result {
-        let milliseconds = self.seconds * 1e3;
-        let each = self.seconds * 1e9 / self.bytes;
-        let rate = self.bytes / self.seconds / 1e6;
-        let ratio = each / self.compared;
-        write!(
-            f,
-            "{milliseconds:>9.3} {each:>8.2} {rate:>7.2} {ratio:>6.2}"
-        )
-    }
-}
-
-impl Figures {
-    /// The part of `PestParser::tokens`, compared with that of another text.
-    pub fn of_tokens(&self, other: &Figures) -> Part {
-        make_part(self.tokens, self.bytes, other.tokens, other.bytes)
+impl Figure {
+    /// Its milliseconds.
+    pub fn milliseconds(&self) -> f64 {
+        self.least.as_secs_f64() * 1e3
     }
 
-    /// The part of `PestParser::parse`, compared with that of another text.
-    pub fn of_parse(&self, other: &Figures) -> Part {
-        make_part(self.parse, self.bytes, other.parse, other.bytes)
-    }
-
-    /// The part of `consume_rules_with_spans`, compared with that of another text.
-    pub fn of_read(&self, other: &Figures) -> Part {
-        make_part(self.read, self.bytes, other.read, other.bytes)
-    }
-}
-
-fn make_part(time: Duration, bytes: usize, other_time: Duration, other_bytes: usize) -> Part {
-    Part {
-        seconds: time.as_secs_f64(),
-        bytes: as_float(bytes),
-        compared: other_time.as_secs_f64() * 1e9 / as_float(other_bytes),
+    /// Its nanoseconds a byte of a text of so many.
+    pub fn each(&self, bytes: usize) -> f64 {
+        self.least.as_secs_f64() * 1e9 / as_float(bytes)
     }
 }
 
@@ -72,41 +41,48 @@ fn as_float(count: usize) -> f64 {
     f64::from(u32::try_from(count).unwrap_or(u32::MAX))
 }
 
-/// The processor time of one call of `PestParser::tokens`, of one of `PestParser::parse`, and of one of
-/// `consume_rules_with_spans` on its pairs, which it lets go. What else they answer is let go outside it.
-fn one_turn<R: CpuClock + AllocGlobal>(
-    rt: &R,
-    text: &str,
-) -> Result<(Duration, Duration, Duration)> {
-    let start = rt.thread_cpu_time()?;
-    let entries = PestParser::tokens(rt.alloc(), Rule::grammar_rules, text)?;
-    let tokens = rt.thread_cpu_time()?.saturating_sub(start);
-    drop(entries);
-    let start = rt.thread_cpu_time()?;
-    let pairs = PestParser::parse(rt.alloc(), Rule::grammar_rules, text)?;
-    let parse = rt.thread_cpu_time()?.saturating_sub(start);
-    let start = rt.thread_cpu_time()?;
-    let rules = consume_rules_with_spans(rt.alloc(), pairs)?;
-    let read = rt.thread_cpu_time()?.saturating_sub(start);
-    drop(rules);
-    Ok((tokens, parse, read))
+/// The first stage, and those of the others that are named; all where none is.
+fn chosen<R: AllocGlobal>(rt: &R, names: &[String]) -> Result<Vec<Figure>> {
+    let mut figures = Vec::new(rt.alloc());
+    for (name, stage) in &STAGES {
+        let is_first = figures.is_empty();
+        let is_named = names.iter().any(|other| other.as_str() == *name);
+        if is_first || names.is_empty() || is_named {
+            figures.push(Figure {
+                name,
+                stage: *stage,
+                least: Duration::MAX,
+            })?;
+        }
+    }
+    Ok(figures)
 }
 
-/// What reading a text takes: the least times of several turns.
-pub fn measured<R: CpuClock + AllocGlobal>(rt: &R, text: &str) -> Result<Figures> {
-    let (mut tokens, mut parse, mut read) = one_turn(rt, text)?;
+/// What these stages take on a text, or all where none is named: the least times of several turns, in each of
+/// which it goes through them one after another.
+pub fn measured<R: CpuClock + AllocGlobal>(
+    rt: &R,
+    names: &[String],
+    text: &str,
+) -> Result<Figures> {
     let bytes = text.len();
+    let mut stages = chosen(rt, names)?;
     let turns = TURNS + BYTES / bytes.max(1);
-    for _ in 1..turns {
-        let turn = one_turn(rt, text)?;
-        tokens = tokens.min(turn.0);
-        parse = parse.min(turn.1);
-        read = read.min(turn.2);
+    for _ in 0..turns {
+        go_through(rt, text, &mut stages)?;
     }
-    Ok(Figures {
-        bytes,
-        tokens,
-        parse,
-        read,
-    })
+    Ok(Figures { bytes, stages })
+}
+
+/// Takes a text through some stages once, and keeps the times that are the least so far.
+fn go_through<R: CpuClock + AllocGlobal>(
+    rt: &R,
+    text: &str,
+    stages: &mut Vec<Figure>,
+) -> Result<()> {
+    for figure in stages.iter_mut() {
+        let time = time_of(rt, figure.stage, text)?;
+        figure.least = figure.least.min(time);
+    }
+    Ok(())
 }

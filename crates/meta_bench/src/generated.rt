@@ -31,7 +31,7 @@ rule{number} = {{ \"begin{number}\" ~ rule{earlier} ~ (\"and\" ~ rule{earlier})*
         ),
         4 => write!(
             out,
-            "rule{number} = {{ ((((rule{earlier} ~ \"+\")* | (\"-\" ~ (rule{earlier} | \"(\" ~ rule{earlier} ~ \")\")))+ \
+            "rule{number} = {{ ((((rule{earlier} ~ \"+\")+ | (\"-\" ~ (rule{earlier} | \"(\" ~ rule{earlier} ~ \")\")))+ \
 ~ \";\")) ~ (rule{earlier} | \"none\")? }}\n"
         ),
         6 => write!(

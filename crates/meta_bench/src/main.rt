@@ -1,83 +1,87 @@
-//! How long grammars take to be read.
+//! How long grammars take on their way to optimized rules.
 //!
-//! Without arguments a small generated grammar is read, and what it has is printed. With arguments there is a
-//! line of figures for each: a number means a generated grammar of so many rules, and anything else names a
-//! file that has a grammar.
+//! Without arguments a small generated grammar is read, and what it has is printed. With arguments there
+//! are lines of figures for each text: a number means a generated grammar of so many rules, a shape and a
+//! size, as `cycle:50`, a grammar of that shape, and anything else names a file that has a grammar. Where
+//! arguments name stages, only these are measured, and `parse` with them.
 #![tactic(auto)]
 
 mod figures;
 mod generated;
+mod shapes;
+mod small;
+mod stages;
 mod texts;
 
 use anyhow::Result;
 use figures::{Figures, measured};
-use generated::grammar;
-use meta_base::grammar::Rule;
-use meta_reader::parser::consume_rules_with_spans;
-use meta_syntax::grammar::PestParser;
+use stages::STAGES;
 use std::env;
 use texts::text_of;
-
-/// The rules of the grammar that is read where there are no arguments.
-const FEW: u32 = 10;
 
 /// From so many bytes on a text is large: times a byte are compared with those of the first such.
 const MANY: usize = 100_000;
 
-/// Prints what a small grammar has.
-fn describe<R: Print + AllocGlobal>(rt: &R) -> Result<()> {
-    let text = grammar(rt.alloc(), FEW)?;
-    let entries = PestParser::tokens(rt.alloc(), Rule::grammar_rules, text.as_str())?;
-    let parsed = PestParser::parse(rt.alloc(), Rule::grammar_rules, text.as_str())?;
-    let mut pairs = 0u32;
-    for pair in parsed.flatten(rt.alloc())? {
-        let _ = pair?;
-        pairs = pairs.saturating_add(1);
-    }
-    let parsed = PestParser::parse(rt.alloc(), Rule::grammar_rules, text.as_str())?;
-    let rules = consume_rules_with_spans(rt.alloc(), parsed)?;
-    println!(rt;
-        "{} bytes, {} entries, {pairs} pairs, {} rules",
-        text.len(),
-        entries.len(),
-        rules.len()
-    )?;
-    Ok(())
-}
-
-/// Prints a line of figures for the text that each of these arguments means.
-fn compare(rt: &HostRuntime, arguments: &[String]) -> Result<()> {
-    println!(rt;
-        "     text      bytes | tokens ms  ns/byte    MB/s  ratio |  parse ms  ns/byte    MB/s  ratio | reader ms  ns/byte    MB/s  ratio"
-    )?;
-    let mut first: Option<Figures> = None;
-    for argument in arguments {
-        let text = text_of(rt, argument.as_str())?;
-        let figures = measured(rt, text.as_str())?;
-        if first.is_none() && figures.bytes >= MANY {
-            first = Some(figures);
-        }
-        let other = first.unwrap_or(figures);
+/// Prints a line for each stage: its milliseconds, its nanoseconds a byte, how these compare with those of
+/// another text, and how its time compares with that of the first stage.
+fn print_figures<R: Print + AllocGlobal>(
+    rt: &R,
+    text: &str,
+    figures: &Figures,
+    other: &Figures,
+) -> Result<()> {
+    let Some(first) = figures.stages.first() else {
+        return Ok(());
+    };
+    for (figure, compared) in figures.stages.iter().zip(other.stages.iter()) {
+        let each = figure.each(figures.bytes);
         println!(rt;
-            "{:>9} {:>10} | {} | {} | {}",
-            argument.as_str(),
+            "{text:>16} {:>9} {:<14} {:>10.3} {each:>9.2} {:>7.2} {:>9.3}",
             figures.bytes,
-            figures.of_tokens(&other),
-            figures.of_parse(&other),
-            figures.of_read(&other)
+            figure.name,
+            figure.milliseconds(),
+            each / compared.each(other.bytes),
+            figure.milliseconds() / first.milliseconds()
         )?;
     }
     Ok(())
 }
 
-fn main(rt: HostRuntime) -> Result<()> {
-    let mut arguments = Vec::new(rt.alloc());
-    for argument in env::args(&rt)?.skip(1) {
-        arguments.push(argument)?;
+/// Prints the figures of the text that each of these arguments means.
+fn compare(rt: &HostRuntime, stages: &[String], texts: &[String]) -> Result<()> {
+    println!(rt;
+        "            text     bytes stage                  ms   ns/byte   ratio  to parse"
+    )?;
+    let mut first: Option<Figures> = None;
+    for argument in texts {
+        let text = text_of(rt, argument.as_str())?;
+        let figures = measured(rt, stages, text.as_str())?;
+        print_figures(
+            rt,
+            argument.as_str(),
+            &figures,
+            first.as_ref().unwrap_or(&figures),
+        )?;
+        if first.is_none() && figures.bytes >= MANY {
+            first = Some(figures);
+        }
     }
-    if arguments.is_empty() {
-        describe(&rt)
+    Ok(())
+}
+
+fn main(rt: HostRuntime) -> Result<()> {
+    let mut stages = Vec::new(rt.alloc());
+    let mut texts = Vec::new(rt.alloc());
+    for argument in env::args(&rt)?.skip(1) {
+        if STAGES.iter().any(|(name, _)| *name == argument.as_str()) {
+            stages.push(argument)?;
+        } else {
+            texts.push(argument)?;
+        }
+    }
+    if texts.is_empty() {
+        small::describe(&rt)
     } else {
-        compare(&rt, &arguments)
+        compare(&rt, &stages, &texts)
     }
 }

@@ -26,8 +26,9 @@ pub record GoesOnFromWhatIsLeft (classes : Classes) : Type 0 where
       (stacked (codes "a")) Failure
   pub wrapped : MatchesLoosely [] classes (Choice (RestoreOnErr (Ident (codes "POP"))) (Ident (codes "PEEK")))
       NonAtomicMode (stacked (codes "a")) (Lost (codes "b" ∷ codes "a" ∷ []))
-  pub wrapped_strictly : Matches [] classes (Choice (RestoreOnErr (Ident (codes "POP"))) (Ident (codes "PEEK")))
-      NonAtomicMode (stacked (codes "a")) Failure
+  pub wrapped_strictly : Matches [] classes
+      (Choice (RestoreOnErr (Ident (codes "POP"))) (Ident (codes "PEEK"))) NonAtomicMode
+      (stacked (codes "a")) Failure
 
 -- a = { "x"+ }
 abbrev pub repeated : Grammar

@@ -1,4 +1,4 @@
-// Facts on small grammars: what they do, tied to the definitions.
+//! Facts on small grammars: what they do, tied to the definitions.
 ghost use Rattle.meta_base.specs.Language.State.{Classes};
 ghost use Rattle.meta_facts.specs.SmallGrammars.{ListingDiffers, BlankIsTaken, HasNone, ReadsEmptyStack, OrdersOfTheStack, NegativeSlices, TokensOfAtomicRules, PredicateRestores, PushPushes, Skips, Newlines, RangesThatFail, BlankGivesToken, NonAtomicInside, LastRuleIsMeant, OtherReadings, ReadsTheTop, EmptiesTheStack, NegativePredicates, Alternatives, CommentsAreSkipped, UndefinedNames, LoudBlanks, SlicesPastTheLength, TokensOfTheEnd};
 ghost use Rattle.meta_facts.specs.NullableExpressions.{NullableOrNot, CannotFailOrMay, LeftCalledOrNot};

@@ -1,4 +1,4 @@
-// The names that a grammar's trees define and call.
+//! The names that a grammar's trees define and call.
 ghost use Rattle.std.specs.Prelude.{◌++◌, ◌≡◌, ◌≤◌, IfOk, map};
 ghost use Rattle.std.specs.Str.{IsCharBoundary};
 ghost use Rattle.meta_base.specs.Pieces.MetaRules.{name_of};

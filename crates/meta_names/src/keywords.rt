@@ -1,4 +1,4 @@
-// Names that no rule may have, and names that are defined twice.
+//! Names that no rule may have, and names that are defined twice.
 ghost use Rattle.std.specs.Prelude.{[], ◌≡◌, IfErr, IfOk, alloc_error, map};
 ghost use Rattle.meta_base.specs.Pieces.Saying.{Tell, piece_of};
 ghost use Rattle.meta_names.specs.Names.{duplicate_complaints, later_places, pest_keyword_complaints, places_of, rust_keyword_complaints};

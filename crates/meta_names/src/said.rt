@@ -1,4 +1,4 @@
-// The errors that say the same of several names.
+//! The errors that say the same of several names.
 ghost use Rattle.std.specs.Prelude.{◌≡◌, IfErr, IfOk, alloc_error, map};
 ghost use Rattle.meta_base.specs.Pieces.Saying.{Tell, piece_of};
 ghost use Rattle.meta_names.specs.Names.{said};

@@ -1,4 +1,4 @@
-// The tables of names.
+//! The tables of names.
 ghost use Rattle.std.specs.Prelude.{◌≡◌, map};
 ghost use Rattle.meta_base.specs.Language.Builtins.{builtins, is_one_of, property_names};
 ghost use Rattle.meta_base.specs.Language.Grammar.{keywords};

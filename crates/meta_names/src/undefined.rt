@@ -1,4 +1,4 @@
-// Calls of what is not defined.
+//! Calls of what is not defined.
 ghost use Rattle.std.specs.Prelude.{◌≡◌, IfErr, IfOk, alloc_error, filter, map};
 ghost use Rattle.meta_base.specs.Pieces.Saying.{Tell, piece_of, written};
 ghost use Rattle.meta_names.specs.NameSets.{HasNames, is_outside, is_unknown};

@@ -1,4 +1,4 @@
-// The names of a whole grammar.
+//! The names of a whole grammar.
 ghost use Rattle.std.specs.Prelude.{[], ◌≡◌, IfErr, IfOk, OnOk, alloc_error, map};
 ghost use Rattle.meta_base.specs.Pieces.Saying.{Tell, piece_of};
 ghost use Rattle.meta_names.specs.GrammarNames.{AreWrittenAt, IsRefusal, complaints_of, first_calls, first_calls_of, name_complaints};
@@ -15,14 +15,14 @@ use std::alloc::{AllocError, Global};
 /// `grammar_rules`; of any others it is answered by the same rule: what a `grammar_rule` begins with is
 /// its definition, where that is an `identifier`, and all `identifier`s behind it are calls.
 ///
-/// Where names are at fault there is an error at each of these places, in this order:
+/// Where names are wrong there is an error at each of these places, in this order:
 /// - `NAME is a pest keyword`, at each definition whose name pest keeps for itself;
 /// - `rule NAME already defined`, at each definition that has one of its name before it;
 /// - `rule NAME is undefined`, at each call of what is neither defined nor a builtin.
 ///
 /// Any other fault is a want of memory.
 pub fn validate_pairs<'i>(alloc: Global, pairs: Pairs<'i, Rule>) -> Result<Vec<&'i str>, Fault>
-    ensures faultless { OnOk result (complaints_of pairs.entry ≡ []) }
+    ensures no_complaints { OnOk result (complaints_of pairs.entry ≡ []) }
     ensures builtins { IfOk result (λ names. AreWrittenAt (first_calls_of pairs.entry) names.items) }
     ensures refused { IfErr result (IsRefusal (complaints_of pairs.entry)) }
 {

@@ -1,3 +1,3 @@
 pub mod NodeTests
 pub mod Walks
-pub mod Erasing
+pub mod Sameness

@@ -3,4 +3,6 @@ pub mod Nodes
 pub mod NodeEquality
 pub mod Walk
 pub mod Erasure
-pub mod Sides
+pub mod Copying
+pub mod Erasing
+pub mod Sameness

@@ -1,9 +1,15 @@
-// Clones of nodes, expressions and rules. A clone that is given equals its source.
-ghost use Rattle.std.specs.Prelude.{◌≡◌, IfOk};
+//! Clones of nodes, expressions and rules. A clone that is given equals its source.
+ghost use Rattle.std.specs.Prelude.{◌≡◌, ◌*◌, IfOk, ⊤};
+ghost use Rattle.meta_ast.specs.Weight.{weight};
+ghost use Rattle.meta_nodes.specs.Copying.{with_operand, waits_of};
+ghost use Rattle.meta_nodes.specs.Erasure.{without_spans};
 ghost use Rattle.meta_nodes.specs.Nodes.{rule_view, view, IsSameExpression};
+ghost use Rattle.meta_nodes.specs.Spanned.{Spanned};
 
 use crate::node::{ParserExpr, ParserNode, ParserRule};
-use std::alloc::AllocError;
+use meta_ast::rebuilt::{Rebuild, Step, rebuilt};
+use meta_base::runtime::Span;
+use std::alloc::{AllocError, Global};
 
 impl<'i> Clone for ParserRule<'i> {
     ghost is_clone = { λ rule copy. rule_view copy ≡ rule_view rule };
@@ -22,7 +28,9 @@ impl<'i> Clone for ParserNode<'i> {
     ghost is_clone = { λ node copy. view copy ≡ view node };
 
     fn clone(&self) -> Result<ParserNode<'i>, AllocError> {
-        copy(self)
+        let expr = copy_expr(&self.expr)?;
+        let span = self.span;
+        Ok(ParserNode { expr, span })
     }
 }
 
@@ -34,27 +42,185 @@ impl<'i> Clone for ParserExpr<'i> {
     }
 }
 
-/// The same node again.
-#[cycle(copy)]
-fn copy<'i>(node: &ParserNode<'i>) -> Result<ParserNode<'i>, AllocError>
-    ensures { IfOk result (λ copy. view copy ≡ view node.now) }
-{
-    Ok(ParserNode {
-        expr: copy_expr(&node.expr)?,
-        span: node.span,
-    })
+/// What stands around an operand while that is copied, with the operator's span.
+#[derive(Drop)]
+enum Around<'n, 'i> {
+    PosPred(Span<'i>),
+    NegPred(Span<'i>),
+    Opt(Span<'i>),
+    Rep(Span<'i>),
+    RepOnce(Span<'i>),
+    RepExact(Span<'i>, u32),
+    RepMin(Span<'i>, u32),
+    RepMax(Span<'i>, u32),
+    RepMinMax(Span<'i>, u32, u32),
+    Push(Span<'i>),
+    /// A `~` whose left side is copied, and the right one.
+    FirstOfSeq(Span<'i>, &'n ParserNode<'i>),
+    /// The same of a `|`.
+    FirstOfChoice(Span<'i>, &'n ParserNode<'i>),
+    /// A `~` whose right side is copied, and the copy of the left one.
+    SecondOfSeq(Span<'i>, ParserNode<'i>),
+    /// The same of a `|`.
+    SecondOfChoice(Span<'i>, ParserNode<'i>),
 }
 
-/// The same in a box of its own, with the same allocator.
-#[cycle(copy)]
+impl<'n, 'i> Rebuild for Around<'n, 'i> {
+    type Source = &'n ParserNode<'i>;
+
+    type Target = ParserNode<'i>;
+
+    ghost Meaning = { Spanned };
+
+    ghost says = { λ node. view node.now };
+
+    ghost made = { λ node. view node };
+
+    ghost fills = { λ around operand. with_operand around operand };
+
+    ghost is_right = { λ _. ⊤ };
+
+    ghost is_ready = { λ _. ⊤ };
+
+    ghost size = { λ node. 4 * weight (without_spans (view node.now)) };
+
+    ghost waits = { λ around. waits_of around };
+
+    fn open(
+        node: &'n ParserNode<'i>,
+    ) -> Result<Step<&'n ParserNode<'i>, Around<'n, 'i>, ParserNode<'i>>, AllocError> {
+        use ParserExpr as E;
+        let span = node.span;
+        match &node.expr {
+            E::Str(text) => Ok(Step::Made(ParserNode {
+                expr: E::Str(text.clone()?),
+                span,
+            })),
+            E::Insens(text) => Ok(Step::Made(ParserNode {
+                expr: E::Insens(text.clone()?),
+                span,
+            })),
+            E::Range(first, last) => Ok(Step::Made(ParserNode {
+                expr: E::Range(first.clone()?, last.clone()?),
+                span,
+            })),
+            E::Ident(name) => Ok(Step::Made(ParserNode {
+                expr: E::Ident(name.clone()?),
+                span,
+            })),
+            E::PeekSlice(start, end) => Ok(Step::Made(ParserNode {
+                expr: E::PeekSlice(*start, *end),
+                span,
+            })),
+            E::PosPred(inner) => Ok(Step::Inside(Around::PosPred(span), inner.as_ref())),
+            E::NegPred(inner) => Ok(Step::Inside(Around::NegPred(span), inner.as_ref())),
+            E::Opt(inner) => Ok(Step::Inside(Around::Opt(span), inner.as_ref())),
+            E::Rep(inner) => Ok(Step::Inside(Around::Rep(span), inner.as_ref())),
+            E::RepOnce(inner) => Ok(Step::Inside(Around::RepOnce(span), inner.as_ref())),
+            E::RepExact(inner, count) => Ok(Step::Inside(
+                Around::RepExact(span, *count),
+                inner.as_ref(),
+            )),
+            E::RepMin(inner, least) => Ok(Step::Inside(
+                Around::RepMin(span, *least),
+                inner.as_ref(),
+            )),
+            E::RepMax(inner, greatest) => Ok(Step::Inside(
+                Around::RepMax(span, *greatest),
+                inner.as_ref(),
+            )),
+            E::RepMinMax(inner, least, greatest) => Ok(Step::Inside(
+                Around::RepMinMax(span, *least, *greatest),
+                inner.as_ref(),
+            )),
+            E::Push(inner) => Ok(Step::Inside(Around::Push(span), inner.as_ref())),
+            E::Seq(left, right) => Ok(Step::Inside(
+                Around::FirstOfSeq(span, right.as_ref()),
+                left.as_ref(),
+            )),
+            E::Choice(left, right) => Ok(Step::Inside(
+                Around::FirstOfChoice(span, right.as_ref()),
+                left.as_ref(),
+            )),
+        }
+    }
+
+    fn close(
+        self,
+        alloc: Global,
+        operand: ParserNode<'i>,
+    ) -> Result<Step<&'n ParserNode<'i>, Around<'n, 'i>, ParserNode<'i>>, AllocError> {
+        use ParserExpr as E;
+        match self {
+            Around::FirstOfSeq(span, right) => Ok(Step::Inside(
+                Around::SecondOfSeq(span, operand),
+                right,
+            )),
+            Around::FirstOfChoice(span, right) => Ok(Step::Inside(
+                Around::SecondOfChoice(span, operand),
+                right,
+            )),
+            Around::PosPred(span) => Ok(Step::Made(ParserNode {
+                expr: E::PosPred(Box::new(alloc, operand)?),
+                span,
+            })),
+            Around::NegPred(span) => Ok(Step::Made(ParserNode {
+                expr: E::NegPred(Box::new(alloc, operand)?),
+                span,
+            })),
+            Around::Opt(span) => Ok(Step::Made(ParserNode {
+                expr: E::Opt(Box::new(alloc, operand)?),
+                span,
+            })),
+            Around::Rep(span) => Ok(Step::Made(ParserNode {
+                expr: E::Rep(Box::new(alloc, operand)?),
+                span,
+            })),
+            Around::RepOnce(span) => Ok(Step::Made(ParserNode {
+                expr: E::RepOnce(Box::new(alloc, operand)?),
+                span,
+            })),
+            Around::RepExact(span, count) => Ok(Step::Made(ParserNode {
+                expr: E::RepExact(Box::new(alloc, operand)?, count),
+                span,
+            })),
+            Around::RepMin(span, least) => Ok(Step::Made(ParserNode {
+                expr: E::RepMin(Box::new(alloc, operand)?, least),
+                span,
+            })),
+            Around::RepMax(span, greatest) => Ok(Step::Made(ParserNode {
+                expr: E::RepMax(Box::new(alloc, operand)?, greatest),
+                span,
+            })),
+            Around::RepMinMax(span, least, greatest) => Ok(Step::Made(ParserNode {
+                expr: E::RepMinMax(Box::new(alloc, operand)?, least, greatest),
+                span,
+            })),
+            Around::Push(span) => Ok(Step::Made(ParserNode {
+                expr: E::Push(Box::new(alloc, operand)?),
+                span,
+            })),
+            Around::SecondOfSeq(span, left) => Ok(Step::Made(ParserNode {
+                expr: E::Seq(Box::new(alloc, left)?, Box::new(alloc, operand)?),
+                span,
+            })),
+            Around::SecondOfChoice(span, left) => Ok(Step::Made(ParserNode {
+                expr: E::Choice(Box::new(alloc, left)?, Box::new(alloc, operand)?),
+                span,
+            })),
+        }
+    }
+}
+
+/// The same node in a box of its own, with the same allocator.
 fn copy_boxed<'i>(node: &Box<ParserNode<'i>>) -> Result<Box<ParserNode<'i>>, AllocError>
     ensures { IfOk result (λ copy. view copy.value ≡ view node.now.value) }
 {
-    Ok(Box::new(*Box::allocator(node), copy(node)?)?)
+    let alloc = *Box::allocator(node);
+    Ok(Box::new(alloc, rebuilt::<Around<'_, 'i>>(alloc, node.as_ref())?)?)
 }
 
 /// The same expression again.
-#[cycle(copy)]
 fn copy_expr<'i>(expr: &ParserExpr<'i>) -> Result<ParserExpr<'i>, AllocError>
     ensures { IfOk result (λ copy. IsSameExpression copy expr.now) }
 {

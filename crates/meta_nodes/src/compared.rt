@@ -1,12 +1,16 @@
-// Equality of nodes, expressions and rules: by structure and place, and exactly that.
-ghost use Rattle.std.specs.Prelude.{◌≡◌, ◌↔◌, IsTrue};
+//! Equality of nodes, expressions and rules: by structure and place, and exactly that.
+ghost use Rattle.std.specs.Prelude.{◌≡◌, ◌↔◌, ◌+◌, ◌<◌, ◌&&◌, IsTrue, IfOk};
 ghost use Rattle.std.specs.Cmp.{on_equiv, partial_equiv_from_equiv};
+ghost use Rattle.meta_ast.specs.Weight.{weight};
+ghost use Rattle.meta_nodes.specs.Erasure.{without_spans};
 ghost use Rattle.meta_nodes.specs.NodeEquality.{rule_eq, rule_eq_equiv, span_eq, spanned_eq, spanned_eq_equiv};
 ghost use Rattle.meta_nodes.specs.Nodes.{piece_of, rule_view, unplaced, view, IsSameExpression};
+ghost use Rattle.meta_nodes.specs.Sameness.{are_equal, heaviness};
 
 use crate::node::{ParserExpr, ParserNode, ParserRule};
 use meta_ast::texts::same_text;
 use meta_base::runtime::Span;
+use std::alloc::{AllocError, Global};
 
 impl<'i> PartialEq for ParserRule<'i> {
     ghost eq = { λ a b. rule_eq (rule_view a) (rule_view b) };
@@ -37,7 +41,7 @@ impl<'i> PartialEq for ParserNode<'i> {
         ensures computed { result ≡ spanned_eq (view self.now) (view other.now) }
         ensures exact { IsTrue result ↔ (view self.now ≡ view other.now) }
     {
-        same(self, other)
+        equal(self, other)
     }
 }
 
@@ -67,6 +71,101 @@ fn same_span(a: &Span<'_>, b: &Span<'_>) -> bool
     ensures { result ≡ span_eq (piece_of a.now) (piece_of b.now) }
 {
     a == b
+}
+
+/// Whether two nodes are equal, with a list of what is left to be compared; by calls where there is no memory
+/// for it.
+fn equal<'i>(a: &ParserNode<'i>, b: &ParserNode<'i>) -> bool
+    ensures { result ≡ spanned_eq (view a.now) (view b.now) }
+{
+    match allocator_of(&a.expr) {
+        None => same(a, b),
+        Some(alloc) => match equal_by_list(alloc, a, b) {
+            Ok(answer) => answer,
+            Err(_) => same(a, b),
+        },
+    }
+}
+
+/// The allocator of an expression's boxes.
+fn allocator_of(expr: &ParserExpr<'_>) -> Option<Global> {
+    use ParserExpr as E;
+    match expr {
+        E::PosPred(inner) | E::NegPred(inner) | E::Opt(inner) => Some(*Box::allocator(inner)),
+        E::Rep(inner) | E::RepOnce(inner) | E::Push(inner) => Some(*Box::allocator(inner)),
+        E::RepExact(inner, _) | E::RepMin(inner, _) => Some(*Box::allocator(inner)),
+        E::RepMax(inner, _) | E::RepMinMax(inner, _, _) => Some(*Box::allocator(inner)),
+        E::Seq(left, _) | E::Choice(left, _) => Some(*Box::allocator(left)),
+        _ => None,
+    }
+}
+
+/// Two nodes that are to be compared.
+#[derive(Drop)]
+struct Both<'n, 'i> {
+    first: &'n ParserNode<'i>,
+    second: &'n ParserNode<'i>,
+}
+
+/// Whether two nodes are equal, by a loop. The only fault is a want of memory.
+#[tactic(auto, using(crate::proofs::Sameness::are_equal_one, crate::proofs::Sameness::lighter))]
+fn equal_by_list<'i>(
+    alloc: Global,
+    a: &ParserNode<'i>,
+    b: &ParserNode<'i>,
+) -> Result<bool, AllocError>
+    ensures { IfOk result (λ answer. answer ≡ spanned_eq (view a.now) (view b.now)) }
+{
+    let mut others = Vec::new(alloc);
+    others.push(Both {
+        first: a,
+        second: b,
+    })?;
+    'both: while let Some(both) = others.pop() {
+        if !equal_outside(both.first, both.second, &mut others)? {
+            return Ok(false);
+        }
+    }
+    Ok(true)
+}
+
+/// Whether two nodes are equal but for their operands, which are put on a list. The only fault is a want of
+/// memory.
+#[tactic(auto, using(crate::proofs::Sameness::are_equal_last, crate::proofs::Sameness::heaviness_last))]
+fn equal_outside<'n, 'i>(
+    a: &'n ParserNode<'i>,
+    b: &'n ParserNode<'i>,
+    others: &mut Vec<Both<'n, 'i>>,
+) -> Result<bool, AllocError>
+    ensures same { IfOk result (λ answer. (answer && are_equal others.new.items)
+        ≡ (spanned_eq (view a.entry.now) (view b.entry.now) && are_equal others.old.items)) }
+    ensures work { IfOk result (λ _. heaviness others.new.items
+        < weight (without_spans (view a.entry.now)) + heaviness others.old.items) }
+{
+    use ParserExpr as E;
+    if !same_span(&a.span, &b.span) {
+        return Ok(same(a, b));
+    }
+    match (&a.expr, &b.expr) {
+        (E::PosPred(first), E::PosPred(second))
+        | (E::NegPred(first), E::NegPred(second))
+        | (E::Opt(first), E::Opt(second))
+        | (E::Rep(first), E::Rep(second))
+        | (E::RepOnce(first), E::RepOnce(second))
+        | (E::Push(first), E::Push(second)) => {
+            others.push(Both { first, second })?;
+            Ok(true)
+        }
+        (E::Seq(first, x), E::Seq(second, y)) | (E::Choice(first, x), E::Choice(second, y)) => {
+            others.push(Both {
+                first: x,
+                second: y,
+            })?;
+            others.push(Both { first, second })?;
+            Ok(true)
+        }
+        _ => Ok(same(a, b)),
+    }
 }
 
 /// Whether two nodes are equal, where they stand and what they say.

@@ -1,18 +1,20 @@
-// Rules without the spans of their nodes.
-ghost use Rattle.std.specs.Prelude.{◌≡◌, ◌+◌, ◌≤◌, IfOk};
+//! Rules without the spans of their nodes.
+ghost use Rattle.std.specs.Prelude.{◌≡◌, ◌*◌, IfOk, ⊤};
+ghost use Rattle.meta_base.specs.Language.Expression.{Expression};
 ghost use Rattle.meta_ast.specs.Ast.{expression_of, rule_of_code, rules_of};
+ghost use Rattle.meta_ast.specs.Weight.{weight};
+ghost use Rattle.meta_nodes.specs.Erasing.{with_operand, waits_of};
 ghost use Rattle.meta_nodes.specs.Erasure.{rule_without_spans, rules_without_spans, without_spans};
-ghost use Rattle.meta_nodes.specs.Nodes.{rule_view, rule_views, unplaced, view};
-ghost use Rattle.meta_nodes.specs.Sides.{enclosed, sides_size, size};
+ghost use Rattle.meta_nodes.specs.Nodes.{rule_view, rule_views, view};
 
 use crate::node::{ParserExpr, ParserNode, ParserRule};
 use meta_ast::ast::{Expr, Rule};
+use meta_ast::rebuilt::{Rebuild, Step, rebuilt};
 use std::alloc::{AllocError, Global};
 
-/// The same rules, in order, without the spans of their names and nodes. Refused where memory is.
+/// The same rules, in order, without the spans of their names and nodes. The only fault is a want of memory.
 ///
-/// Texts are handed on and not copied. Sequences and alternatives of many parts, as a reader gives them, take
-/// no more of the machine's stack than short ones.
+/// Texts are handed on and not copied. What is wide or deep takes no more of the machine's stack.
 pub fn erase_spans(alloc: Global, rules: Vec<ParserRule<'_>>) -> Result<Vec<Rule>, AllocError>
     ensures { IfOk result
         (λ erased. rules_of erased.items ≡ rules_without_spans (rule_views rules.entry.items)) }
@@ -29,107 +31,133 @@ fn erased_rule(alloc: Global, rule: ParserRule<'_>) -> Result<Rule, AllocError>
     ensures { IfOk result (λ erased. rule_of_code erased ≡ rule_without_spans (rule_view rule.entry)) }
 {
     let ParserRule { name, ty, node, .. } = rule;
-    let expr = erased_node(alloc, node)?;
+    let expr = rebuilt::<Around<'_>>(alloc, node)?;
     Ok(Rule { name, ty, expr })
 }
 
-/// The right side of a `~` or a `|`, whose left side is dealt with first.
+/// What stands around an operand while its spans are left out.
 #[derive(Drop)]
-enum Side<'i> {
-    /// Behind a `~`.
-    Sequence(ParserNode<'i>),
-    /// Behind a `|`.
-    Choice(ParserNode<'i>),
+enum Around<'i> {
+    PosPred,
+    NegPred,
+    Opt,
+    Rep,
+    RepOnce,
+    RepExact(u32),
+    RepMin(u32),
+    RepMax(u32),
+    RepMinMax(u32, u32),
+    Push,
+    /// A `~` whose left side is at hand, and the right one.
+    FirstOfSeq(ParserNode<'i>),
+    /// The same of a `|`.
+    FirstOfChoice(ParserNode<'i>),
+    /// A `~` whose right side is at hand, and what the left one is without spans.
+    SecondOfSeq(Expr),
+    /// The same of a `|`.
+    SecondOfChoice(Expr),
 }
 
-/// The expression of a node: that at the end of its left sides, and then one right side after another.
-#[cycle(erased)]
-fn erased_node(alloc: Global, node: ParserNode<'_>) -> Result<Expr, AllocError>
-    ensures { IfOk result (λ e. expression_of e ≡ without_spans (view node.entry)) }
-{
-    let (first, mut sides) = left_end(alloc, node)?;
-    let mut expr = erased_expression(alloc, first)?;
-    while let Some(side) = sides.pop() {
-        expr = match side {
-            Side::Sequence(right) => {
-                let right = erased_node(alloc, right)?;
-                Expr::Seq(Box::new(alloc, expr)?, Box::new(alloc, right)?)
-            }
-            Side::Choice(right) => {
-                let right = erased_node(alloc, right)?;
-                Expr::Choice(Box::new(alloc, expr)?, Box::new(alloc, right)?)
-            }
-        };
-    }
-    Ok(expr)
-}
+impl<'i> Rebuild for Around<'i> {
+    type Source = ParserNode<'i>;
 
-/// What stands at the end of the left sides of a node, and the right sides on the way there, the outermost
-/// first.
-fn left_end<'i>(
-    alloc: Global,
-    node: ParserNode<'i>,
-) -> Result<(ParserExpr<'i>, Vec<Side<'i>>), AllocError>
-    ensures expression { IfOk result (λ end. without_spans (view node.entry)
-        ≡ enclosed end.1.items (without_spans (unplaced end.0))) }
-    ensures sizes { IfOk result
-        (λ end. size (unplaced end.0) + sides_size end.1.items ≡ size (view node.entry)) }
-{
-    let mut sides = Vec::new(alloc);
-    let mut expr = node.expr;
-    loop {
-        match expr {
-            ParserExpr::Seq(left, right) => {
-                sides.push(Side::Sequence(Box::into_inner(right)))?;
-                expr = Box::into_inner(left).expr;
+    type Target = Expr;
+
+    ghost Meaning = { Expression };
+
+    ghost says = { λ node. without_spans (view node) };
+
+    ghost made = { λ expr. expression_of expr };
+
+    ghost fills = { λ around operand. with_operand around operand };
+
+    ghost is_right = { λ _. ⊤ };
+
+    ghost is_ready = { λ _. ⊤ };
+
+    ghost size = { λ node. 4 * weight (without_spans (view node)) };
+
+    ghost waits = { λ around. waits_of around };
+
+    fn open(node: ParserNode<'i>) -> Result<Step<ParserNode<'i>, Around<'i>, Expr>, AllocError> {
+        use ParserExpr as E;
+        match node.expr {
+            E::Str(text) => Ok(Step::Made(Expr::Str(text))),
+            E::Insens(text) => Ok(Step::Made(Expr::Insens(text))),
+            E::Range(first, last) => Ok(Step::Made(Expr::Range(first, last))),
+            E::Ident(name) => Ok(Step::Made(Expr::Ident(name))),
+            E::PeekSlice(start, end) => Ok(Step::Made(Expr::PeekSlice(start, end))),
+            E::PosPred(inner) => Ok(Step::Inside(Around::PosPred, Box::into_inner(inner))),
+            E::NegPred(inner) => Ok(Step::Inside(Around::NegPred, Box::into_inner(inner))),
+            E::Opt(inner) => Ok(Step::Inside(Around::Opt, Box::into_inner(inner))),
+            E::Rep(inner) => Ok(Step::Inside(Around::Rep, Box::into_inner(inner))),
+            E::RepOnce(inner) => Ok(Step::Inside(Around::RepOnce, Box::into_inner(inner))),
+            E::RepExact(inner, count) => Ok(Step::Inside(
+                Around::RepExact(count),
+                Box::into_inner(inner),
+            )),
+            E::RepMin(inner, least) => Ok(Step::Inside(
+                Around::RepMin(least),
+                Box::into_inner(inner),
+            )),
+            E::RepMax(inner, greatest) => Ok(Step::Inside(
+                Around::RepMax(greatest),
+                Box::into_inner(inner),
+            )),
+            E::RepMinMax(inner, least, greatest) => Ok(Step::Inside(
+                Around::RepMinMax(least, greatest),
+                Box::into_inner(inner),
+            )),
+            E::Push(inner) => Ok(Step::Inside(Around::Push, Box::into_inner(inner))),
+            E::Seq(left, right) => {
+                let around = Around::FirstOfSeq(Box::into_inner(right));
+                Ok(Step::Inside(around, Box::into_inner(left)))
             }
-            ParserExpr::Choice(left, right) => {
-                sides.push(Side::Choice(Box::into_inner(right)))?;
-                expr = Box::into_inner(left).expr;
+            E::Choice(left, right) => {
+                let around = Around::FirstOfChoice(Box::into_inner(right));
+                Ok(Step::Inside(around, Box::into_inner(left)))
             }
-            end => return Ok((end, sides)),
         }
     }
-}
 
-/// The same expression without the spans in it.
-#[cycle(erased)]
-fn erased_expression(alloc: Global, expr: ParserExpr<'_>) -> Result<Expr, AllocError>
-    ensures { IfOk result (λ e. expression_of e ≡ without_spans (unplaced expr.entry)) }
-{
-    match expr {
-        ParserExpr::Str(text) => Ok(Expr::Str(text)),
-        ParserExpr::Insens(text) => Ok(Expr::Insens(text)),
-        ParserExpr::Range(first, last) => Ok(Expr::Range(first, last)),
-        ParserExpr::Ident(name) => Ok(Expr::Ident(name)),
-        ParserExpr::PeekSlice(start, end) => Ok(Expr::PeekSlice(start, end)),
-        ParserExpr::PosPred(inner) => Ok(Expr::PosPred(erased_box(alloc, inner)?)),
-        ParserExpr::NegPred(inner) => Ok(Expr::NegPred(erased_box(alloc, inner)?)),
-        ParserExpr::Seq(left, right) => {
-            let left = erased_box(alloc, left)?;
-            Ok(Expr::Seq(left, erased_box(alloc, right)?))
+    fn close(
+        self,
+        alloc: Global,
+        operand: Expr,
+    ) -> Result<Step<ParserNode<'i>, Around<'i>, Expr>, AllocError> {
+        match self {
+            Around::PosPred => Ok(Step::Made(Expr::PosPred(Box::new(alloc, operand)?))),
+            Around::NegPred => Ok(Step::Made(Expr::NegPred(Box::new(alloc, operand)?))),
+            Around::Opt => Ok(Step::Made(Expr::Opt(Box::new(alloc, operand)?))),
+            Around::Rep => Ok(Step::Made(Expr::Rep(Box::new(alloc, operand)?))),
+            Around::RepOnce => Ok(Step::Made(Expr::RepOnce(Box::new(alloc, operand)?))),
+            Around::RepExact(count) => Ok(Step::Made(Expr::RepExact(
+                Box::new(alloc, operand)?,
+                count,
+            ))),
+            Around::RepMin(least) => Ok(Step::Made(Expr::RepMin(Box::new(alloc, operand)?, least))),
+            Around::RepMax(greatest) => Ok(Step::Made(Expr::RepMax(
+                Box::new(alloc, operand)?,
+                greatest,
+            ))),
+            Around::RepMinMax(least, greatest) => Ok(Step::Made(Expr::RepMinMax(
+                Box::new(alloc, operand)?,
+                least,
+                greatest,
+            ))),
+            Around::Push => Ok(Step::Made(Expr::Push(Box::new(alloc, operand)?))),
+            Around::FirstOfSeq(right) => Ok(Step::Inside(Around::SecondOfSeq(operand), right)),
+            Around::FirstOfChoice(right) => {
+                Ok(Step::Inside(Around::SecondOfChoice(operand), right))
+            }
+            Around::SecondOfSeq(left) => {
+                let left = Box::new(alloc, left)?;
+                Ok(Step::Made(Expr::Seq(left, Box::new(alloc, operand)?)))
+            }
+            Around::SecondOfChoice(left) => {
+                let left = Box::new(alloc, left)?;
+                Ok(Step::Made(Expr::Choice(left, Box::new(alloc, operand)?)))
+            }
         }
-        ParserExpr::Choice(left, right) => {
-            let left = erased_box(alloc, left)?;
-            Ok(Expr::Choice(left, erased_box(alloc, right)?))
-        }
-        ParserExpr::Opt(inner) => Ok(Expr::Opt(erased_box(alloc, inner)?)),
-        ParserExpr::Rep(inner) => Ok(Expr::Rep(erased_box(alloc, inner)?)),
-        ParserExpr::RepOnce(inner) => Ok(Expr::RepOnce(erased_box(alloc, inner)?)),
-        ParserExpr::RepExact(inner, count) => Ok(Expr::RepExact(erased_box(alloc, inner)?, count)),
-        ParserExpr::RepMin(inner, min) => Ok(Expr::RepMin(erased_box(alloc, inner)?, min)),
-        ParserExpr::RepMax(inner, max) => Ok(Expr::RepMax(erased_box(alloc, inner)?, max)),
-        ParserExpr::RepMinMax(inner, min, max) => {
-            Ok(Expr::RepMinMax(erased_box(alloc, inner)?, min, max))
-        }
-        ParserExpr::Push(inner) => Ok(Expr::Push(erased_box(alloc, inner)?)),
     }
-}
-
-/// The same of a node in a box.
-#[cycle(erased)]
-fn erased_box(alloc: Global, node: Box<ParserNode<'_>>) -> Result<Box<Expr>, AllocError>
-    ensures { IfOk result (λ e. expression_of e.value ≡ without_spans (view node.entry.value)) }
-{
-    Ok(Box::new(alloc, erased_node(alloc, Box::into_inner(node))?)?)
 }

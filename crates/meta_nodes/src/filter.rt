@@ -1,4 +1,4 @@
-// Walks over nodes.
+//! Walks over nodes.
 ghost use Rattle.std.specs.Prelude.{◌≡◌, ◌∷◌, ◌++◌, alloc_error, IfErr, IfOk, OnErr, OnOk};
 ghost use Rattle.meta_nodes.specs.Nodes.{view};
 ghost use Rattle.meta_nodes.specs.Walk.{preorder, waiting, Answered, Appended};
@@ -11,7 +11,7 @@ impl<'i> ParserNode<'i> {
     /// The answers of `f` at this node and at all nodes below it, where it has one.
     ///
     /// A node comes before those inside it, and a left one before the right. `f` is called once at each, with
-    /// a copy of the node. The one fault is a want of memory.
+    /// a copy of the node. The only fault is a want of memory.
     pub fn filter_map_top_down<T, F>(self, alloc: Global, f: F) -> Result<Vec<T>, Fault>
     where
         T: Drop,
@@ -31,7 +31,7 @@ impl<'i> ParserNode<'i> {
 /// Appends the answers of `f` at `node` and at all nodes below it, where it has one, to `answers`.
 ///
 /// A node comes before those inside it, and a left one before the right. `f` is called once at each, with a
-/// copy of the node, and may be called again afterwards. The one fault is a want of memory, and then
+/// copy of the node, and may be called again afterwards. The only fault is a want of memory, and then
 /// `answers` is as it was.
 pub fn filter_internal<'i, T, F>(
     alloc: Global,
@@ -54,8 +54,8 @@ where
     answers.append(&mut found).map_err(Fault::Memory)
 }
 
-/// Appends the answers of `f` at a node and at all below it. Refused where memory is, with some of them
-/// appended.
+/// Appends the answers of `f` at a node and at all below it. The only fault is a want of memory, and then
+/// some of them are appended.
 fn walk<'i, T: Drop, F: FnMut(ParserNode<'i>) -> Option<T>>(
     alloc: Global,
     node: &ParserNode<'i>,
@@ -78,7 +78,7 @@ fn walk<'i, T: Drop, F: FnMut(ParserNode<'i>) -> Option<T>>(
     Ok(())
 }
 
-/// Puts the operands of a node on a stack, the left one on top. Refused where memory is.
+/// Puts the operands of a node on a stack, the left one on top. The only fault is a want of memory.
 #[tactic(auto, using(crate::proofs::Walks::waiting_push))]
 fn push_operands<'n, 'i>(
     node: &'n ParserNode<'i>,

@@ -6,7 +6,9 @@ mod compared;
 mod erasure;
 mod filter;
 mod node;
+mod released;
 
 pub use crate::erasure::erase_spans;
 pub use crate::filter::filter_internal;
 pub use crate::node::{ParserExpr, ParserNode, ParserRule};
+pub use crate::released::release;

@@ -1,4 +1,4 @@
-// What is read: rules, and expressions with the pieces of the text that they stand for.
+//! What is read: rules, and expressions with the pieces of the text that they stand for.
 use meta_ast::ast::RuleType;
 use meta_base::runtime::Span;
 

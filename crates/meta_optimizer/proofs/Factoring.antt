@@ -6,7 +6,7 @@ use Rattle.meta_ast.specs.Ast.{expression_of}
 use Rattle.meta_base.specs.Language.Expression.{Expression, Seq, Choice, Opt, RuleType, Atomic, CompoundAtomic}
 use Rattle.meta_base.specs.Rewritings.Equality.{expression_eq, expression_eq-Decides}
 use Rattle.meta_base.specs.Rewritings.Rewriting.{Many, no_step, one_step, here, Factors, factor_prefix, factor_optional, factor_optional_compound, factor_absorbed}
-use Rattle.meta_optimizer.specs.Size.{size}
+use Rattle.meta_ast.specs.Operands.{count_of_nodes}
 use Rattle.meta_optimizer.specs.Here.{factored_here, factored_choice, with_optional, absorbed}
 use Rattle.meta_optimizer.specs.Traversals.{TopDown}
 use Rattle.meta_optimizer.proofs.Chains as chains
@@ -42,23 +42,23 @@ pub reached : (y : RuleType) {a b : Expression} → TopDown (Factored y) a b →
 reached y d = chains.top_down_many (Factors y) (Factored y) (λ a b h. subst (Many (Factors y) a) h (steps_here y a)) d
 
 -- it makes no expression larger
-tested_size : (t : Bool) (a b : Expression) {n : ℕ} → size a ≤ n → size b ≤ n → size (if t then a else b) ≤ n
+tested_size : (t : Bool) (a b : Expression) {n : ℕ} → count_of_nodes a ≤ n → count_of_nodes b ≤ n → count_of_nodes (if t then a else b) ≤ n
 tested_size true a b h k = h
 tested_size false a b h k = k
 
-absorbed_size : (a b : Expression) → size (absorbed a b) ≤ size a + size b + 1
+absorbed_size : (a b : Expression) → count_of_nodes (absorbed a b) ≤ count_of_nodes a + count_of_nodes b + 1
 absorbed_size a (Seq l r) = tested_size (expression_eq a l) a (Choice a (Seq l r)) (omega arith) (omega arith)
 absorbed_size a _ = omega arith
 
-optional_size : (l r k : Expression) → size (with_optional l r k) ≤ size l + size r + 1 + size k + 1
+optional_size : (l r k : Expression) → count_of_nodes (with_optional l r k) ≤ count_of_nodes l + count_of_nodes r + 1 + count_of_nodes k + 1
 optional_size l r k = tested_size (expression_eq l k) (Seq l (Opt r)) (Choice (Seq l r) k) (omega arith) (omega arith)
 
-pub smaller : (y : RuleType) (a b : Expression) → size (factored_choice y a b) ≤ size a + size b + 1
+pub smaller : (y : RuleType) (a b : Expression) → count_of_nodes (factored_choice y a b) ≤ count_of_nodes a + count_of_nodes b + 1
 smaller y (Seq l r) (Seq k q) = tested_size (expression_eq l k) (Seq l (Choice r q)) (Choice (Seq l r) (Seq k q)) (omega arith) (omega arith)
 smaller Atomic (Seq l r) k = optional_size l r k
 smaller CompoundAtomic (Seq l r) k = optional_size l r k
 smaller y a b = absorbed_size a b
 
-pub shrunk : (y : RuleType) (a b : Expression) (r : Result Expr AllocError) → IfOk r (λ x. expression_of x ≡ factored_choice y a b) → IfOk r (λ x. size (expression_of x) ≤ size a + size b + 1)
+pub shrunk : (y : RuleType) (a b : Expression) (r : Result Expr AllocError) → IfOk r (λ x. expression_of x ≡ factored_choice y a b) → IfOk r (λ x. count_of_nodes (expression_of x) ≤ count_of_nodes a + count_of_nodes b + 1)
 shrunk y a b (Ok x) h = rw h (smaller y a b)
 shrunk y a b (Err x) h = h

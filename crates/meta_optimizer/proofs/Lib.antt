@@ -1,4 +1,5 @@
-pub mod Walks
+pub mod Carried
+pub mod Mapped
 pub mod Chains
 pub mod Operands
 pub mod Rotating

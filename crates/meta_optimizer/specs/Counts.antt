@@ -24,3 +24,9 @@ PartsAreReadable (RepMin e i) = PartsAreReadable e
 PartsAreReadable (Push e) = PartsAreReadable e
 PartsAreReadable (RestoreOnErr e) = PartsAreReadable e
 PartsAreReadable _ = ⊤
+
+-- it is neither `~` nor `|`
+abbrev pub IsNoPair : Expression → Type 0
+IsNoPair (Seq a b) = ⊥
+IsNoPair (Choice a b) = ⊥
+IsNoPair _ = ⊤

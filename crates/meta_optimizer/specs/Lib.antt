@@ -1,6 +1,4 @@
-pub mod Size
 pub mod Traversals
-pub mod Sides
 pub mod Here
 pub mod Unrolled
 pub mod Counts

@@ -7,7 +7,7 @@ use meta_ast::ast::{Expr, Rule};
 use std::alloc::{AllocError, Global};
 use std::collections::HashMap;
 
-/// The bodies, by name; of several rules of one name the last counts. Refused where memory is.
+/// The bodies, by name; of several rules of one name the last counts. The only fault is a want of memory.
 pub(crate) fn bodies_of(
     alloc: Global,
     rules: &Vec<Rule>,
@@ -21,4 +21,11 @@ pub(crate) fn bodies_of(
         bodies.insert(name, body)?;
     }
     Ok(bodies)
+}
+
+/// Lets bodies go by a loop each, since as they were read they may be very wide.
+pub(crate) fn release_bodies(bodies: HashMap<String, Expr>) {
+    for (_, body) in bodies {
+        body.release();
+    }
 }

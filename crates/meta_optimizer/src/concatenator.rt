@@ -12,10 +12,9 @@ use crate::traversal::{Finish, bottom_up};
 use meta_ast::ast::{Expr, Rule, RuleType};
 use std::alloc::{AllocError, Global};
 
-/// The rule; if it is Atomic, with literals in sequence put together: `"a" ~ "b"` becomes `"ab"`,
-/// and `^"a" ~ ^"b"` becomes `^"ab"`, until no two such stand side by side in one `~`. Name and
-/// type stay, and so do the outcomes from every start, in every grammar that has the rule. Refused
-/// where memory is.
+/// The rule; if it is Atomic, with literals in sequence put together: `"a" ~ "b"` becomes `"ab"`, and
+/// `^"a" ~ ^"b"` becomes `^"ab"`, until no two such stand side by side in one `~`. Name and type stay, and so
+/// do the outcomes from every start, in every grammar that has the rule. The only fault is a want of memory.
 pub fn concatenate(alloc: Global, rule: Rule) -> Result<Rule, Fault>
     ensures name { IfOk result (λ r. text_of r.name ≡ text_of rule.name) }
     ensures ty { IfOk result (λ r. r.ty ≡ rule.ty) }

@@ -12,7 +12,7 @@ use meta_ast::ast::{Expr, Rule};
 use meta_ast::rebuilt::{Rebuild, Step, rebuilt};
 use std::alloc::{AllocError, Global};
 
-/// The same rule, as an optimized one. Refused where memory is.
+/// The same rule, as an optimized one. The only fault is a want of memory.
 pub(crate) fn rule_to_optimized_rule(alloc: Global, rule: Rule) -> Result<OptimizedRule, AllocError>
     requires { IsUnrolled (expression_of rule.expr) }
     ensures { IfOk result (λ r. optimized_rule_of r ≡ rule_of_code rule) }

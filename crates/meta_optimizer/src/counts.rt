@@ -2,8 +2,7 @@
 ghost use Rattle.std.specs.Prelude.{◌↔◌, IsTrue};
 ghost use Rattle.meta_base.specs.Language.WellFormed.{HasReadableCounts};
 ghost use Rattle.meta_ast.specs.Ast.{expression_of, rules_of};
-ghost use Rattle.meta_optimizer.specs.Counts.{PartsAreReadable};
-ghost use Rattle.meta_optimizer.specs.Sides.{IsNoPair};
+ghost use Rattle.meta_optimizer.specs.Counts.{IsNoPair, PartsAreReadable};
 
 use meta_ast::ast::{Expr, Rule};
 

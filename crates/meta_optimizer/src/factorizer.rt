@@ -5,7 +5,7 @@ ghost use Rattle.meta_base.specs.Rewritings.Rewriting.{Many, Factors};
 ghost use Rattle.meta_ast.specs.Ast.{text_of, expression_of, rule_of_code, rule_type_of};
 ghost use Rattle.meta_optimizer.specs.Faults.{IsMemory};
 ghost use Rattle.meta_optimizer.specs.Here.{factored_here, factored_choice, with_optional};
-ghost use Rattle.meta_optimizer.specs.Size.{size};
+ghost use Rattle.meta_ast.specs.Operands.{count_of_nodes};
 ghost use Rattle.meta_optimizer.specs.Traversals.{TopDown};
 
 use crate::Fault;
@@ -13,10 +13,10 @@ use crate::traversal::{Shrink, top_down};
 use meta_ast::ast::{Expr, Rule, RuleType};
 use std::alloc::{AllocError, Global};
 
-/// The rule with what two alternatives have in common taken out, once at each choice, from the root
-/// down: `(l ~ r) | (l ~ q)` becomes `l ~ (r | q)`; in the two atomic types `(l ~ r) | l` becomes
-/// `l ~ r?`; `l | (l ~ r)` becomes `l`. Name and type stay, and so do the outcomes from every start,
-/// in every grammar that has the rule. Refused where memory is.
+/// The rule with what two alternatives have in common taken out, once at each choice, from the root down:
+/// `(l ~ r) | (l ~ q)` becomes `l ~ (r | q)`; in the two atomic types `(l ~ r) | l` becomes `l ~ r?`;
+/// `l | (l ~ r)` becomes `l`. Name and type stay, and so do the outcomes from every start, in every grammar
+/// that has the rule. The only fault is a want of memory.
 pub fn factor(alloc: Global, rule: Rule) -> Result<Rule, Fault>
     ensures name { IfOk result (λ r. text_of r.name ≡ text_of rule.name) }
     ensures ty { IfOk result (λ r. r.ty ≡ rule.ty) }
@@ -67,6 +67,7 @@ fn factored(
         Expr::Seq(front, back) => match (ty, Box::into_inner(right)) {
             (_, Expr::Seq(other_front, other_back)) => {
                 if *front == *other_front {
+                    Box::into_inner(other_front).release();
                     let back = Box::new(alloc, Expr::Choice(back, other_back))?;
                     return Ok(Expr::Seq(front, back));
                 }
@@ -85,6 +86,7 @@ fn factored(
         left => match Box::into_inner(right) {
             Expr::Seq(front, back) => {
                 if left == *front {
+                    Expr::Seq(front, back).release();
                     return Ok(left);
                 }
                 let right = Box::new(alloc, Expr::Seq(front, back))?;
@@ -107,6 +109,7 @@ fn optional(
         (expression_of right)) }
 {
     if *front == right {
+        right.release();
         let back = Box::new(alloc, Expr::Opt(back))?;
         return Ok(Expr::Seq(front, back));
     }

@@ -11,9 +11,9 @@ use crate::traversal::{Finish, bottom_up};
 use meta_ast::ast::{Expr, Rule};
 use std::alloc::{AllocError, Global};
 
-/// The rule with each `(x ~ y)* ~ x` as `x ~ (y ~ x)*`, what stands inside first. Name and type
-/// stay. Of an Atomic or CompoundAtomic rule that is such a list, what it matched is matched still;
-/// else a listed rule may match otherwise. Refused where memory is.
+/// The rule with each `(x ~ y)* ~ x` as `x ~ (y ~ x)*`, what stands inside first. Name and type stay. Of an
+/// Atomic or CompoundAtomic rule that is such a list, what it matched is matched still; else a listed rule
+/// may match otherwise. The only fault is a want of memory.
 pub fn list(alloc: Global, rule: Rule) -> Result<Rule, Fault>
     ensures name { IfOk result (λ r. text_of r.name ≡ text_of rule.name) }
     ensures ty { IfOk result (λ r. r.ty ≡ rule.ty) }

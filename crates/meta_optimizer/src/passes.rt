@@ -9,7 +9,7 @@ ghost use Rattle.meta_optimizer.specs.Bodies.{HoldsBodies};
 ghost use Rattle.meta_optimizer.specs.Faults.{IsMemory};
 ghost use Rattle.meta_optimizer.specs.Passes.{IsOptimized, IsOptimizedBody};
 
-use crate::bodies::bodies_of;
+use crate::bodies::{bodies_of, release_bodies};
 use crate::converted::rule_to_optimized_rule;
 use crate::{Fault, OptimizedRule, concatenate, factor, list, rotate, skip, unroll};
 use meta_ast::ast::{Expr, Rule};
@@ -17,12 +17,12 @@ use meta_restorer::restore_rules;
 use std::alloc::Global;
 use std::collections::HashMap;
 
-/// The optimized rules, in order: `rotate`, `skip`, `unroll`, `concatenate`, `factor` and `list` are
-/// done in each, and `skip` looks names up in the rules as they were handed in; then wrappers are
-/// put in, as `restore_on_err` does. Names and types stay. Up to the listing, if no rule is named
-/// `ANY`, the outcomes from every start are those of the rules that were handed in. Where `POP_ALL`
-/// is named nowhere and `WHITESPACE` and `COMMENT` reach no `POP`, it does not matter for the rules
-/// that are answered what a failed `POP` leaves of the stack. Refused where memory is.
+/// The optimized rules, in order: `rotate`, `skip`, `unroll`, `concatenate`, `factor` and `list` are done in
+/// each, and `skip` looks names up in the rules as they were handed in; then wrappers are put in, as
+/// `restore_on_err` does. Names and types stay. Up to the listing, if no rule is named `ANY`, the outcomes
+/// from every start are those of the rules that were handed in. Where `POP_ALL` is named nowhere and
+/// `WHITESPACE` and `COMMENT` reach no `POP`, it does not matter for the rules that are answered what a
+/// failed `POP` leaves of the stack. The only fault is a want of memory.
 pub fn optimize(alloc: Global, rules: Vec<Rule>) -> Result<Vec<OptimizedRule>, Fault>
     ensures rules { IfOk result
         (λ answer. IsOptimized (rules_of rules.items) (optimized_rules_of answer.items)) }
@@ -32,8 +32,9 @@ pub fn optimize(alloc: Global, rules: Vec<Rule>) -> Result<Vec<OptimizedRule>, F
 {
     match bodies_of(alloc, &rules) {
         Ok(bodies) => {
-            let listing = optimized_rules(alloc, rules, &bodies)?;
-            restore_rules(alloc, listing)
+            let listing = optimized_rules(alloc, rules, &bodies);
+            release_bodies(bodies);
+            restore_rules(alloc, listing?)
         }
         Err(error) => Err(Fault::Memory(error)),
     }

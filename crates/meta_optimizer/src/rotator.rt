@@ -6,17 +6,16 @@ ghost use Rattle.meta_base.specs.Rewritings.Rewriting.{IsDone, Rotates};
 ghost use Rattle.meta_ast.specs.Ast.{text_of, expression_of, rule_of_code};
 ghost use Rattle.meta_optimizer.specs.Faults.{IsMemory};
 ghost use Rattle.meta_optimizer.specs.Here.{Exhausted};
-ghost use Rattle.meta_optimizer.specs.Size.{size};
+ghost use Rattle.meta_ast.specs.Operands.{count_of_nodes};
 
 use crate::Fault;
 use crate::traversal::{Shrink, top_down};
 use meta_ast::ast::{Expr, Rule};
 use std::alloc::{AllocError, Global};
 
-/// The rule with `~` and `|` nested to the right: `(a ~ b) ~ c` becomes `a ~ (b ~ c)`, and so for
-/// `|`, until no `~` has a `~` on its left and no `|` a `|`. Name and type stay, and in every
-/// grammar that has the rule, the rule that is given has the same outcomes from every start.
-/// Refused where memory is.
+/// The rule with `~` and `|` nested to the right: `(a ~ b) ~ c` becomes `a ~ (b ~ c)`, and so for `|`, until
+/// no `~` has a `~` on its left and no `|` a `|`. Name and type stay, and in every grammar that has the rule,
+/// the rule that is given has the same outcomes from every start. The only fault is a want of memory.
 pub fn rotate(alloc: Global, rule: Rule) -> Result<Rule, Fault>
     ensures name { IfOk result (λ r. text_of r.name ≡ text_of rule.name) }
     ensures ty { IfOk result (λ r. r.ty ≡ rule.ty) }
@@ -53,8 +52,8 @@ fn sequence(alloc: Global, left: Box<Expr>, right: Box<Expr>) -> Result<Expr, Al
         (λ e. Exhausted Rotates (Seq (expression_of left.value) (expression_of right.value))
         (expression_of e)) }
     ensures smaller { IfOk result
-        (λ e. size (expression_of e)
-        ≤ size (expression_of left.value) + size (expression_of right.value) + 1) }
+        (λ e. count_of_nodes (expression_of e)
+        ≤ count_of_nodes (expression_of left.value) + count_of_nodes (expression_of right.value) + 1) }
 {
     let mut left = left;
     let mut right = right;
@@ -75,8 +74,8 @@ fn choice(alloc: Global, left: Box<Expr>, right: Box<Expr>) -> Result<Expr, Allo
         (λ e. Exhausted Rotates (Choice (expression_of left.value) (expression_of right.value))
         (expression_of e)) }
     ensures smaller { IfOk result
-        (λ e. size (expression_of e)
-        ≤ size (expression_of left.value) + size (expression_of right.value) + 1) }
+        (λ e. count_of_nodes (expression_of e)
+        ≤ count_of_nodes (expression_of left.value) + count_of_nodes (expression_of right.value) + 1) }
 {
     let mut left = left;
     let mut right = right;

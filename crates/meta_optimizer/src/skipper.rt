@@ -14,12 +14,12 @@ use meta_ast::ast::{Expr, Rule, RuleType};
 use std::alloc::{AllocError, Global};
 use std::collections::HashMap;
 
-/// The rule; if it is Atomic, with each `(!c ~ ANY)*` as a run to the next of the strings of `c`, or
-/// to the end. A literal stands for itself, a name for what the rule's body stands for, and
-/// `x | r`, where `x` is a literal or a name, for the strings of `x` and then those of `r`; where
-/// anything else is met, or a cycle of names, the repetition stays. Names are looked up in `bodies`,
-/// so over the grammar whose bodies they are a chain of steps leads there, and where no rule of it
-/// is named `ANY`, the outcomes from every start stay. Name and type stay. Refused where memory is.
+/// The rule; if it is Atomic, with each `(!c ~ ANY)*` as a run to the next of the strings of `c`, or to the
+/// end. A literal stands for itself, a name for what the rule's body stands for, and `x | r`, where `x` is a
+/// literal or a name, for the strings of `x` and then those of `r`; where anything else is met, or a cycle of
+/// names, the repetition stays. Names are looked up in `bodies`, so over the grammar whose bodies they are a
+/// chain of steps leads there, and where no rule of it is named `ANY`, the outcomes from every start stay.
+/// Name and type stay. The only fault is a want of memory.
 pub fn skip(alloc: Global, rule: Rule, bodies: &HashMap<String, Expr>) -> Result<Rule, Fault>
     ensures name { IfOk result (λ r. text_of r.name ≡ text_of rule.name) }
     ensures ty { IfOk result (λ r. r.ty ≡ rule.ty) }
@@ -50,7 +50,10 @@ impl Shrink for Skipper<'_> {
     fn shrink(&self, alloc: Global, expr: Expr) -> Result<Expr, AllocError> {
         match expr {
             Expr::Rep(inner) => match texts_until(alloc, self.bodies, &inner)? {
-                Some(texts) => Ok(Expr::Skip(texts)),
+                Some(texts) => {
+                    Box::into_inner(inner).release();
+                    Ok(Expr::Skip(texts))
+                }
                 None => Ok(Expr::Rep(inner)),
             },
             other => Ok(other),

@@ -32,8 +32,8 @@ pub(crate) struct Part<'a> {
     names: usize,
 }
 
-/// The strings of an expression, names being looked up in `bodies`; none where there is a name of
-/// no rule, a cycle of names or anything else. Refused where memory is.
+/// The strings of an expression, names being looked up in `bodies`; none where there is a name of no rule, a
+/// cycle of names or anything else. The only fault is a want of memory.
 pub(crate) fn strings_of(
     alloc: Global,
     bodies: &HashMap<String, Expr>,

@@ -14,10 +14,10 @@ use crate::traversal::{Finish, bottom_up};
 use meta_ast::ast::{Expr, Rule};
 use std::alloc::{AllocError, Global};
 
-/// The rule with `+` and counted repetitions written out as the copies that they mean, nested to
-/// the right: `e+` as `e ~ e*`, `e{2,}` as `e ~ e ~ e*`, `e{,2}` as `e? ~ e?`, `e{1, 2}` as
-/// `e ~ e?`; a count of 0 leaves the empty text. Name and type stay, and so do the outcomes from
-/// every start, in every grammar that has the rule. Refused where memory is.
+/// The rule with `+` and counted repetitions written out as the copies that they mean, nested to the right:
+/// `e+` as `e ~ e*`, `e{2,}` as `e ~ e ~ e*`, `e{,2}` as `e? ~ e?`, `e{1, 2}` as `e ~ e?`; a count of 0
+/// leaves the empty text. Name and type stay, and so do the outcomes from every start, in every grammar that
+/// has the rule. The only fault is a want of memory.
 pub fn unroll(alloc: Global, rule: Rule) -> Result<Rule, Fault>
     ensures name { IfOk result (λ r. text_of r.name ≡ text_of rule.name) }
     ensures ty { IfOk result (λ r. r.ty ≡ rule.ty) }
@@ -51,7 +51,9 @@ impl Finish for Unroller {
             Expr::RepMin(inner, min) => {
                 let inner = Box::into_inner(inner);
                 let others = Expr::Rep(Box::new(alloc, inner.clone()?)?);
-                repeated(alloc, &inner, min, others)
+                let copies = repeated(alloc, &inner, min, others);
+                inner.release();
+                copies
             }
             Expr::RepMax(inner, max) => exact(alloc, Expr::Opt(inner), max),
             Expr::RepMinMax(inner, min, max) => between(alloc, Box::into_inner(inner), min, max),
@@ -65,10 +67,13 @@ fn exact(alloc: Global, expr: Expr, count: u32) -> Result<Expr, AllocError>
     ensures { IfOk result (λ e. expression_of e ≡ exactly (expression_of expr) count) }
 {
     if count == 0 {
+        expr.release();
         return Ok(Expr::Str(String::new(alloc)));
     }
     let last = expr.clone()?;
-    repeated(alloc, &expr, count - 1, last)
+    let copies = repeated(alloc, &expr, count - 1, last);
+    expr.release();
+    copies
 }
 
 // From `min` to `max` of them.
@@ -80,7 +85,9 @@ fn between(alloc: Global, expr: Expr, min: u32, max: u32) -> Result<Expr, AllocE
     }
     let optional = Expr::Opt(Box::new(alloc, expr.clone()?)?);
     let others = exact(alloc, optional, max - min)?;
-    repeated(alloc, &expr, min, others)
+    let copies = repeated(alloc, &expr, min, others);
+    expr.release();
+    copies
 }
 
 // So many copies, and what stands behind them.

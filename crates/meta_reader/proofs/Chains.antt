@@ -4,7 +4,7 @@ use Rattle.std.proofs.Common.{◌≡◌, ◌≤◌, ◌<◌, ℕ, List, None, re
 use Rattle.std.specs.Prelude.{codes}
 use Rattle.meta_base.specs.Language.Text.{Text}
 use Rattle.meta_base.specs.Language.State.{Trees, None', Tree, joined}
-use Rattle.meta_reader.specs.Faults.{first_fault, own_fault, or_else}
+use Rattle.meta_reader.specs.Flaws.{first_flaw, own_flaw, or_else}
 use Rattle.meta_reader.specs.Pieces.{IsPiece, Nested, StandIn}
 use Rattle.meta_reader.specs.Reading as reading
 use Rattle.meta_reader.specs.Reading.{Reads, AnExpression, Alternatives, ASequence, ATerm, both}
@@ -34,8 +34,8 @@ joined_assoc (Tree r i j inner us) vs ws = ap (λ xs. Tree r i j inner xs) (join
 pub with_bar : {text : List ℕ} {i j : ℕ} {inner us : Trees}
     → IsExpression text (Tree (codes "choice_operator") i j inner us)
     → IsBehindBar text (Tree (codes "choice_operator") i j inner us) us
-unfolding own_fault
-with_bar (barred h) = record { shape = h; nested = λ s. stand_behind s; reads = λ x d. reading.barred d; faults = refl; shorter = omega arith }
+unfolding own_flaw
+with_bar (barred h) = record { shape = h; nested = λ s. stand_behind s; reads = λ x d. reading.barred d; flaws = refl; shorter = omega arith }
 with_bar (unbarred h) = elim h [ ]
 
 pub no_expression : {text : List ℕ} → IsExpression text None' → ⊥
@@ -45,7 +45,7 @@ pub without_bar : {text : List ℕ} {n : Text} {i j : ℕ} {inner us : Trees} (r
     → IsExpression text (Tree n i j inner us) → n ≡ name_of r → ¬ (r ≡ rule_is.choice_operator)
     → IsBehindBar text (Tree n i j inner us) (Tree n i j inner us)
 without_bar r (barred h) e d = absurd (d (name_of-injective r rule_is.choice_operator (sym e)))
-without_bar r (unbarred h) e d = record { shape = h; nested = λ s. s; reads = λ x k. reading.unbarred k; faults = refl; shorter = omega arith }
+without_bar r (unbarred h) e d = record { shape = h; nested = λ s. s; reads = λ x k. reading.unbarred k; flaws = refl; shorter = omega arith }
 
 -- the first term of a chain, and what is behind it
 pub chain_tree : {text : List ℕ} {n : Text} {i j : ℕ} {inner us : Trees} → IsChain text (Tree n i j inner us)
@@ -91,15 +91,15 @@ piece_across text m n e f h =
     record { starts = p.starts; ends = q.ends; order = h }
 
 -- where two nodes are read as one, and its trees stand in the text
-joined_piece : {text : List ℕ} {p : reading.Part} {us : Trees} {f : Binary} (m n : ParserNode) (i j : ℕ)
-    → m.span.text.now ≡ text → n.span.text.now ≡ text → Reads text p us (both text f (view m) (view n))
+joined_piece : {text : List ℕ} {category : reading.Category} {us : Trees} {f : Binary} (m n : ParserNode) (i j : ℕ)
+    → m.span.text.now ≡ text → n.span.text.now ≡ text → Reads text category us (both text f (view m) (view n))
     → Nested text us i j → IsPiece text m.span.start n.span.end
 joined_piece {text} m n i j e f d h =
     let w = reads_within text d i j h in
     piece_across text m n e f (rw (start_of-view m, end_of-view n) at w.order)
 
-pub same_text : {text : List ℕ} {p : reading.Part} {us : Trees} (n : ParserNode) (i j : ℕ)
-    → Reads text p us (view n) → Nested text us i j → n.span.text.now ≡ text
+pub same_text : {text : List ℕ} {category : reading.Category} {us : Trees} (n : ParserNode) (i j : ℕ)
+    → Reads text category us (view n) → Nested text us i j → n.span.text.now ≡ text
 same_text {text} n i j d h =
     let w = reads_within text d i j h in
     sym (ap (λ (s : Span). s.text) (span_of-view n)) ∙ w.same_text
@@ -181,24 +181,24 @@ no_chain h = elim h [ ]
 
 -- nothing is wrong with a bar, a tilde or a term by itself
 pub quiet_bar : (text : List ℕ) (i j : ℕ) (us vs : Trees)
-    → own_fault text (codes "choice_operator") i j us vs ≡ None
-unfolding own_fault
+    → own_flaw text (codes "choice_operator") i j us vs ≡ None
+unfolding own_flaw
 quiet_bar text i j us vs = refl
 
 pub quiet_tilde : (text : List ℕ) (i j : ℕ) (us vs : Trees)
-    → own_fault text (codes "sequence_operator") i j us vs ≡ None
-unfolding own_fault
+    → own_flaw text (codes "sequence_operator") i j us vs ≡ None
+unfolding own_flaw
 quiet_tilde text i j us vs = refl
 
-pub quiet_term : (text : List ℕ) (i j : ℕ) (us vs : Trees) → own_fault text (codes "term") i j us vs ≡ None
-unfolding own_fault
+pub quiet_term : (text : List ℕ) (i j : ℕ) (us vs : Trees) → own_flaw text (codes "term") i j us vs ≡ None
+unfolding own_flaw
 quiet_term text i j us vs = refl
 
 -- what follows from a tilde and a term
 pub record HasTerm (text : List ℕ) (us inner after : Trees) : Type 0 where
   pub operand : IsTerm text inner
   pub others : IsMore text after
-  pub fault : first_fault text us ≡ or_else (first_fault text inner) (first_fault text after)
+  pub flaw : first_flaw text us ≡ or_else (first_flaw text inner) (first_flaw text after)
   pub stand_operand : StandIn text us → StandIn text inner
   pub stand_others : StandIn text us → StandIn text after
   pub smaller : count_of inner < count_of us
@@ -210,11 +210,11 @@ pub record HasTerm (text : List ℕ) (us inner after : Trees) : Type 0 where
 
 pub has_term : {text : List ℕ} {us inner after : Trees}
     → TakesTerm text us inner after → HasTerm text us inner after
-unfolding own_fault
+unfolding own_flaw
 has_term {text} (takes_term h k) = record {
   operand = h;
   others = k;
-  fault = refl;
+  flaw = refl;
   stand_operand = λ s. stand_inner (stand_behind s);
   stand_others = λ s. stand_behind (stand_behind s);
   smaller = omega arith;
@@ -225,6 +225,6 @@ has_term {text} (takes_term h k) = record {
 
 -- the end of a sequence
 pub sequence_end : {text : List ℕ} {us rest : Trees} (n : ParserNode) → InFront text us rest (view n)
-    → IsRest text rest → first_fault text us ≡ first_fault text rest → count_of rest < count_of us
+    → IsRest text rest → first_flaw text us ≡ first_flaw text rest → count_of rest < count_of us
     → ReadsFront text us n rest
-sequence_end n d h f k = record { front = d.front; split = d.split; reads = d.reads; faults = f; shape = h; shorter = k }
+sequence_end n d h f k = record { front = d.front; split = d.split; reads = d.reads; flaws = f; shape = h; shorter = k }

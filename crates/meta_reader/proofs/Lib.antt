@@ -1,5 +1,5 @@
 pub mod SpansArePieces
-pub mod FaultsInOrder
+pub mod FlawsInOrder
 pub mod Chains
 pub mod Literals
 pub mod Nodes
@@ -11,4 +11,6 @@ pub mod Terminals
 pub mod Terms
 pub mod NodesStandInTrees
 pub mod Uniqueness
+pub mod Flawless
+pub mod ReadParts
 pub mod ReadableCounts

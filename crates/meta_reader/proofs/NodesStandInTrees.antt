@@ -3,7 +3,7 @@ use Rattle.std.proofs.Common.{◌≡◌, ◌≤◌, ℕ, List, refl, ap, ◌∙�
 use Rattle.std.specs.Prelude.{codes}
 use Rattle.meta_base.specs.Language.State.{Trees, None', Tree, joined}
 use Rattle.meta_reader.specs.Pieces.{Nested}
-use Rattle.meta_reader.specs.Reading.{Part, Reads, Postfixed, done, more, barred, unbarred, one_alternative, choice, one_term, sequence, tagged, pos_pred, neg_pred, bare, grouped, leaf, pushed}
+use Rattle.meta_reader.specs.Reading.{Category, Reads, Postfixed, done, more, barred, unbarred, one_alternative, choice, one_term, sequence, tagged, pos_pred, neg_pred, bare, grouped, leaf, pushed}
 use Rattle.meta_nodes.specs.Spanned.{Span, Spanned, Leaf, One, Two, span_of, start_of, end_of, placed, ending}
 use Rattle.meta_syntax.specs.Shape.{Mark}
 use Rattle.meta_reader.proofs.TreesStandInText.{nested_order}
@@ -39,7 +39,7 @@ module _ (text : List ℕ) where
   wider : {x : Spanned} (i k l j : ℕ) → Within text x k l → i ≤ k → l ≤ j → Within text x i j
   wider i k l j w h m = record { same_text = w.same_text; after = omega (arith, w.after, h); order = w.order; before = omega (arith, w.before, m) }
 
-  pub reads_within : {p : Part} {us : Trees} {x : Spanned} → Reads text p us x → (i j : ℕ)
+  pub reads_within : {category : Category} {us : Trees} {x : Spanned} → Reads text category us x → (i j : ℕ)
       → Nested text us i j → Within text x i j
   reads_within (barred {bar_to = b} d) i j h = wider i b j j (reads_within d b j h.4) (omega (arith, h.0, h.3)) (omega arith)
   reads_within (unbarred d) i j h = reads_within d i j h

@@ -3,7 +3,7 @@ use Rattle.std.proofs.Common.{◌≡◌, refl, sym, ap, ℕ, List, Option, None}
 use Rattle.std.specs.Prelude.{codes}
 use Rattle.meta_base.specs.Language.Text.{Text}
 use Rattle.meta_base.specs.Language.State.{Trees, None', Tree}
-use Rattle.meta_reader.specs.Faults.{first_fault, own_fault, not_a_count, past_u32, or_else, Fault}
+use Rattle.meta_reader.specs.Flaws.{first_flaw, own_flaw, not_a_count, past_u32, or_else, Flaw}
 use Rattle.meta_reader.specs.Reading as reading
 use Rattle.meta_reader.specs.Reading.{Postfix, number}
 use Rattle.meta_base.specs.Pieces.MetaRules.{name_of}
@@ -11,49 +11,49 @@ use Rattle.meta_syntax.specs.Shape.{IsNumber, IsCounted, exact, min, max, min_ma
 use Rattle.meta_nodes.specs.Spanned.{Unary, RepExact, RepMin, RepMax, RepMinMax}
 use Rattle.meta_base.specs.declared.grammar.Rule.{Rule}
 use Rattle.meta_base.specs.declared.grammar.Rule.TheVariants as rule_is
-use Rattle.meta_reader.proofs.FaultsInOrder.{or_none}
+use Rattle.meta_reader.proofs.FlawsInOrder.{or_none}
 use Rattle.meta_base.proofs.MetaNames.{name_of-injective}
 
--- the trees hold one number, from i to j: its first fault is theirs, and it is what the operator says
-pub record HoldsOne (text : List ℕ) (r : Text) (us : Trees) (i j : ℕ) (o : Option Fault) (f : ℕ → Unary) : Type 0 where
+-- the trees hold one number, from i to j: its first flaw is theirs, and it is what the operator says
+pub record HoldsOne (text : List ℕ) (r : Text) (us : Trees) (i j : ℕ) (o : Option Flaw) (f : ℕ → Unary) : Type 0 where
   pub digits : IsNumber text i j
-  pub fault : first_fault text us ≡ o
+  pub flaw : first_flaw text us ≡ o
   pub says : (n : ℕ) → n ≡ number text i j → Postfix text r us (f n)
 
 pub exact_trees : {text : List ℕ} {r s : Text} {a b i j : ℕ} {us vs ws : Trees}
     → IsCounted text (codes "repeat_exact") (Tree r a b us (Tree s i j vs ws))
     → HoldsOne text (codes "repeat_exact") (Tree r a b us (Tree s i j vs ws)) i j (not_a_count text i j) RepExact
-unfolding own_fault
-exact_trees {text} {i = i} {j = j} (exact d) = record { digits = d; fault = or_none (not_a_count text i j); says = λ n e. rw e reading.exact }
+unfolding own_flaw
+exact_trees {text} {i = i} {j = j} (exact d) = record { digits = d; flaw = or_none (not_a_count text i j); says = λ n e. rw e reading.exact }
 
 pub min_trees : {text : List ℕ} {r s : Text} {a b i j : ℕ} {us vs ws : Trees}
     → IsCounted text (codes "repeat_min") (Tree r a b us (Tree s i j vs ws))
     → HoldsOne text (codes "repeat_min") (Tree r a b us (Tree s i j vs ws)) i j (past_u32 text i j) RepMin
-unfolding own_fault
-min_trees {text} {i = i} {j = j} (min d) = record { digits = d; fault = or_none (past_u32 text i j); says = λ n e. rw e reading.min }
+unfolding own_flaw
+min_trees {text} {i = i} {j = j} (min d) = record { digits = d; flaw = or_none (past_u32 text i j); says = λ n e. rw e reading.min }
 
 pub max_trees : {text : List ℕ} {r s t : Text} {a b c d i j : ℕ} {us vs ws xs : Trees}
     → IsCounted text (codes "repeat_max") (Tree r a b us (Tree s c d vs (Tree t i j ws xs)))
     → HoldsOne text (codes "repeat_max") (Tree r a b us (Tree s c d vs (Tree t i j ws xs))) i j (not_a_count text i j) RepMax
-unfolding own_fault
-max_trees {text} {i = i} {j = j} (max d) = record { digits = d; fault = or_none (not_a_count text i j); says = λ n e. rw e reading.max }
+unfolding own_flaw
+max_trees {text} {i = i} {j = j} (max d) = record { digits = d; flaw = or_none (not_a_count text i j); says = λ n e. rw e reading.max }
 
 -- and two of them
 pub record HoldsTwo (text : List ℕ) (r : Text) (us : Trees) (i j k l : ℕ) : Type 0 where
   pub least : IsNumber text i j
   pub most : IsNumber text k l
-  pub fault : first_fault text us ≡ or_else (past_u32 text i j) (not_a_count text k l)
+  pub flaw : first_flaw text us ≡ or_else (past_u32 text i j) (not_a_count text k l)
   pub says : (m n : ℕ) → m ≡ number text i j → n ≡ number text k l → Postfix text r us (RepMinMax m n)
 
 pub two_trees : {text : List ℕ} {r s t u : Text} {a b c d i j k l : ℕ} {us vs ws xs ys : Trees}
     → IsCounted text (codes "repeat_min_max")
     (Tree r a b us (Tree s i j vs (Tree t c d ws (Tree u k l xs ys))))
     → HoldsTwo text (codes "repeat_min_max") (Tree r a b us (Tree s i j vs (Tree t c d ws (Tree u k l xs ys)))) i j k l
-unfolding own_fault
+unfolding own_flaw
 two_trees {text} {i = i} {j = j} {k = k} {l = l} (min_max d e) = record {
   least = d;
   most = e;
-  fault = ap (λ o. or_else (past_u32 text i j) o) (or_none (not_a_count text k l));
+  flaw = ap (λ o. or_else (past_u32 text i j) o) (or_none (not_a_count text k l));
   says = λ m n p q. rw (p, q) reading.min_max;
 }
 
@@ -87,22 +87,22 @@ rep_once_trees (counted h) = elim h [ ]
 -- the first of two numbers
 pub record HoldsFirst (text : List ℕ) (us : Trees) (i j : ℕ) : Type 0 where
   pub digits : IsNumber text i j
-  pub behind : Option Fault
-  pub fault : first_fault text us ≡ or_else (past_u32 text i j) behind
+  pub behind : Option Flaw
+  pub flaw : first_flaw text us ≡ or_else (past_u32 text i j) behind
 
 pub first_of_two : {text : List ℕ} {r s : Text} {a b i j : ℕ} {us vs ws : Trees}
     → IsCounted text (codes "repeat_min_max") (Tree r a b us (Tree s i j vs ws))
     → HoldsFirst text (Tree r a b us (Tree s i j vs ws)) i j
-unfolding own_fault
-first_of_two {text} {ws = ws} (min_max d e) = record { digits = d; behind = first_fault text ws; fault = refl }
+unfolding own_flaw
+first_of_two {text} {ws = ws} (min_max d e) = record { digits = d; behind = first_flaw text ws; flaw = refl }
 
 pub postfixes_tree : {text : List ℕ} {r : Text} {i j : ℕ} {inner us : Trees}
     → ArePostfixes text (Tree r i j inner us) → IsPostfix text r inner × ArePostfixes text us
 postfixes_tree (more h k) = (h, k)
 
 pub quiet_postfix : {text : List ℕ} {r : Text} {us : Trees} (i j : ℕ) (others : Trees) → IsPostfix text r us
-    → own_fault text r i j us others ≡ None
-unfolding own_fault
+    → own_flaw text r i j us others ≡ None
+unfolding own_flaw
 quiet_postfix i j others opt = refl
 quiet_postfix i j others rep = refl
 quiet_postfix i j others rep_once = refl

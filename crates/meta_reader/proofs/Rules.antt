@@ -4,7 +4,7 @@ use Rattle.std.specs.Prelude.{codes}
 use Rattle.meta_base.specs.Language.Text.{Text}
 use Rattle.meta_base.specs.Language.State.{Trees, None', Tree}
 use Rattle.meta_base.specs.Language.Expression.{RuleType, Normal, Silent, Atomic, CompoundAtomic, NonAtomic}
-use Rattle.meta_reader.specs.Faults.{first_fault, own_fault, or_else}
+use Rattle.meta_reader.specs.Flaws.{first_flaw, own_flaw, or_else}
 use Rattle.meta_reader.specs.Pieces.{StandIn}
 use Rattle.meta_reader.specs.Reading as reading
 use Rattle.meta_reader.specs.Reading.{Reads, AnExpression, ReadsRule, ReadsRules, Modifies, characters_between, piece}
@@ -16,7 +16,7 @@ use Rattle.meta_reader.specs.Views.{MayBeModifier, a_modifier, the_brace, TakesM
 use Rattle.meta_nodes.specs.Nodes.{rule_view, rule_views}
 use Rattle.meta_base.specs.declared.grammar.Rule.{Rule}
 use Rattle.meta_base.specs.declared.grammar.Rule.TheVariants as rule_is
-use Rattle.meta_reader.proofs.FaultsInOrder.{or_none}
+use Rattle.meta_reader.proofs.FlawsInOrder.{or_none}
 use Rattle.meta_reader.proofs.TreesStandInText.{stand_behind}
 use Rattle.meta_base.proofs.MetaNames.{name_of-injective}
 
@@ -83,7 +83,7 @@ no_body (modified m h) d = elim d [ ]
 -- a rule whose body is known
 pub record HasBody (text : List ℕ) (i j : ℕ) (us : Trees) (t : RuleType) (body : Trees) : Type 0 where
   pub inside : IsExpression text body
-  pub fault : first_fault text us ≡ first_fault text body
+  pub flaw : first_flaw text us ≡ first_flaw text body
   pub reads : (x : Spanned) → Reads text AnExpression body x → ReadsRule text us
       (Some (record { name = characters_between text i j; span = piece text i j; type_of = t; body = x }))
 
@@ -92,19 +92,19 @@ pub rule_body : {text : List ℕ} {n o p : Text} {i j k l a b c d : ℕ}
     → IsRule text (Tree (codes "identifier") i j inner (Tree n k l vs us))
     → TakesModifier us t (Tree o a b ws (Tree p c d body ys))
     → HasBody text i j (Tree (codes "identifier") i j inner (Tree n k l vs us)) t body
-unfolding own_fault
-rule_body {text} {body = body} (normal h) no_type = record { inside = h; fault = or_none (first_fault text body); reads = λ x d. reading.normal d }
+unfolding own_flaw
+rule_body {text} {body = body} (normal h) no_type = record { inside = h; flaw = or_none (first_flaw text body); reads = λ x d. reading.normal d }
 rule_body (normal h) (a_type m) = elim m [ ]
-rule_body {text} {body = body} (modified silent h) (a_type m) = record { inside = h; fault = or_none (first_fault text body); reads = λ x d. reading.modified m d }
-rule_body {text} {body = body} (modified atomic h) (a_type m) = record { inside = h; fault = or_none (first_fault text body); reads = λ x d. reading.modified m d }
-rule_body {text} {body = body} (modified compound_atomic h) (a_type m) = record { inside = h; fault = or_none (first_fault text body); reads = λ x d. reading.modified m d }
-rule_body {text} {body = body} (modified non_atomic h) (a_type m) = record { inside = h; fault = or_none (first_fault text body); reads = λ x d. reading.modified m d }
+rule_body {text} {body = body} (modified silent h) (a_type m) = record { inside = h; flaw = or_none (first_flaw text body); reads = λ x d. reading.modified m d }
+rule_body {text} {body = body} (modified atomic h) (a_type m) = record { inside = h; flaw = or_none (first_flaw text body); reads = λ x d. reading.modified m d }
+rule_body {text} {body = body} (modified compound_atomic h) (a_type m) = record { inside = h; flaw = or_none (first_flaw text body); reads = λ x d. reading.modified m d }
+rule_body {text} {body = body} (modified non_atomic h) (a_type m) = record { inside = h; flaw = or_none (first_flaw text body); reads = λ x d. reading.modified m d }
 
 -- a comment in place of a rule
 pub comment_rule : {text : List ℕ} {n : Text} {i j : ℕ} {inner us : Trees} (r : Rule)
     → IsRule text (Tree n i j inner us) → n ≡ name_of r → ¬ (r ≡ rule_is.identifier)
-    → (first_fault text (Tree n i j inner us) ≡ None) × ReadsRule text (Tree n i j inner us) None
-unfolding own_fault
+    → (first_flaw text (Tree n i j inner us) ≡ None) × ReadsRule text (Tree n i j inner us) None
+unfolding own_flaw
 comment_rule r line_doc e d = (refl, reading.line_doc)
 comment_rule r (normal h) e d = absurd (d (name_of-injective r rule_is.identifier (sym e)))
 comment_rule r (modified m h) e d = absurd (d (name_of-injective r rule_is.identifier (sym e)))
@@ -122,7 +122,7 @@ pub data ReadsLeft (text : List ℕ) : Trees → List SpannedRule → Type 0 whe
 pub record RuleFirst (text : List ℕ) (us inner others : Trees) : Type 0 where
   pub inside : IsRule text inner
   pub behind : IsLeft text others
-  pub fault : first_fault text us ≡ or_else (first_fault text inner) (first_fault text others)
+  pub flaw : first_flaw text us ≡ or_else (first_flaw text inner) (first_flaw text others)
   pub comment : ReadsRule text inner None → (rs : List SpannedRule) → ReadsLeft text others rs
       → ReadsLeft text us rs
   pub definition : (r : SpannedRule) → ReadsRule text inner (Some r) → (rs : List SpannedRule)
@@ -143,13 +143,13 @@ with_definition g d (rules_of e) = rules_of (reading.defined d e)
 pub rule_first : {text : List ℕ} {i j : ℕ} {inner us : Trees}
     → IsLeft text (Tree (codes "grammar_rule") i j inner us)
     → RuleFirst text (Tree (codes "grammar_rule") i j inner us) inner us
-unfolding own_fault
-rule_first (left (grammar_rule h k)) = record { inside = h; behind = left k; fault = refl; comment = λ d rs e. with_comment k d e; definition = λ r d rs e. with_definition k d e }
+unfolding own_flaw
+rule_first (left (grammar_rule h k)) = record { inside = h; behind = left k; flaw = refl; comment = λ d rs e. with_comment k d e; definition = λ r d rs e. with_definition k d e }
 
 -- another tree in front: a comment that documents the text, or its end
 pub record OtherFirst (text : List ℕ) (us others : Trees) : Type 0 where
   pub behind : IsLeft text others
-  pub fault : first_fault text us ≡ first_fault text others
+  pub flaw : first_flaw text us ≡ first_flaw text others
   pub reads : (rs : List SpannedRule) → ReadsLeft text others rs → ReadsLeft text us rs
 
 at_end : {text : List ℕ} {i j : ℕ} {rs : List SpannedRule} → ReadsLeft text None' rs
@@ -165,9 +165,9 @@ with_doc g (rules_of d) = rules_of (reading.grammar_doc d)
 pub other_first : {text : List ℕ} {n : Text} {i j : ℕ} {inner us : Trees} (r : Rule)
     → IsLeft text (Tree n i j inner us) → n ≡ name_of r → ¬ (r ≡ rule_is.grammar_rule)
     → OtherFirst text (Tree n i j inner us) us
-unfolding own_fault
-other_first r (left end_of_input) e d = record { behind = none_left; fault = refl; reads = λ rs k. at_end k }
-other_first r (left (grammar_doc h)) e d = record { behind = left h; fault = refl; reads = λ rs k. with_doc h k }
+unfolding own_flaw
+other_first r (left end_of_input) e d = record { behind = none_left; flaw = refl; reads = λ rs k. at_end k }
+other_first r (left (grammar_doc h)) e d = record { behind = left h; flaw = refl; reads = λ rs k. with_doc h k }
 other_first r (left (grammar_rule h k)) e d = absurd (d (name_of-injective r rule_is.grammar_rule (sym e)))
 
 -- one rule more

@@ -14,7 +14,7 @@ use Rattle.meta_syntax.specs.Shape.{Mark, IsTerm, tagged, predicate, grouped, ba
 use Rattle.meta_nodes.specs.Spanned.{Spanned, One, Unary, PosPred, NegPred, end_of}
 use Rattle.meta_nodes.specs.Nodes.{view, piece_of}
 use Rattle.meta_nodes.specs.declared.node.ParserNode.{ParserNode}
-use Rattle.meta_reader.specs.Faults.{first_fault, own_fault}
+use Rattle.meta_reader.specs.Flaws.{first_flaw, own_flaw}
 use Rattle.meta_reader.specs.Pieces.{IsPiece, Nested, StandIn}
 use Rattle.meta_reader.specs.Reading as reading
 use Rattle.meta_reader.specs.Reading.{Reads, ATerm, piece}
@@ -40,7 +40,7 @@ signed-push text (s ∷ signs) sign x =
 -- what is left of a term, behind the signs so far
 pub record IsLeftOfTerm (text : List ℕ) (us : Trees) (signs : List Sign) (vs : Trees) : Type 0 where
   pub shape : IsTerm text vs
-  pub faults : first_fault text us ≡ first_fault text vs
+  pub flaws : first_flaw text us ≡ first_flaw text vs
   pub shorter : count_of vs ≤ count_of us
   pub reads : (x : Spanned) → Reads text ATerm vs x → Reads text ATerm us (signed text signs x)
   pub stand : StandIn text us → SignsStand text signs vs
@@ -48,7 +48,7 @@ pub record IsLeftOfTerm (text : List ℕ) (us : Trees) (signs : List Sign) (vs :
 pub term_start : {text : List ℕ} {us : Trees} → IsTerm text us → IsLeftOfTerm text us [] us
 term_start {text} {us} h = record {
   shape = h;
-  faults = refl;
+  flaws = refl;
   shorter = omega arith;
   reads = λ x d. d;
   stand = λ s. record { from = s.from; to = s.to; nested = s.nested; before = All-nil _ };
@@ -87,7 +87,7 @@ term_tag h =
     let g = tag_tree h.shape in
     record {
       shape = g.0;
-      faults = h.faults ∙ g.1;
+      flaws = h.flaws ∙ g.1;
       shorter = omega (arith, h.shorter);
       reads = λ x d. h.reads x (g.2 x d);
       stand = λ s. stand_next (stand_next (h.stand s));
@@ -100,7 +100,7 @@ term_positive {text} {us} {signs} {i} h =
     let g = positive_tree h.shape in
     record {
       shape = g.operand;
-      faults = h.faults ∙ g.fault;
+      flaws = h.flaws ∙ g.flaw;
       shorter = omega (arith, h.shorter);
       reads = λ x d. rw signed-push (h.reads _ (g.reads x d));
       stand = λ s. stand_push (record { is_negative = false; start = i }) (h.stand s);
@@ -113,7 +113,7 @@ term_negative {text} {us} {signs} {i} h =
     let g = negative_tree h.shape in
     record {
       shape = g.operand;
-      faults = h.faults ∙ g.fault;
+      flaws = h.flaws ∙ g.flaw;
       shorter = omega (arith, h.shorter);
       reads = λ x d. rw signed-push (h.reads _ (g.reads x d));
       stand = λ s. stand_push (record { is_negative = true; start = i }) (h.stand s);
@@ -137,7 +137,7 @@ pub term_operand : {text : List ℕ} {us : Trees} {ss : List Sign} {n : Text}
     → IsBehindSigns text us ss (Tree n i j inner vs)
 term_operand r h e a b c = record {
   shape = operand_tree r h.shape e a b c;
-  faults = h.faults;
+  flaws = h.flaws;
   shorter = h.shorter;
   reads = h.reads;
   stand = h.stand;

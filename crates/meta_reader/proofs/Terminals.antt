@@ -5,7 +5,7 @@ use Rattle.std.specs.Str.{all_scalars}
 use Rattle.meta_base.specs.Language.Text.{Text}
 use Rattle.meta_base.specs.Language.Expression.{Expression, Str, Insens, Range, PeekSlice}
 use Rattle.meta_base.specs.Language.State.{Trees, None', Tree}
-use Rattle.meta_reader.specs.Faults.{first_fault, own_fault, wrong_literal, past_i32, or_else, Fault, PushLiteralCalled}
+use Rattle.meta_reader.specs.Flaws.{first_flaw, own_flaw, wrong_literal, past_i32, or_else, Flaw, PushLiteralCalled}
 use Rattle.meta_reader.specs.Reading as reading
 use Rattle.meta_reader.specs.Reading.{Terminal, literal, integer, piece}
 use Rattle.meta_base.specs.Pieces.MetaRules.{name_of}
@@ -15,13 +15,13 @@ use Rattle.meta_reader.specs.Views as views
 use Rattle.meta_reader.specs.Views.{TakesNumber, TakesBound}
 use Rattle.meta_base.specs.declared.grammar.Rule.{Rule}
 use Rattle.meta_base.specs.declared.grammar.Rule.TheVariants as rule_is
-use Rattle.meta_reader.proofs.FaultsInOrder.{or_none}
+use Rattle.meta_reader.proofs.FlawsInOrder.{or_none}
 use Rattle.meta_reader.specs.Pieces.{StandIn}
 use Rattle.meta_reader.proofs.TreesStandInText.{stand_behind}
 use Rattle.meta_base.proofs.MetaNames.{name_of-injective}
 
-pub quiet_quoted : (text : List ℕ) {us : Trees} → IsQuoted us → first_fault text us ≡ None
-unfolding own_fault
+pub quiet_quoted : (text : List ℕ) {us : Trees} → IsQuoted us → first_flaw text us ≡ None
+unfolding own_flaw
 quiet_quoted text in_quotes = refl
 quiet_quoted text in_single_quotes = refl
 
@@ -29,32 +29,32 @@ quiet_quoted text in_single_quotes = refl
 pub record HoldsLiterals (text : List ℕ) (us : Trees) (a b e f : ℕ) (low high : Trees) : Type 0 where
   pub low_quoted : IsQuoted low
   pub high_quoted : IsQuoted high
-  pub fault : (i j : ℕ) → first_fault text (Tree (codes "range") i j us None') ≡ or_else
+  pub flaw : (i j : ℕ) → first_flaw text (Tree (codes "range") i j us None') ≡ or_else
       (wrong_literal text a b low) (wrong_literal text e f high)
   pub reads : (i j : ℕ) → Terminal text (codes "range") i j us (Range (literal text low) (literal text high))
 
 pub range_trees : {text : List ℕ} {r s t : Text} {a b c d e f : ℕ} {us vs ws xs : Trees}
     → IsTerminal text (codes "range") (Tree r a b us (Tree s c d vs (Tree t e f ws xs)))
     → HoldsLiterals text (Tree r a b us (Tree s c d vs (Tree t e f ws xs))) a b e f us ws
-unfolding own_fault
+unfolding own_flaw
 range_trees {text} {a = a} {b = b} {e = e} {f = f} {us = us} {ws = ws} (range h k) = record {
   low_quoted = h;
   high_quoted = k;
-  fault = λ i j. rw (quiet_quoted text h, quiet_quoted text k, or_none (wrong_literal text e f ws), or_none) refl;
+  flaw = λ i j. rw (quiet_quoted text h, quiet_quoted text k, or_none (wrong_literal text e f ws), or_none) refl;
   reads = λ i j. reading.range;
 }
 
 -- a number of a slice that stands first
 pub record NumberFirst (text : List ℕ) (i j : ℕ) (inner us : Trees) : Type 0 where
   pub digits : IsInteger text i j
-  pub fault : first_fault text (Tree (codes "integer") i j inner us) ≡ or_else (past_i32 text i j)
-      (first_fault text us)
+  pub flaw : first_flaw text (Tree (codes "integer") i j inner us) ≡ or_else (past_i32 text i j)
+      (first_flaw text us)
   pub takes : TakesNumber text (Tree (codes "integer") i j inner us) (Some (integer text i j)) us
 
 pub number_first : {text : List ℕ} {i j : ℕ} {inner us : Trees}
     → MayBeNumber text (Tree (codes "integer") i j inner us) → NumberFirst text i j inner us
-unfolding own_fault
-number_first (shape.a_number h) = record { digits = h; fault = refl; takes = views.a_number }
+unfolding own_flaw
+number_first (shape.a_number h) = record { digits = h; flaw = refl; takes = views.a_number }
 
 pub no_number : {text : List ℕ} {n : Text} {i j : ℕ} {inner us : Trees} (r : Rule)
     → MayBeNumber text (Tree n i j inner us) → n ≡ name_of r → ¬ (r ≡ rule_is.integer)
@@ -91,22 +91,22 @@ pub behind_dots : {text : List ℕ} {r : Text} {a b : ℕ} {inner us : Trees} �
     → IsSliceEnd text us
 behind_dots (at_dots h) = h
 
-pub dots_fault : {text : List ℕ} {r : Text} {a b : ℕ} {inner us : Trees} → AtDots text (Tree r a b inner us)
-    → first_fault text (Tree r a b inner us) ≡ first_fault text us
-unfolding own_fault
-dots_fault (at_dots h) = refl
+pub dots_flaw : {text : List ℕ} {r : Text} {a b : ℕ} {inner us : Trees} → AtDots text (Tree r a b inner us)
+    → first_flaw text (Tree r a b inner us) ≡ first_flaw text us
+unfolding own_flaw
+dots_flaw (at_dots h) = refl
 
-pub end_fault : {text : List ℕ} {us rest : Trees} {n : Option ℤ} → IsSliceEnd text us
-    → TakesNumber text us n rest → first_fault text rest ≡ None
-unfolding own_fault
-end_fault shape.open_end views.the_end = refl
-end_fault (shape.up_to h) views.a_number = refl
+pub end_flaw : {text : List ℕ} {us rest : Trees} {n : Option ℤ} → IsSliceEnd text us
+    → TakesNumber text us n rest → first_flaw text rest ≡ None
+unfolding own_flaw
+end_flaw shape.open_end views.the_end = refl
+end_flaw (shape.up_to h) views.a_number = refl
 
-pub slice_fault : {text : List ℕ} {r : Text} {a b : ℕ} {inner us : Trees} (i j : ℕ)
+pub slice_flaw : {text : List ℕ} {r : Text} {a b : ℕ} {inner us : Trees} (i j : ℕ)
     → IsSlice text (Tree r a b inner us)
-    → first_fault text (Tree (codes "peek_slice") i j (Tree r a b inner us) None') ≡ first_fault text us
-unfolding own_fault
-slice_fault {text} {us = us} i j (in_brackets h) = or_none (first_fault text us)
+    → first_flaw text (Tree (codes "peek_slice") i j (Tree r a b inner us) None') ≡ first_flaw text us
+unfolding own_flaw
+slice_flaw {text} {us = us} i j (in_brackets h) = or_none (first_flaw text us)
 
 pub slice_reads : {text : List ℕ} {a b c d : ℕ} {r s : Text}
     {us vs ws xs rest : Trees} {low high : Option ℤ} (i j : ℕ)
@@ -124,47 +124,47 @@ takes_standing h views.a_number = stand_behind h
 takes_standing h views.the_dots = h
 takes_standing h views.the_end = h
 
--- the fault of a literal's node, and what it reads as
+-- the flaw of a literal's node, and what it reads as
 pub record IsLiteral (text : List ℕ) (r : Text) (us inner : Trees) (f : Text → Expression) : Type 0 where
   pub quoted : IsQuoted inner
-  pub fault : (i j : ℕ) → first_fault text (Tree r i j us None') ≡ wrong_literal text i j inner
+  pub flaw : (i j : ℕ) → first_flaw text (Tree r i j us None') ≡ wrong_literal text i j inner
   pub reads : (i j : ℕ) → Terminal text r i j us (f (literal text inner))
 
 pub string_trees : {text : List ℕ} {us : Trees} → IsTerminal text (codes "string") us
     → IsLiteral text (codes "string") us us Str
-unfolding own_fault
+unfolding own_flaw
 string_trees {text} {us} (string h) = record {
   quoted = h;
-  fault = λ i j. rw (quiet_quoted text h) (or_none (wrong_literal text i j us));
+  flaw = λ i j. rw (quiet_quoted text h) (or_none (wrong_literal text i j us));
   reads = λ i j. reading.string;
 }
 
-wrong_twice : (b : Bool) (f g : Fault) → or_else (if b then Some f else None)
+wrong_twice : (b : Bool) (f g : Flaw) → or_else (if b then Some f else None)
     (or_else (or_else (if b then Some g else None) None) None) ≡ (if b then Some f else None)
 wrong_twice true f g = refl
 wrong_twice false f g = refl
 
--- the literal of an insensitive string has the fault of the whole, and so does the string in it, behind it
+-- the literal of an insensitive string has the flaw of the whole, and so does the string in it, behind it
 pub insensitive_trees : {text : List ℕ} {r : Text} {a b : ℕ} {us vs : Trees}
     → IsTerminal text (codes "insensitive_string") (Tree r a b us vs)
     → IsLiteral text (codes "insensitive_string") (Tree r a b us vs) us Insens
-unfolding own_fault
+unfolding own_flaw
 insensitive_trees {text} {a = a} {b = b} {us = us} (insensitive h) = record {
   quoted = h;
-  fault = λ i j. rw (quiet_quoted text h) (wrong_twice (not (all_scalars (literal text us))) _ _);
+  flaw = λ i j. rw (quiet_quoted text h) (wrong_twice (not (all_scalars (literal text us))) _ _);
   reads = λ i j. reading.insensitive;
 }
 
 pub identifier_trees : {text : List ℕ} {us : Trees} (i j : ℕ) → IsTerminal text (codes "identifier") us
-    → first_fault text (Tree (codes "identifier") i j us None') ≡ None
-unfolding own_fault
+    → first_flaw text (Tree (codes "identifier") i j us None') ≡ None
+unfolding own_flaw
 identifier_trees i j identifier = refl
 
-pub push_literal_fault : (text : List ℕ) (us : Trees) (i j : ℕ) → first_fault text
+pub push_literal_flaw : (text : List ℕ) (us : Trees) (i j : ℕ) → first_flaw text
     (Tree (codes "_push_literal") i j us None') ≡ Some
     (record { cause = PushLiteralCalled; span = piece text i j })
-unfolding own_fault
-push_literal_fault text us i j = refl
+unfolding own_flaw
+push_literal_flaw text us i j = refl
 
 -- a terminal's rule is one of six
 pub terminal_rule : {text : List ℕ} {n : Text} {us : Trees} (r : Rule) → IsTerminal text n us → n ≡ name_of r

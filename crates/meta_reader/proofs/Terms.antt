@@ -4,7 +4,7 @@ use Rattle.std.proofs.Common.{◌≡◌, ◌<◌, ℕ, List, None, refl, sym, ap
 use Rattle.std.specs.Prelude.{codes}
 use Rattle.meta_base.specs.Language.Text.{Text}
 use Rattle.meta_base.specs.Language.State.{Trees, None', Tree}
-use Rattle.meta_reader.specs.Faults.{first_fault, own_fault, or_else}
+use Rattle.meta_reader.specs.Flaws.{first_flaw, own_flaw, or_else}
 use Rattle.meta_reader.specs.Pieces.{IsPiece, Nested, StandIn}
 use Rattle.meta_reader.specs.Reading as reading
 use Rattle.meta_reader.specs.Reading.{Reads, Postfixed, AnExpression, ATerm, ANode, piece}
@@ -18,7 +18,7 @@ use Rattle.meta_nodes.specs.Nodes.{view, piece_of}
 use Rattle.meta_base.specs.declared.grammar.Rule.{Rule}
 use Rattle.meta_base.specs.declared.grammar.Rule.TheVariants as rule_is
 use Rattle.meta_nodes.specs.declared.node.ParserNode.{ParserNode}
-use Rattle.meta_reader.proofs.FaultsInOrder.{or_none, or_assoc}
+use Rattle.meta_reader.proofs.FlawsInOrder.{or_none, or_assoc}
 use Rattle.meta_reader.proofs.Chains.{same_text}
 use Rattle.meta_reader.proofs.Nodes.{span_of-view, start_of-view, end_of-view, view_at-placed}
 use Rattle.meta_reader.proofs.TreesStandInText.{nested_from, nested_order}
@@ -37,8 +37,8 @@ lone_tag (bare (terminal h) k) = elim h [ ]
 
 pub tag_tree : {text : List ℕ} {n : Text} {i j k l : ℕ} {inner vs us : Trees}
     → IsTerm text (Tree (codes "tag_id") i j inner (Tree n k l vs us))
-    → IsTerm text us × (first_fault text (Tree (codes "tag_id") i j inner (Tree n k l vs us)) ≡ first_fault text us) × ((x : Spanned) → Reads text ATerm us x → Reads text ATerm (Tree (codes "tag_id") i j inner (Tree n k l vs us)) x)
-unfolding own_fault
+    → IsTerm text us × (first_flaw text (Tree (codes "tag_id") i j inner (Tree n k l vs us)) ≡ first_flaw text us) × ((x : Spanned) → Reads text ATerm us x → Reads text ATerm (Tree (codes "tag_id") i j inner (Tree n k l vs us)) x)
+unfolding own_flaw
 tag_tree (tagged h) = (h, refl, λ x d. reading.tagged d)
 tag_tree (predicate p h) = elim p [ ]
 tag_tree (bare (terminal h) k) = elim h [ ]
@@ -46,22 +46,22 @@ tag_tree (bare (terminal h) k) = elim h [ ]
 -- predicates
 pub record IsPredicate (text : List ℕ) (r : Text) (i j : ℕ) (inner us : Trees) (f : spanned.Unary) : Type 0 where
   pub operand : IsTerm text us
-  pub fault : first_fault text (Tree r i j inner us) ≡ first_fault text us
+  pub flaw : first_flaw text (Tree r i j inner us) ≡ first_flaw text us
   pub reads : (x : Spanned) → Reads text ATerm us x
       → Reads text ATerm (Tree r i j inner us) (One (piece text i (end_of x)) f x)
 
 pub positive_tree : {text : List ℕ} {i j : ℕ} {inner us : Trees}
     → IsTerm text (Tree (codes "positive_predicate_operator") i j inner us)
     → IsPredicate text (codes "positive_predicate_operator") i j inner us PosPred
-unfolding own_fault
-positive_tree (predicate p h) = record { operand = h; fault = refl; reads = λ x d. reading.pos_pred d }
+unfolding own_flaw
+positive_tree (predicate p h) = record { operand = h; flaw = refl; reads = λ x d. reading.pos_pred d }
 positive_tree (bare (terminal h) k) = elim h [ ]
 
 pub negative_tree : {text : List ℕ} {i j : ℕ} {inner us : Trees}
     → IsTerm text (Tree (codes "negative_predicate_operator") i j inner us)
     → IsPredicate text (codes "negative_predicate_operator") i j inner us NegPred
-unfolding own_fault
-negative_tree (predicate p h) = record { operand = h; fault = refl; reads = λ x d. reading.neg_pred d }
+unfolding own_flaw
+negative_tree (predicate p h) = record { operand = h; flaw = refl; reads = λ x d. reading.neg_pred d }
 negative_tree (bare (terminal h) k) = elim h [ ]
 
 -- parentheses
@@ -81,15 +81,15 @@ open_group (node (terminal h) k) = elim h [ ]
 pub record IsGroup (text : List ℕ) (us inner operators : Trees) (i q : ℕ) : Type 0 where
   pub inside : IsExpression text inner
   pub behind : ArePostfixes text operators
-  pub fault : first_fault text us ≡ or_else (first_fault text inner) (first_fault text operators)
+  pub flaw : first_flaw text us ≡ or_else (first_flaw text inner) (first_flaw text operators)
   pub reads : (x y : Spanned) → Reads text AnExpression inner x
       → Postfixed text (ending q x) operators y → Reads text ATerm us (starting i y)
 
 pub group_tree : {text : List ℕ} {n o : Text} {i j k l m q : ℕ} {inner ws us : Trees}
     → IsOperand text (Mark (codes "opening_paren") i j (Tree n k l inner (Tree o m q ws us)))
     → IsGroup text (Mark (codes "opening_paren") i j (Tree n k l inner (Tree o m q ws us))) inner us i q
-unfolding own_fault
-group_tree (group h k) = record { inside = h; behind = k; fault = refl; reads = λ x y d e. reading.grouped d e }
+unfolding own_flaw
+group_tree (group h k) = record { inside = h; behind = k; flaw = refl; reads = λ x y d e. reading.grouped d e }
 group_tree (node (terminal h) k) = elim h [ ]
 
 -- the others: a node, and operators
@@ -105,10 +105,10 @@ pub terminal_tree : {text : List ℕ} {n : Text} {us : Trees} (r : Rule) → IsN
 terminal_tree r (terminal h) e d = h
 terminal_tree r (pushed h) e d = absurd (d (name_of-injective r rule_is._push (sym e)))
 
--- the fault of a tree that has no other behind it, with one behind it
+-- the flaw of a tree that has no other behind it, with one behind it
 quiet_behind : (text : List ℕ) {n : Text} (i j : ℕ) (inner us : Trees) → IsNode text n inner
-    → own_fault text n i j inner us ≡ own_fault text n i j inner None'
-unfolding own_fault
+    → own_flaw text n i j inner us ≡ own_flaw text n i j inner None'
+unfolding own_flaw
 quiet_behind text i j inner us (terminal identifier) = refl
 quiet_behind text i j inner us (terminal (string h)) = refl
 quiet_behind text i j inner us (terminal (insensitive h)) = refl
@@ -117,11 +117,11 @@ quiet_behind text i j inner us (terminal (slice h)) = refl
 quiet_behind text i j inner us (terminal push_literal) = refl
 quiet_behind text i j inner us (pushed h) = refl
 
-pub node_fault : (text : List ℕ) {n : Text} (i j : ℕ) (inner us : Trees) → IsNode text n inner
-    → first_fault text (Tree n i j inner us) ≡ or_else (first_fault text (Tree n i j inner None'))
-    (first_fault text us)
-node_fault text {n} i j inner us h =
-    rw (quiet_behind text i j inner us h, or_none (first_fault text inner)) (sym (or_assoc (own_fault text n i j inner None') (first_fault text inner) (first_fault text us)))
+pub node_flaw : (text : List ℕ) {n : Text} (i j : ℕ) (inner us : Trees) → IsNode text n inner
+    → first_flaw text (Tree n i j inner us) ≡ or_else (first_flaw text (Tree n i j inner None'))
+    (first_flaw text us)
+node_flaw text {n} i j inner us h =
+    rw (quiet_behind text i j inner us h, or_none (first_flaw text inner)) (sym (or_assoc (own_flaw text n i j inner None') (first_flaw text inner) (first_flaw text us)))
 
 -- `PUSH`
 
@@ -134,16 +134,16 @@ open_push (terminal h) = elim h [ ]
 
 pub record IsPush (text : List ℕ) (us inner : Trees) : Type 0 where
   pub inside : IsExpression text inner
-  pub fault : (i j : ℕ) → first_fault text (Tree (codes "_push") i j us None') ≡ first_fault text inner
+  pub flaw : (i j : ℕ) → first_flaw text (Tree (codes "_push") i j us None') ≡ first_flaw text inner
   pub reads : (i j : ℕ) (x : Spanned) → Reads text AnExpression inner x
       → Reads text ANode (Tree (codes "_push") i j us None') (One (piece text i (end_of x)) Push x)
 
 pub push_tree : {text : List ℕ} {n o : Text} {i j k l : ℕ} {vs inner us : Trees}
     → IsNode text (codes "_push") (Tree n i j vs (Tree o k l inner us))
     → IsPush text (Tree n i j vs (Tree o k l inner us)) inner
-unfolding own_fault
+unfolding own_flaw
 push_tree (terminal h) = elim h [ ]
-push_tree {text} {inner = inner} (pushed h) = record { inside = h; fault = λ i j. or_none (or_else (first_fault text inner) None) ∙ or_none (first_fault text inner); reads = λ i j x d. reading.pushed d }
+push_tree {text} {inner = inner} (pushed h) = record { inside = h; flaw = λ i j. or_none (or_else (first_flaw text inner) None) ∙ or_none (first_flaw text inner); reads = λ i j x d. reading.pushed d }
 
 -- where nodes of terms stand
 

@@ -7,7 +7,7 @@ use Rattle.meta_base.specs.Language.Text.{Text}
 use Rattle.meta_base.specs.Language.Expression.{Expression, RuleType, Normal}
 use Rattle.meta_base.specs.Language.State.{Trees, None', Tree, joined}
 use Rattle.meta_reader.specs.Reading as reading
-use Rattle.meta_reader.specs.Reading.{Part, AnExpression, Alternatives, ASequence, ATerm, ANode, Modifies, Postfix, Postfixed, done, more, Terminal, Reads, barred, unbarred, one_alternative, choice, one_term, sequence, tagged, pos_pred, neg_pred, bare, grouped, leaf, pushed, both, around, piece, characters_between, ReadsRule, ReadsRules, line_doc, normal, modified, end_of_input, grammar_doc, documented, defined}
+use Rattle.meta_reader.specs.Reading.{Category, AnExpression, Alternatives, ASequence, ATerm, ANode, Modifies, Postfix, Postfixed, done, more, Terminal, Reads, barred, unbarred, one_alternative, choice, one_term, sequence, tagged, pos_pred, neg_pred, bare, grouped, leaf, pushed, both, around, piece, characters_between, ReadsRule, ReadsRules, line_doc, normal, modified, end_of_input, grammar_doc, documented, defined}
 use Rattle.meta_syntax.specs.Shape.{Mark}
 use Rattle.meta_nodes.specs.Spanned.{Spanned, Unary, SpannedRule, Seq, Choice, ending, starting, end_of, Leaf, One, PosPred, NegPred, Push}
 
@@ -210,8 +210,8 @@ sequence_cases (one_term {us = us} {from = i} {to = j} d) = inl (record { start 
 sequence_cases (sequence i j k l {us = us} {vs = vs} {x = x} {y = y} d e) = inr (record { i = i; j = j; k = k; l = l; front = us; back = vs; first = x; last = y; split = refl; reads_front = d; reads_back = e; whole = refl })
 
 -- one reading
-pub reads_once : {text : List ℕ} {p : Part} {us : Trees} {x y : Spanned} → Reads text p us x
-    → Reads text p us y → x ≡ y
+pub reads_once : {text : List ℕ} {category : Category} {us : Trees} {x y : Spanned} → Reads text category us x
+    → Reads text category us y → x ≡ y
 unfolding two is_node
 reads_once (barred d) (barred e) = reads_once d e
 reads_once (barred d) (unbarred e) = bar_first e

@@ -5,22 +5,22 @@ use Rattle.meta_base.specs.Language.Expression.{Expression}
 use Rattle.meta_base.specs.Language.State.{Trees}
 use Rattle.meta_base.specs.Language.WellFormed.{HasReadableCounts}
 use Rattle.meta_nodes.specs.Erasure.{rules_without_spans}
-use Rattle.meta_reader.specs.Faults.{first_fault}
-use Rattle.meta_reader.specs.Reading.{Part, Reads, ReadsRules}
+use Rattle.meta_reader.specs.Flaws.{first_flaw}
+use Rattle.meta_reader.specs.Reading.{Category, Reads, ReadsRules}
 use Rattle.meta_nodes.specs.Spanned.{Spanned, SpannedRule}
 
 -- trees are read as one expression at most
 abbrev pub ReadsOneExpression : Type 0
-ReadsOneExpression = (text : List ℕ) (part : Part) (us : Trees) (x y : Spanned)
-    → Reads text part us x → Reads text part us y → x ≡ y
+ReadsOneExpression = (text : List ℕ) (category : Category) (us : Trees) (x y : Spanned)
+    → Reads text category us x → Reads text category us y → x ≡ y
 
 -- trees are read as one list of rules at most
 abbrev pub ReadsOneGrammar : Type 0
 ReadsOneGrammar = (text : List ℕ) (us : Trees) (rs qs : List SpannedRule)
     → ReadsRules text us rs → ReadsRules text us qs → rs ≡ qs
 
--- what is read from trees without a fault is nowhere repeated 0 times at most
+-- what is read from trees without a flaw is nowhere repeated 0 times at most
 abbrev pub ReadsReadableCounts : Type 0
 ReadsReadableCounts = (text : List ℕ) (us : Trees) (rs : List SpannedRule)
-    → ReadsRules text us rs → first_fault text us ≡ None
+    → ReadsRules text us rs → first_flaw text us ≡ None
     → HasReadableCounts (rules_without_spans rs)

@@ -1,6 +1,6 @@
 pub mod Literal
 pub mod Reading
-pub mod Faults
+pub mod Flaws
 pub mod Refusals
 pub mod Pieces
 pub mod Views

@@ -9,13 +9,13 @@ use Rattle.meta_syntax.specs.Shape.{Mark, Braced}
 use Rattle.meta_nodes.specs.Spanned.{Span, Spanned, Leaf, One, Two, Unary, PosPred, NegPred, Opt, Rep, RepOnce, RepExact, RepMin, RepMax, RepMinMax, Push, Binary, Seq, Choice, start_of, end_of, starting, ending, SpannedRule}
 use Rattle.meta_reader.specs.Literal.{unescaped}
 
--- what a list of trees may be read as
-pub data Part : Type 0 where
-  AnExpression : Part
-  Alternatives : Part
-  ASequence : Part
-  ATerm : Part
-  ANode : Part
+-- the categories of syntax: what a list of trees may be read as
+pub data Category : Type 0 where
+  AnExpression : Category
+  Alternatives : Category
+  ASequence : Category
+  ATerm : Category
+  ANode : Category
 
 -- the type that a modifier gives
 pub data Modifies : Text → RuleType → Type 0 where
@@ -136,7 +136,7 @@ module _ (text : List ℕ) where
         (Mark (codes "closing_brack") close_at close_to None')))))
         (PeekSlice (integer low_at low_to) (Some (integer high_at high_to)))
 
-  pub data Reads : Part → Trees → Spanned → Type 0 where
+  pub data Reads : Category → Trees → Spanned → Type 0 where
     -- a bar before the first alternative says nothing
     barred : {bar_at bar_to : ℕ} {us : Trees} {x : Spanned}
         → Reads Alternatives us x → Reads AnExpression (Mark (codes "choice_operator") bar_at bar_to us) x

@@ -8,11 +8,11 @@ use Rattle.meta_base.specs.declared.runtime.errors.Error.{Error}
 use Rattle.meta_base.specs.declared.runtime.faults.Fault as code
 use Rattle.meta_base.specs.declared.runtime.faults.Fault.TheVariants as code_is
 use Rattle.meta_base.specs.declared.runtime.tokens.Pairs.{Pairs}
-use Rattle.meta_reader.specs.Faults.{Cause, PushLiteralCalled, NoScalarValue, PastI32, PastU32, ZeroTimes, Fault, first_fault}
+use Rattle.meta_reader.specs.Flaws.{Cause, PushLiteralCalled, NoScalarValue, PastI32, PastU32, ZeroTimes, Flaw, first_flaw}
 use Rattle.meta_reader.specs.Reading.{ReadsRules}
 use Rattle.meta_nodes.specs.Spanned.{SpannedRule}
 
--- what the error of a fault says
+-- what the error of a flaw says
 abbrev pub message_of : Cause → List ℕ
 message_of PushLiteralCalled = codes "PUSH_LITERAL requires feature grammar-extras"
 message_of NoScalarValue = codes "escape is not a Unicode scalar value"
@@ -20,21 +20,21 @@ message_of PastI32 = codes "number cannot overflow i32"
 message_of PastU32 = codes "number cannot overflow u32"
 message_of ZeroTimes = codes "cannot repeat 0 times"
 
--- the errors are one error: it says what is wrong, and stands where the fault does
-pub record TellsOf (fault : Fault) (errors : List (Error Rule)) : Type 0 where
+-- the errors are one error: it says what is wrong, and stands where the flaw does
+pub record TellsOf (flaw : Flaw) (errors : List (Error Rule)) : Type 0 where
   pub error : Error Rule
   pub one : errors ≡ error ∷ []
-  pub says : SaysAt (message_of fault.cause) fault.span error
+  pub says : SaysAt (message_of flaw.cause) flaw.span error
 
--- want of memory, or one error that tells of the first fault
-abbrev pub IsRefusal : Option Fault → code.Fault → Type 0
+-- want of memory, or one error that tells of the first flaw
+abbrev pub IsRefusal : Option Flaw → code.Fault → Type 0
 IsRefusal first (code_is.Memory e) = ⊤
-IsRefusal first (code_is.Grammar errors) = MatchOption first ⊥ (λ fault. TellsOf fault errors.items)
+IsRefusal first (code_is.Grammar errors) = MatchOption first ⊥ (λ flaw. TellsOf flaw errors.items)
 
 -- the pairs are read as these rules
 abbrev pub AreReadAs : Pairs Rule → List SpannedRule → Type 0
 AreReadAs pairs rules = ReadsRules (pairs_text pairs) (named (pairs_trees pairs)) rules
 
--- the first fault of the pairs
-abbrev pub first_fault_of : Pairs Rule → Option Fault
-first_fault_of pairs = first_fault (pairs_text pairs) (named (pairs_trees pairs))
+-- the first flaw of the pairs
+abbrev pub first_flaw_of : Pairs Rule → Option Flaw
+first_flaw_of pairs = first_flaw (pairs_text pairs) (named (pairs_trees pairs))

@@ -5,7 +5,7 @@ use Rattle.meta_base.specs.Language.Text.{Text}
 use Rattle.meta_base.specs.Language.State.{Trees, Tree}
 use Rattle.meta_syntax.specs.Shape.{Mark, IsExpression, IsNode, ArePostfixes}
 use Rattle.meta_nodes.specs.Spanned.{Spanned, One, Unary, PosPred, NegPred, end_of}
-use Rattle.meta_reader.specs.Faults.{first_fault}
+use Rattle.meta_reader.specs.Flaws.{first_flaw}
 use Rattle.meta_reader.specs.Pieces.{Nested, StandIn}
 use Rattle.meta_reader.specs.Reading.{Reads, ATerm, piece}
 use Rattle.meta_reader.specs.Views.{count_of}
@@ -44,7 +44,7 @@ pub record SignsStand (text : List ℕ) (signs : List Sign) (us : Trees) : Type 
 -- a term's trees behind these signs
 pub record IsBehindSigns (text : List ℕ) (us : Trees) (signs : List Sign) (vs : Trees) : Type 0 where
   pub shape : IsOperand text vs
-  pub faults : first_fault text us ≡ first_fault text vs
+  pub flaws : first_flaw text us ≡ first_flaw text vs
   pub shorter : count_of vs ≤ count_of us
   pub reads : (x : Spanned) → Reads text ATerm vs x → Reads text ATerm us (signed text signs x)
   pub stand : StandIn text us → SignsStand text signs vs

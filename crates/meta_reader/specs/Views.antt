@@ -15,10 +15,10 @@ use Rattle.meta_syntax.specs.Shape.{Mark, IsChain, IsMore, IsTerm, IsModifier}
 use Rattle.meta_nodes.specs.Spanned.{Spanned, One, Unary}
 use Rattle.meta_nodes.specs.Nodes.{piece_of, view, rule_view, rule_views}
 use Rattle.meta_base.specs.Pieces.NamedTrees.{named_trees_of}
-use Rattle.meta_reader.specs.Reading.{Modifies, Part, AnExpression, Alternatives, ASequence, Reads, ReadsRule, ReadsRules, Postfix, Postfixed, integer, literal}
+use Rattle.meta_reader.specs.Reading.{Modifies, Category, AnExpression, Alternatives, ASequence, Reads, ReadsRule, ReadsRules, Postfix, Postfixed, integer, literal}
 use Rattle.meta_reader.specs.Literal.{unescaped}
-use Rattle.meta_reader.specs.Faults as faults
-use Rattle.meta_reader.specs.Faults.{first_fault, wrong_literal}
+use Rattle.meta_reader.specs.Flaws as flaws
+use Rattle.meta_reader.specs.Flaws.{first_flaw, wrong_literal}
 use Rattle.meta_base.specs.declared.grammar.Rule.{Rule}
 use Rattle.meta_base.specs.declared.runtime.trees.TokenTree.{TokenTree}
 use Rattle.meta_base.specs.declared.runtime.trees.FirstTree.{FirstTree}
@@ -26,29 +26,29 @@ use Rattle.meta_base.specs.declared.runtime.places.Span.{Span}
 use Rattle.meta_base.specs.Pieces.MetaRules.{name_of}
 use Rattle.meta_nodes.specs.declared.node.ParserNode.{ParserNode}
 use Rattle.meta_nodes.specs.declared.node.ParserRule.{ParserRule}
-use Rattle.meta_reader.specs.declared.parser.faults.Cause as code_cause
-use Rattle.meta_reader.specs.declared.parser.faults.Cause.TheVariants as cause_is
-use Rattle.meta_reader.specs.declared.parser.faults.Finding.{Finding}
-use Rattle.meta_reader.specs.declared.parser.faults.ReadError as error
-use Rattle.meta_reader.specs.declared.parser.faults.ReadError.TheVariants as error_is
+use Rattle.meta_reader.specs.declared.parser.flaws.Cause as code_cause
+use Rattle.meta_reader.specs.declared.parser.flaws.Cause.TheVariants as cause_is
+use Rattle.meta_reader.specs.declared.parser.flaws.Flaw.{Flaw}
+use Rattle.meta_reader.specs.declared.parser.flaws.ReadError as error
+use Rattle.meta_reader.specs.declared.parser.flaws.ReadError.TheVariants as error_is
 
-abbrev pub cause_of : code_cause.Cause → faults.Cause
-cause_of cause_is.PushLiteralCalled = faults.PushLiteralCalled
-cause_of cause_is.NoScalarValue = faults.NoScalarValue
-cause_of cause_is.PastI32 = faults.PastI32
-cause_of cause_is.PastU32 = faults.PastU32
-cause_of cause_is.ZeroTimes = faults.ZeroTimes
+abbrev pub cause_of : code_cause.Cause → flaws.Cause
+cause_of cause_is.PushLiteralCalled = flaws.PushLiteralCalled
+cause_of cause_is.NoScalarValue = flaws.NoScalarValue
+cause_of cause_is.PastI32 = flaws.PastI32
+cause_of cause_is.PastU32 = flaws.PastU32
+cause_of cause_is.ZeroTimes = flaws.ZeroTimes
 
-abbrev pub fault_of : Finding → faults.Fault
-fault_of f = record { cause = cause_of f.cause; span = piece_of f.span }
+abbrev pub flaw_of : Flaw → flaws.Flaw
+flaw_of f = record { cause = cause_of f.cause; span = piece_of f.span }
 
--- an error says that memory was refused, or is the first fault
-abbrev pub IsFirst : Option faults.Fault → error.ReadError → Type 0
+-- an error says that memory was refused, or is the first flaw
+abbrev pub IsFirst : Option flaws.Flaw → error.ReadError → Type 0
 IsFirst o (error_is.Memory e) = Unit {0}
-IsFirst o (error_is.Found f) = o ≡ Some (fault_of f)
+IsFirst o (error_is.Found f) = o ≡ Some (flaw_of f)
 
--- an answer: what is read has no fault; otherwise the fault is the first
-abbrev pub Answers : {X : Type 0} → Option faults.Fault → Result X error.ReadError → (X → Type 0) → Type 0
+-- an answer: what is read has no flaw; otherwise the flaw is the first
+abbrev pub Answers : {X : Type 0} → Option flaws.Flaw → Result X error.ReadError → (X → Type 0) → Type 0
 Answers o (Ok x) P = (o ≡ None) × P x
 Answers o (Err e) P = IsFirst o e
 
@@ -63,28 +63,28 @@ alone tree = alone_as (name_of tree.rule) tree
 abbrev pub group_from : FirstTree Rule → state.Trees
 group_from paren = Mark (codes "opening_paren") paren.start paren.end (named_trees_of paren.others.now)
 
--- what the trees of a part read as, or their first fault
-abbrev pub ReadsAs : List ℕ → Part → state.Trees → Result ParserNode error.ReadError → Type 0
-ReadsAs text part us result = Answers (first_fault text us) result (λ n. Reads text part us (view n))
+-- what the trees of a category read as, or their first flaw
+abbrev pub ReadsAs : List ℕ → Category → state.Trees → Result ParserNode error.ReadError → Type 0
+ReadsAs text category us result = Answers (first_flaw text us) result (λ n. Reads text category us (view n))
 
--- the rule that trees are read as, and all rules of a text, or their first fault
+-- the rule that trees are read as, and all rules of a text, or their first flaw
 abbrev pub AnswersRule : List ℕ → state.Trees → Result (Option ParserRule) error.ReadError → Type 0
 AnswersRule text us result =
-    Answers (first_fault text us) result (λ rule. ReadsRule text us (option_map rule_view rule))
+    Answers (first_flaw text us) result (λ rule. ReadsRule text us (option_map rule_view rule))
 
 abbrev pub AnswersRules : List ℕ → state.Trees → Result (Vec ParserRule Global) error.ReadError → Type 0
 AnswersRules text us result =
-    Answers (first_fault text us) result (λ rules. ReadsRules text us (rule_views rules.items))
+    Answers (first_flaw text us) result (λ rules. ReadsRules text us (rule_views rules.items))
 
--- what a literal from i to j stands for, by the trees in it, or its fault
+-- what a literal from i to j stands for, by the trees in it, or its flaw
 abbrev pub AnswersLiteral : List ℕ → ℕ → ℕ → state.Trees → Result (String Global) error.ReadError → Type 0
 AnswersLiteral text i j us result =
     Answers (wrong_literal text i j us) result (λ s. chars (string_bytes s) ≡ literal text us)
 
--- the numbers of a postfix operator that counts, by the trees in it, or their first fault
+-- the numbers of a postfix operator that counts, by the trees in it, or their first flaw
 abbrev pub AnswersCount : {N : Type 0} → List ℕ → Text → state.Trees → (N → Unary) → Result N error.ReadError
     → Type 0
-AnswersCount text r us says result = Answers (first_fault text us) result (λ n. Postfix text r us (says n))
+AnswersCount text r us says result = Answers (first_flaw text us) result (λ n. Postfix text r us (says n))
 
 -- the same number, or both past the greatest scalar value
 abbrev pub IsSameNumber : ℕ → ℕ → Type 0
@@ -116,36 +116,38 @@ pub record IsPostfixOf (text : List ℕ) (r : Text) (us : state.Trees) (s : span
   pub says : Postfix text r us operator
   pub round : view x ≡ One s operator (view n)
 
--- what a postfix operator makes of a node, where it stands with the node, or the fault in it
+-- what a postfix operator makes of a node, where it stands with the node, or the flaw in it
 abbrev pub AnswersPostfix : Span → FirstTree Rule → ParserNode → Result ParserNode error.ReadError → Type 0
 AnswersPostfix span operator node result =
     let text = span_text span in
     let us = named_trees_of operator.inner.now in
-    Answers (first_fault text us) result (IsPostfixOf text (name_of operator.rule) us (piece_of span) node)
+    Answers (first_flaw text us) result (IsPostfixOf text (name_of operator.rule) us (piece_of span) node)
 
--- what the postfix operators behind a node make of it, or their first fault
+-- what the postfix operators behind a node make of it, or their first flaw
 abbrev pub AnswersPostfixes : List ℕ → state.Trees → ParserNode → Result ParserNode error.ReadError → Type 0
 AnswersPostfixes text us node result =
-    Answers (first_fault text us) result (λ n. Postfixed text (view node) us (view n))
+    Answers (first_flaw text us) result (λ n. Postfixed text (view node) us (view n))
 
 -- the number that may stand first, and what follows it
 pub data TakesNumber (text : List ℕ) : state.Trees → Option ℤ → state.Trees → Type 0 where
-  a_number : {i j : ℕ} {us : state.Trees}
-      → TakesNumber text (Mark (codes "integer") i j us) (Some (integer text i j)) us
-  the_dots : {i j : ℕ} {us : state.Trees}
-      → TakesNumber text (Mark (codes "range_operator") i j us) None (Mark (codes "range_operator") i j us)
-  the_end : {i j : ℕ} → TakesNumber text (Mark (codes "closing_brack") i j state.None') None
-      (Mark (codes "closing_brack") i j state.None')
+  a_number : {from to : ℕ} {us : state.Trees}
+      → TakesNumber text (Mark (codes "integer") from to us) (Some (integer text from to)) us
+  the_dots : {from to : ℕ} {us : state.Trees}
+      → TakesNumber text (Mark (codes "range_operator") from to us) None
+      (Mark (codes "range_operator") from to us)
+  the_end : {from to : ℕ}
+      → TakesNumber text (Mark (codes "closing_brack") from to state.None') None
+      (Mark (codes "closing_brack") from to state.None')
 
--- the same of an answer: the first fault is the number's, or that of what follows
+-- the same of an answer: the first flaw is the number's, or that of what follows
 pub record TakesBound (text : List ℕ) (us : state.Trees) (n : Option ℤ) (rest : state.Trees) : Type 0 where
   pub takes : TakesNumber text us n rest
-  pub faults : first_fault text us ≡ first_fault text rest
+  pub flaws : first_flaw text us ≡ first_flaw text rest
 
 abbrev pub AnswersBound : List ℕ → state.Trees
     → Result (Option ℤ × Bor (List (TokenTree Rule))) error.ReadError → Type 0
 AnswersBound text us result =
-    MatchResult result (λ x. TakesBound text us x.0 (named_trees_of x.1.now)) (IsFirst (first_fault text us))
+    MatchResult result (λ x. TakesBound text us x.0 (named_trees_of x.1.now)) (IsFirst (first_flaw text us))
 
 -- how many trees there are, with the ends of their lists
 abbrev pub count_of : state.Trees → ℕ
@@ -157,43 +159,44 @@ pub record IsBehindBar (text : List ℕ) (us vs : state.Trees) : Type 0 where
   pub shape : IsChain text vs
   pub nested : StandIn text us → StandIn text vs
   pub reads : (x : Spanned) → Reads text Alternatives vs x → Reads text AnExpression us x
-  pub faults : first_fault text us ≡ first_fault text vs
+  pub flaws : first_flaw text us ≡ first_flaw text vs
   pub shorter : count_of vs ≤ count_of us
 
 -- behind a sequence: nothing, or a bar and a chain
 pub data IsRest (text : List ℕ) : state.Trees → Type 0 where
   at_end : IsRest text state.None'
-  at_bar : {i j : ℕ} {us : state.Trees} → IsChain text us
-      → IsRest text (Mark (codes "choice_operator") i j us)
+  at_bar : {from to : ℕ} {us : state.Trees} → IsChain text us
+      → IsRest text (Mark (codes "choice_operator") from to us)
 
 -- a tilde, a term and more
 pub data TakesTerm (text : List ℕ) : state.Trees → state.Trees → state.Trees → Type 0 where
-  takes_term : {i j k l : ℕ} {inner us : state.Trees} → IsTerm text inner → IsMore text us
-      → TakesTerm text (Mark (codes "sequence_operator") i j
-      (state.Tree (codes "term") k l inner us)) inner us
+  takes_term : {tilde_at tilde_to term_at term_to : ℕ} {inner us : state.Trees} → IsTerm text inner
+      → IsMore text us
+      → TakesTerm text (Mark (codes "sequence_operator") tilde_at tilde_to
+      (state.Tree (codes "term") term_at term_to inner us)) inner us
 
 -- a front of the trees is read as a sequence, and the rest is left
 pub record ReadsFront (text : List ℕ) (us : state.Trees) (n : ParserNode) (rest : state.Trees) : Type 0 where
   pub front : state.Trees
   pub split : us ≡ joined front rest
   pub reads : Reads text ASequence front (view n)
-  pub faults : first_fault text us ≡ first_fault text rest
+  pub flaws : first_flaw text us ≡ first_flaw text rest
   pub shape : IsRest text rest
   pub shorter : count_of rest < count_of us
 
 abbrev pub AnswersFront : List ℕ → state.Trees
     → Result (ParserNode × Bor (List (TokenTree Rule))) error.ReadError → Type 0
 AnswersFront text us result =
-    MatchResult result (λ x. ReadsFront text us x.0 (named_trees_of x.1.now)) (IsFirst (first_fault text us))
+    MatchResult result (λ x. ReadsFront text us x.0 (named_trees_of x.1.now)) (IsFirst (first_flaw text us))
 
 -- where a rule's modifier may stand: it does, or the opening brace follows at once
 pub data MayBeModifier : state.Trees → Type 0 where
-  a_modifier : {r : Text} {i j : ℕ} {us : state.Trees} → IsModifier r → MayBeModifier (Mark r i j us)
-  the_brace : {i j : ℕ} {us : state.Trees} → MayBeModifier (Mark (codes "opening_brace") i j us)
+  a_modifier : {r : Text} {from to : ℕ} {us : state.Trees} → IsModifier r → MayBeModifier (Mark r from to us)
+  the_brace : {from to : ℕ} {us : state.Trees} → MayBeModifier (Mark (codes "opening_brace") from to us)
 
 -- the type that a modifier gives, and what follows it
 pub data TakesModifier : state.Trees → meaning.RuleType → state.Trees → Type 0 where
-  a_type : {r : Text} {t : meaning.RuleType} {i j : ℕ} {us : state.Trees} → Modifies r t
-      → TakesModifier (Mark r i j us) t us
-  no_type : {i j : ℕ} {us : state.Trees} → TakesModifier (Mark (codes "opening_brace") i j us) meaning.Normal
-      (Mark (codes "opening_brace") i j us)
+  a_type : {r : Text} {t : meaning.RuleType} {from to : ℕ} {us : state.Trees} → Modifies r t
+      → TakesModifier (Mark r from to us) t us
+  no_type : {from to : ℕ} {us : state.Trees} → TakesModifier (Mark (codes "opening_brace") from to us)
+      meaning.Normal (Mark (codes "opening_brace") from to us)

@@ -1,4 +1,4 @@
-// Laws over the definitions alone.
+//! Laws over the definitions alone.
 ghost use Rattle.meta_reader.specs.Laws.{ReadsOneExpression, ReadsOneGrammar, ReadsReadableCounts};
 
 /// Trees are read as one expression at most.
@@ -11,7 +11,7 @@ pub fn reads_one_grammar()
     ensures { ReadsOneGrammar }
 {}
 
-/// What is read from trees without a fault has readable counts: nothing is repeated 0 times at most.
+/// What is read from trees without a flaw has readable counts: nothing is repeated 0 times at most.
 pub fn reads_readable_counts()
     ensures { ReadsReadableCounts }
 {}

@@ -1,4 +1,4 @@
-// From the trees of a grammar's text to its rules.
+//! From the trees of a grammar's text to its rules.
 #![tactic(auto)]
 
 pub mod laws;

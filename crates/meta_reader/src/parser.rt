@@ -1,15 +1,15 @@
-// From the trees of a grammar's text to its rules.
+//! From the trees of a grammar's text to its rules.
 ghost use Rattle.std.specs.Prelude.{◌≡◌, IfErr, IfOk, MatchResult, OnOk};
 ghost use Rattle.meta_base.specs.Pieces.Pairs.{pairs_text};
 ghost use Rattle.meta_base.specs.Pieces.NamedTrees.{named_trees_of};
 ghost use Rattle.meta_syntax.specs.Parses.{AreOfAGrammar, AreSpelled, ParseRefuses};
-ghost use Rattle.meta_reader.specs.Refusals.{AreReadAs, IsRefusal, first_fault_of};
+ghost use Rattle.meta_reader.specs.Refusals.{AreReadAs, IsRefusal, first_flaw_of};
 ghost use Rattle.meta_reader.specs.Pieces.{StandIn};
 ghost use Rattle.meta_syntax.specs.Shape.{IsGrammar, IsRule};
 ghost use Rattle.meta_reader.specs.Views.{AnswersRule, AnswersRules, MayBeModifier, TakesModifier};
 ghost use Rattle.meta_nodes.specs.Nodes.{rule_views, type_of};
 
-mod faults;
+mod flaws;
 mod literal;
 mod operators;
 mod pieces;
@@ -18,7 +18,7 @@ mod shown;
 mod signs;
 mod terminals;
 
-use crate::parser::faults::{ReadError, refusal};
+use crate::parser::flaws::{ReadError, refusal};
 use crate::parser::pieces::{span_of, text_of};
 use crate::parser::reading::expression;
 pub use crate::parser::shown::rename_meta_rule;
@@ -47,7 +47,7 @@ fn modifier(trees: &[TokenTree<Rule>]) -> (RuleType, &[TokenTree<Rule>])
     }
 }
 
-/// A rule, by the trees in it, or its first fault; none for a comment that documents one.
+/// A rule, by the trees in it, or its first flaw; none for a comment that documents one.
 fn rule<'i>(
     alloc: Global,
     text: &'i str,
@@ -76,7 +76,7 @@ fn rule<'i>(
     }))
 }
 
-/// The rules that all trees of a grammar's text spell, in their order, or the first fault in it.
+/// The rules that all trees of a grammar's text spell, in their order, or the first flaw in it.
 /// `trees` are those of a parse of `text` by `grammar_rules`; places count bytes.
 fn rules<'i>(
     alloc: Global,
@@ -114,7 +114,7 @@ pub fn parse<'i>(alloc: Global, rule: Rule, text: &'i str) -> Result<Pairs<'i, R
     PestParser::parse(alloc, rule, text)
 }
 
-/// The rules that the pairs of a grammar's text spell, in their order, or its first fault. `pairs`
+/// The rules that the pairs of a grammar's text spell, in their order, or its first flaw. `pairs`
 /// are all those of a parse of a text by `grammar_rules`. All places count bytes of that text.
 ///
 /// A choice splits at its last `|` and a sequence at its last `~`, which binds tighter. The postfix
@@ -128,8 +128,8 @@ pub fn parse<'i>(alloc: Global, rule: Rule, text: &'i str) -> Result<Pairs<'i, R
 /// are written, and end where their operand does. An expression in parentheses ends with the second
 /// of them; and with all postfix operators behind them it begins with the first.
 ///
-/// The fault of the text is the first in it, reading from left to right and a tree before those in
-/// it. It holds one error with a message of its own, at the span of the piece that is wrong:
+/// The first flaw of a text is told, reading from left to right and a tree before those in it: the
+/// fault holds one error with a message of its own, at the span of the piece that is wrong:
 /// - `PUSH_LITERAL requires feature grammar-extras`, at the call;
 /// - `escape is not a Unicode scalar value`, at the whole literal: an escape names no character;
 /// - `number cannot overflow i32`, at a number of a slice;
@@ -143,8 +143,8 @@ pub fn consume_rules_with_spans<'i>(
 ) -> Result<Vec<ParserRule<'i>>, Fault>
     requires { AreOfAGrammar pairs }
     ensures rules { IfOk result (λ rules. AreReadAs pairs.entry (rule_views rules.items)) }
-    ensures faultless { OnOk result (first_fault_of pairs.entry ≡ None) }
-    ensures refused { IfErr result (IsRefusal (first_fault_of pairs.entry)) }
+    ensures flawless { OnOk result (first_flaw_of pairs.entry ≡ None) }
+    ensures refused { IfErr result (IsRefusal (first_flaw_of pairs.entry)) }
 {
     trees_of_a_grammar_have_their_shape();
     match rules(alloc, pairs.get_input(), pairs.trees()) {

@@ -1,4 +1,4 @@
-// The bodies of rules, each with its rule's name.
+//! The bodies of rules, each with its rule's name.
 ghost use Rattle.std.specs.Prelude.{map, IfOk};
 ghost use Rattle.meta_base.specs.Language.Expression.{Grammar};
 ghost use Rattle.meta_ast.specs.Optimized.{optimized_rules_of};

@@ -1,4 +1,4 @@
-// What an expression does to the stack by itself, and which rules it calls.
+//! What an expression does to the stack by itself, and which rules it calls.
 ghost use Rattle.std.specs.Prelude.{◌≡◌, ◌||◌, Bool, List, OnOk};
 ghost use Rattle.meta_ast.specs.Ast.{text_of};
 ghost use Rattle.meta_ast.specs.Optimized.{optimized_expression_of};

@@ -1,4 +1,4 @@
-// Which rules change the stack, by name.
+//! Which rules change the stack, by name.
 ghost use Rattle.std.specs.Prelude.{◌≡◌, IfOk, map};
 ghost use Rattle.meta_ast.specs.Ast.{text_of};
 ghost use Rattle.meta_restorer.specs.Bodies.{said_by, grammar_with};

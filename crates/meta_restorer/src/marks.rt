@@ -1,6 +1,6 @@
-// Which rules change the stack: rounds over all rules that mark what follows from the marks, until a round
-// marks nothing. A rule that is marked at once tells those that call it, so that the second round marks
-// nothing.
+//! Which rules change the stack: rounds over all rules that mark what follows from the marks, until a round
+//! marks nothing. A rule that is marked at once tells those that call it, so that the second round marks
+//! nothing.
 ghost use Rattle.std.specs.Prelude.{◌≡◌, ◌<◌, ◌≤◌, ◌+◌, IfOk, OnOk, true, false};
 ghost use Rattle.meta_restorer.specs.Calls.{unset, AreSound, AreClosed, IsClosedAt};
 

@@ -1,4 +1,4 @@
-// Names, resolved to the numbers of rules.
+//! Names, resolved to the numbers of rules.
 ghost use Rattle.std.specs.Prelude.{◌≡◌, IfOk, map};
 ghost use Rattle.std.specs.Str.{IsAscii};
 ghost use Rattle.std.specs.Prelude.{bytes_eq};

@@ -1,4 +1,4 @@
-// An expression with wrappers round what changes the stack.
+//! An expression with wrappers round what changes the stack.
 ghost use Rattle.std.specs.Prelude.{◌≡◌, IfOk};
 ghost use Rattle.meta_restorer.specs.Sides.{IsTold, IsNoPair};
 ghost use Rattle.meta_restorer.specs.Changing.{restored_by};

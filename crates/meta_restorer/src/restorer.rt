@@ -22,8 +22,8 @@ use std::alloc::{AllocError, Global};
 use std::collections::HashMap;
 
 /// Whether an expression changes the stack: a `PUSH`, `POP` or `DROP` is met in it, not below a wrapper, or
-/// in the body of a rule that is named there. `rules` holds the body of each rule at its name. `POP_ALL`
-/// does not count. Refused where memory is.
+/// in the body of a rule that is named there. `rules` holds the body of each rule at its name. `POP_ALL` does
+/// not count. The only fault is a want of memory.
 pub fn child_modifies_state(
     alloc: Global,
     expr: &OptimizedExpr,
@@ -44,8 +44,8 @@ pub fn child_modifies_state(
 
 /// The rule with wrappers: from the inside out, each operand of `?` and `*` and both sides of each `|` are
 /// wrapped where they change the stack as they then stand. `rules` holds the body of each rule at its name,
-/// as it was before any was restored. Name and type stay, and so does what stands below a wrapper. Refused
-/// where memory is.
+/// as it was before any was restored. Name and type stay, and so does what stands below a wrapper. The only
+/// fault is a want of memory.
 pub fn restore_on_err(
     alloc: Global,
     rule: OptimizedRule,
@@ -70,7 +70,7 @@ pub fn restore_on_err(
 }
 
 /// All rules with wrappers, as `restore_on_err` puts them: which rules change the stack is found out once,
-/// over the rules as they are handed in. Names, types and order stay. Refused where memory is.
+/// over the rules as they are handed in. Names, types and order stay. The only fault is a want of memory.
 pub fn restore_rules(alloc: Global, rules: Vec<OptimizedRule>) -> Result<Vec<OptimizedRule>, Fault>
     ensures restores { IfOk result (λ answer. HaveNoWrappers (optimized_rules_of rules.items)
         → EachRestored (optimized_rules_of rules.items) (optimized_rules_of answer.items)) }

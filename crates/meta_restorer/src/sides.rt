@@ -1,4 +1,4 @@
-// Expressions as they are restored, and the left sides that a walk along right sides leaves behind.
+//! Expressions as they are restored, and the left sides that a walk along right sides leaves behind.
 ghost use Rattle.std.specs.Prelude.{◌≡◌, IfOk};
 ghost use Rattle.meta_restorer.specs.Sides.{IsTold, AreTold, left_of, put_behind, beside};
 ghost use Rattle.meta_restorer.specs.Changing.{wrapped_by};

@@ -1,6 +1,8 @@
 //! The calls that rows name.
 use crate::passes::Pass;
-use crate::{front, judged, made, names, passes, places, reading, syntax, values};
+use crate::{
+    again, front, judged, made, names, passes, places, reading, restoring, syntax, values, walks,
+};
 use meta_base::runtime::Fault;
 use std::alloc::Global;
 
@@ -21,6 +23,8 @@ pub enum Call {
     Erased,
     Found,
     Questions,
+    Stacked,
+    RuleNumber,
     Rules,
     Copies,
     Ranges,
@@ -28,6 +32,14 @@ pub enum Call {
     Runs,
     Wrappers,
     Counts,
+    Restored,
+    Changes,
+    Items,
+    OptimizedItems,
+    Mapped,
+    OptimizedMapped,
+    Refusing,
+    Again,
     Optimized,
     Answer,
     Report,
@@ -35,7 +47,7 @@ pub enum Call {
     After(Pass),
 }
 
-static CALLS: [(&str, Call); 31] = [
+static CALLS: [(&str, Call); 41] = [
     ("pairs", Call::Pairs),
     ("entries", Call::Entries),
     ("flattened", Call::Flattened),
@@ -50,6 +62,8 @@ static CALLS: [(&str, Call); 31] = [
     ("erased", Call::Erased),
     ("found", Call::Found),
     ("questions", Call::Questions),
+    ("stacked", Call::Stacked),
+    ("rule-number", Call::RuleNumber),
     ("rules", Call::Rules),
     ("copies", Call::Copies),
     ("ranges", Call::Ranges),
@@ -57,6 +71,14 @@ static CALLS: [(&str, Call); 31] = [
     ("runs", Call::Runs),
     ("wrappers", Call::Wrappers),
     ("counts", Call::Counts),
+    ("restored", Call::Restored),
+    ("changes", Call::Changes),
+    ("items", Call::Items),
+    ("optimized-items", Call::OptimizedItems),
+    ("mapped", Call::Mapped),
+    ("optimized-mapped", Call::OptimizedMapped),
+    ("refusing", Call::Refusing),
+    ("again", Call::Again),
     ("optimize", Call::Optimized),
     ("answer", Call::Answer),
     ("report", Call::Report),
@@ -96,6 +118,8 @@ pub fn answered(alloc: Global, call: Call, argument: &str, text: &str) -> Result
         Call::Erased => reading::erased(alloc, text),
         Call::Found => judged::found(alloc, text),
         Call::Questions => judged::questions(alloc, text),
+        Call::Stacked => judged::stacked(alloc, text),
+        Call::RuleNumber => judged::rule_number(alloc, argument, text),
         Call::Rules => front::rules(alloc, text),
         Call::Copies => values::copies(alloc, text),
         Call::Ranges => made::ranges(alloc, text),
@@ -103,6 +127,14 @@ pub fn answered(alloc: Global, call: Call, argument: &str, text: &str) -> Result
         Call::Runs => made::runs(alloc, text),
         Call::Wrappers => made::wrappers(alloc, text),
         Call::Counts => made::counts(alloc, text),
+        Call::Restored => restoring::restored(alloc, text),
+        Call::Changes => restoring::changes(alloc, text),
+        Call::Items => walks::items(alloc, text),
+        Call::OptimizedItems => walks::optimized_items(alloc, text),
+        Call::Mapped => walks::mapped(alloc, text),
+        Call::OptimizedMapped => walks::optimized_mapped(alloc, text),
+        Call::Refusing => walks::refusing(alloc, argument, text),
+        Call::Again => again::again(alloc, text),
         Call::Optimized => passes::optimized(alloc, text),
         Call::Answer => front::answer(alloc, text),
         Call::Report => front::report(alloc, text),

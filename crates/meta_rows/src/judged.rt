@@ -1,20 +1,46 @@
 //! What is found wrong in rules.
 use crate::reading::rules_of;
 use crate::refusals::write_errors;
-use meta_base::runtime::Fault;
-use meta_validator::validator::{is_non_failing, is_non_progressing, validate_ast};
-use std::alloc::Global;
+use meta_base::grammar::Rule;
+use meta_base::runtime::{Error, Fault};
+use meta_stack::{ast, validate_stack_repetition};
+use pest_meta::validator::{is_non_failing, is_non_progressing, validate_ast};
+use std::alloc::{AllocError, Global};
+
+/// What is said of errors, or that there are none.
+fn said(alloc: Global, errors: &[Error<Rule>]) -> Result<String, AllocError> {
+    let mut out = String::new(alloc);
+    if errors.is_empty() {
+        out.push_str("nothing")?;
+    }
+    write_errors(&mut out, errors)?;
+    Ok(out)
+}
 
 /// What is found in the rules of a text.
 pub fn found(alloc: Global, text: &str) -> Result<String, Fault> {
     let rules = rules_of(alloc, text)?;
     let errors = validate_ast(alloc, &rules)?;
-    let mut out = String::new(alloc);
-    if errors.is_empty() {
-        out.push_str("nothing")?;
+    Ok(said(alloc, &errors)?)
+}
+
+/// What the stack pass alone finds in the rules of a text.
+pub fn stacked(alloc: Global, text: &str) -> Result<String, Fault> {
+    let rules = rules_of(alloc, text)?;
+    let errors = validate_stack_repetition(alloc, &rules)?;
+    Ok(said(alloc, &errors)?)
+}
+
+/// The place of the last of some names that is equal to this one.
+pub fn rule_number(alloc: Global, name: &str, words: &str) -> Result<String, Fault> {
+    let mut names = Vec::new(alloc);
+    for word in words.split_whitespace() {
+        names.push(word)?;
     }
-    write_errors(&mut out, &errors)?;
-    Ok(out)
+    match ast::rule_number(&names, name) {
+        Some(place) => Ok(format!(in alloc; "{place}")?),
+        None => Ok(String::from_str(alloc, "none")?),
+    }
 }
 
 /// Of each body whether it may take nothing, and whether it cannot fail.

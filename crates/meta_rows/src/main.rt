@@ -5,6 +5,7 @@
 //! below a row what the call answers, four blanks further in. So what is printed can be read alone.
 #![tactic(auto)]
 
+mod again;
 mod calls;
 mod front;
 mod judged;
@@ -14,9 +15,11 @@ mod passes;
 mod places;
 mod reading;
 mod refusals;
+mod restoring;
 mod row;
 mod syntax;
 mod values;
+mod walks;
 
 use std::io;
 

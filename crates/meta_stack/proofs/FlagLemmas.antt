@@ -1,14 +1,17 @@
 -- Flags that are set.
-use Rattle.std.proofs.Common.{◌≡◌, ℕ, zero, suc, ◌<◌, ◌⊎◌, inl, inr, List, [], ◌∷◌, Option, Some, None, Bool, true, false, ◌&&◌, ◌||◌, slice_get, length, refl, sym, ◌∙◌, ap, subst, arith}
+use Rattle.std.proofs.Common.{◌≡◌, ℕ, zero, suc, ◌<◌, ◌⊎◌, inl, inr, List, [], ◌∷◌, Option, Some, None, Bool, true, false, ◌&&◌, ◌||◌, nat_eq, slice_get, length, refl, sym, ◌∙◌, ap, subst, arith}
 use Rattle.std.proofs.Math.ListN.{set}
-use Rattle.meta_stack.specs.Answers.{at_place, null_kind, changing_kind, answer, Holds, holds, AreSound, AreClosed, AreAnswers}
+use Rattle.meta_stack.specs.Answers.{at_place, null_kind, changing_kind, some_part, leading, answer, Holds, holds, AreSound, AreClosed, AreAnswers}
 use Rattle.meta_stack.specs.Flags.{is_set_at}
 use Rattle.meta_stack.specs.Reaching.{unset}
+use Rattle.meta_stack.specs.Table.{called_by, parts_of}
 use Rattle.meta_stack.specs.declared.facts.Question.{Question}
 use Rattle.meta_stack.specs.declared.facts.Question.TheVariants as asks
 use Rattle.meta_stack.specs.declared.table.Kind.{Kind}
 use Rattle.meta_stack.specs.declared.table.Kind.TheVariants as is
 use Rattle.meta_stack.specs.declared.table.Node.{Node}
+use Rattle.meta_stack.specs.declared.table.Parts.{Parts}
+use Rattle.meta_stack.specs.declared.table.Parts.TheVariants as parts
 
 pub unset_fewer : (bs : List Bool) (i : ℕ) → i < length bs → is_set_at bs i ≡ false → unset bs ≡ suc (unset (set bs i true))
 unset_fewer [] i h e = absurd (omega arith)
@@ -82,10 +85,20 @@ module _ (roots : List ℕ) (p r : ℕ → Bool) (f : (j : ℕ) → p j ≡ true
   changing_more (is.PosPred j) h = h
   changing_more (is.NegPred j) h = h
 
+  part_more : (ps : Parts) → some_part p ps ≡ true → some_part r ps ≡ true
+  part_more parts.Nothing h = h
+  part_more (parts.Inside j required optional endless) h = f j h
+  part_more (parts.Both j k choice) h = or_more (p j) (p k) (r j) (r k) (f j) (f k) h
+
+  leading_more : (s : ℕ) (o : Option ℕ) (ps : Parts) → leading roots p s o ps ≡ true → leading roots r s o ps ≡ true
+  leading_more s None ps h = part_more ps h
+  leading_more s (Some q) ps h = or_more (nat_eq q s) (at_place p (slice_get roots q)) (nat_eq q s) (at_place r (slice_get roots q)) (λ e. e) (place_more p r f (slice_get roots q)) h
+
   -- more flags give more answers
   pub answer_more : (q : Question) (n : Node) → answer q roots p n ≡ true → answer q roots r n ≡ true
   answer_more asks.TakesNothing n h = or_more n.free (null_kind roots p n.kind) n.free (null_kind roots r n.kind) (λ e. e) (null_more n.kind) h
   answer_more asks.ChangesStack n h = changing_more n.kind h
+  answer_more (asks.LeadsTo s) n h = leading_more s (called_by n.kind) (parts_of n.kind) h
 
 -- what holds is marked, where the flags are closed
 held : (q : Question) (ns : List Node) (roots : List ℕ) (flags : List Bool) → AreClosed q ns roots flags → {i : ℕ} → Holds q ns roots i → is_set_at flags i ≡ true

@@ -17,7 +17,10 @@ pub mod Answering
 pub mod Whole
 pub mod FlagLemmas
 pub mod Least
-pub mod Flat
+pub mod LeadingLemmas
+pub mod RankLemmas
+pub mod Ordered
+pub mod Reached
 pub mod Tabled
 pub mod LastNames
 pub mod Telling

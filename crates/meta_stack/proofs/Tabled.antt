@@ -1,36 +1,39 @@
 -- The table of rules is as it should be.
-use Rattle.std.proofs.Common.{◌≡◌, ℕ, List, Bool, true, false, ◌&&◌, not, ◌⊎◌, inl, inr, refl, sym, ◌∙◌, subst}
+use Rattle.std.proofs.Common.{◌≡◌, ℕ, List, Bool, true, false, ◌&&◌, not, ◌⊎◌, inl, inr, refl}
 use Rattle.meta_base.specs.Language.Expression.{whitespace, comment}
 use Rattle.meta_nodes.specs.declared.node.ParserRule.{ParserRule}
 use Rattle.meta_stacks.specs.Reports.{SkippingChangesStack, skips_in}
 use Rattle.meta_stack.specs.Answers.{AreSound, AreClosed}
-use Rattle.meta_stack.specs.Certain.{IsFlat, IsTableOf}
+use Rattle.meta_stack.specs.Certain.{IsTableOf}
 use Rattle.meta_stack.specs.Expressions.{name_flag}
+use Rattle.meta_stack.specs.Leading.{AreCalls}
 use Rattle.meta_stack.specs.Names.{grammar_of, kind_in}
 use Rattle.meta_stack.specs.Numbering.{AreTabled}
-use Rattle.meta_stack.specs.Table.{IsOrdered, nodes_of}
+use Rattle.meta_stack.specs.Table.{nodes_of}
 use Rattle.meta_stack.specs.declared.facts.Question.TheVariants as asks
 use Rattle.meta_stack.specs.declared.table.Node.{Node}
 use Rattle.meta_stack.specs.declared.table.Table.{Table}
 use Rattle.meta_stack.proofs.Answering as answering
-use Rattle.meta_stack.proofs.Flat.{bodies_inside, flat_ordered}
 use Rattle.meta_stack.proofs.FlagLemmas.{sound_answers}
 use Rattle.meta_stack.proofs.Least as least
+use Rattle.meta_stack.proofs.Ordered.{bodies_inside, in_order}
 
--- all that is known of a table besides the order of its nodes
-pub record IsUnordered (rules : List ParserRule) (t : Table) : Type 0 where
+-- what is found out of a table
+pub record IsFound (rules : List ParserRule) (t : Table) : Type 0 where
   pub tabled : AreTabled rules (kind_in (grammar_of rules)) (nodes_of t) t.roots.items
   pub skips : t.skips ≡ skips_in (grammar_of rules)
   pub sound : AreSound asks.TakesNothing (nodes_of t) t.roots.items t.nullable.items
   pub closed : AreClosed asks.TakesNothing (nodes_of t) t.roots.items t.nullable.items
+  pub calls : AreCalls (nodes_of t) t.roots.items t.recursive.items t.ranks.items
   pub calm : SkippingChangesStack (grammar_of rules) → ⊥
   pub limit : t.limit ≡ 3067
   pub turns : t.turns ≡ 64
 
-pub in_order : (rules : List ParserRule) (t : Table) → IsUnordered rules t → IsOrdered t → IsTableOf rules t
-in_order rules t h o = record {
+pub as_it_should : (rules : List ParserRule) (t : Table) → IsFound rules t → IsTableOf rules t
+as_it_should rules t h = record {
   tabled = h.tabled;
-  ordered = o;
+  ordered = in_order rules t h.tabled h.calls.ranked;
+  exact = h.calls.exact;
   inside = bodies_inside rules (kind_in (grammar_of rules)) t h.tabled;
   skips = h.skips;
   sound = h.sound;
@@ -39,23 +42,6 @@ in_order rules t h o = record {
   limit = h.limit;
   turns = h.turns;
 }
-
--- so is the one in which no call is followed
-pub when_flat : (rules : List ParserRule) (t flat : Table) → IsUnordered rules t → IsFlat t flat → IsTableOf rules flat
-when_flat rules t flat h f =
-    let tabled = subst (λ z. AreTabled rules (kind_in (grammar_of rules)) (nodes_of flat) z) (sym f.roots)
-    (subst (λ z. AreTabled rules (kind_in (grammar_of rules)) z t.roots.items) (sym f.nodes) h.tabled) in
-    in_order rules flat (record {
-      tabled = tabled;
-      skips = f.skips ∙ h.skips;
-      sound = subst (λ z. AreSound asks.TakesNothing (nodes_of flat) flat.roots.items z) (sym f.nullable)
-          (subst (λ z. AreSound asks.TakesNothing (nodes_of flat) z t.nullable.items) (sym f.roots) (subst (λ z. AreSound asks.TakesNothing z t.roots.items t.nullable.items) (sym f.nodes) h.sound));
-      closed = subst (λ z. AreClosed asks.TakesNothing (nodes_of flat) flat.roots.items z) (sym f.nullable)
-          (subst (λ z. AreClosed asks.TakesNothing (nodes_of flat) z t.nullable.items) (sym f.roots) (subst (λ z. AreClosed asks.TakesNothing z t.roots.items t.nullable.items) (sym f.nodes) h.closed));
-      calm = h.calm;
-      limit = f.limit ∙ h.limit;
-      turns = f.turns ∙ h.turns;
-    }) (flat_ordered rules t flat tabled f)
 
 both_off : (a b : Bool) → (not a && not b) ≡ true → (a ≡ false) × (b ≡ false)
 both_off false false h = (refl, refl)

@@ -33,7 +33,7 @@ use Rattle.meta_stack.proofs.Builtins.{builtin_does, kind_by}
 use Rattle.meta_stack.proofs.Resolved.{Named, absent, named, resolved, got_like, same_item}
 
 -- 1. parts of expressions that are names
-simple_part : (e : Expression) (c : Text) → IsSimple e → Part e (Ident c) → e ≡ Ident c
+pub simple_part : (e : Expression) (c : Text) → IsSimple e → Part e (Ident c) → e ≡ Ident c
 simple_part (plain.Ident n) c s whole = refl
 simple_part (plain.Str u) c s p = elim p [ ]
 simple_part (plain.Insens u) c s p = elim p [ ]
@@ -54,7 +54,7 @@ simple_part (plain.Skip ts) c s p = absurd s
 simple_part (plain.Push e) c s p = absurd s
 simple_part (plain.RestoreOnErr e) c s p = absurd s
 
-inner_part : (f : Unary) (e : Expression) (c : Text) → Part (round f e) (Ident c) → Part e (Ident c)
+pub inner_part : (f : Unary) (e : Expression) (c : Text) → Part (round f e) (Ident c) → Part e (Ident c)
 inner_part PosPred e c (of_pos_pred p) = p
 inner_part NegPred e c (of_neg_pred p) = p
 inner_part Opt e c (of_opt p) = p
@@ -66,7 +66,7 @@ inner_part (RepMax n) e c (of_rep_max p) = p
 inner_part (RepMinMax m n) e c (of_rep_min_max p) = p
 inner_part Push e c (of_push p) = p
 
-side_part : (f : Binary) (d e : Expression) (c : Text) → Part (between f d e) (Ident c) → Part d (Ident c) ⊎ Part e (Ident c)
+pub side_part : (f : Binary) (d e : Expression) (c : Text) → Part (between f d e) (Ident c) → Part d (Ident c) ⊎ Part e (Ident c)
 side_part Seq d e c (of_seq_left p) = inl p
 side_part Seq d e c (of_seq_right p) = inr p
 side_part Choice d e c (of_choice_left p) = inl p
@@ -154,7 +154,7 @@ name_parts : (n : Text) (q : Option ℕ) → parts_of (name_kind n q) ≡ parts.
 name_parts n None = ap parts_of (builtin_does n) ∙ by_parts (builtin_of n)
 name_parts n (Some r) = refl
 
-leaf_parts : (g : Grammar) (e : Expression) → IsSimple e → parts_of (leaf_kind (kind_in g) e) ≡ parts.Nothing
+pub leaf_parts : (g : Grammar) (e : Expression) → IsSimple e → parts_of (leaf_kind (kind_in g) e) ≡ parts.Nothing
 leaf_parts g (plain.Str t) s = text_parts t
 leaf_parts g (plain.Insens t) s = text_parts t
 leaf_parts g (plain.Ident n) s = name_parts n (last_place g n)

@@ -26,6 +26,7 @@ use Rattle.meta_stack.specs.declared.memory.Memory.{Memory}
 use Rattle.meta_stack.specs.declared.table.Table.{Table}
 use Rattle.meta_stack.proofs.Answering as answering
 use Rattle.meta_stack.proofs.Least.{may_stay_null}
+use Rattle.meta_stack.proofs.Reached.{flagged_reaches}
 use Rattle.meta_stack.proofs.Reporting.{told_otherwise}
 use Rattle.meta_stack.proofs.Tied as tied
 
@@ -147,6 +148,7 @@ module _ (rules : List ParserRule) (t : Table) (h : IsTableOf rules t) where
     silent = λ s. absurd (h.calm s);
     plain = λ n. record {
       recursive = is_flagged (grammar_of rules) t.recursive.items;
+      reaches_itself = flagged_reaches rules t h;
       nullable = nullable;
       knows = λ x. (
         may_stay_null rules (nodes_of t) t.roots.items h.tabled t.nullable.items h.sound (without_spans x),

@@ -1,12 +1,15 @@
 -- What is asked of all nodes, and answered by the answers for their operands.
-use Rattle.std.specs.Prelude.{◌≡◌, ℕ, List, Option, Some, None, Bool, true, false, ◌&&◌, ◌||◌, slice_get, length}
+use Rattle.std.specs.Prelude.{◌≡◌, ℕ, List, Option, Some, None, Bool, true, false, ◌&&◌, ◌||◌, slice_get, length, nat_eq, ⊤}
 use Rattle.meta_base.specs.Language.Expression.{Expression, Grammar}
 use Rattle.meta_base.specs.Language.WellFormed.{IsNullable}
 use Rattle.meta_stacks.specs.Reports.{ChangesStack}
 use Rattle.meta_stack.specs.Flags.{is_set_at}
+use Rattle.meta_stack.specs.Table.{called_by, parts_of}
 use Rattle.meta_stack.specs.declared.table.Kind.{Kind}
 use Rattle.meta_stack.specs.declared.table.Kind.TheVariants as is
 use Rattle.meta_stack.specs.declared.table.Node.{Node}
+use Rattle.meta_stack.specs.declared.table.Parts.{Parts}
+use Rattle.meta_stack.specs.declared.table.Parts.TheVariants as parts
 use Rattle.meta_stack.specs.declared.facts.Question.{Question}
 use Rattle.meta_stack.specs.declared.facts.Question.TheVariants as asks
 
@@ -50,10 +53,22 @@ changing_kind roots p is.PeekAll = false
 changing_kind roots p (is.PosPred j) = false
 changing_kind roots p (is.NegPred j) = false
 
+-- some operand is
+abbrev pub some_part : (ℕ → Bool) → Parts → Bool
+some_part p parts.Nothing = false
+some_part p (parts.Inside j required optional endless) = p j
+some_part p (parts.Both j k choice) = p j || p k
+
+-- it calls a rule, or leads to a call of it by the body that it calls or by its operands
+abbrev pub leading : List ℕ → (ℕ → Bool) → ℕ → Option ℕ → Parts → Bool
+leading roots p r (Some s) ps = nat_eq s r || at_place p (slice_get roots s)
+leading roots p r None ps = some_part p ps
+
 -- the answer for a node
 abbrev pub answer : Question → List ℕ → (ℕ → Bool) → Node → Bool
 answer asks.TakesNothing roots p n = n.free || null_kind roots p n.kind
 answer asks.ChangesStack roots p n = changing_kind roots p n.kind
+answer (asks.LeadsTo r) roots p n = leading roots p r (called_by n.kind) (parts_of n.kind)
 
 -- each flag is the answer for its node, by the flags of others
 abbrev pub AreAnswers : Question → List Node → List ℕ → List Bool → Type 0
@@ -78,7 +93,8 @@ IsClosedAt q ns roots flags i = (n : Node) → slice_get ns i ≡ Some n
 abbrev pub AreClosed : Question → List Node → List ℕ → List Bool → Type 0
 AreClosed q ns roots flags = (i : ℕ) → IsClosedAt q ns roots flags i
 
--- what a question asks of an expression
+-- what a question asks of an expression; where nodes lead is said of numbers alone
 abbrev pub Asked : Question → Grammar → Expression → Type 0
 Asked asks.TakesNothing g e = IsNullable g e
 Asked asks.ChangesStack g e = ChangesStack g e
+Asked (asks.LeadsTo r) g e = ⊤

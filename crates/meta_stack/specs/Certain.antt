@@ -1,5 +1,5 @@
 -- What is promised of the reports.
-use Rattle.std.specs.Prelude.{◌≡◌, ◌↔◌, ℕ, ◌+◌, List, [], Some, Bool, true, false, slice_get, map, length, replicate, codes, IsPermutation}
+use Rattle.std.specs.Prelude.{◌≡◌, ◌↔◌, ℕ, ◌+◌, List, [], Some, Bool, true, false, slice_get, map, codes, IsPermutation}
 use Rattle.std.specs.Ordering.{is_lt, ordering_then, nat_cmp}
 use Rattle.meta_base.specs.Pieces.Saying.{Complaint, Tell}
 use Rattle.meta_base.specs.declared.grammar.Rule.{Rule}
@@ -9,10 +9,13 @@ use Rattle.meta_base.specs.Language.WellFormed.{IsNullable}
 use Rattle.meta_nodes.specs.Erasure.{rules_without_spans, without_spans}
 use Rattle.meta_nodes.specs.Spanned.{Span, Spanned, SpannedRule}
 use Rattle.meta_nodes.specs.declared.node.ParserRule.{ParserRule}
+use Rattle.meta_stacks.specs.Recursion.{Reaches}
 use Rattle.meta_stacks.specs.Reported.{IsCertainAt, ReportedFrom}
 use Rattle.meta_stacks.specs.Reports.{SkippingChangesStack, skips_in}
 use Rattle.meta_stacks.specs.Stack.{In}
 use Rattle.meta_stack.specs.Answers.{AreAnswers, AreSound}
+use Rattle.meta_stack.specs.Flags.{is_set_at}
+use Rattle.meta_stack.specs.Leading.{LeadsBack}
 use Rattle.meta_stack.specs.Names.{grammar_of, kind_in}
 use Rattle.meta_stack.specs.Numbering.{AreTabled}
 use Rattle.meta_stack.specs.Table.{AreInside, IsOrdered, nodes_of}
@@ -47,10 +50,11 @@ pub record IsSorted (found sorted : List Span) : Type 0 where
   pub same : IsPermutation found sorted
   pub rising : IsRising sorted
 
--- what the plain reading reports in the bodies of rules, one body after another; calls of the names that are
--- taken for recursive are not followed
+-- what the plain reading reports in the bodies of rules, one body after another; calls of rules that reach
+-- themselves are not followed
 pub record AreRead (rules : List SpannedRule) (spans : List Span) : Type 0 where
   pub recursive : Text → Bool
+  pub reaches_itself : (n : Text) → (recursive n ≡ true) ↔ Reaches (rules_without_spans rules) n n
   pub nullable : Spanned → Bool
   pub knows : (x : Spanned) → (nullable x ≡ true) ↔ IsNullable (rules_without_spans rules) (without_spans x)
   pub limit : ℕ
@@ -82,6 +86,7 @@ pub record TellReports (rules : List SpannedRule) (errors : List (Error Rule)) :
 pub record IsTableOf (rules : List ParserRule) (t : Table) : Type 0 where
   pub tabled : AreTabled rules (kind_in (grammar_of rules)) (nodes_of t) t.roots.items
   pub ordered : IsOrdered t
+  pub exact : (r : ℕ) → (is_set_at t.recursive.items r ≡ true) ↔ LeadsBack (nodes_of t) t.roots.items r
   pub inside : AreInside t
   pub skips : t.skips ≡ skips_in (grammar_of rules)
   pub sound : AreSound asks.TakesNothing (nodes_of t) t.roots.items t.nullable.items
@@ -89,14 +94,3 @@ pub record IsTableOf (rules : List ParserRule) (t : Table) : Type 0 where
   pub calm : SkippingChangesStack (grammar_of rules) → ⊥
   pub limit : t.limit ≡ 3067
   pub turns : t.turns ≡ 64
-
--- the same table, where no call is followed
-pub record IsFlat (t flat : Table) : Type 0 where
-  pub nodes : nodes_of flat ≡ nodes_of t
-  pub roots : flat.roots.items ≡ t.roots.items
-  pub nullable : flat.nullable.items ≡ t.nullable.items
-  pub skips : flat.skips ≡ t.skips
-  pub limit : flat.limit ≡ t.limit
-  pub turns : flat.turns ≡ t.turns
-  pub recursive : flat.recursive.items ≡ replicate (length t.roots.items) true
-  pub ranks : flat.ranks.items ≡ []

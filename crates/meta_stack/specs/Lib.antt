@@ -14,3 +14,4 @@ pub mod Reaching
 pub mod Expressions
 pub mod Certain
 pub mod NamedPlaces
+pub mod Leading

@@ -1,5 +1,5 @@
 -- The nodes of all rules, by number, and what they mean.
-use Rattle.std.specs.Prelude.{◌≡◌, ℕ, suc, ◌+◌, ◌*◌, ◌<◌, List, [], ◌∷◌, ◌++◌, replicate, length, Option, Some, None, Bool, true, false, if◌then◌else◌, slice_get, unwrap_or, ⊤}
+use Rattle.std.specs.Prelude.{◌≡◌, ℕ, suc, ◌+◌, ◌*◌, ◌<◌, ◌≤◌, List, [], ◌∷◌, ◌++◌, replicate, length, Option, Some, None, Bool, true, false, if◌then◌else◌, slice_get, unwrap_or, ⊤}
 use Rattle.meta_stacks.specs.Stack.{AbstractStack, pop_one, failed}
 use Rattle.meta_stacks.specs.Reading.{Reading, surely, maybe, anything, from, peek_all_reading, pop_all_reading, top_reading, drop_reading, pushed_reading, ahead_reading, not_ahead_reading, seq_reading, choice_reading, opt_reading, Copy, Required, Optional, Endless, walked}
 use Rattle.meta_stack.specs.Flags.{is_set_at}
@@ -69,24 +69,34 @@ abbrev pub IsMeaning : Table → (ℕ → AbstractStack → Reading) → Type 0
 IsMeaning t f = (i : ℕ) (n : Node) → slice_get (nodes_of t) i ≡ Some n → (a : AbstractStack) → f i a
     ≡ node_reading t f n.kind a
 
-abbrev pub rank_of_rule : Table → ℕ → ℕ
-rank_of_rule t r = unwrap_or (slice_get t.ranks.items r) 0
+-- the rule that a node calls
+abbrev pub called_by : Kind → Option ℕ
+called_by (is.Call r) = Some r
+called_by is.Still = None
+called_by is.Leaf = None
+called_by is.Peek = None
+called_by is.Pop = None
+called_by is.Drop = None
+called_by is.PeekAll = None
+called_by is.PopAll = None
+called_by (is.PosPred j) = None
+called_by (is.NegPred j) = None
+called_by (is.Opt j) = None
+called_by (is.Push j) = None
+called_by (is.Seq j k) = None
+called_by (is.Choice j k) = None
+called_by (is.Repeat j required optional endless) = None
 
-abbrev pub rank_in : Table → Option Node → ℕ
-rank_in t None = 0
-rank_in t (Some n) = rank_of_rule t n.rule
-
--- the rank of the rule that a node stands in
 abbrev pub rank_at : Table → ℕ → ℕ
-rank_at t i = rank_in t (slice_get (nodes_of t) i)
+rank_at t i = unwrap_or (slice_get t.ranks.items i) 0
 
--- one node stands inside another, in the same rule
+-- one node stands inside another
 pub record Inside (t : Table) (i j : ℕ) : Type 0 where
   pub below : j < i
   pub within : j < length (nodes_of t)
-  pub rank : rank_at t j ≡ rank_at t i
+  pub rank : rank_at t j ≤ rank_at t i
 
--- a rule's body is called by a node, and is of a lower rank
+-- a rule's body is called by a node, and has a lower rank
 pub record Called (t : Table) (i j : ℕ) : Type 0 where
   pub within : j < length (nodes_of t)
   pub rank : rank_at t j < rank_at t i

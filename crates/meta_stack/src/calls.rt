@@ -1,18 +1,10 @@
-// Which rules reach themselves, and ranks for the others.
+//! A guess which rules reach themselves, and ranks: what is promised of both is found out behind it.
 ghost use Rattle.std.specs.Prelude.{◌≤◌, ◌+◌, ◌*◌, ◌≡◌, OnOk, length};
 ghost use Rattle.meta_stack.specs.Reaching.{unset};
 
+use crate::recursion::Calls;
 use crate::table::{Kind, Node, is_set};
 use std::alloc::{AllocError, Global};
-
-/// What is known of the calls of each rule.
-#[derive(Drop)]
-pub struct Calls {
-    /// Whether it reaches itself.
-    pub recursive: Vec<bool>,
-    /// A number above those of the rules that it calls and that don't reach themselves.
-    pub ranks: Vec<usize>,
-}
 
 /// So many lists of rules.
 fn no_rules(alloc: Global, count: usize) -> Result<Vec<Vec<usize>>, AllocError> {
@@ -150,10 +142,10 @@ fn unplaced(seen: &[bool], places: &[Option<usize>]) -> usize {
         .count()
 }
 
-/// For each rule whether it reaches itself, and its rank. Rules whose calls never lead back come first, each
-/// behind those that it calls; behind them the others, by how many of these others they reach: a rule that
-/// doesn't reach itself reaches fewer than one that calls it.
-pub(crate) fn calls_of<'i>(
+/// For each rule a guess whether it reaches itself, and for each node the rank of its rule. Rules whose calls
+/// never lead back come first, each behind those that it calls; behind them the others, by how many of these
+/// others they reach: a rule that doesn't reach itself reaches fewer than one that calls it.
+pub(crate) fn guessed<'i>(
     alloc: Global,
     nodes: &[Node<'i>],
     count: usize,
@@ -165,16 +157,41 @@ pub(crate) fn calls_of<'i>(
     }
     let order = in_order(alloc, &callees, &callers)?;
     let places = places_in(alloc, order.as_slice(), count)?;
-    ranked(alloc, &callees, order.len(), places.as_slice())
+    let found = numbered(alloc, &callees, order.len(), places.as_slice())?;
+    let ranks = of_nodes(alloc, nodes, found.ranks.as_slice())?;
+    Ok(Calls {
+        recursive: found.recursive,
+        ranks,
+    })
+}
+
+/// For each node the number of its rule among these.
+fn of_nodes<'i>(
+    alloc: Global,
+    nodes: &[Node<'i>],
+    numbers: &[usize],
+) -> Result<Vec<usize>, AllocError> {
+    let mut found = Vec::new(alloc);
+    for node in nodes {
+        found.push(numbers.get(node.rule).copied().unwrap_or(0))?;
+    }
+    Ok(found)
+}
+
+/// Of rules: whether each reaches itself, and its rank.
+#[derive(Drop)]
+struct Ranked {
+    recursive: Vec<bool>,
+    ranks: Vec<usize>,
 }
 
 /// For each rule whether it reaches itself, and its rank: its place, or a number behind all places.
-fn ranked(
+fn numbered(
     alloc: Global,
     callees: &Vec<Vec<usize>>,
     placed: usize,
     places: &[Option<usize>],
-) -> Result<Calls, AllocError> {
+) -> Result<Ranked, AllocError> {
     let mut recursive = Vec::new(alloc);
     let mut ranks = Vec::new(alloc);
     for (rule, place) in places.iter().enumerate() {
@@ -187,5 +204,5 @@ fn ranked(
             ranks.push(placed.saturating_add(unplaced(seen.as_slice(), places)))?;
         }
     }
-    Ok(Calls { recursive, ranks })
+    Ok(Ranked { recursive, ranks })
 }

@@ -1,12 +1,13 @@
-// Which nodes may take nothing, and which change the stack.
+//! Which nodes may take nothing, which change the stack, and which lead to calls of a rule.
 ghost use Rattle.std.specs.Prelude.{◌≡◌, ◌<◌, ◌≤◌, ◌+◌, IfOk, true, false};
 ghost use Rattle.std.specs.Prelude.{slice_get};
 ghost use Rattle.meta_stack.specs.Flags.{is_set_at};
 ghost use Rattle.meta_stack.specs.Answers as spec;
 ghost use Rattle.meta_stack.specs.Answers.{AreSound, AreClosed, IsClosedAt};
 ghost use Rattle.meta_stack.specs.Reaching.{unset};
+ghost use Rattle.meta_stack.specs.Table.{called_by, parts_of};
 
-use crate::table::{Kind, Node, is_set};
+use crate::table::{Kind, Node, Parts, is_set};
 use std::alloc::{AllocError, Global};
 
 /// What is asked of each node.
@@ -16,6 +17,8 @@ pub enum Question {
     TakesNothing,
     /// Whether it changes the stack, outside predicates.
     ChangesStack,
+    /// Whether it leads to a call of the rule of that number.
+    LeadsTo(usize),
 }
 
 /// Whether the flag of a rule's body is set.
@@ -73,6 +76,28 @@ fn changes_stack(roots: &[usize], flags: &[bool], kind: Kind) -> bool
     }
 }
 
+/// Whether some operand has its flag set.
+fn is_part_set(flags: &[bool], parts: Parts) -> bool
+    ensures { result ≡ spec.some_part (is_set_at flags.now) parts }
+{
+    match parts {
+        Parts::Nothing => false,
+        Parts::Inside(body, _, _, _) => is_set(flags, body),
+        Parts::Both(first, second, _) => is_set(flags, first) || is_set(flags, second),
+    }
+}
+
+/// Whether a node calls a rule, or leads to a call of it by the flags of its operands and of the body that it
+/// calls.
+fn leads_to(roots: &[usize], flags: &[bool], rule: usize, kind: Kind) -> bool
+    ensures { result ≡ spec.leading roots.now (is_set_at flags.now) rule (called_by kind) (parts_of kind) }
+{
+    match kind.called() {
+        Some(callee) => callee == rule || is_root_set(roots, flags, callee),
+        None => is_part_set(flags, kind.parts()),
+    }
+}
+
 /// The answer for a node, by those for its operands.
 fn answer<'i>(question: Question, roots: &[usize], flags: &[bool], node: Node<'i>) -> bool
     ensures { result ≡ spec.answer question roots.now (is_set_at flags.now) node.entry }
@@ -80,6 +105,7 @@ fn answer<'i>(question: Question, roots: &[usize], flags: &[bool], node: Node<'i
     match question {
         Question::TakesNothing => node.free || takes_nothing(roots, flags, node.kind),
         Question::ChangesStack => changes_stack(roots, flags, node.kind),
+        Question::LeadsTo(rule) => leads_to(roots, flags, rule, node.kind),
     }
 }
 

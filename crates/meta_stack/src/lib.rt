@@ -8,10 +8,10 @@ mod loops;
 mod memory;
 mod names;
 mod numbering;
-mod order;
 mod reader;
+mod recursion;
 mod table;
 mod validate;
 mod visits;
 
-pub use crate::validate::validate_stack_repetition;
+pub use crate::validate::{sorted_reports, validate_stack_repetition};

@@ -1,4 +1,4 @@
-// The loop search: turns that cannot fail and take nothing, until one starts as an earlier one.
+//! The loop search: turns that cannot fail and take nothing, until one starts as an earlier one.
 ghost use Rattle.std.specs.Prelude.{◌≡◌, ◌<◌, IfOk, IfSome, OnOk};
 ghost use Rattle.meta_stacks.specs.Stack as is;
 ghost use Rattle.meta_stacks.specs.Reading as says;

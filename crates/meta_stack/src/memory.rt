@@ -1,4 +1,4 @@
-// Readings that were made, by node and stack.
+//! Readings that were made, by node and stack.
 ghost use Rattle.std.specs.Prelude.{◌≡◌, ◌<◌, IfSome, OnOk};
 ghost use Rattle.meta_stack.specs.Keys as spec;
 ghost use Rattle.meta_stacks.specs.Views.{reading_of, stack_of};

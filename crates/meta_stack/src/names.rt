@@ -1,4 +1,4 @@
-// Names, resolved to the numbers of rules.
+//! Names, resolved to the numbers of rules.
 ghost use Rattle.std.specs.Prelude.{◌≡◌, IfOk, codes, bytes_eq, is_some};
 ghost use Rattle.std.specs.Str.{IsAscii};
 ghost use Rattle.meta_ast.specs.Ast.{text_of};

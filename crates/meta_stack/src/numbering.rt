@@ -1,4 +1,4 @@
-// The nodes of all rules, numbered, each behind those inside it.
+//! The nodes of all rules, numbered, each behind those inside it.
 ghost use Rattle.std.specs.Prelude.{◌≡◌, ◌<◌, ◌+◌, ◌++◌, [], IfOk, OnOk, List, length};
 ghost use Rattle.meta_ast.specs.Ast.{text_of};
 ghost use Rattle.meta_nodes.specs.Nodes.{view, view_at, piece_of};

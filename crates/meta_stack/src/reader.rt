@@ -1,4 +1,4 @@
-// Readings of nodes, each made once.
+//! Readings of nodes, each made once.
 ghost use Rattle.std.specs.Prelude.{◌≡◌, ◌<◌, [], IfOk, IfSome, not, ◌||◌};
 ghost use Rattle.meta_stacks.specs.Stack as is;
 ghost use Rattle.meta_stacks.specs.Reading as says;

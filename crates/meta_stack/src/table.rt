@@ -1,4 +1,4 @@
-// The nodes of all rules, by number.
+//! The nodes of all rules, by number.
 ghost use Rattle.std.specs.Prelude.{◌≡◌, ◌<◌, ℕ, slice_get};
 ghost use Rattle.meta_stacks.specs.Stack as is;
 ghost use Rattle.meta_stacks.specs.Reading as says;
@@ -42,10 +42,33 @@ pub enum Parts {
 }
 
 impl Kind {
-    ghost use Rattle.meta_stack.specs.Table.{parts_of};
+    ghost use Rattle.meta_stack.specs.Table.{called_by, parts_of};
+
+    /// The rule that is called.
+    pub(crate) fn called(self) -> Option<usize>
+        ensures { result ≡ called_by self }
+    {
+        match self {
+            Kind::Call(rule) => Some(rule),
+            Kind::PosPred(_) => None,
+            Kind::NegPred(_) => None,
+            Kind::Opt(_) => None,
+            Kind::Push(_) => None,
+            Kind::Repeat(_, _, _, _) => None,
+            Kind::Seq(_, _) => None,
+            Kind::Choice(_, _) => None,
+            Kind::Still => None,
+            Kind::Leaf => None,
+            Kind::Peek => None,
+            Kind::Pop => None,
+            Kind::Drop => None,
+            Kind::PeekAll => None,
+            Kind::PopAll => None,
+        }
+    }
 
     /// The operands, as they are visited.
-    fn parts(self) -> Parts
+    pub(crate) fn parts(self) -> Parts
         ensures { result ≡ parts_of self }
     {
         match self {
@@ -89,7 +112,8 @@ pub struct Table<'i> {
     pub roots: Vec<usize>,
     /// Which rules reach themselves: calls of them are not followed.
     pub recursive: Vec<bool>,
-    /// For each rule a number above those of the rules that it calls, where the calls are followed.
+    /// For each node a number: not below those of its operands, and above that of a body that it calls, where
+    /// the call is followed.
     pub ranks: Vec<usize>,
     /// Which nodes may succeed without taking anything.
     pub nullable: Vec<bool>,
@@ -112,7 +136,17 @@ pub fn is_set(flags: &[bool], place: usize) -> bool
 }
 
 impl<'i> Table<'i> {
-    ghost use Rattle.meta_stack.specs.Table.{IsMeaning, IsOrdered, Lies, HasParts, PartsLie, node_reading, nodes_of, followed_at};
+    ghost use Rattle.meta_stack.specs.Table.{IsMeaning, IsOrdered, Lies, HasParts, PartsLie, node_reading, nodes_of, followed_at, rank_at};
+
+    /// The rank of a node.
+    pub(crate) fn rank_of(&self, node: usize) -> usize
+        ensures { result ≡ rank_at self.now node }
+    {
+        match self.ranks.get(node) {
+            Some(rank) => *rank,
+            None => 0,
+        }
+    }
 
     /// What the node of a number does.
     pub fn kind_at(&self, node: usize) -> Kind
@@ -139,6 +173,14 @@ impl<'i> Table<'i> {
         ensures ordered { IsOrdered self.now → PartsLie self.now node result }
     {
         self.node_at(node).kind.parts()
+    }
+
+    /// The rank of a rule's body.
+    pub(crate) fn rank_of_rule(&self, rule: usize) -> usize {
+        match self.roots.get(rule) {
+            Some(body) => self.rank_of(*body),
+            None => 0,
+        }
     }
 
     /// The number of a rule's body, where calls of the rule are followed.

@@ -1,23 +1,23 @@
-// The whole pass.
+//! The whole pass.
 ghost use Rattle.std.specs.Prelude.{◌≡◌, ◌&&◌, not, IfOk, IfErr, OnOk, MatchOption, alloc_error, map, is_some, [], ◌∷◌};
 ghost use Rattle.std.specs.Str.{IsAscii};
 ghost use Rattle.meta_base.specs.Language.Expression.{whitespace, comment};
 ghost use Rattle.meta_base.specs.Pieces.Saying.{Tell};
 ghost use Rattle.meta_nodes.specs.Nodes.{rule_views, piece_of};
 ghost use Rattle.meta_stacks.specs.Reports.{SkippingChangesStack, skips_in};
-ghost use Rattle.meta_stack.specs.Certain.{AreCertain, ArePlain, AreReports, IsFlat, IsSorted, IsTableOf, TellReports, complaint_at};
+ghost use Rattle.meta_stack.specs.Certain.{AreCertain, ArePlain, AreReports, IsSorted, IsTableOf, TellReports, complaint_at};
 ghost use Rattle.meta_stack.specs.Expressions.{body_flag, name_flag};
 ghost use Rattle.meta_stack.specs.NameMaps.{KnowsRules};
 ghost use Rattle.meta_stack.specs.Names.{grammar_of, last_place};
 ghost use Rattle.meta_stack.specs.Table.{AreInside, IsOrdered};
 ghost use Rattle.meta_stack.specs.Visiting.{FindsAll, Keeps};
 
-use crate::calls::{Calls, calls_of};
 use crate::facts::{Question, answers, is_root_set};
 use crate::memory::Memory;
 use crate::names::{Names, names_of};
 use crate::numbering::number_all;
 use crate::reader::read;
+use crate::recursion::{Calls, calls_of};
 use crate::table::Table;
 use crate::visits::visit;
 use meta_base::grammar::Rule;
@@ -82,33 +82,6 @@ fn leaves_stack<'i>(
         && !is_body_set(rules, names, roots, flags, "COMMENT")
 }
 
-/// The same table, where no call is followed.
-fn flattened<'i>(alloc: Global, table: Table<'i>) -> Result<Table<'i>, AllocError>
-    ensures { IfOk result (λ flat. IsFlat table.entry flat) }
-{
-    let Table {
-        nodes,
-        roots,
-        recursive: _,
-        ranks: _,
-        nullable,
-        skips,
-        limit,
-        turns,
-    } = table;
-    let recursive = vec![in alloc; true; roots.len()]?;
-    Ok(Table {
-        nodes,
-        roots,
-        recursive,
-        ranks: Vec::new(alloc),
-        nullable,
-        skips,
-        limit,
-        turns,
-    })
-}
-
 /// The table of rules, where what is skipped leaves the stack alone.
 fn table_of<'i>(alloc: Global, rules: &[ParserRule<'i>]) -> Result<Option<Table<'i>>, AllocError>
     ensures { IfOk result (λ found. MatchOption found (SkippingChangesStack (grammar_of rules.now))
@@ -132,8 +105,8 @@ fn table_of<'i>(alloc: Global, rules: &[ParserRule<'i>]) -> Result<Option<Table<
         roots.as_slice(),
         nodes.as_slice(),
     )?;
-    let Calls { recursive, ranks } = calls_of(alloc, nodes.as_slice(), rules.len())?;
-    let table = Table {
+    let Calls { recursive, ranks } = calls_of(alloc, roots.as_slice(), nodes.as_slice())?;
+    Ok(Some(Table {
         nodes,
         roots,
         recursive,
@@ -142,12 +115,7 @@ fn table_of<'i>(alloc: Global, rules: &[ParserRule<'i>]) -> Result<Option<Table<
         skips: is_skipping(rules, &names),
         limit: MOST_STACKS,
         turns: MOST_TURNS,
-    };
-    if table.is_ordered() {
-        return Ok(Some(table));
-    }
-    let flat = flattened(alloc, table)?;
-    Ok(Some(flat))
+    }))
 }
 
 /// The rules by their ranks, the lowest first.
@@ -235,9 +203,13 @@ fn sort_spans<'i>(found: &mut Vec<Span<'i>>) -> Result<(), AllocError>
     Ok(())
 }
 
-/// The places of all reports in order.
-fn sorted_reports<'i>(alloc: Global, rules: &[ParserRule<'i>]) -> Result<Vec<Span<'i>>, AllocError>
-    ensures { IfOk result (λ found. AreReports (rule_views rules.now) (map piece_of found.items)) }
+/// The places of the repetitions that `validate_stack_repetition` tells of, by start, then end. The only
+/// fault is a want of memory.
+pub fn sorted_reports<'i>(
+    alloc: Global,
+    rules: &[ParserRule<'i>],
+) -> Result<Vec<Span<'i>>, AllocError>
+    ensures exact { IfOk result (λ found. AreReports (rule_views rules.now) (map piece_of found.items)) }
 {
     let mut found = all_reports(alloc, rules)?;
     sort_spans(&mut found)?;

@@ -1,4 +1,4 @@
-// The stacks from which the nodes of a rule's body are visited, and what is reported.
+//! The stacks from which the nodes of a rule's body are visited, and what is reported.
 ghost use Rattle.std.specs.Prelude.{◌≡◌, ◌<◌, IfOk, OnOk};
 ghost use Rattle.meta_stack.specs.Table.{IsOrdered, copies};
 ghost use Rattle.meta_stack.specs.Visiting.{Adds, AddsAll, AddsEach, AddsWhere, Collects, IsAfter, IsReport, IsStartOf, Tells, FindsIn};

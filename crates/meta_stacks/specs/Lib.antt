@@ -5,3 +5,4 @@ pub mod Marks
 pub mod Views
 pub mod Walks
 pub mod Reported
+pub mod Recursion

@@ -1,4 +1,4 @@
-// Laws over the definitions alone.
+//! Laws over the definitions alone.
 ghost use Rattle.std.specs.Prelude.{◌≡◌, ℕ, Bool, List};
 ghost use Rattle.meta_base.specs.Language.Text.{Text};
 ghost use Rattle.meta_base.specs.Language.Expression.{Grammar, Expression};

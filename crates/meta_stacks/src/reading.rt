@@ -1,4 +1,4 @@
-// What an expression does from an abstract stack.
+//! What an expression does from an abstract stack.
 ghost use Rattle.std.specs.Prelude.{◌≡◌, true};
 ghost use Rattle.meta_stacks.specs.Reading as says;
 ghost use Rattle.meta_stacks.specs.Stack as is;

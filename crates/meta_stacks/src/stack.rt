@@ -1,4 +1,4 @@
-// What is known of a stack.
+//! What is known of a stack.
 ghost use Rattle.std.specs.Prelude.{◌≡◌, ◌≤◌, ◌<◌};
 ghost use Rattle.meta_stacks.specs.Marks.{room};
 

@@ -1,5 +1,5 @@
 -- A choice that goes on with a list of rules: what has failed so far, and what is found.
-use Rattle.std.proofs.Common.{◌≡◌, refl, sym, ◌∙◌, ap, subst, ℕ, zero, suc, ◌+◌, ◌<◌, ◌≤◌, max, List, [], ◌∷◌, Bool, true, false, not, ◌&&◌, Some, None, get_or, take, drop, length, arith, add-one}
+use Rattle.std.proofs.Common.{◌≡◌, refl, sym, subst, ℕ, zero, suc, ◌+◌, ◌<◌, ◌≤◌, List, [], ◌∷◌, Bool, true, false, not, get_or, take, drop, length, arith, add-one}
 use Rattle.meta_base.specs.Language.Expression.{Expression, Ident, Choice}
 use Rattle.meta_base.specs.Language.State.{Mode}
 use Rattle.meta_base.specs.Language.Meaning.{Run}

@@ -11,6 +11,7 @@ pub mod Numerals
 pub mod Parsing
 pub mod Quiet
 pub mod Quoted
+pub mod Sequences
 pub mod SetCharacters
 pub mod ShapeOfTrees
 pub mod SingleCharacters

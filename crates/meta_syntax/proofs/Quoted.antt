@@ -1,8 +1,8 @@
 -- The text of a string: characters, and then, behind each escape, the same again.
-use Rattle.std.proofs.Common.{◌≡◌, refl, ◌∙◌, ap, ℕ, List, Bool, true, false, arith}
+use Rattle.std.proofs.Common.{◌≡◌, refl, ◌∙◌, ℕ, List, false, arith}
 use Rattle.meta_base.specs.Language.Expression.{Expression, Ident, Opt, Rep, Seq}
 use Rattle.meta_base.specs.Language.State.{Classes, State, Mode, AtomicMode, Trees, None', joined, Outcome, Success, Failure}
-use Rattle.meta_base.specs.Language.Meaning.{Does, Run, rep, rep_none, seq, seq_first, seq_second, opt, opt_none, seen_from}
+use Rattle.meta_base.specs.Language.Meaning.{Does, Run, seq_first, seq_second, seen_from}
 use Rattle.meta_base.specs.Language.Ran.{Ran}
 use Rattle.meta_base.specs.Pieces.MetaRules.{name_of}
 use Rattle.meta_base.specs.declared.grammar.Rule.TheVariants as is
@@ -14,7 +14,7 @@ use Rattle.meta_syntax.specs.declared.sets.Set.TheVariants as set
 use Rattle.meta_syntax.specs.MetaGrammar.{meta_grammar, body_of}
 use Rattle.meta_syntax.specs.Runs.{Fails, Finds, at, mode_of}
 use Rattle.meta_syntax.specs.Sets.{spelled_by}
-use Rattle.meta_syntax.proofs.EntryLists.{adds_more, not_grown}
+use Rattle.meta_syntax.proofs.EntryLists.{adds_more}
 use Rattle.meta_syntax.proofs.Lookup.{defined_rule}
 use Rattle.meta_syntax.proofs.Steps.{SoFar}
 

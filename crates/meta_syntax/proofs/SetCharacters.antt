@@ -1,5 +1,5 @@
 -- What the body of a repetition does, told by one character.
-use Rattle.std.proofs.Common.{◌≡◌, refl, sym, ◌∙◌, ap, ℕ, List, [], ◌∷◌, Bool, true, false, not, ◌&&◌, ◌||◌, arith, nat_eq, eqb-true, eq-eqb, ne_eqb, codes}
+use Rattle.std.proofs.Common.{◌≡◌, refl, sym, ◌∙◌, ℕ, List, ◌∷◌, Bool, true, false, not, ◌&&◌, ◌||◌, arith, nat_eq, eq-eqb, ne_eqb, codes}
 use Rattle.std.specs.Prelude.{IsUtf8, encode_utf8, ◌++◌}
 use Rattle.std.specs.Str.{chars}
 use Rattle.std.proofs.lemmas.Str.{chars_past_char}
@@ -17,7 +17,6 @@ use Rattle.meta_syntax.specs.declared.modes.Mode as mode
 use Rattle.meta_syntax.specs.declared.modes.Mode.TheVariants as in_mode
 use Rattle.meta_syntax.specs.declared.sets.Set.{Set}
 use Rattle.meta_syntax.specs.declared.sets.Set.TheVariants as set
-use Rattle.meta_syntax.specs.Firsts.{may_begin}
 use Rattle.meta_syntax.specs.MetaGrammar.{meta_grammar, rule, any, ◌~◌, ◌or◌, double_quote, backslash}
 use Rattle.meta_syntax.specs.Runs.{Fails, Finds, IsLeft, at, mode_of, skips_in}
 use Rattle.meta_syntax.specs.Sets.{IsBefore, is_in, is_of_name, is_out, spelled_by}

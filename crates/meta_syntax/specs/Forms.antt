@@ -1,6 +1,7 @@
 -- What the table's forms stand for, and how far a run of one may go before it takes input.
-use Rattle.std.specs.Prelude.{◌≡◌, ℕ, ◌+◌, max, List, [], ◌∷◌, Bool, true, false, not, ◌&&◌, ◌||◌, if◌then◌else◌, nat_eq, nat_lt, length, codes, ⊤}
+use Rattle.std.specs.Prelude.{◌≡◌, ℕ, ◌+◌, max, List, [], ◌∷◌, Bool, true, false, not, ◌&&◌, ◌||◌, Option, Some, None, if◌then◌else◌, nat_eq, nat_lt, length, codes, ⊤}
 use Rattle.std.specs.Str.{chars_after, continuation_len, lead_bits}
+use Rattle.std.specs.Borrow.{Bor}
 use Rattle.meta_base.specs.Language.Expression as spec
 use Rattle.meta_base.specs.Language.Expression.{Expression, RuleType}
 use Rattle.meta_base.specs.Language.Meaning.{from_to}
@@ -32,23 +33,33 @@ abbrev pub choice_among : Expression → List Rule → Expression
 choice_among e [] = e
 choice_among e (r ∷ rs) = choice_among (spec.Choice e (spec.Ident (name_of r))) rs
 
+-- an expression with what stands before it in its sequence
+abbrev pub behind : Option Expression → Expression → Expression
+behind None e = e
+behind (Some d) e = spec.Seq d e
+
+-- the expression of a form, with what stands before it in its sequence: its parts follow one by one
+abbrev pub followed : Option Expression → Form → Expression
+followed d (form.Str t) = behind d (spec.Str (decoded t.now))
+followed d (form.Range a b) = behind d (spec.Range (a ∷ []) (b ∷ []))
+followed d form.Any = behind d (spec.Ident (codes "ANY"))
+followed d form.Start = behind d (spec.Ident (codes "SOI"))
+followed d (form.Call r) = behind d (spec.Ident (name_of r))
+followed d (form.Seq' p a q b) = followed (Some (behind d (followed None a))) b
+followed d (form.Group' p a) = behind d (followed None a)
+followed d (form.Choice' p a q b) = behind d (spec.Choice (followed None a) (followed None b))
+followed d (form.FirstOf r rs) = behind d (choice_among (spec.Ident (name_of r)) rs.now)
+followed d (form.Opt' p a) = behind d (spec.Opt (followed None a))
+followed d (form.Rep' p a) = behind d (spec.Rep (followed None a))
+followed d (form.Characters' s p a) = behind d (spec.Rep (followed None a))
+followed d (form.Quoted' p a q b) = behind d (followed None b)
+followed d (form.RepOnce' p a) = behind d (spec.RepOnce (followed None a))
+followed d (form.NegPred' p a) = behind d (spec.NegPred (followed None a))
+followed d (form.RepMinMax' p a i j q b) = behind d (spec.RepMinMax (followed None a) i j)
+
 -- the expression of a form
 abbrev pub expression_of : Form → Expression
-expression_of (form.Str t) = spec.Str (decoded t.now)
-expression_of (form.Range a b) = spec.Range (a ∷ []) (b ∷ [])
-expression_of form.Any = spec.Ident (codes "ANY")
-expression_of form.Start = spec.Ident (codes "SOI")
-expression_of (form.Call r) = spec.Ident (name_of r)
-expression_of (form.Seq' p a q b) = spec.Seq (expression_of a) (expression_of b)
-expression_of (form.Choice' p a q b) = spec.Choice (expression_of a) (expression_of b)
-expression_of (form.FirstOf r rs) = choice_among (spec.Ident (name_of r)) rs.now
-expression_of (form.Opt' p a) = spec.Opt (expression_of a)
-expression_of (form.Rep' p a) = spec.Rep (expression_of a)
-expression_of (form.Characters' s p a) = spec.Rep (expression_of a)
-expression_of (form.Quoted' p a q b) = expression_of b
-expression_of (form.RepOnce' p a) = spec.RepOnce (expression_of a)
-expression_of (form.NegPred' p a) = spec.NegPred (expression_of a)
-expression_of (form.RepMinMax' p a i j q b) = spec.RepMinMax (expression_of a) i j
+expression_of f = followed None f
 
 -- whether a rule may succeed without input
 abbrev pub nullable : Rule → Bool
@@ -71,6 +82,7 @@ null form.Any = false
 null form.Start = true
 null (form.Call r) = nullable r
 null (form.Seq' p a q b) = null a && null b
+null (form.Group' p a) = null a
 null (form.Choice' p a q b) = null a || null b
 null (form.FirstOf r rs) = false
 null (form.Opt' p a) = true
@@ -83,13 +95,13 @@ null (form.RepMinMax' p a i j q b) = null b
 
 -- a number for each rule that bounds the cost of its body, so that left calls go down
 abbrev pub rank_of : Rule → ℕ
-rank_of is.grammar_rules = 44
+rank_of is.grammar_rules = 47
 rank_of is.grammar_rule = 33
 rank_of is.modifier = 4
 rank_of is.tag_id = 6
 rank_of is.node_tag = 12
-rank_of is.expression = 45
-rank_of is.term = 36
+rank_of is.expression = 48
+rank_of is.term = 39
 rank_of is.node = 27
 rank_of is.terminal = 22
 rank_of is.prefix_operator = 4
@@ -141,6 +153,7 @@ cost form.Any = 0
 cost form.Start = 0
 cost (form.Call r) = rank_of r + 3
 cost (form.Seq' p a q b) = 3 + max (cost a) (if null a then cost b else 0)
+cost (form.Group' p a) = 2 + cost a
 cost (form.Choice' p a q b) = 2 + max (cost a) (cost b)
 cost (form.FirstOf r rs) = 4 + greatest_rank (r ∷ rs.now)
 cost (form.Opt' p a) = 2 + cost a
@@ -159,6 +172,7 @@ good form.Any = true
 good form.Start = true
 good (form.Call r) = true
 good (form.Seq' p a q b) = good a && (good b && nat_lt (cost b) 1000)
+good (form.Group' p a) = good a
 good (form.Choice' p a q b) = good a && good b
 good (form.FirstOf r rs) = all_take (r ∷ rs.now)
 good (form.Opt' p a) = good a
@@ -180,6 +194,7 @@ IsSpelled form.Any = ⊤
 IsSpelled form.Start = ⊤
 IsSpelled (form.Call r) = ⊤
 IsSpelled (form.Seq' p a q b) = IsSpelled a × IsSpelled b
+IsSpelled (form.Group' p a) = IsSpelled a
 IsSpelled (form.Choice' p a q b) = IsSpelled a × IsSpelled b
 IsSpelled (form.FirstOf r rs) = ⊤
 IsSpelled (form.Opt' p a) = IsSpelled a
@@ -190,3 +205,22 @@ IsSpelled (form.Quoted' p a q b) = (expression_of a ≡ spelled_by set.Quoted) �
 IsSpelled (form.RepOnce' p a) = IsSpelled a
 IsSpelled (form.NegPred' p a) = IsSpelled a
 IsSpelled (form.RepMinMax' p a i j q b) = (expression_of b ≡ from_to (expression_of a) i j) × IsSpelled b
+
+-- how many parts of a sequence a form is
+abbrev pub count_of_parts : Form → ℕ
+count_of_parts (form.Seq' p a q b) = count_of_parts b + 1
+count_of_parts _ = 1
+
+-- the first part of what is behind a part of a sequence, and what is behind that; or it is the last part
+abbrev pub AreParts : Form → Form → Option (Bor Form) → Type 0
+AreParts f part None =
+    (part ≡ f) × ((d : Expression) → followed (Some d) f ≡ spec.Seq d (expression_of f))
+AreParts f part (Some others) = record {
+  followed : (d : Expression)
+      → followed (Some d) f ≡ followed (Some (spec.Seq d (expression_of part))) others.now;
+  good : good f ≡ (good part && (good others.now && nat_lt (cost others.now) 1000));
+  spelled : IsSpelled f → IsSpelled part × IsSpelled others.now;
+  cost : cost f ≡ 3 + max (cost part) (if null part then cost others.now else 0);
+  null : null f ≡ (null part && null others.now);
+  count : count_of_parts f ≡ count_of_parts others.now + 1;
+}

@@ -1,5 +1,5 @@
 -- The sets of characters that are taken one by one in loops, and the bodies that they belong to.
-use Rattle.std.specs.Prelude.{ℕ, [], ◌∷◌, Bool, false, not, ◌||◌, nat_eq, codes}
+use Rattle.std.specs.Prelude.{ℕ, Bool, false, not, ◌||◌, nat_eq, codes}
 use Rattle.meta_base.specs.Language.Builtins.{is_between, is_lower, is_upper}
 use Rattle.meta_base.specs.Language.Expression.{Expression, Str, NegPred}
 use Rattle.meta_base.specs.Language.State.{Classes, Mode, State, Outcome}

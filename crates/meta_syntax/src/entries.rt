@@ -1,4 +1,4 @@
-// Trees as one flat list of entries.
+//! Trees as one flat list of entries.
 ghost use Rattle.std.specs.Prelude.{◌≡◌, ◌<◌, ◌++◌, OnOk, length, take, true};
 ghost use Rattle.meta_base.specs.Pieces.MetaRules.{name_of};
 ghost use Rattle.meta_syntax.specs.Entries.{Closes, open_start, named_entries};

@@ -1,4 +1,4 @@
-// With which characters the rules begin. What looks at a character is built into the call that asks.
+//! With which characters the rules begin. What looks at a character is built into the call that asks.
 ghost use Rattle.std.specs.Prelude.{◌≡◌, ℕ, List, IfSome, true, false};
 ghost use Rattle.meta_base.specs.Language.State.{Classes, None', NonAtomicMode, Success};
 ghost use Rattle.meta_base.specs.Language.Expression.{Ident};

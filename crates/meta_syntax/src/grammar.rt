@@ -1,4 +1,4 @@
-// The rules of the meta-grammar, and what a text spells for one of them.
+//! The rules of the meta-grammar, and what a text spells for one of them.
 ghost use Rattle.std.specs.Prelude.{◌≡◌, alloc_error, IfErr, IfOk, MatchResult};
 ghost use Rattle.std.specs.Str.{IsCharBoundary};
 ghost use Rattle.meta_base.specs.Pieces.Pairs.{pairs_text};

@@ -1,4 +1,4 @@
-// Laws of the meta-grammar.
+//! Laws of the meta-grammar.
 ghost use Rattle.std.specs.Prelude.{◌≡◌, ℕ, List};
 ghost use Rattle.std.specs.Str.{IsUtf8};
 ghost use Rattle.meta_base.specs.Language.State.{Classes, Mode, Outcome, State, Trees};

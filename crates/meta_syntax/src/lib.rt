@@ -1,4 +1,4 @@
-// The recognizer of the meta-grammar.
+//! The recognizer of the meta-grammar.
 #![tactic(auto)]
 
 pub mod entries;

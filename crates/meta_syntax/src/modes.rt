@@ -1,4 +1,4 @@
-// What is skipped, and which rules give tokens.
+//! What is skipped, and which rules give tokens.
 ghost use Rattle.std.specs.Prelude.{◌≡◌, ◌≤◌, ◌&&◌, true};
 ghost use Rattle.meta_base.specs.Language.Meaning.{body_mode, gives_token, seen_from};
 ghost use Rattle.meta_syntax.specs.Forms.{kind_of};

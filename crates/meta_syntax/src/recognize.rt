@@ -1,5 +1,5 @@
-// The recognizer: an interpreter of the table.
-ghost use Rattle.std.specs.Prelude.{◌≡◌, ◌<◌, ◌≤◌, ◌&&◌, ◌||◌, ℕ, List, IfOk, IfSome, OnOk, [], true, false, codes};
+//! The recognizer: an interpreter of the table.
+ghost use Rattle.std.specs.Prelude.{◌≡◌, ◌<◌, ◌≤◌, ◌&&◌, ◌||◌, ℕ, List, IfOk, IfSome, OnOk, Some, [], true, false, codes};
 ghost use Rattle.meta_base.specs.Language.State.{Between, Classes, Failure};
 ghost use Rattle.meta_base.specs.Language.Expression.{Choice, Ident, NegPred, Opt, Rep, RepOnce, Seq, comment, whitespace};
 ghost use Rattle.meta_base.specs.Language.Meaning.{Run, Skipping, Turns};
@@ -7,7 +7,7 @@ ghost use Rattle.meta_base.specs.Language.Ran.{Ran};
 ghost use Rattle.meta_base.specs.Pieces.MetaRules.{name_of};
 ghost use Rattle.meta_base.specs.declared.grammar.Rule.TheVariants.{block_comment, inner_str};
 ghost use Rattle.meta_syntax.specs.Entries.{named_entries};
-ghost use Rattle.meta_syntax.specs.Forms.{IsGood, IsSpelled, all_take, choice_among, cost, expression_of, null, nullable};
+ghost use Rattle.meta_syntax.specs.Forms.{IsGood, IsSpelled, all_take, choice_among, cost, expression_of, followed, null, nullable};
 ghost use Rattle.meta_syntax.specs.MetaGrammar.{body_of, meta_grammar};
 ghost use Rattle.meta_syntax.specs.Sets.{spelled_by};
 ghost use Rattle.meta_syntax.specs.declared.sets.Set.{Set};
@@ -20,7 +20,7 @@ use crate::modes::{
     Mode, body_mode, call_counts, furthest_with, gives_token, is_seen_from, is_tight,
 };
 use crate::sets::{Set, ends, past};
-use crate::table::{Form, row_of};
+use crate::table::{Form, parts_of, row_of};
 use meta_base::grammar::Rule;
 use std::alloc::{AllocError, Global};
 use std::collections::HashSet;
@@ -193,7 +193,8 @@ impl Recognizer {
                 }
             }
             Form::Call(rule) => self.call(text, *rule, mode, rest),
-            Form::Seq(first, second) => self.sequence(text, first, second, mode, rest),
+            Form::Seq(first, others) => self.sequence(text, first, others, mode, rest),
+            Form::Group(inside) => self.copies(text, inside, mode, rest),
             Form::Choice(first, second) => self.choice(text, first, second, mode, rest),
             Form::FirstOf(first, others) => self.first_of(text, *first, others, mode, rest),
             Form::Opt(body) => self.option(text, body, mode, rest),
@@ -385,42 +386,48 @@ impl Recognizer {
         Ok(Some(last))
     }
 
-    /// One form, the skipping, and the other.
+    /// One form and those behind it, each after the skipping.
     #[inline(never)]
     #[cycle(recognize)]
     fn sequence<'i>(
         &mut self,
         text: &str,
         first: &'static Form,
-        second: &'static Form,
+        others: &'static Form,
         mode: Mode,
-        rest: &'i str,
+        from: &'i str,
     ) -> Result<Option<&'i str>, AllocError>
         requires first { IsGood first.now }
-        requires second { IsGood second.now }
+        requires others { IsGood others.now }
         requires first_spelled { IsSpelled first.now }
-        requires second_spelled { IsSpelled second.now }
-        requires below { cost second.now < 1000 }
-        requires left { IsLeft text.now rest.now }
+        requires others_spelled { IsSpelled others.now }
+        requires below { cost others.now < 1000 }
+        requires left { IsLeft text.now from.now }
         requires sound { IsSound text.now self.old }
         ensures goes_on { IfOk result
-            (Progress text.now rest.entry.now (null first.now && null second.now)) }
+            (Progress text.now from.entry.now (null first.now && null others.now)) }
         ensures sound { OnOk result (IsSound text.now self.new) }
         ensures means { IfOk result
-            (Runs (Run (mode_of mode) (Seq (expression_of first.now) (expression_of second.now)))
-            text.now rest.entry.now self.old self.new) }
+            (Runs (Run (mode_of mode) (followed (Some (expression_of first.now)) others.now))
+            text.now from.entry.now self.old self.new) }
     {
         let mark = count_of_entries(&self.entries);
-        let Some(after) = self.run(text, first, mode, rest)? else {
+        let Some(mut rest) = self.run(text, first, mode, from)? else {
             return Ok(None);
         };
-        let next = self.skip(text, mode, after)?;
-        match self.run(text, second, mode, next)? {
-            Some(last) => Ok(Some(last)),
-            None => {
+        let mut left = others;
+        loop {
+            let next = self.skip(text, mode, rest)?;
+            let parts = parts_of(left);
+            let Some(after) = self.run(text, parts.first, mode, next)? else {
                 cut(&mut self.entries, mark);
-                Ok(None)
-            }
+                return Ok(None);
+            };
+            let Some(others) = parts.others else {
+                return Ok(Some(after));
+            };
+            left = others;
+            rest = after;
         }
     }
 

@@ -1,4 +1,4 @@
-// Sets of characters that a repetition takes one by one, and the loop over them.
+//! Sets of characters that a repetition takes one by one, and the loop over them.
 ghost use Rattle.std.specs.Prelude.{◌≡◌, ℕ, List, true};
 ghost use Rattle.meta_base.specs.Language.State.{Classes, Failure};
 ghost use Rattle.meta_base.specs.Language.Meaning.{Run};

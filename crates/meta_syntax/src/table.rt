@@ -1,6 +1,7 @@
-// The meta-grammar as data: a row for each rule.
-ghost use Rattle.std.specs.Prelude.{◌≡◌, MatchOption};
+//! The meta-grammar as data: a row for each rule.
+ghost use Rattle.std.specs.Prelude.{◌≡◌, ◌≤◌, MatchOption};
 ghost use Rattle.meta_base.specs.declared.grammar.Rule.TheVariants.{EOI};
+ghost use Rattle.meta_syntax.specs.Forms.{AreParts, IsGood, IsSpelled, cost};
 ghost use Rattle.meta_syntax.specs.Rows.{IsRow};
 
 use crate::sets::Set;
@@ -27,8 +28,11 @@ pub enum Form {
     Start,
     /// What another rule matches, or `EOI`.
     Call(Rule),
-    /// The first, the implicit skipping, and the second.
+    /// The first, the implicit skipping, and what is behind it. Where that is a sequence too, both are
+    /// one sequence, grouped from the left.
     Seq(&'static Form, &'static Form),
+    /// A form in parentheses: a sequence in them is one of its own.
+    Group(&'static Form),
     /// The first, or the second where the first fails.
     Choice(&'static Form, &'static Form),
     /// What the first of these rules that matches matches.
@@ -49,6 +53,33 @@ pub enum Form {
     RepMinMax(&'static Form, u32, u32, &'static Form),
 }
 
+/// The first part of a sequence, and what is behind it.
+#[derive(Clone, Copy)]
+pub struct Parts {
+    pub first: &'static Form,
+    pub others: Option<&'static Form>,
+}
+
+/// The parts of what is behind a part of a sequence: where it is no sequence, it is the last part.
+#[inline(always)]
+pub fn parts_of(form: &'static Form) -> Parts
+    ensures good { IsGood form.now → IsGood result.first.now }
+    ensures spelled { IsSpelled form.now → IsSpelled result.first.now }
+    ensures cost { cost result.first.now ≤ cost form.now }
+    ensures parts { AreParts form.now result.first.now result.others }
+{
+    match form {
+        Form::Seq(first, others) => Parts {
+            first: *first,
+            others: Some(*others),
+        },
+        _ => Parts {
+            first: form,
+            others: None,
+        },
+    }
+}
+
 /// A rule's row.
 #[derive(Clone, Copy)]
 pub struct Row {
@@ -63,11 +94,17 @@ macro_rules! call {
 }
 
 macro_rules! sequence {
-    ($form:expr) => {
-        $form
+    ($last:expr) => {
+        $last
     };
-    ($first:expr, $second:expr $(, $others:expr)*) => {
-        sequence!(Form::Seq(&$first, &$second) $(, $others)*)
+    ($first:expr $(, $others:expr)+) => {
+        Form::Seq(&$first, &sequence!($($others),+))
+    };
+}
+
+macro_rules! group {
+    ($form:expr) => {
+        Form::Group(&$form)
     };
 }
 
@@ -356,16 +393,16 @@ static UNICODE: Form = sequence!(
         6,
         &sequence!(
             call!(hex_digit),
-            sequence!(
+            group!(sequence!(
                 call!(hex_digit),
-                sequence!(
+                group!(sequence!(
                     optional!(call!(hex_digit)),
-                    sequence!(
+                    group!(sequence!(
                         optional!(call!(hex_digit)),
-                        sequence!(optional!(call!(hex_digit)), optional!(call!(hex_digit)))
-                    )
-                )
-            )
+                        group!(sequence!(optional!(call!(hex_digit)), optional!(call!(hex_digit))))
+                    ))
+                ))
+            ))
         )
     ),
     call!(closing_brace)

@@ -1,4 +1,4 @@
-// Token trees from the list of their entries.
+//! Token trees from the list of their entries.
 ghost use Rattle.std.specs.Prelude.{◌≡◌, ◌≢◌, ◌≤◌, IfOk, MatchOption, length};
 ghost use Rattle.meta_base.specs.Language.State as spec;
 ghost use Rattle.meta_base.specs.Pieces.MetaRules.{name_of};

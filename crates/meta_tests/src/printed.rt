@@ -1,44 +1,21 @@
 //! Bodies of rules that are read, printed, and read again.
-use meta_ast::ast::{Expr, RuleType};
+use meta_ast::ast::{self, Expr, RuleType};
 use meta_base::runtime::Fault;
-use meta_reader::parser::{ParserExpr, ParserNode, Rule, consume_rules_with_spans, parse};
-use std::alloc::{AllocError, Global};
+use meta_nodes::erase_spans;
+use meta_reader::parser::{Rule, consume_rules_with_spans, parse};
+use std::alloc::Global;
 use std::test::Fail;
 
-/// The expression of a node, in a box.
-#[cycle(value)]
-fn boxed(alloc: Global, node: &ParserNode<'_>) -> Result<Box<Expr>, AllocError> {
-    Ok(Box::new(alloc, value(alloc, node)?)?)
-}
-
-/// The expression of a node.
-#[cycle(value)]
-fn value(alloc: Global, node: &ParserNode<'_>) -> Result<Expr, AllocError> {
-    Ok(match &node.expr {
-        ParserExpr::Str(text) => Expr::Str(text.clone()?),
-        ParserExpr::Insens(text) => Expr::Insens(text.clone()?),
-        ParserExpr::Range(low, high) => Expr::Range(low.clone()?, high.clone()?),
-        ParserExpr::Ident(name) => Expr::Ident(name.clone()?),
-        ParserExpr::PeekSlice(from, to) => Expr::PeekSlice(*from, *to),
-        ParserExpr::PosPred(inner) => Expr::PosPred(boxed(alloc, inner)?),
-        ParserExpr::NegPred(inner) => Expr::NegPred(boxed(alloc, inner)?),
-        ParserExpr::Seq(left, right) => Expr::Seq(boxed(alloc, left)?, boxed(alloc, right)?),
-        ParserExpr::Choice(left, right) => Expr::Choice(boxed(alloc, left)?, boxed(alloc, right)?),
-        ParserExpr::Opt(inner) => Expr::Opt(boxed(alloc, inner)?),
-        ParserExpr::Rep(inner) => Expr::Rep(boxed(alloc, inner)?),
-        ParserExpr::RepOnce(inner) => Expr::RepOnce(boxed(alloc, inner)?),
-        ParserExpr::RepExact(inner, n) => Expr::RepExact(boxed(alloc, inner)?, *n),
-        ParserExpr::RepMin(inner, m) => Expr::RepMin(boxed(alloc, inner)?, *m),
-        ParserExpr::RepMax(inner, n) => Expr::RepMax(boxed(alloc, inner)?, *n),
-        ParserExpr::RepMinMax(inner, m, n) => Expr::RepMinMax(boxed(alloc, inner)?, *m, *n),
-        ParserExpr::Push(inner) => Expr::Push(boxed(alloc, inner)?),
-    })
+/// The rules of a text, without their spans.
+fn rules(alloc: Global, text: &str) -> Result<Vec<ast::Rule>, Fail> {
+    let pairs = parse(alloc, Rule::grammar_rules, text)?;
+    let rules = consume_rules_with_spans(alloc, pairs)?;
+    Ok(erase_spans(alloc, rules)?)
 }
 
 /// The rules of a text, printed a rule a line.
 fn lines(alloc: Global, text: &str) -> Result<String, Fail> {
-    let pairs = parse(alloc, Rule::grammar_rules, text)?;
-    let rules = consume_rules_with_spans(alloc, pairs)?;
+    let rules = rules(alloc, text)?;
     let mut out = String::new(alloc);
     for rule in &rules {
         let sign = match rule.ty {
@@ -48,18 +25,16 @@ fn lines(alloc: Global, text: &str) -> Result<String, Fail> {
             RuleType::CompoundAtomic => "$",
             RuleType::NonAtomic => "!",
         };
-        let body = value(alloc, &rule.node)?;
-        write!(out, "{} = {sign}{{ {body} }}\n", rule.name)?;
+        write!(out, "{} = {sign}{{ {} }}\n", rule.name, rule.expr)?;
     }
     Ok(out)
 }
 
-/// The body of the one rule of a text.
+/// The body of the first rule of a text.
 fn body(alloc: Global, text: &str) -> Result<Expr, Fail> {
-    let pairs = parse(alloc, Rule::grammar_rules, text)?;
-    let rules = consume_rules_with_spans(alloc, pairs)?;
+    let rules = rules(alloc, text)?;
     let rule = rules.first().ok_or("no rule")?;
-    Ok(value(alloc, &rule.node)?)
+    Ok(rule.expr.clone()?)
 }
 
 /// Each body with how it is printed.

@@ -1,5 +1,7 @@
 -- A walk that closes is a cycle of left calls.
-use Rattle.std.proofs.Common.{◌≡◌, ◌<◌, ℕ, List, [], ◌∷◌, Option, Some, None, slice_get, length, refl, sym, ◌∙◌, ap, subst}
+use Rattle.std.proofs.Common.{◌≡◌, inr, ◌<◌, ℕ, List, [], ◌∷◌, Option, Some, None, true, slice_get, length, refl, sym, ◌∙◌, ap, subst, arith}
+use Rattle.std.specs.List.{Contains}
+use Rattle.std.proofs.Math.ListN.{set}
 use Rattle.std.proofs.lemmas.Option.{slice_get_within}
 use Rattle.meta_base.specs.Language.Text.{Text}
 use Rattle.meta_base.specs.Language.Expression.{Expression, Ident, Rule, Grammar, rule_of}
@@ -13,7 +15,8 @@ use Rattle.meta_validator.specs.Names.{grammar_of, last_place}
 use Rattle.meta_validator.specs.Searching.{NeverComesBack}
 use Rattle.meta_validator.specs.Walk.{Walked, w_name, w_first, w_second, w_left, w_right, WalkLeads, w_at_once, w_by_way}
 use Rattle.meta_validator.proofs.Answering.{Named, absent, named, resolved}
-use Rattle.meta_validator.proofs.NoneWalks.{walked_round, in_rules}
+use Rattle.meta_validator.specs.Marks.{unset}
+use Rattle.meta_validator.proofs.NoneWalks.{walked_round, in_rules, IsFine, flags_more, unset_flags, no_flags, none_walked}
 use Rattle.meta_validator.proofs.RegionLemmas.{got_rule}
 use Rattle.meta_validator.proofs.Walk.{leads, no_cycle}
 
@@ -80,6 +83,34 @@ module _ (rules : List ParserRule) (start : ℕ) where
       go : Reaches r.name (without_spans r.body) → WalkLeads G r.name r.name
       go (at_once_to n d m) = subst (λ y. WalkLeads G r.name y) (its_name r at n m) (w_at_once e d)
       go (by_way_of n k d l m) = subst (λ y. WalkLeads G r.name y) (its_name r at k m) (w_by_way (w_at_once e d) l)
+
+  -- where no walk from a rule comes back to it, the walk over its body comes to none
+  module _ (r : SpannedRule) (at : slice_get V start ≡ Some r) (means : Means V r.name start) (never : WalkLeads G r.name r.name → ⊥) where
+    -- a rule to which the walk from the start leads
+    abbrev IsReached : ℕ → Type 0
+    IsReached k = (n : Text) × Means V n k × WalkLeads G r.name n
+
+    apart : (n : Text) (k : ℕ) → Means V n k → WalkLeads G r.name n → k ≡ start → ⊥
+    apart n k m l e = never (subst (λ z. WalkLeads G r.name z) (its_name r at n (subst (λ z. Means V n z) e m)) l)
+
+    onward : (k : ℕ) (q : SpannedRule) → IsReached k → slice_get V k ≡ Some q → IsFine V start [] IsReached q.name (without_spans q.body)
+    onward k q (n, m, l) here j (i, w, d) =
+        let (p, got, name) = in_rules V n k m in
+        let same : q.name ≡ n = ap (λ y. y.name) (same_some here got) ∙ name in
+        let further = w_by_way l (w_at_once (rule_meant n k q m here) (subst (λ z. Walked G z (without_spans q.body) i) same w)) in
+        (apart i j d further, inr (i, d, further))
+
+    first : IsFine V start [] IsReached r.name (without_spans r.body)
+    first j (i, w, d) = let l = w_at_once (rule_meant r.name start r means at) w in (apart i j d l, inr (i, d, l))
+
+    nowhere : (k : ℕ) → Contains [] k → ⊥
+    nowhere k (i, l, e) = omega arith
+
+    pub none_comes : Walks V start (start ∷ []) r.name r.body None
+    none_comes =
+        let flags = set (unset_flags (length V)) start true in
+        let f = flags_more (length V) [] (unset_flags (length V)) start (slice_get_within V start r at) (no_flags (length V)) in
+        none_walked V start [] IsReached onward (unset flags) flags (start ∷ []) f (omega arith) (λ k h. absurd (nowhere k h)) r.name r.body first
 
 starts : {g : Grammar} {n k : Text} → WalkLeads g n k → (q : Rule) × (rule_of g n ≡ Some q)
 starts (w_at_once {r = q} e w) = (q, e)

@@ -23,3 +23,5 @@ pub mod NodeSteps
 pub mod WalkSteps
 pub mod WalkLists
 pub mod ClosingLemmas
+pub mod RecursionLemmas
+pub mod OneRecursionList

@@ -1,12 +1,12 @@
 -- What the search does at a node.
-use Rattle.std.proofs.Common.{◌≡◌, ◌⊎◌, inl, inr, ℕ, zero, suc, ◌+◌, ◌<◌, ◌≤◌, List, [], ◌∷◌, ◌++◌, Option, Some, None, Bool, true, false, if◌then◌else◌, slice_get, length, refl, sym, ◌∙◌, ap, subst, arith}
+use Rattle.std.proofs.Common.{◌≡◌, inl, inr, ℕ, zero, suc, ◌+◌, ◌<◌, List, [], ◌∷◌, ◌++◌, Option, Some, None, Bool, true, false, if◌then◌else◌, slice_get, length, refl, sym, ◌∙◌, ap, subst, arith}
 use Rattle.std.proofs.lemmas.List.{append_assoc, append-nil}
 use Rattle.std.specs.List.{Contains}
 use Rattle.std.proofs.Math.ListN.{set}
 use Rattle.meta_base.specs.Language.Text.{Text}
 use Rattle.meta_base.specs.Language.Expression as plain
 use Rattle.meta_base.specs.Language.Expression.{Expression, Ident, Grammar}
-use Rattle.meta_base.specs.Language.WellFormed.{IsNullable, CannotFail}
+use Rattle.meta_base.specs.Language.WellFormed.{IsNullable}
 use Rattle.meta_nodes.specs.Erasure.{without_spans}
 use Rattle.meta_nodes.specs.Nodes.{rule_views}
 use Rattle.meta_nodes.specs.Spanned.{Span, Spanned, Leaf, One, Two, Seq, Choice, SpannedRule}
@@ -16,7 +16,7 @@ use Rattle.meta_validator.specs.LeftRecursion.{IsNoName, said, Means, Passes}
 use Rattle.meta_validator.specs.Names.{grammar_of, kind_in, name_kind, last_place, is_end}
 use Rattle.meta_validator.specs.Numbering.{Fits, IsSimple, leaf_kind, wrap_kind, wrap_of, both_kind, nodes_of, size}
 use Rattle.meta_validator.specs.Regions.{IsNodeOf, ArePassing}
-use Rattle.meta_validator.specs.Searching.{ordered, called_in, inside_of, size_at, cost, unentered, views, name_of, last_name, IsSearch}
+use Rattle.meta_validator.specs.Searching.{ordered, called_in, inside_of, size_at, cost, unentered, name_of, last_name, IsSearch}
 use Rattle.meta_validator.specs.Table.{is_set_at}
 use Rattle.meta_validator.specs.Walk.{without}
 use Rattle.meta_validator.specs.declared.facts.Facts.{Facts}

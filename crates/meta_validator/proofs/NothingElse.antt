@@ -1,13 +1,13 @@
 -- Where nothing is found in rules, nothing else is found in them.
-use Rattle.std.proofs.Common.{◌≡◌, ℕ, zero, suc, List, [], ◌∷◌, ◌++◌, Some, slice_get, refl, sym, ◌∙◌, ap, subst}
+use Rattle.std.proofs.Common.{◌≡◌, ℕ, suc, List, [], ◌∷◌, ◌++◌, map, Some, slice_get, refl, sym, ◌∙◌, ap, subst}
 use Rattle.meta_base.specs.Language.Expression.{Expression, Grammar}
-use Rattle.meta_base.specs.Language.WellFormed.{IsNullable, CannotFail, Leads}
+use Rattle.meta_base.specs.Language.WellFormed.{IsNullable, CannotFail}
 use Rattle.meta_base.specs.declared.grammar.Rule.{Rule}
 use Rattle.meta_base.specs.declared.runtime.errors.Error.{Error}
 use Rattle.meta_base.proofs.CannotFailIsNullable.{nullable_of}
 use Rattle.meta_nodes.specs.Erasure.{without_spans, rules_without_spans}
 use Rattle.meta_nodes.specs.Spanned.{Span, Spanned, Two, Choice, SpannedRule}
-use Rattle.meta_validator.specs.Findings.{Finding, AreFound, Reports, reports_none, reports_at, OfRepeated, never_fails, takes_nothing, goes_on, OfRepetition, repetition, no_repetition, OfChoice, unreachable, reachable, no_choice, OfSkipped, skipped, not_skipped, is_choice, last_alternative}
+use Rattle.meta_validator.specs.Findings.{Finding, AreFound, endless_at, Reports, reports_none, reports_at, OfRepeated, never_fails, takes_nothing, goes_on, OfRepetition, repetition, no_repetition, OfChoice, unreachable, reachable, no_choice, OfSkipped, skipped, not_skipped, is_choice, last_alternative}
 use Rattle.meta_validator.specs.Reported.{AreReported}
 use Rattle.meta_validator.proofs.EmptyLemmas.{clash, empty_first, empty_second, reports_empty, none_repetition, none_skipped}
 use Rattle.meta_validator.proofs.SortedLemmas.{told_empty, nothing_told, none_found, none_sorted}
@@ -54,13 +54,15 @@ stable : (ks : List Finding) → ((ks ≡ [] → ⊥) → ⊥) → ks ≡ []
 stable [] f = refl
 stable (k ∷ ks) f = absurd (f (λ e. cc))
 
-found_once : (rules : List SpannedRule) (found others : List Finding) → AreFound rules found → found ≡ [] → AreFound rules others → others ≡ []
-found_once rules found others a e b =
+found_once : (rules : List SpannedRule) (endless : List Span) (found others : List Finding) → AreFound rules endless found → found ≡ [] → AreFound rules [] others → others ≡ []
+found_once rules endless found others a e b =
+    let known = map endless_at endless in
     let whole = sym a.all ∙ e in
-    let u = empty_second a.repetitions (a.choices ++ (a.skips ++ a.recursions)) whole in
+    let w = empty_second a.repetitions (known ++ (a.choices ++ (a.skips ++ a.recursions))) whole in
+    let u = empty_second known (a.choices ++ (a.skips ++ a.recursions)) w in
     let v = empty_second a.choices (a.skips ++ a.recursions) u in
     let G = rules_without_spans rules in
-    let reps = reports_once (OfRepetition G) (repetition_once G) a.of_repetitions (empty_first a.repetitions (a.choices ++ (a.skips ++ a.recursions)) whole) b.of_repetitions in
+    let reps = reports_once (OfRepetition G) (repetition_once G) a.of_repetitions (empty_first a.repetitions (known ++ (a.choices ++ (a.skips ++ a.recursions))) whole) b.of_repetitions in
     let choices = reports_once (OfChoice G) (choice_once G) a.of_choices (empty_first a.choices (a.skips ++ a.recursions) u) b.of_choices in
     let skips = reports_once (OfSkipped G) (skipped_once G) a.of_skips (empty_first a.skips a.recursions v) b.of_skips in
     let ends = a.of_cycles (empty_second a.skips a.recursions v) in
@@ -68,9 +70,22 @@ found_once rules found others a e b =
     b.all ∙ both_empty b.repetitions (b.choices ++ (b.skips ++ b.recursions)) reps
     (both_empty b.choices (b.skips ++ b.recursions) choices (both_empty b.skips b.recursions skips recursions))
 
--- rules in which nothing is found are not refused for something that is
-pub nothing_else : (rules : List SpannedRule) (errors : List (Error Rule)) → AreReported rules [] → AreReported rules errors → errors ≡ []
-nothing_else rules errors a b =
+-- rules in which nothing is found are not refused for something that is, unless it is known of elsewhere
+pub nothing_else : (rules : List SpannedRule) (endless : List Span) (errors : List (Error Rule)) → AreReported rules endless [] → AreReported rules [] errors → errors ≡ []
+nothing_else rules endless errors a b =
     let none = none_found a.complete.0 a.findings a.complete.2 (told_empty a.findings [] a.told refl) in
-    let others = found_once rules a.complete.0 b.complete.0 a.complete.1 none b.complete.1 in
+    let others = found_once rules endless a.complete.0 b.complete.0 a.complete.1 none b.complete.1 in
     nothing_told b.findings errors b.told (none_sorted b.complete.0 b.findings b.complete.2 others)
+
+-- where no error is told, no repetition is known to be endless
+pub none_endless : (rules : List SpannedRule) (endless : List Span) → AreReported rules endless [] → endless ≡ []
+none_endless rules endless a =
+    let none = none_found a.complete.0 a.findings a.complete.2 (told_empty a.findings [] a.told refl) in
+    let f = a.complete.1 in
+    let rest = f.choices ++ (f.skips ++ f.recursions) in
+    let others = empty_second f.repetitions (map endless_at endless ++ rest) (sym f.all ∙ none) in
+    none_mapped endless (empty_first (map endless_at endless) rest others)
+  where
+    none_mapped : (spans : List Span) → map endless_at spans ≡ [] → spans ≡ []
+    none_mapped [] h = refl
+    none_mapped (s ∷ spans) h = cc

@@ -1,5 +1,5 @@
 -- Flags for one rule more.
-use Rattle.std.proofs.Common.{◌≡◌, ◌⊎◌, inl, inr, ℕ, zero, suc, ◌+◌, ◌<◌, ◌≤◌, List, [], ◌∷◌, ◌++◌, Some, None, Bool, true, false, slice_get, unwrap_or, length, refl, sym, ◌∙◌, ap, subst, arith}
+use Rattle.std.proofs.Common.{◌≡◌, ℕ, zero, suc, ◌+◌, ◌<◌, ◌≤◌, List, [], ◌∷◌, ◌++◌, Some, Bool, slice_get, unwrap_or, length, refl, sym, ◌∙◌, ap, subst, arith}
 use Rattle.std.specs.Bool.{Decides}
 use Rattle.std.proofs.lemmas.Option.{slice_get_within}
 use Rattle.meta_base.specs.Language.WellFormed.{IsNullable}
@@ -9,8 +9,8 @@ use Rattle.meta_nodes.specs.Spanned.{Spanned, SpannedRule}
 use Rattle.meta_nodes.specs.declared.node.ParserRule.{ParserRule}
 use Rattle.meta_validator.specs.Facts.{AreRoots}
 use Rattle.meta_validator.specs.LeftRecursion.{said, Means}
-use Rattle.meta_validator.specs.Numbering.{size, nodes_of}
-use Rattle.meta_validator.specs.Regions.{root_of, first_of, IsNodeOf, ArePassingAt, ArePassing, ArePassingBelow}
+use Rattle.meta_validator.specs.Numbering.{nodes_of}
+use Rattle.meta_validator.specs.Regions.{root_of, first_of, IsNodeOf, ArePassingBelow}
 use Rattle.meta_validator.specs.Table.{is_set_at}
 use Rattle.meta_validator.specs.Walk.{without}
 use Rattle.meta_validator.proofs.RegionLemmas.{rises}

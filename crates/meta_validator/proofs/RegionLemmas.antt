@@ -1,15 +1,13 @@
 -- The nodes of rules' bodies.
-use Rattle.std.proofs.Common.{◌≡◌, ℕ, zero, suc, ◌+◌, ◌<◌, ◌≤◌, List, Option, Some, None, slice_get, unwrap_or, length, refl, sym, ◌∙◌, ap, subst, arith, inl, inr, ◌⊎◌}
+use Rattle.std.proofs.Common.{◌≡◌, ℕ, zero, suc, ◌+◌, ◌<◌, ◌≤◌, List, Option, Some, None, slice_get, unwrap_or, length, refl, sym, ◌∙◌, ap, arith, inl, inr, ◌⊎◌}
 use Rattle.std.specs.Option.{option_map}
 use Rattle.std.proofs.lemmas.Option.{slice_get_within, slice_get-map}
 use Rattle.meta_nodes.specs.Nodes.{view, rule_view, rule_views}
 use Rattle.meta_nodes.specs.Spanned.{Span, Spanned, One, Two, Unary, Binary, SpannedRule}
 use Rattle.meta_nodes.specs.declared.node.ParserRule.{ParserRule}
 use Rattle.meta_validator.specs.Facts.{AreRoots}
-use Rattle.meta_validator.specs.Names.{grammar_of, kind_in}
-use Rattle.meta_validator.specs.Numbering.{Fits, nodes_of, size}
+use Rattle.meta_validator.specs.Numbering.{nodes_of, size}
 use Rattle.meta_validator.specs.Regions.{root_of, first_of, IsNodeOf}
-use Rattle.meta_validator.specs.declared.table.Kind.{Kind}
 use Rattle.meta_validator.proofs.Answering.{got_root}
 use Rattle.meta_validator.proofs.ReportingLemmas.{got_within}
 use Rattle.meta_validator.proofs.LayoutLemmas.{some_size}

@@ -27,7 +27,7 @@ use Rattle.meta_validator.proofs.Answering.{got_root}
 use Rattle.meta_validator.proofs.Tying.{stands_at, says, span_at}
 
 -- 1. one more is looked at
-reports_more : {X : Type 0} (R : X → List Finding → Type 0) {xs : List X} {fs : List Finding} → Reports R xs fs → (x : X) (gs : List Finding) → R x gs → Reports R (xs ++ x ∷ []) (fs ++ gs)
+pub reports_more : {X : Type 0} (R : X → List Finding → Type 0) {xs : List X} {fs : List Finding} → Reports R xs fs → (x : X) (gs : List Finding) → R x gs → Reports R (xs ++ x ∷ []) (fs ++ gs)
 reports_more R reports_none x gs r = subst (λ z. Reports R (x ∷ []) z) (append-nil gs) (reports_at r reports_none)
 reports_more R (reports_at {x = y} {xs = ys} {fs = hs} {gs = ks} h t) x gs r = subst (λ z. Reports R (y ∷ (ys ++ x ∷ [])) z) (sym (append_assoc hs ks gs)) (reports_at h (reports_more R t x gs r))
 
@@ -153,7 +153,7 @@ module _ (rules : List ParserRule) (facts : Facts) (right : AreFacts rules facts
       subst (λ o. slice_get nodes (alternative_of o j) ≡ Some (last_alternative x)) (sym at) (kind_alternative j x k fit e)
 
   module _ (spans : List code_span.Span) (are : AreSpans rules spans) where
-    span_got : (a : ℕ) (z : Spanned) → slice_get nodes a ≡ Some z → (s : code_span.Span) × (slice_get spans a ≡ Some s) × (piece_of s ≡ span_of z)
+    pub span_got : (a : ℕ) (z : Spanned) → slice_get nodes a ≡ Some z → (s : code_span.Span) × (slice_get spans a ≡ Some s) × (piece_of s ≡ span_of z)
     span_got a z e = go (slice_get spans a) refl (sym (slice_get-map piece_of spans a) ∙ (ap (λ l. slice_get l a) are ∙ (slice_get-map span_of nodes a ∙ ap (option_map span_of) e)))
       where
         go : (o : Option code_span.Span) → slice_get spans a ≡ o → option_map piece_of o ≡ Some (span_of z) → (s : code_span.Span) × (slice_get spans a ≡ Some s) × (piece_of s ≡ span_of z)

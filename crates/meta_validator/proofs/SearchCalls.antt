@@ -1,8 +1,8 @@
 -- Calls that the search comes to; its begin and its end.
-use Rattle.std.proofs.Common.{◌≡◌, ◌⊎◌, inl, inr, ℕ, zero, suc, ◌+◌, ◌<◌, ◌≤◌, List, [], ◌∷◌, ◌++◌, Option, Some, None, Bool, true, false, slice_get, length, refl, sym, ◌∙◌, ap, subst, arith}
+use Rattle.std.proofs.Common.{◌≡◌, ◌⊎◌, inl, inr, ℕ, ◌<◌, List, [], ◌∷◌, ◌++◌, Option, Some, None, Bool, true, false, slice_get, length, refl, sym, ◌∙◌, ap, subst, arith}
 use Rattle.std.specs.List.{Contains}
 use Rattle.std.proofs.Math.ListN.{set, length-set}
-use Rattle.std.proofs.lemmas.List.Elements.{Contains-append_left, Contains-append_right, Contains-append_cases}
+use Rattle.std.proofs.lemmas.List.Elements.{Contains-append_left, Contains-append_cases}
 use Rattle.std.proofs.lemmas.Option.{slice_get_within}
 use Rattle.meta_base.specs.Language.Text.{Text}
 use Rattle.meta_base.specs.Language.Expression.{Expression, Ident}
@@ -15,13 +15,13 @@ use Rattle.meta_validator.specs.Marks.{unset}
 use Rattle.meta_validator.specs.Names.{last_place}
 use Rattle.meta_validator.specs.Numbering.{nodes_of, IsSimple}
 use Rattle.meta_validator.specs.Regions.{IsNodeOf}
-use Rattle.meta_validator.specs.Searching.{ordered, rest, after, views, Calls, name_of, last_name, Comes, Goes, Owes, ArePlaced, IsKnown, AreCovered, AreSettled, IsSought, IsSearch}
+use Rattle.meta_validator.specs.Searching.{ordered, after, views, Calls, name_of, last_name, Comes, Goes, Owes, IsKnown, AreCovered, AreSettled, IsSought, IsSearch}
 use Rattle.meta_validator.specs.Table.{is_set_at}
 use Rattle.meta_validator.specs.Walk.{Walked, w_name}
 use Rattle.meta_validator.specs.declared.recursions.Task.{Task}
 use Rattle.meta_validator.specs.declared.recursions.Task.TheVariants.{Visit, Leave}
 use Rattle.meta_validator.proofs.MarkLemmas.{set_or_one}
-use Rattle.meta_validator.proofs.NoneWalks.{Flags, flags_more, no_flags, unset_flags, none_set, none_walked, at_end, set_keeps, set_sets, in_rules, IsFine}
+use Rattle.meta_validator.proofs.NoneWalks.{Flags, flags_more, no_flags, unset_flags, none_walked, at_end, set_keeps, set_sets, in_rules, IsFine}
 use Rattle.meta_validator.proofs.SearchLemmas.{same_rule, one_in, nothing}
 
 name_walked : (rules : List SpannedRule) (v n k : Text) → Walked (said rules) v (Ident n) k → n ≡ k

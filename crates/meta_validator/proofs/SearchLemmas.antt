@@ -1,12 +1,8 @@
 -- Each step of the search keeps what is known.
-use Rattle.std.proofs.Common.{◌≡◌, ◌⊎◌, inl, inr, ℕ, zero, suc, ◌+◌, ◌<◌, ◌≤◌, List, [], ◌∷◌, ◌++◌, Option, Some, None, Bool, true, false, nat_eq, if◌then◌else◌, slice_get, length, refl, sym, ◌∙◌, ap, subst, arith}
+use Rattle.std.proofs.Common.{◌≡◌, ◌⊎◌, inl, inr, ℕ, zero, suc, List, [], ◌∷◌, Option, Some, None, Bool, true, false, nat_eq, slice_get, refl, sym, ◌∙◌, ap, subst, arith}
 use Rattle.std.specs.Cmp.{unsigned_Decides}
 use Rattle.std.specs.List.{Contains}
-use Rattle.std.specs.Option.{option_map}
-use Rattle.std.proofs.Math.ListN.{set, length-set}
-use Rattle.std.proofs.lemmas.List.{length_push}
-use Rattle.std.proofs.lemmas.List.Elements.{Contains-append_left, Contains-append_right, Contains-append_cases}
-use Rattle.std.proofs.lemmas.Option.{slice_get_within, slice_get-map}
+use Rattle.std.proofs.lemmas.List.Elements.{Contains-append_left, Contains-append_cases}
 use Rattle.meta_base.specs.Language.Text.{Text}
 use Rattle.meta_base.specs.Language.Expression.{Expression, Ident}
 use Rattle.meta_base.specs.Language.Expression as plain
@@ -14,26 +10,23 @@ use Rattle.meta_nodes.specs.Erasure.{without_spans, round}
 use Rattle.meta_nodes.specs.Spanned as spanned
 use Rattle.meta_nodes.specs.Spanned.{Spanned, Leaf, One, Two, Unary, Seq, Choice, SpannedRule, Span}
 use Rattle.meta_nodes.specs.declared.node.ParserRule.{ParserRule}
-use Rattle.meta_validator.specs.LeftRecursion.{Closed, IsNoName, said, Means, Passes, Walks, walks_over, walks_closing, walks_outside, walks_again, walks_into, walks_inside, walks_first, walks_second, walks_neither, walks_other}
-use Rattle.meta_validator.specs.Names.{last_place}
+use Rattle.meta_validator.specs.LeftRecursion.{Closed, said, Passes, Walks, walks_inside, walks_first, walks_second, walks_neither, walks_other}
 use Rattle.meta_validator.specs.Numbering.{nodes_of}
 use Rattle.meta_validator.specs.Regions.{IsNodeOf}
-use Rattle.meta_validator.specs.Searching.{ordered, rest, after, views, Calls, name_of, last_name, Comes, Goes, Owes, ArePlaced, IsKnown, AreCovered, AreSettled, IsSought, IsSearch}
+use Rattle.meta_validator.specs.Searching.{ordered, rest, after, views, Calls, name_of, last_name, Comes, Goes, Owes, ArePlaced, IsKnown, AreCovered, IsSearch}
 use Rattle.meta_validator.specs.Table.{is_set_at}
-use Rattle.meta_validator.specs.Walk.{Walked, w_name, w_first, w_second, w_pos_pred, w_neg_pred, w_left, w_right, w_opt, w_rep, w_rep_once, w_rep_exact, w_rep_min, w_rep_max, w_rep_min_max, w_push}
+use Rattle.meta_validator.specs.Walk.{Walked, w_first, w_second, w_pos_pred, w_neg_pred, w_left, w_right, w_opt, w_rep, w_rep_once, w_rep_exact, w_rep_min, w_rep_max, w_rep_min_max, w_push}
 use Rattle.meta_validator.specs.declared.recursions.Task.{Task}
 use Rattle.meta_validator.specs.declared.recursions.Task.TheVariants.{Visit, Leave}
-use Rattle.meta_validator.proofs.MarkLemmas.{set_or_one}
-use Rattle.meta_validator.proofs.NoneWalks.{Flags, flags_more, no_flags, none_walked, at_end, set_keeps, set_sets, in_rules, IsFine}
 
 pub same_rule : {A : Type 0} {o : Option A} {a b : A} → o ≡ Some a → o ≡ Some b → a ≡ b
 same_rule e f = let h = sym e ∙ f in cc
 
-data Compared (k m : ℕ) : Type 0 where
+pub data Compared (k m : ℕ) : Type 0 where
   same_place : k ≡ m → Compared k m
   other_place : (k ≡ m → ⊥) → Compared k m
 
-compared : (k m : ℕ) → Compared k m
+pub compared : (k m : ℕ) → Compared k m
 compared k m = go (nat_eq k m) refl
   where
     go : (b : Bool) → nat_eq k m ≡ b → Compared k m

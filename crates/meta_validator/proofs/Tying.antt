@@ -1,19 +1,17 @@
 -- What stands in a list stands there when more is put behind it.
-use Rattle.std.proofs.Common.{map, ◌+◌, sym, subst, ◌⊎◌, inl, inr, ◌≡◌, ℕ, List, slice_get, zero, suc, ◌∷◌, [], ◌++◌, Some, length, refl, ◌∙◌, ap, ◌<◌, arith}
-use Rattle.std.proofs.lemmas.Option.{slice_get_within}
+use Rattle.std.proofs.Common.{map, ◌+◌, sym, subst, ◌⊎◌, inl, inr, ◌≡◌, ℕ, List, slice_get, zero, suc, ◌∷◌, [], ◌++◌, Some, length, refl, ◌∙◌, ap, arith}
 use Rattle.std.proofs.lemmas.List.{length_push, append_assoc, map-append}
 use Rattle.meta_base.specs.declared.runtime.places.Span as code_span
-use Rattle.meta_nodes.specs.Nodes.{view, view_at, unplaced, piece_of}
-use Rattle.meta_nodes.specs.declared.node.ParserNode.{ParserNode}
+use Rattle.meta_nodes.specs.Nodes.{view_at, piece_of}
 use Rattle.meta_nodes.specs.declared.node.ParserExpr.{ParserExpr}
 use Rattle.meta_nodes.specs.declared.node.ParserExpr.TheVariants as code
 use Rattle.meta_ast.specs.Ast.{text_of}
 use Rattle.meta_base.specs.Language.Text.{Text}
-use Rattle.meta_nodes.specs.Spanned.{Span, Unary, Binary, span_of, Spanned, Leaf, One, Two, PosPred, NegPred, Opt, Rep, RepOnce, RepExact, RepMin, RepMax, RepMinMax, Push, Seq, Choice}
+use Rattle.meta_nodes.specs.Spanned.{Span, span_of, Spanned, Leaf, One, Two, PosPred, NegPred, Opt, Rep, RepOnce, RepExact, RepMin, RepMax, RepMinMax, Push, Seq, Choice}
 use Rattle.meta_base.specs.Language.Expression as plain
 use Rattle.meta_base.specs.Language.Expression.{Expression}
 use Rattle.meta_nodes.specs.Erasure.{without_spans}
-use Rattle.meta_validator.specs.Numbering.{size, AreNodes, Fits, Stands, Says, IsSimple, leaf_kind, kind_of_code}
+use Rattle.meta_validator.specs.Numbering.{AreNodes, Fits, Stands, Says, IsSimple, leaf_kind, kind_of_code}
 use Rattle.meta_validator.specs.Findings.{postorder}
 use Rattle.meta_validator.specs.declared.table.Kind.{Kind}
 

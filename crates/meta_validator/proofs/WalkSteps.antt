@@ -1,5 +1,5 @@
 -- What the code of the search does at a node, by what the node calls.
-use Rattle.std.proofs.Common.{◌≡◌, ℕ, suc, ◌+◌, ◌<◌, List, [], ◌∷◌, ◌++◌, Option, Some, None, Bool, true, false, slice_get, length, refl, sym, ◌∙◌, ap, subst, arith}
+use Rattle.std.proofs.Common.{◌≡◌, ℕ, ◌+◌, ◌<◌, List, [], ◌∷◌, ◌++◌, Option, Some, None, Bool, true, false, slice_get, length, refl, sym, ◌∙◌, ap, subst, arith}
 use Rattle.std.proofs.Math.ListN.{set}
 use Rattle.std.proofs.lemmas.List.{length-map}
 use Rattle.std.proofs.lemmas.Option.{slice_get_within}
@@ -7,12 +7,12 @@ use Rattle.meta_base.specs.Language.Text.{Text}
 use Rattle.meta_base.specs.Language.Expression.{Ident, Rule, rule_of}
 use Rattle.meta_nodes.specs.Erasure.{without_spans, rule_without_spans}
 use Rattle.meta_nodes.specs.Nodes.{rule_view, rule_views}
-use Rattle.meta_nodes.specs.Spanned.{Span, span_of, Spanned, Leaf, SpannedRule}
+use Rattle.meta_nodes.specs.Spanned.{Span, Spanned, Leaf, SpannedRule}
 use Rattle.meta_nodes.specs.declared.node.ParserRule.{ParserRule}
 use Rattle.meta_validator.specs.Facts.{AreFacts}
 use Rattle.meta_validator.specs.LeftRecursion.{Means}
 use Rattle.meta_validator.specs.Names.{grammar_of, last_place}
-use Rattle.meta_validator.specs.Numbering.{nodes_of, size}
+use Rattle.meta_validator.specs.Numbering.{nodes_of}
 use Rattle.meta_validator.specs.Walk.{Walked, WalkLeads, w_at_once, w_by_way}
 use Rattle.meta_validator.specs.Regions.{ArePassing}
 use Rattle.meta_validator.specs.Searching.{ordered, called_in, inside_of, cost, unentered, Calls, IsKnown, IsSearch, IsGoing, IsClosing, NeverComesBack}
@@ -28,7 +28,7 @@ use Rattle.meta_validator.proofs.RegionLemmas.{body_node}
 use Rattle.meta_validator.proofs.ReportingLemmas.{got_within}
 use Rattle.meta_validator.proofs.Answering.{Named, absent, named as named_rule, resolved, no_rule}
 use Rattle.meta_validator.proofs.PassingLemmas.{its_rule}
-use Rattle.meta_validator.proofs.SearchCalls.{over_known, closes, enters, begins, finished}
+use Rattle.meta_validator.proofs.SearchCalls.{over_known, closes, enters, begins}
 
 module _ (rules : List ParserRule) (facts : Facts) (right : AreFacts rules facts) (passing : List Bool) (are : ArePassing rules facts.table.roots.items passing) (start : ℕ) (entered : List Bool) (node : ℕ) where
   abbrev roots : List ℕ

@@ -1,6 +1,7 @@
--- What the validator finds in rules besides left recursion: repetitions that never end, alternatives that
--- are never reached, and rules that are skipped although they may take nothing.
-use Rattle.std.specs.Prelude.{◌≡◌, ℕ, ◌+◌, Some, slice_get, filter, not, ◌&&◌, IsPermutation, List, [], ◌∷◌, ◌++◌, flat_map, Bool, true, false, ◌||◌, bytes_eq, codes}
+-- What the validator finds in rules: repetitions that never end, alternatives that are never reached, rules
+-- that are skipped although they may take nothing, and left recursion.
+use Rattle.std.specs.Prelude.{◌≡◌, ℕ, ◌+◌, Some, None, slice_get, filter, not, ◌&&◌, IsPermutation, List, [], ◌∷◌, ◌++◌, map, flat_map, Bool, true, false, ◌||◌, bytes_eq, codes, length}
+use Rattle.std.specs.List.{range_with_len}
 use Rattle.std.specs.Ordering.{is_lt, ordering_then, nat_cmp}
 use Rattle.std.specs.Str.{encode_utf8_all}
 use Rattle.meta_base.specs.Pieces.Saying.{Complaint}
@@ -9,6 +10,7 @@ use Rattle.meta_base.specs.Language.Expression.{Expression, Grammar}
 use Rattle.meta_base.specs.Language.WellFormed.{IsNullable, CannotFail, Leads}
 use Rattle.meta_nodes.specs.Erasure.{without_spans, rules_without_spans}
 use Rattle.meta_nodes.specs.Spanned.{Span, span_of, Spanned, Leaf, One, Two, Unary, Rep, RepOnce, RepMin, Choice, SpannedRule}
+use Rattle.meta_validator.specs.LeftRecursion.{Closed, Means, Walks, told_chain}
 
 -- what is wrong, and where: what is to be said of a piece
 abbrev pub Finding : Type 0
@@ -90,6 +92,22 @@ module _ (g : Grammar) where
         → OfRepeated (encode_utf8_all r.name) (span_of r.body) (without_spans r.body) fs → OfSkipped r fs
     not_skipped : {r : SpannedRule} → is_skipped_name r.name ≡ false → OfSkipped r []
 
+module _ (rules : List SpannedRule) where
+  -- what is found of the rule at a place as one that calls itself before anything is taken, if it is the last
+  -- of its name: the first call of it to which the walk over its body comes
+  pub data OfRecursion : ℕ → List Finding → Type 0 where
+    recursive : {k : ℕ} {r : SpannedRule} {closed : Closed} → slice_get rules k ≡ Some r
+        → Means rules r.name k → Walks rules k (k ∷ []) r.name r.body (Some closed)
+        → OfRecursion k (found_at closed.call (told_chain rules r closed) ∷ [])
+    not_recursive : {k : ℕ} {r : SpannedRule} → slice_get rules k ≡ Some r
+        → Means rules r.name k → Walks rules k (k ∷ []) r.name r.body None → OfRecursion k []
+    hidden : {k : ℕ} {r : SpannedRule} → slice_get rules k ≡ Some r
+        → (Means rules r.name k → ⊥) → OfRecursion k []
+
+-- the places of the rules, in the order of the text
+abbrev pub places : List SpannedRule → List ℕ
+places rules = range_with_len 0 (length rules)
+
 -- the first stands before the second: it starts before it, or where it does and ends before it
 abbrev pub is_before : Finding → Finding → Bool
 is_before x y = is_lt (ordering_then (nat_cmp x.span.start y.span.start) (nat_cmp x.span.end y.span.end))
@@ -106,9 +124,14 @@ pub record IsSortedBySpan (found sorted : List Finding) : Type 0 where
   pub stable : (i : ℕ) (x : Finding) → slice_get found i ≡ Some x
       → filter (is_level x) sorted ≡ filter (is_level x) found
 
--- what is found in rules: repetitions, then choices, then rules that are skipped, then left recursion, of
--- which something is found exactly where left calls have a cycle
-pub record AreFound (rules : List SpannedRule) (found : List Finding) : Type 0 where
+-- what is found of a repetition that never ends for another reason than what its body may take
+abbrev pub endless_at : Span → Finding
+endless_at place =
+    found_at place (codes "expression inside repetition is non-progressing and will repeat infinitely")
+
+-- what is found in rules: repetitions, then those that are known to be endless, then choices, then rules that
+-- are skipped, then left recursion; of that something is found exactly where left calls have a cycle
+pub record AreFound (rules : List SpannedRule) (endless : List Span) (found : List Finding) : Type 0 where
   pub repetitions : List Finding
   pub choices : List Finding
   pub skips : List Finding
@@ -116,10 +139,12 @@ pub record AreFound (rules : List SpannedRule) (found : List Finding) : Type 0 w
   pub of_repetitions : Reports (OfRepetition (rules_without_spans rules)) (every_node rules) repetitions
   pub of_choices : Reports (OfChoice (rules_without_spans rules)) (every_node rules) choices
   pub of_skips : Reports (OfSkipped (rules_without_spans rules)) rules skips
+  pub of_recursions : Reports (OfRecursion rules) (places rules) recursions
   pub of_cycles : recursions ≡ [] → (n : Text) → Leads (rules_without_spans rules) n n → ⊥
   pub only_of_cycles : (recursions ≡ [] → ⊥) → (n : Text) × Leads (rules_without_spans rules) n n
-  pub all : found ≡ repetitions ++ (choices ++ (skips ++ recursions))
+  pub all : found ≡ repetitions ++ (map endless_at endless ++ (choices ++ (skips ++ recursions)))
 
 -- these are all that is found in rules, by place
-abbrev pub AreAllFound : List SpannedRule → List Finding → Type 0
-AreAllFound rules sorted = (found : List Finding) × AreFound rules found × IsSortedBySpan found sorted
+abbrev pub AreAllFound : List SpannedRule → List Span → List Finding → Type 0
+AreAllFound rules endless sorted =
+    (found : List Finding) × AreFound rules endless found × IsSortedBySpan found sorted

@@ -1,6 +1,8 @@
 -- Left recursion, as it is sought: from the body of a rule in the order of the text, through those called.
-use Rattle.std.specs.Prelude.{◌≡◌, ◌⊎◌, ℕ, List, [], ◌∷◌, ◌++◌, Option, Some, None, slice_get}
+use Rattle.std.specs.Prelude.{◌≡◌, ◌⊎◌, ℕ, List, [], ◌∷◌, ◌++◌, Option, Some, None, slice_get, codes, flat_map}
 use Rattle.std.specs.List.{Contains}
+use Rattle.std.specs.Str.{encode_utf8_all}
+use Rattle.meta_base.specs.Pieces.Saying.{written}
 use Rattle.meta_base.specs.Language.Text.{Text}
 use Rattle.meta_base.specs.Language.Expression.{Expression, Ident, Grammar}
 use Rattle.meta_base.specs.Language.WellFormed.{IsNullable, CannotFail}
@@ -18,6 +20,11 @@ pub record Closed : Type 0 where
 abbrev pub IsNoName : Expression → Type 0
 IsNoName (Ident n) = ⊥
 IsNoName _ = Unit {0}
+
+-- the name of a rule, if there is one, as it is written
+abbrev pub name_at : Option SpannedRule → List ℕ
+name_at None = []
+name_at (Some r) = encode_utf8_all r.name
 
 module _ (rules : List SpannedRule) where
   abbrev pub said : Grammar
@@ -58,3 +65,14 @@ module _ (rules : List SpannedRule) where
         → Walks start c v (Two s Seq x y) None
     walks_other : {c : List ℕ} {v : Text} {s : Span} {x y : Spanned} {o : Option Closed}
         → Walks start c v x None → Walks start c v y o → Walks start c v (Two s Choice x y) o
+
+  -- the names of the rules of a chain, an arrow behind each
+  abbrev pub arrows : List ℕ → List ℕ
+  arrows chain = flat_map (λ k. name_at (slice_get rules k) ++ codes " -> ") chain
+
+  -- what is said of a call that closes a chain: the call as it is written, and the names of the chain up to
+  -- that of its first rule again
+  abbrev pub told_chain : SpannedRule → Closed → List ℕ
+  told_chain first closed = codes "rule " ++ (written closed.call ++ (codes " is left-recursive ("
+      ++ (arrows closed.chain ++ (encode_utf8_all first.name
+      ++ codes "); pest::pratt_parser might be useful in this case"))))

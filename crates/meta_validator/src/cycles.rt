@@ -1,6 +1,6 @@
-// Whether some rule calls itself before anything is taken, in one pass: the nodes are ordered by a search
-// in depth, and the order is then looked over node by node. Only what is looked over counts: where each
-// left call leads down, none comes back.
+//! Whether some rule calls itself before anything is taken, in one pass: the nodes are ordered by a search
+//! in depth, and the order is then looked over node by node. Only what is looked over counts: where each
+//! left call leads down, none comes back.
 ghost use Rattle.std.specs.Prelude.{◌≡◌, ◌<◌, ◌≤◌, ◌+◌, ◌*◌, IfOk, OnOk, length, true};
 ghost use Rattle.meta_base.specs.Language.Text.{Text};
 ghost use Rattle.meta_base.specs.Language.WellFormed.{Leads};

@@ -1,4 +1,4 @@
-// What is known of the nodes of all rules.
+//! What is known of the nodes of all rules.
 ghost use Rattle.std.specs.Prelude.{◌≡◌, IfOk};
 ghost use Rattle.meta_validator.specs.Facts.{AreFacts};
 

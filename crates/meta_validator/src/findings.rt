@@ -1,5 +1,5 @@
-// What is wrong with rules besides left recursion: repetitions that never end, alternatives that are never
-// reached, and rules that are skipped although they may take nothing.
+//! What is wrong with rules besides left recursion: repetitions that never end, alternatives that are never
+//! reached, and rules that are skipped although they may take nothing.
 ghost use Rattle.std.specs.Prelude.{◌≡◌, ◌++◌, ◌∷◌, [], IfOk, OnOk, map, string_bytes, slice_get, Option};
 ghost use Rattle.meta_nodes.specs.Nodes.{piece_of, rule_views};
 ghost use Rattle.meta_validator.specs.Facts.{AreFacts};

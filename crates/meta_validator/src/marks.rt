@@ -1,6 +1,6 @@
-// Which nodes answer a question with yes: rounds over all nodes that mark what follows from the marks,
-// until a round marks nothing. A node that is marked at once tells those that depend on it, so that the
-// second round marks nothing.
+//! Which nodes answer a question with yes: rounds over all nodes that mark what follows from the marks,
+//! until a round marks nothing. A node that is marked at once tells those that depend on it, so that the
+//! second round marks nothing.
 ghost use Rattle.std.specs.Prelude.{◌≡◌, ◌<◌, ◌≤◌, ◌+◌, IfOk, OnOk, true, false};
 ghost use Rattle.meta_validator.specs.Marks.{unset, AreSound, AreClosed, IsClosedAt};
 

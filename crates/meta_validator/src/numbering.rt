@@ -1,5 +1,5 @@
-// The nodes of all rules, numbered, each behind those inside it; by lists, so that a choice of many parts is
-// no depth.
+//! The nodes of all rules, numbered, each behind those inside it; by lists, so that a choice of many parts is
+//! no depth.
 ghost use Rattle.std.specs.Prelude.{◌≡◌, ◌+◌, ◌-◌, ◌++◌, ◌∷◌, [], IfOk, OnOk, List, length, map};
 ghost use Rattle.meta_ast.specs.Ast.{text_of};
 ghost use Rattle.meta_nodes.specs.Nodes.{view, view_at, piece_of};

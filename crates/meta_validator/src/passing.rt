@@ -1,4 +1,4 @@
-// What may take nothing where a call of the rule in whose body it stands counts as one that takes something.
+//! What may take nothing where a call of the rule in whose body it stands counts as one that takes something.
 ghost use Rattle.std.specs.Prelude.{◌≡◌, ℕ, ◌+◌, ◌<◌, ◌≤◌, Some, IfOk, OnOk, length, slice_get};
 ghost use Rattle.meta_validator.specs.Facts.{AreFacts};
 ghost use Rattle.meta_validator.specs.Marks.{AreSound, AreClosed};

@@ -1,17 +1,19 @@
-// The search for left recursion, made where left calls may have a cycle: a walk from a rule in the order of
-// the text, with a list of what is still to be done in place of calls, and a flag for each rule, so that none
-// is entered twice.
-ghost use Rattle.std.specs.Prelude.{◌≡◌, ℕ, false, ◌<◌, ◌+◌, ◌++◌, ◌∷◌, [], List, Option, Some, None, true, IfOk, OnOk, IfNone, IfSome, OnSome, length, slice_get, slice_set};
+//! The search for left recursion, made where left calls may have a cycle: a walk from a rule in the order of
+//! the text, with a list of what is still to be done in place of calls, and a flag for each rule, so that
+//! none is entered twice.
+ghost use Rattle.std.specs.Prelude.{◌≡◌, ℕ, false, ◌<◌, ◌+◌, ◌++◌, ◌∷◌, [], List, Option, Some, None, true, IfOk, OnOk, IfNone, IfSome, length, slice_get, slice_set, string_bytes, codes};
 ghost use Rattle.meta_base.specs.Language.Text.{Text};
 ghost use Rattle.meta_base.specs.Language.WellFormed.{Leads};
-ghost use Rattle.meta_nodes.specs.Nodes.{rule_views};
+ghost use Rattle.meta_nodes.specs.Nodes.{rule_views, rule_view, piece_of};
 ghost use Rattle.meta_nodes.specs.Spanned.{SpannedRule};
 ghost use Rattle.meta_validator.specs.Facts.{AreFacts};
-ghost use Rattle.meta_validator.specs.LeftRecursion.{Means};
+ghost use Rattle.meta_validator.specs.Findings as findings;
+ghost use Rattle.meta_validator.specs.Findings.{OfRecursion, Reports, places};
+ghost use Rattle.meta_validator.specs.LeftRecursion.{Means, arrows, name_at, told_chain};
 ghost use Rattle.meta_validator.specs.Names.{grammar_of};
 ghost use Rattle.meta_validator.specs.Numbering.{nodes_of};
 ghost use Rattle.meta_validator.specs.Regions.{ArePassing};
-ghost use Rattle.meta_validator.specs.Reporting.{findings_of};
+ghost use Rattle.meta_validator.specs.Reporting.{AreSpans, finding_of, findings_of};
 ghost use Rattle.meta_validator.specs.Searching.{ordered, called_in, inside_of, cost, unentered, IsSearch, IsGoing, IsSought, IsClosing, NeverComesBack};
 ghost use Rattle.meta_validator.specs.Table.{is_set_at};
 
@@ -244,43 +246,58 @@ fn sought<'i>(
     Ok(None)
 }
 
-/// The names of a chain of rules up to its first again, joined by arrows.
-fn chain_text<'i>(
+/// Adds the name of the rule at a place, if there is one, and an arrow.
+fn push_arrow<'i>(
+    text: &mut String,
+    rules: &[ParserRule<'i>],
+    place: usize,
+) -> Result<(), AllocError>
+    ensures { OnOk result (string_bytes text.new ≡ string_bytes text.old
+        ++ (name_at (slice_get (rule_views rules.now) place) ++ codes " -> ")) }
+{
+    if place < rules.len() {
+        text.push_str(rules[place].name.as_str())?;
+    }
+    text.push_str(" -> ")?;
+    Ok(())
+}
+
+/// The names of the rules of a chain, an arrow behind each.
+fn arrows_of<'i>(
     alloc: Global,
     rules: &[ParserRule<'i>],
     chain: &[usize],
-    start: &str,
-) -> Result<String, AllocError> {
+) -> Result<String, AllocError>
+    ensures { IfOk result (λ text. string_bytes text ≡ arrows (rule_views rules.now) chain.now) }
+{
     let mut text = String::new(alloc);
-    for place in 0..chain.len() {
-        if let Some(rule) = rules.get(chain[place]) {
-            text.push_str(rule.name.as_str())?;
-            text.push_str(" -> ")?;
-        }
+    for rule in chain {
+        push_arrow(&mut text, rules, *rule)?;
     }
-    text.push_str(start)?;
     Ok(text)
 }
 
-/// What a closed chain says: the closing call, and the chain.
-fn told_chain<'i>(
+/// What is said of a call that closes a chain: the call as it is written, and the names of the chain up to
+/// that of its first rule again.
+fn told<'i>(
     alloc: Global,
     rules: &[ParserRule<'i>],
-    spans: &[Span<'i>],
-    closed: &ClosedChain,
-    start: &ParserRule<'i>,
-) -> Result<Finding<'i>, AllocError> {
-    let span = match spans.get(closed.call) {
-        Some(span) => *span,
-        None => start.span,
-    };
+    call: Span<'i>,
+    chain: &[usize],
+    first: &ParserRule<'i>,
+) -> Result<String, AllocError>
+    ensures { IfOk result (λ message. string_bytes message
+        ≡ told_chain (rule_views rules.now) (rule_view first.now)
+        (record { chain = chain.now; call = piece_of call.entry })) }
+{
+    let arrows = arrows_of(alloc, rules, chain)?;
     let mut message = String::from_str(alloc, "rule ")?;
-    message.push_str(span.as_str())?;
+    message.push_str(call.as_str())?;
     message.push_str(" is left-recursive (")?;
-    let chain = chain_text(alloc, rules, closed.chain.as_slice(), start.name.as_str())?;
-    message.push_str(chain.as_str())?;
+    message.push_str(arrows.as_str())?;
+    message.push_str(first.name.as_str())?;
     message.push_str("); pest::pratt_parser might be useful in this case")?;
-    Ok(Finding { message, span })
+    Ok(message)
 }
 
 /// Whether the rule at a place is the last of its name.
@@ -298,30 +315,35 @@ fn is_last<'i>(rules: &[ParserRule<'i>], facts: &Facts, place: usize) -> bool
     }
 }
 
-/// What is found of the rule at a place as one that calls itself: only of the last rule of a name.
-fn recursion_at<'i>(
+/// Adds what is found of the rule at a place as one that calls itself: only of the last rule of a name.
+fn add_recursion<'i>(
     alloc: Global,
     rules: &[ParserRule<'i>],
     facts: &Facts,
     spans: &[Span<'i>],
     passing: &[bool],
     place: usize,
-) -> Result<Option<Finding<'i>>, AllocError>
+    found: &mut Vec<Finding<'i>>,
+) -> Result<(), AllocError>
     requires facts { AreFacts rules.now facts.now }
+    requires spans { AreSpans rules.now spans.now }
     requires passing { ArePassing rules.now facts.now.table.roots.items passing.now }
     requires inside { place < length rules.now }
-    ensures none { IfOk result (λ found. IfNone found
-        (NeverComesBack rules.now facts.now.table.roots.items place)) }
-    ensures some { IfOk result (λ found. OnSome found ((n : Text) × Leads (grammar_of rules.now) n n)) }
+    ensures exact { OnOk result ((fs : List findings.Finding) × OfRecursion (rule_views rules.now) place fs
+        × (findings_of found.new.items ≡ findings_of found.old.items ++ fs)) }
+    ensures none { OnOk result (findings_of found.new.items ≡ []
+        → NeverComesBack rules.now facts.now.table.roots.items place) }
 {
     if !is_last(rules, facts, place) {
-        return Ok(None);
+        return Ok(());
     }
     match sought(alloc, rules, facts, passing, place)? {
-        None => Ok(None),
+        None => Ok(()),
         Some(closed) => {
-            let finding = told_chain(alloc, rules, spans, &closed, &rules[place])?;
-            Ok(Some(finding))
+            let span = spans[closed.call];
+            let message = told(alloc, rules, span, closed.chain.as_slice(), &rules[place])?;
+            found.push(Finding { message, span })?;
+            Ok(())
         }
     }
 }
@@ -333,19 +355,25 @@ fn closed_chains<'i>(
     facts: &Facts,
     spans: &[Span<'i>],
 ) -> Result<Vec<Finding<'i>>, AllocError>
-    requires { AreFacts rules.now facts.now }
-    ensures none { IfOk result (λ found. found.items ≡ [] → (place : ℕ) → place < length rules.now
-        → NeverComesBack rules.now facts.now.table.roots.items place) }
-    ensures some { IfOk result (λ found. (found.items ≡ [] → ⊥)
-        → (n : Text) × Leads (grammar_of rules.now) n n) }
+    requires facts { AreFacts rules.now facts.now }
+    requires spans { AreSpans rules.now spans.now }
+    ensures exact { IfOk result (λ found. Reports (OfRecursion (rule_views rules.now))
+        (places (rule_views rules.now)) (findings_of found.items)) }
+    ensures none { IfOk result (λ found. findings_of found.items ≡ [] → (place : ℕ)
+        → place < length rules.now → NeverComesBack rules.now facts.now.table.roots.items place) }
 {
     let passing = passing(alloc, rules, facts)?;
     let mut found = Vec::new(alloc);
     for place in 0..rules.len() {
-        let finding = recursion_at(alloc, rules, facts, spans, passing.as_slice(), place)?;
-        if let Some(finding) = finding {
-            found.push(finding)?;
-        }
+        add_recursion(
+            alloc,
+            rules,
+            facts,
+            spans,
+            passing.as_slice(),
+            place,
+            &mut found,
+        )?;
     }
     Ok(found)
 }
@@ -358,7 +386,10 @@ pub(crate) fn recursions<'i>(
     facts: &Facts,
     spans: &[Span<'i>],
 ) -> Result<Vec<Finding<'i>>, AllocError>
-    requires { AreFacts rules.now facts.now }
+    requires facts { AreFacts rules.now facts.now }
+    requires spans { AreSpans rules.now spans.now }
+    ensures exact { IfOk result (λ found. Reports (OfRecursion (rule_views rules.now))
+        (places (rule_views rules.now)) (findings_of found.items)) }
     ensures none { IfOk result (λ found. findings_of found.items ≡ [] → (n : Text)
         → Leads (grammar_of rules.now) n n → ⊥) }
     ensures some { IfOk result (λ found. (findings_of found.items ≡ [] → ⊥) → (n : Text)

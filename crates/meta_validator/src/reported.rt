@@ -1,9 +1,9 @@
-// All that is found in rules, as errors.
-ghost use Rattle.std.specs.Prelude.{◌≡◌, [], IfOk, IfErr, OnOk, alloc_error};
+//! All that is found in rules, as errors.
+ghost use Rattle.std.specs.Prelude.{◌≡◌, [], IfOk, IfErr, OnOk, alloc_error, map};
 ghost use Rattle.meta_base.specs.Pieces.Saying.{SaysAt, Tell};
 ghost use Rattle.meta_base.specs.Language.WellFormed.{IsWellFormed};
-ghost use Rattle.meta_nodes.specs.Nodes.{rule_views};
-ghost use Rattle.meta_validator.specs.Findings.{AreFound, AreAllFound, IsSortedBySpan};
+ghost use Rattle.meta_nodes.specs.Nodes.{piece_of, rule_views};
+ghost use Rattle.meta_validator.specs.Findings.{AreFound, AreAllFound, IsSortedBySpan, endless_at};
 ghost use Rattle.meta_validator.specs.Names.{grammar_of};
 ghost use Rattle.meta_validator.specs.Reporting.{finding_of, findings_of};
 
@@ -11,25 +11,50 @@ use crate::facts::facts_of;
 use crate::findings::{Finding, choices, repetitions, skips, spans_of};
 use crate::recursions::recursions;
 use meta_base::grammar::Rule;
-use meta_base::runtime::{Error, ErrorVariant, Fault};
+use meta_base::runtime::{Error, ErrorVariant, Fault, Span};
 use meta_nodes::ParserRule;
 use std::alloc::{AllocError, Global};
 
-/// All that is found in rules: repetitions, then choices, then rules that are skipped, then left recursion.
-fn all_findings<'i>(alloc: Global, rules: &[ParserRule<'i>]) -> Result<Vec<Finding<'i>>, AllocError>
-    ensures found { IfOk result (λ found. AreFound (rule_views rules.now) (findings_of found.items)) }
+/// What is found of repetitions that are known to be endless.
+fn endless_findings<'i>(alloc: Global, endless: &[Span<'i>]) -> Result<Vec<Finding<'i>>, AllocError>
+    ensures { IfOk result (λ found.
+        findings_of found.items ≡ map endless_at (map piece_of endless.now)) }
+{
+    let text = "expression inside repetition is non-progressing and will repeat infinitely";
+    let mut found = Vec::new(alloc);
+    for span in endless {
+        let message = String::from_str(alloc, text)?;
+        found.push(Finding {
+            message,
+            span: *span,
+        })?;
+    }
+    Ok(found)
+}
+
+/// All that is found in rules: repetitions, then those that are known to be endless, then choices, then rules
+/// that are skipped, then left recursion.
+fn all_findings<'i>(
+    alloc: Global,
+    rules: &[ParserRule<'i>],
+    endless: &[Span<'i>],
+) -> Result<Vec<Finding<'i>>, AllocError>
+    ensures found { IfOk result (λ found.
+        AreFound (rule_views rules.now) (map piece_of endless.now) (findings_of found.items)) }
     ensures accepted { IfOk result (λ found. findings_of found.items ≡ []
         → IsWellFormed (grammar_of rules.now)) }
 {
     let facts = facts_of(alloc, rules)?;
     let spans = spans_of(alloc, rules)?;
     let mut found = repetitions(alloc, rules, &facts, spans.as_slice())?;
+    let mut endless = endless_findings(alloc, endless)?;
     let mut choices = choices(alloc, rules, &facts, spans.as_slice())?;
     let mut skips = skips(alloc, rules, &facts)?;
     let mut recursions = recursions(alloc, rules, &facts, spans.as_slice())?;
     skips.append(&mut recursions)?;
     choices.append(&mut skips)?;
-    found.append(&mut choices)?;
+    endless.append(&mut choices)?;
+    found.append(&mut endless)?;
     Ok(found)
 }
 
@@ -45,12 +70,14 @@ fn sort_by_span<'i>(found: &mut Vec<Finding<'i>>) -> Result<(), AllocError>
 pub(crate) fn sorted_findings<'i>(
     alloc: Global,
     rules: &[ParserRule<'i>],
+    endless: &[Span<'i>],
 ) -> Result<Vec<Finding<'i>>, AllocError>
-    ensures found { IfOk result (λ sorted. AreAllFound (rule_views rules.now) (findings_of sorted.items)) }
+    ensures found { IfOk result (λ sorted.
+        AreAllFound (rule_views rules.now) (map piece_of endless.now) (findings_of sorted.items)) }
     ensures accepted { IfOk result (λ sorted. findings_of sorted.items ≡ []
         → IsWellFormed (grammar_of rules.now)) }
 {
-    let mut found = all_findings(alloc, rules)?;
+    let mut found = all_findings(alloc, rules, endless)?;
     sort_by_span(&mut found)?;
     Ok(found)
 }

@@ -1,4 +1,4 @@
-// The nodes of all rules, by number.
+//! The nodes of all rules, by number.
 ghost use Rattle.std.specs.Prelude.{◌≡◌, ◌<◌, slice_get};
 ghost use Rattle.meta_validator.specs.Table.{fires, is_set_at, at_root};
 

@@ -1,4 +1,4 @@
-// The table of all rules.
+//! The table of all rules.
 ghost use Rattle.std.specs.Prelude.{◌≡◌, IfOk};
 ghost use Rattle.meta_validator.specs.Facts.{AreTabled};
 ghost use Rattle.meta_validator.specs.Layout.{AreNumbered};

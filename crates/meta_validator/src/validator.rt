@@ -1,9 +1,9 @@
-// What may take nothing, and what cannot fail.
-ghost use Rattle.std.specs.Prelude.{◌≡◌, ◌↔◌, [], IsTrue, IfOk, IfErr, alloc_error};
+//! What may take nothing, and what cannot fail.
+ghost use Rattle.std.specs.Prelude.{◌≡◌, ◌↔◌, [], IsTrue, IfOk, IfErr, alloc_error, map};
 ghost use Rattle.std.specs.Bool.{Decides};
 ghost use Rattle.meta_base.specs.Language.WellFormed.{IsNullable, CannotFail, IsWellFormed};
 ghost use Rattle.meta_nodes.specs.Erasure.{without_spans, rules_without_spans};
-ghost use Rattle.meta_nodes.specs.Nodes.{rule_views, unplaced};
+ghost use Rattle.meta_nodes.specs.Nodes.{piece_of, rule_views, unplaced};
 ghost use Rattle.meta_validator.specs.Facts.{Asked};
 ghost use Rattle.meta_validator.specs.Names.{grammar_of};
 ghost use Rattle.meta_validator.specs.Reported.{AreReported};
@@ -15,7 +15,7 @@ use crate::reported::{errors_of, sorted_findings};
 use crate::table::{Question, is_set};
 use crate::tables::tabulated;
 use meta_base::grammar::Rule;
-use meta_base::runtime::{Error, Fault};
+use meta_base::runtime::{Error, Fault, Span};
 use meta_nodes::{ParserExpr, ParserRule};
 use std::alloc::{AllocError, Global};
 
@@ -51,21 +51,25 @@ pub fn is_non_failing<'i>(
     answer(alloc, expr, rules.as_slice(), Question::CannotFail).map_err(Fault::Memory)
 }
 
-/// What is wrong with rules, in the order of their places (at one place repetitions, then choices, then
-/// skipped rules, then left recursion): a repetition `e*`, `e+` or `e{n,}` whose body cannot fail or may
-/// take nothing; an alternative with others behind it that cannot fail; a rule named `WHITESPACE` or
-/// `COMMENT` that cannot fail or may take nothing; left recursion, at most one for a name. Each error
-/// stands where the fault does. The only fault is a want of memory.
-pub fn validate_ast<'i>(
+/// What is wrong with rules, in the order of their places (at one place repetitions, then those of `endless`,
+/// then choices, then skipped rules, then left recursion): a repetition `e*`, `e+` or `e{n,}` whose body
+/// cannot fail or may take nothing; an alternative with others behind it that cannot fail; a rule named
+/// `WHITESPACE` or `COMMENT` that cannot fail or may take nothing; left recursion, at most one for a name:
+/// the chain of rules by which the walk over the body of its last rule comes back, at the first call of the
+/// rule to which it comes. Each error stands where the fault does. `endless` are the places of repetitions
+/// that never end for a reason that is not looked for here. The only fault is a want of memory.
+pub fn validate_rules<'i>(
     alloc: Global,
     rules: &Vec<ParserRule<'i>>,
+    endless: &[Span<'i>],
 ) -> Result<Vec<Error<Rule>>, Fault>
-    ensures exact { IfOk result (λ errors. AreReported (rule_views rules.now.items) errors.items) }
+    ensures exact { IfOk result (λ errors.
+        AreReported (rule_views rules.now.items) (map piece_of endless.now) errors.items) }
     ensures accepted { IfOk result (λ errors. errors.items ≡ []
         → IsWellFormed (rules_without_spans (rule_views rules.now.items))) }
     ensures memory { IfErr result (λ fault. fault ≡ Fault.Memory alloc_error) }
 {
-    let found = match sorted_findings(alloc, rules.as_slice()) {
+    let found = match sorted_findings(alloc, rules.as_slice(), endless) {
         Ok(found) => found,
         Err(error) => return Err(Fault::Memory(error)),
     };

@@ -2,6 +2,7 @@
 ghost use Rattle.std.specs.Prelude.{◌≡◌, ◌≤◌, ◌⊎◌, ◌↔◌, IfNone, IfSome, IsErr, IsOk, IsUtf8};
 ghost use Rattle.pest_meta.specs.Spelling.{HasAnswer, HasRefusal};
 
+use meta_ast::optimized::release;
 use pest_meta::ast::RuleType;
 use pest_meta::optimizer::OptimizedRule;
 use pest_meta::{Report, parse_and_optimize, unwrap_or_report};
@@ -12,7 +13,7 @@ use std::io::{self, Write};
 const PRINTED: u8 = 0;
 /// The text is no grammar, or one that is refused.
 const REFUSED: u8 = 1;
-/// Memory was refused.
+/// Want of memory.
 const OUT_OF_MEMORY: u8 = 2;
 /// There is no text.
 const UNREADABLE: u8 = 3;
@@ -39,7 +40,7 @@ pub fn run<W: Write, E: Write>(alloc: Global, input: Option<&[u8]>, out: &mut W,
         return told(err, "cannot read", UNREADABLE);
     };
     match unwrap_or_report(alloc, parse_and_optimize(alloc, grammar)) {
-        Ok((_, rules)) => written(err, print(out, &rules)),
+        Ok((_, rules)) => written(err, print(out, rules)),
         Err(Report::Memory) => told(err, "out of memory", OUT_OF_MEMORY),
         Err(Report::Text(text)) => told(err, text.as_str(), REFUSED),
     }
@@ -65,8 +66,15 @@ fn told<E: Write>(err: &mut E, text: &str, status: u8) -> u8
     status
 }
 
+/// Writes rules, and lets them go by a loop: a wide rule takes no deep stack.
+fn print<W: Write>(out: &mut W, rules: Vec<OptimizedRule>) -> io::Result<()> {
+    let outcome = write_lines(out, &rules);
+    release(rules);
+    outcome
+}
+
 /// Writes each rule on a line of its own.
-fn print<W: Write>(out: &mut W, rules: &[OptimizedRule]) -> io::Result<()> {
+fn write_lines<W: Write>(out: &mut W, rules: &[OptimizedRule]) -> io::Result<()> {
     for rule in rules {
         let modifier = modifier(rule.ty);
         writeln!(out, "{} = {modifier}{{ {} }}", rule.name, rule.expr)?;

@@ -1,4 +1,4 @@
--- What is read without a fault fits its types: texts are texts, and numbers lie within their types.
+-- What is read without a flaw fits its types: texts are texts, and numbers lie within their types.
 use Rattle.std.proofs.Common.{◌≡◌, ℕ, ℤ, pos, negsuc, ◌<◌, ◌≤◌, ◌^◌, ◌⊎◌, inl, inr, List, [], ◌∷◌, Option, Some, None, Bool, true, false, not, ◌&&◌, if◌then◌else◌, refl, sym, ap, chars, codes, arith}
 use Rattle.std.proofs.lemmas.Bool.{ltb-true}
 use Rattle.std.proofs.lemmas.List.Elements.{All-nil, All-cons}
@@ -13,10 +13,11 @@ use Rattle.meta_base.specs.Language.Grammar.{FitsItsTypes, FitsSigned32, FitsUns
 use Rattle.meta_base.specs.Language.State.{Trees, None', Tree, joined}
 use Rattle.meta_nodes.specs.Erasure.{round, between}
 use Rattle.meta_nodes.specs.Spanned.{Unary, Binary, Seq, Choice}
-use Rattle.meta_reader.specs.Faults.{Cause, Fault, or_else, own_fault, closes, faulty, fits_i32, past_u32, past_i32, wrong_literal, zero_times, number_fault, first_fault}
+use Rattle.meta_reader.specs.Flaws.{Cause, or_else, own_flaw, closes, flaw_if, fits_i32, past_u32, past_i32, wrong_literal, zero_times, number_flaw, first_flaw}
 use Rattle.meta_reader.specs.Reading as reading
 use Rattle.meta_reader.specs.Reading.{Postfix, Terminal, number, integer, literal}
-use Rattle.pest_meta.proofs.ReadParts.{IsHandedDown, IsGiven}
+use Rattle.meta_reader.proofs.Flawless.{none_left, own_none, inner_none, behind_none, front_none}
+use Rattle.meta_reader.proofs.ReadParts.{IsHandedDown, IsGiven}
 use Rattle.pest_meta.proofs.WholeCharacters.{OnCharacters}
 
 scalar_value : (c : ℕ) → IsScalar c → IsScalarValue c
@@ -43,47 +44,14 @@ is_text (c ∷ t) h =
 pub characters_are_text : (b : List ℕ) → IsUtf8 b → IsText (chars b)
 characters_are_text b u = is_text (chars b) (scalars-chars b u)
 
-none_left : (a b : Option Fault) → or_else a b ≡ None → a ≡ None
-none_left None b h = refl
-none_left (Some f) b h = h
-
-none_right : (a b : Option Fault) → or_else a b ≡ None → b ≡ None
-none_right None b h = h
-none_right (Some f) b h = cc
-
 module _ (text : List ℕ) where
-  -- trees without a fault, on characters
+  -- trees without a flaw, on characters
   abbrev pub IsSound : Trees → Type 0
-  IsSound us = (first_fault text us ≡ None) × OnCharacters text us
+  IsSound us = (first_flaw text us ≡ None) × OnCharacters text us
 
-  not_faulty : (b : Bool) (cause : Cause) (i j : ℕ) → faulty text (not b) cause i j ≡ None → b ≡ true
-  not_faulty true cause i j h = refl
-  not_faulty false cause i j h = cc
-
-  own_none : (r : Text) (i j : ℕ) (inner us : Trees) → first_fault text (Tree r i j inner us) ≡ None → own_fault text r i j inner us ≡ None
-  own_none r i j inner us h = none_left _ _ h
-
-  inner_none : (r : Text) (i j : ℕ) (inner us : Trees) → first_fault text (Tree r i j inner us) ≡ None → first_fault text inner ≡ None
-  inner_none r i j inner us h = none_left _ _ (none_right (own_fault text r i j inner us) _ h)
-
-  behind_none : (r : Text) (i j : ℕ) (inner us : Trees) → first_fault text (Tree r i j inner us) ≡ None → first_fault text us ≡ None
-  behind_none r i j inner us h = none_right (first_fault text inner) _ (none_right (own_fault text r i j inner us) _ h)
-
-  -- a number is judged by whether a closing brace is behind it
-  own_fault-behind : (r : Text) (i j : ℕ) (inner us vs : Trees) → closes us ≡ closes vs → own_fault text r i j inner us ≡ own_fault text r i j inner vs
-  unfolding own_fault
-  own_fault-behind r i j inner us vs h = rw h refl
-
-  closes-joined : (us vs : Trees) → closes vs ≡ false → closes us ≡ closes (joined us vs)
-  closes-joined None' vs h = rw h refl
-  closes-joined (Tree r i j inner us) vs h = refl
-
-  front_none : (us vs : Trees) → closes vs ≡ false → first_fault text (joined us vs) ≡ None → first_fault text us ≡ None
-  front_none None' vs c h = refl
-  front_none (Tree r i j inner us) vs c h =
-      let own = none_left (own_fault text r i j inner (joined us vs)) _ h in
-      let same = own_fault-behind r i j inner us (joined us vs) (closes-joined us vs c) in
-      rw (same, own, inner_none _ _ _ inner (joined us vs) h, front_none us vs c (behind_none _ _ _ inner (joined us vs) h)) refl
+  not_flawed : (b : Bool) (cause : Cause) (i j : ℕ) → flaw_if text (not b) cause i j ≡ None → b ≡ true
+  not_flawed true cause i j h = refl
+  not_flawed false cause i j h = cc
 
   front_on_characters : (us vs : Trees) → OnCharacters text (joined us vs) → OnCharacters text us
   front_on_characters None' vs h = tt
@@ -91,66 +59,66 @@ module _ (text : List ℕ) where
 
   pub handed_down : IsHandedDown IsSound
   handed_down = record {
-    inner = λ r i j us vs h. (inner_none r i j us vs h.0, h.1.1);
-    behind = λ r i j us vs h. (behind_none r i j us vs h.0, h.1.2);
-    front = λ us vs c h. (front_none us vs c h.0, front_on_characters us vs h.1);
+    inner = λ r i j us vs h. (inner_none text r i j us vs h.0, h.1.1);
+    behind = λ r i j us vs h. (behind_none text r i j us vs h.0, h.1.2);
+    front = λ us vs c h. (front_none text us vs c h.0, front_on_characters us vs h.1);
   }
 
   right_literal : (i j : ℕ) (us : Trees) → wrong_literal text i j us ≡ None → IsText (literal text us)
-  right_literal i j us h = is_text (literal text us) (not_faulty (all_scalars (literal text us)) _ i j h)
+  right_literal i j us h = is_text (literal text us) (not_flawed (all_scalars (literal text us)) _ i j h)
 
   within_u32 : (i j : ℕ) → past_u32 text i j ≡ None → FitsUnsigned32 (number text i j)
-  within_u32 i j h = ltb-true (number text i j) (2 ^ 32) (not_faulty (nat_lt (number text i j) (2 ^ 32)) _ i j h)
+  within_u32 i j h = ltb-true (number text i j) (2 ^ 32) (not_flawed (nat_lt (number text i j) (2 ^ 32)) _ i j h)
 
   signed_fits : (n : ℤ) → fits_i32 n ≡ true → FitsSigned32 n
   signed_fits (pos n) h = ltb-true n (2 ^ 31) h
   signed_fits (negsuc n) h = ltb-true n (2 ^ 31) h
 
   within_i32 : (i j : ℕ) → past_i32 text i j ≡ None → FitsSigned32 (integer text i j)
-  within_i32 i j h = signed_fits (integer text i j) (not_faulty (fits_i32 (integer text i j)) _ i j h)
+  within_i32 i j h = signed_fits (integer text i j) (not_flawed (fits_i32 (integer text i j)) _ i j h)
 
   -- whatever is behind a number, it fits
-  number_fits : (i j : ℕ) (us vs : Trees) → own_fault text (codes "number") i j us vs ≡ None → FitsUnsigned32 (number text i j)
-  unfolding own_fault
+  number_fits : (i j : ℕ) (us vs : Trees) → own_flaw text (codes "number") i j us vs ≡ None → FitsUnsigned32 (number text i j)
+  unfolding own_flaw
   number_fits i j us vs h = go (closes vs) h
     where
       go : (b : Bool) → (if b then or_else (past_u32 text i j) (zero_times text i j) else past_u32 text i j) ≡ None → FitsUnsigned32 (number text i j)
       go true h = within_u32 i j (none_left _ _ h)
       go false h = within_u32 i j h
 
-  integer_fits : (i j : ℕ) (us vs : Trees) → own_fault text (codes "integer") i j us vs ≡ None → FitsSigned32 (integer text i j)
-  unfolding own_fault
+  integer_fits : (i j : ℕ) (us vs : Trees) → own_flaw text (codes "integer") i j us vs ≡ None → FitsSigned32 (integer text i j)
+  unfolding own_flaw
   integer_fits i j us vs h = within_i32 i j h
 
-  string_fits : (i j : ℕ) (us vs : Trees) → own_fault text (codes "string") i j us vs ≡ None → IsText (literal text us)
-  unfolding own_fault
+  string_fits : (i j : ℕ) (us vs : Trees) → own_flaw text (codes "string") i j us vs ≡ None → IsText (literal text us)
+  unfolding own_flaw
   string_fits i j us vs h = right_literal i j us h
 
-  character_fits : (i j : ℕ) (us vs : Trees) → own_fault text (codes "character") i j us vs ≡ None → IsText (literal text us)
-  unfolding own_fault
+  character_fits : (i j : ℕ) (us vs : Trees) → own_flaw text (codes "character") i j us vs ≡ None → IsText (literal text us)
+  unfolding own_flaw
   character_fits i j us vs h = right_literal i j us h
 
   terminal_fits : {r : Text} {i j : ℕ} {us : Trees} {e : Expression} (vs : Trees)
       → Terminal text r i j us e → IsSound (Tree r i j us vs) → FitsItsTypes e
   terminal_fits vs reading.identifier h = characters_are_text _ h.1.0
-  terminal_fits {i = i} {j = j} {us = us} vs reading.string h = string_fits i j us vs (own_none _ i j us vs h.0)
+  terminal_fits {i = i} {j = j} {us = us} vs reading.string h = string_fits i j us vs (own_none text _ i j us vs h.0)
   terminal_fits vs (reading.insensitive {string_at = i} {string_to = j} {us = us} {vs = behind}) h =
-      string_fits i j us behind (own_none _ i j us behind (inner_none _ _ _ _ vs h.0))
+      string_fits i j us behind (own_none text _ i j us behind (inner_none text _ _ _ _ vs h.0))
   terminal_fits vs (reading.range {low_at = i} {low_to = j} {high_at = k} {high_to = l} {us = low} {vs = high}) h =
-      let inner = inner_none _ _ _ _ vs h.0 in
-      let last = behind_none _ _ _ None' _ (behind_none _ i j low _ inner) in
-      (character_fits i j low _ (own_none _ i j low _ inner), character_fits k l high None' (own_none _ k l high None' last))
+      let inner = inner_none text _ _ _ _ vs h.0 in
+      let last = behind_none text _ _ _ None' _ (behind_none text _ i j low _ inner) in
+      (character_fits i j low _ (own_none text _ i j low _ inner), character_fits k l high None' (own_none text _ k l high None' last))
   terminal_fits vs reading.slice h = (omega arith, tt)
   terminal_fits vs (reading.slice_from {low_at = i} {low_to = j}) h =
-      let inner = behind_none _ _ _ None' _ (inner_none _ _ _ _ vs h.0) in
-      (integer_fits i j None' _ (own_none _ i j None' _ inner), tt)
+      let inner = behind_none text _ _ _ None' _ (inner_none text _ _ _ _ vs h.0) in
+      (integer_fits i j None' _ (own_none text _ i j None' _ inner), tt)
   terminal_fits vs (reading.slice_to {high_at = k} {high_to = l}) h =
-      let inner = behind_none _ _ _ None' _ (behind_none _ _ _ None' _ (inner_none _ _ _ _ vs h.0)) in
-      (omega arith, integer_fits k l None' _ (own_none _ k l None' _ inner))
+      let inner = behind_none text _ _ _ None' _ (behind_none text _ _ _ None' _ (inner_none text _ _ _ _ vs h.0)) in
+      (omega arith, integer_fits k l None' _ (own_none text _ k l None' _ inner))
   terminal_fits vs (reading.slice_between {low_at = i} {low_to = j} {high_at = k} {high_to = l}) h =
-      let inner = behind_none _ _ _ None' _ (inner_none _ _ _ _ vs h.0) in
-      let last = behind_none _ _ _ None' _ (behind_none _ i j None' _ inner) in
-      (integer_fits i j None' _ (own_none _ i j None' _ inner), integer_fits k l None' _ (own_none _ k l None' _ last))
+      let inner = behind_none text _ _ _ None' _ (inner_none text _ _ _ _ vs h.0) in
+      let last = behind_none text _ _ _ None' _ (behind_none text _ i j None' _ inner) in
+      (integer_fits i j None' _ (own_none text _ i j None' _ inner), integer_fits k l None' _ (own_none text _ k l None' _ last))
 
   postfix_fits : {r : Text} {us : Trees} {f : Unary} → Postfix text r us f → IsSound us → (e : Expression)
       → FitsItsTypes (round f e)
@@ -158,15 +126,15 @@ module _ (text : List ℕ) where
   postfix_fits reading.rep h e = tt
   postfix_fits reading.rep_once h e = tt
   postfix_fits (reading.exact {number_at = i} {number_to = j}) h e =
-      number_fits i j None' _ (own_none _ i j None' _ (behind_none _ _ _ None' _ h.0))
+      number_fits i j None' _ (own_none text _ i j None' _ (behind_none text _ _ _ None' _ h.0))
   postfix_fits (reading.min {number_at = i} {number_to = j}) h e =
-      number_fits i j None' _ (own_none _ i j None' _ (behind_none _ _ _ None' _ h.0))
+      number_fits i j None' _ (own_none text _ i j None' _ (behind_none text _ _ _ None' _ h.0))
   postfix_fits (reading.max {number_at = i} {number_to = j}) h e =
-      number_fits i j None' _ (own_none _ i j None' _ (behind_none _ _ _ None' _ (behind_none _ _ _ None' _ h.0)))
+      number_fits i j None' _ (own_none text _ i j None' _ (behind_none text _ _ _ None' _ (behind_none text _ _ _ None' _ h.0)))
   postfix_fits (reading.min_max {least_at = i} {least_to = j} {most_at = k} {most_to = l}) h e =
-      let least = behind_none _ _ _ None' _ h.0 in
-      let most = behind_none _ _ _ None' _ (behind_none _ i j None' _ least) in
-      (number_fits i j None' _ (own_none _ i j None' _ least), number_fits k l None' _ (own_none _ k l None' _ most))
+      let least = behind_none text _ _ _ None' _ h.0 in
+      let most = behind_none text _ _ _ None' _ (behind_none text _ i j None' _ least) in
+      (number_fits i j None' _ (own_none text _ i j None' _ least), number_fits k l None' _ (own_none text _ k l None' _ most))
 
   between_fits : (f : Binary) (a b : Expression) → FitsItsTypes (between f a b)
   between_fits Seq a b = tt

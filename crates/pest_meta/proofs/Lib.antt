@@ -1,7 +1,7 @@
 pub mod Fitting
 pub mod Promised
-pub mod ReadParts
 pub mod Reporting
+pub mod ReportsAgree
 pub mod Spelled
 pub mod WellNamed
 pub mod WholeCharacters

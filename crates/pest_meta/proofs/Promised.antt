@@ -1,6 +1,5 @@
 -- What is so of the grammar that an accepted text spells.
 use Rattle.std.proofs.Common.{◌≡◌, ℕ, List, [], subst, sym}
-use Rattle.std.proofs.lemmas.List.Elements.{All-contains}
 use Rattle.std.specs.Borrow.{Bor}
 use Rattle.std.specs.List.{All}
 use Rattle.std.specs.Str.{IsUtf8}
@@ -21,10 +20,10 @@ use Rattle.meta_names.specs.GrammarNames.{calls, definitions}
 use Rattle.meta_nodes.specs.Erasure.{rules_without_spans}
 use Rattle.meta_nodes.specs.Spanned.{SpannedRule}
 use Rattle.meta_reader.proofs.ReadableCounts.{counts_readable}
-use Rattle.meta_reader.specs.Faults.{first_fault}
+use Rattle.meta_reader.proofs.ReadParts.{parts_so}
+use Rattle.meta_reader.specs.Flaws.{first_flaw}
 use Rattle.meta_reader.specs.Reading.{ReadsRules}
 use Rattle.pest_meta.proofs.Fitting.{IsSound as AreSound, fits_given, handed_down}
-use Rattle.pest_meta.proofs.ReadParts.{InBody, rules_so}
 use Rattle.pest_meta.proofs.Spelled.{spells_once}
 use Rattle.pest_meta.proofs.WellNamed.{defined_texts, distinct_read, keeps_any, names_are_texts, no_keyword_read}
 use Rattle.pest_meta.proofs.WholeCharacters.{trees_on_characters}
@@ -33,11 +32,9 @@ use Rattle.pest_meta.specs.Spelling.{Give, IsAnswer, Spells, complaints_in}
 
 module _ (text : List ℕ) (utf8 : IsUtf8 text) (us : Trees) (sound : AreSound text us) (h : complaints_in text us ≡ []) (rs : List SpannedRule) (d : ReadsRules text us rs) where
   fits : (p : Expression) → InSomeRule (rules_without_spans rs) p → FitsItsTypes p
-  fits p i =
-      let P = InBody text (AreSound text) FitsItsTypes (handed_down text) (fits_given text) in
-      All-contains P (rules_without_spans rs) i.0 (rules_so text (AreSound text) FitsItsTypes (handed_down text) (fits_given text) d sound) i.1 p i.2
+  fits = parts_so text (AreSound text) FitsItsTypes (handed_down text) (fits_given text) d sound
 
-  -- trees without a fault and without complaints on their names are read as a grammar
+  -- trees without a flaw and without complaints on their names are read as a grammar
   pub is_grammar : IsGrammar (rules_without_spans rs)
   is_grammar = record {
     distinct = distinct_read d (defined_texts text us sound.1) (calls text us) h;
@@ -55,7 +52,7 @@ module _ (text : List ℕ) (utf8 : IsUtf8 text) (builtins : List (Bor (List ℕ)
   accepted_is_grammar : IsGrammar a.spelled
   accepted_is_grammar =
       let give = a.accepted.give in
-      let sound : AreSound text a.trees = (give.faultless, trees_on_characters text utf8 a.trees a.of_text) in
+      let sound : AreSound text a.trees = (give.flawless, trees_on_characters text utf8 a.trees a.of_text) in
       subst IsGrammar (sym give.same) (is_grammar text utf8 a.trees sound a.well_named give.read give.reads)
 
   pub spells_grammar : OfSpelled text IsSound

@@ -18,16 +18,20 @@ use Rattle.meta_base.specs.declared.runtime.tokens.Pairs.{Pairs}
 use Rattle.meta_base.proofs.OneOutcome.{same}
 use Rattle.meta_nodes.specs.Erasure.{rules_without_spans}
 use Rattle.meta_nodes.specs.Spanned.{SpannedRule}
-use Rattle.meta_reader.specs.Faults.{Fault, first_fault}
+use Rattle.meta_reader.specs.Flaws.{Flaw, first_flaw}
 use Rattle.meta_reader.specs.Reading.{ReadsRules}
-use Rattle.meta_reader.specs.Refusals.{AreReadAs, first_fault_of, IsRefusal as IsReadRefusal, TellsOf}
+use Rattle.meta_reader.specs.Refusals.{AreReadAs, first_flaw_of, IsRefusal as IsReadRefusal, TellsOf}
 use Rattle.meta_reader.proofs.Uniqueness.{rules_once}
 use Rattle.meta_syntax.specs.MetaGrammar.{meta_grammar}
 use Rattle.meta_syntax.specs.Parses.{AreOfAGrammar, FailsAt, ParseRefuses}
 use Rattle.meta_names.specs.GrammarNames.{AreWrittenAt, complaints_of, first_calls_of, IsRefusal as IsNameRefusal}
+use Rattle.meta_stack.specs.Certain.{AreReports}
 use Rattle.meta_validator.specs.Reported.{AreReported}
 use Rattle.meta_validator.proofs.NothingElse.{nothing_else}
-use Rattle.pest_meta.specs.Spelling.{AreAccepted, AreFaulty, AreRejected, Give, HasAnswer, HasRefusal, HasTrees, HaveFindings, IsAnswer, complaints_in, IsMisnamed, IsNoGrammar, IsRefusal, IsRefusedGrammar, Spells}
+use Rattle.pest_meta.specs.Findings.{TellFindings}
+use Rattle.pest_meta.proofs.ReportsAgree.{reports_agree}
+use Rattle.pest_meta.specs.Promises.{OfRead}
+use Rattle.pest_meta.specs.Spelling.{AreAccepted, AreFlawed, AreRejected, Give, HasAnswer, HasRefusal, HasTrees, HaveFindings, IsAnswer, complaints_in, IsMisnamed, IsNoGrammar, IsRefusal, IsRefusedGrammar, Spells}
 
 -- no property name stands for anything
 abbrev empty_classes : Classes
@@ -46,12 +50,12 @@ trees_once text us vs h k = same_trees (same meta_grammar empty_classes (h empty
 pub fails_so : (text : List ℕ) (place : ℕ) (us : Trees) → FailsAt rule_is.grammar_rules text place → HasTrees text us → ⊥
 fails_so text place us f h = failure_is_none (same meta_grammar empty_classes (f empty_classes).0 (h empty_classes).1)
 
--- trees with a fault give no rules
-some_is_none : (f : Fault) → Some f ≡ None → ⊥
+-- trees with a flaw give no rules
+some_is_none : (f : Flaw) → Some f ≡ None → ⊥
 some_is_none f h = cc
 
-pub faulty_give_none : (text : List ℕ) (trees : Trees) (errors : List (Error Rule)) (rules : Grammar) → AreFaulty text trees errors → Give text trees rules → ⊥
-faulty_give_none text trees errors rules f g = some_is_none f.fault (sym f.first ∙ g.faultless)
+pub flawed_give_none : (text : List ℕ) (trees : Trees) (errors : List (Error Rule)) (rules : Grammar) → AreFlawed text trees errors → Give text trees rules → ⊥
+flawed_give_none text trees errors rules f g = some_is_none f.flaw (sym f.first ∙ g.flawless)
 
 pub spells_once : (text : List ℕ) (rules others : Grammar) → Spells text rules → Spells text others → rules ≡ others
 spells_once text rules others s t =
@@ -66,7 +70,9 @@ trees_or_fails text trees errors h n = fails_so text n.says.place trees n.says.f
 accepted_or_found : (text : List ℕ) (trees : Trees) (rules : Grammar) (errors : List (Error Rule)) → AreAccepted text trees rules → HaveFindings text trees errors → ⊥
 accepted_or_found text trees rules errors a h =
     let read = rules_once h.give.reads a.give.reads in
-    h.some (nothing_else a.give.read errors a.nothing_found (subst (λ rs. AreReported rs errors) read h.tell))
+    let found = subst (λ rs. TellFindings rs errors) read h.tell in
+    let none = reports_agree a.give.read found.endless a.no_reports found.reports in
+    h.some (nothing_else a.give.read [] errors a.nothing_found (subst (λ spans. AreReported a.give.read spans errors) none found.tell))
 
 -- nor for anything else
 answered_or_refused : (text : List ℕ) (builtins : List (Bor (List ℕ))) (answer : List OptimizedRule) (errors : List (Error Rule)) → IsAnswer text builtins answer → IsRefusedGrammar text errors → ⊥
@@ -75,14 +81,21 @@ answered_or_refused text builtins answer errors a r = go r.why
     trees : r.trees ≡ a.trees
     trees = trees_once text r.trees a.trees r.of_text a.of_text
 
-    go : IsMisnamed text r.trees errors ⊎ (AreFaulty text r.trees errors ⊎ HaveFindings text r.trees errors) → ⊥
+    go : IsMisnamed text r.trees errors ⊎ (AreFlawed text r.trees errors ⊎ HaveFindings text r.trees errors) → ⊥
     go (inl m) = m.some (subst (λ us. complaints_in text us ≡ []) (sym trees) a.well_named)
-    go (inr (inl f)) = faulty_give_none text a.trees errors a.spelled (subst (λ us. AreFaulty text us errors) trees f) a.accepted.give
+    go (inr (inl f)) = flawed_give_none text a.trees errors a.spelled (subst (λ us. AreFlawed text us errors) trees f) a.accepted.give
     go (inr (inr h)) = accepted_or_found text a.trees a.spelled errors a.accepted (subst (λ us. HaveFindings text us errors) trees h)
 
 pub not_both : (text : List ℕ) → HasAnswer text → HasRefusal text → ⊥
 not_both text (builtins, answer, a) (errors, inl n) = trees_or_fails text a.trees errors a.of_text n
 not_both text (builtins, answer, a) (errors, inr r) = answered_or_refused text builtins answer errors a r
+
+-- where there is an answer, the stack pass reports nothing
+pub answered_without_reports : (text : List ℕ) (builtins : List (Bor (List ℕ))) (answer : List OptimizedRule) → IsAnswer text builtins answer → OfRead text (λ rules. AreReports rules [])
+answered_without_reports text builtins answer a trees rules h d =
+    let same = trees_once text trees a.trees h a.of_text in
+    let read = rules_once (subst (λ us. ReadsRules text us rules) same d) a.accepted.give.reads in
+    subst (λ rs. AreReports rs []) (sym read) a.accepted.no_reports
 
 -- what is refused before anything is read is no grammar
 pub no_grammar : (text : List ℕ) (fault : code.Fault) → ParseRefuses rule_is.grammar_rules text fault → IsRefusal text fault
@@ -90,23 +103,23 @@ no_grammar text (fault_is.Memory e) h = tt
 no_grammar text (fault_is.Grammar errors) h =
     inl (record { says = h; none = λ rules s. fails_so text h.place s.trees h.fails s.of_text })
 
--- what is refused when it is read has a fault
-faulty : (text : List ℕ) (us : Trees) (errors : List (Error Rule)) (o : Option Fault) → first_fault text us ≡ o → MatchOption o ⊥ (λ fault. TellsOf fault errors) → AreFaulty text us errors
-faulty text us errors None e k = absurd k
-faulty text us errors (Some fault) e k = record { fault = fault; first = e; tells = k }
+-- what is refused when it is read has a flaw
+flawed : (text : List ℕ) (us : Trees) (errors : List (Error Rule)) (o : Option Flaw) → first_flaw text us ≡ o → MatchOption o ⊥ (λ flaw. TellsOf flaw errors) → AreFlawed text us errors
+flawed text us errors None e k = absurd k
+flawed text us errors (Some flaw) e k = record { flaw = flaw; first = e; tells = k }
 
-pub has_fault : (pairs : Pairs Rule) (fault : code.Fault) → IsReadRefusal (first_fault_of pairs) fault → AreRejected (pairs_text pairs) (named (pairs_trees pairs)) fault
-has_fault pairs (fault_is.Memory e) k = tt
-has_fault pairs (fault_is.Grammar errors) k =
-    inl (faulty (pairs_text pairs) (named (pairs_trees pairs)) errors.items (first_fault_of pairs) refl k)
+pub has_flaw : (pairs : Pairs Rule) (fault : code.Fault) → IsReadRefusal (first_flaw_of pairs) fault → AreRejected (pairs_text pairs) (named (pairs_trees pairs)) fault
+has_flaw pairs (fault_is.Memory e) k = tt
+has_flaw pairs (fault_is.Grammar errors) k =
+    inl (flawed (pairs_text pairs) (named (pairs_trees pairs)) errors.items (first_flaw_of pairs) refl k)
 
 -- what memory alone may refuse
 pub memory_rejects : (text : List ℕ) (us : Trees) (fault : code.Fault) → fault ≡ fault_is.Memory alloc_error → AreRejected text us fault
 memory_rejects text us fault e = rw e tt
 
 -- what is read gives rules
-abbrev pub given : (pairs : Pairs Rule) (read : List SpannedRule) (rules : Grammar) → first_fault_of pairs ≡ None → AreReadAs pairs read → rules ≡ rules_without_spans read → Give (pairs_text pairs) (named (pairs_trees pairs)) rules
-given pairs read rules f r s = record { faultless = f; read = read; reads = r; same = s }
+abbrev pub given : (pairs : Pairs Rule) (read : List SpannedRule) (rules : Grammar) → first_flaw_of pairs ≡ None → AreReadAs pairs read → rules ≡ rules_without_spans read → Give (pairs_text pairs) (named (pairs_trees pairs)) rules
+given pairs read rules f r s = record { flawless = f; read = read; reads = r; same = s }
 
 -- what is refused for its names
 pub misnamed : (text : List ℕ) (pairs copy : Pairs Rule) (fault : code.Fault) → pairs_text pairs ≡ text → AreOfAGrammar pairs → IsSamePairs pairs copy → IsNameRefusal (complaints_of copy) fault → IsRefusal text fault

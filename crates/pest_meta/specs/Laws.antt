@@ -4,7 +4,7 @@ use Rattle.meta_base.specs.Language.Expression.{Grammar}
 use Rattle.meta_base.specs.Language.State.{Trees}
 use Rattle.meta_base.specs.declared.grammar.Rule.{Rule}
 use Rattle.meta_base.specs.declared.runtime.errors.Error.{Error}
-use Rattle.pest_meta.specs.Spelling.{AreFaulty, Give, HasAnswer, HasRefusal, HasTrees, IsNoGrammar, Spells}
+use Rattle.pest_meta.specs.Spelling.{AreFlawed, Give, HasAnswer, HasRefusal, HasTrees, IsNoGrammar, Spells}
 
 -- a text has one list of trees at most
 abbrev pub HasOneListOfTrees : Type 0
@@ -16,10 +16,10 @@ abbrev pub HasTreesOrFails : Type 0
 HasTreesOrFails = (text : List ℕ) (trees : Trees) (errors : List (Error Rule)) → HasTrees text trees
     → IsNoGrammar text errors → ⊥
 
--- trees that have a fault give no rules
-abbrev pub FaultyGiveNothing : Type 0
-FaultyGiveNothing = (text : List ℕ) (trees : Trees) (errors : List (Error Rule)) (rules : Grammar)
-    → AreFaulty text trees errors → Give text trees rules → ⊥
+-- trees that have a flaw give no rules
+abbrev pub FlawedGiveNothing : Type 0
+FlawedGiveNothing = (text : List ℕ) (trees : Trees) (errors : List (Error Rule)) (rules : Grammar)
+    → AreFlawed text trees errors → Give text trees rules → ⊥
 
 -- a text spells one list of rules at most
 abbrev pub SpellsOneGrammar : Type 0

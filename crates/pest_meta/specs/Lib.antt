@@ -1,3 +1,4 @@
+pub mod Findings
 pub mod Laws
 pub mod Promises
 pub mod Reports

@@ -3,14 +3,21 @@ use Rattle.std.specs.Prelude.{ℕ, List}
 use Rattle.meta_base.specs.Language.Expression.{Grammar}
 use Rattle.meta_base.specs.Language.Grammar.{IsGrammar}
 use Rattle.meta_base.specs.Rewritings.Rewriting.{Chain, EachBody, SameOutcomes}
-use Rattle.meta_base.specs.Language.State.{Classes}
+use Rattle.meta_base.specs.Language.State.{Classes, Trees}
 use Rattle.meta_base.specs.Language.WellFormed.{EndsFrom, IsPlain, IsWellFormed, Start}
 use Rattle.meta_optimizer.specs.Passes.{IsListing}
-use Rattle.pest_meta.specs.Spelling.{Spells}
+use Rattle.meta_nodes.specs.Spanned.{SpannedRule}
+use Rattle.meta_reader.specs.Reading.{ReadsRules}
+use Rattle.pest_meta.specs.Spelling.{HasTrees, Spells}
 
 -- this holds of the grammar that the text spells
 abbrev pub OfSpelled : List ℕ → (Grammar → Type 0) → Type 0
 OfSpelled text P = (g : Grammar) → Spells text g → P g
+
+-- this holds of the rules that the text's trees are read as, each node at its place
+abbrev pub OfRead : List ℕ → (List SpannedRule → Type 0) → Type 0
+OfRead text P =
+    (trees : Trees) (rules : List SpannedRule) → HasTrees text trees → ReadsRules text trees rules → P rules
 
 -- it is a grammar, and well-formed
 abbrev pub IsSound : Grammar → Type 0

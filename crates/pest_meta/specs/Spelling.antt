@@ -16,20 +16,22 @@ use Rattle.meta_names.specs.GrammarNames.{AreWrittenAt, calls, definitions, firs
 use Rattle.meta_nodes.specs.Erasure.{rules_without_spans}
 use Rattle.meta_nodes.specs.Spanned.{SpannedRule}
 use Rattle.meta_optimizer.specs.Passes.{IsOptimized}
-use Rattle.meta_reader.specs.Faults.{Fault, first_fault}
+use Rattle.meta_reader.specs.Flaws.{Flaw, first_flaw}
 use Rattle.meta_reader.specs.Reading.{ReadsRules}
 use Rattle.meta_reader.specs.Refusals.{TellsOf}
 use Rattle.meta_syntax.specs.Parses as parsed
 use Rattle.meta_syntax.specs.Parses.{IsRefused}
+use Rattle.meta_stack.specs.Certain.{AreReports}
 use Rattle.meta_validator.specs.Reported.{AreReported}
+use Rattle.pest_meta.specs.Findings.{TellFindings}
 
 -- the trees of a text: those that the meta-grammar gives for the whole of it
 abbrev pub HasTrees : List ℕ → Trees → Type 0
 HasTrees text trees = parsed.Spells rule_is.grammar_rules text trees
 
--- trees of a text have no fault and are read as these rules, spans left out
+-- trees of a text have no flaw and are read as these rules, spans left out
 pub record Give (text : List ℕ) (trees : Trees) (rules : Grammar) : Type 0 where
-  pub faultless : first_fault text trees ≡ None
+  pub flawless : first_flaw text trees ≡ None
   pub read : List SpannedRule
   pub reads : ReadsRules text trees read
   pub same : rules ≡ rules_without_spans read
@@ -44,30 +46,33 @@ pub record Spells (text : List ℕ) (rules : Grammar) : Type 0 where
 abbrev pub SpellsNone : List ℕ → Type 0
 SpellsNone text = (rules : Grammar) → Spells text rules → ⊥
 
--- trees of a text give these rules, nothing is found in them, and they are well-formed
+-- trees of a text give these rules, the stack pass reports nothing of them, nothing else is found in them,
+-- and they are well-formed
 pub record AreAccepted (text : List ℕ) (trees : Trees) (rules : Grammar) : Type 0 where
   pub give : Give text trees rules
-  pub nothing_found : AreReported give.read []
+  pub no_reports : AreReports give.read []
+  pub nothing_found : AreReported give.read [] []
   pub well_formed : IsWellFormed rules
 
--- trees of a text have a fault, and one error tells of the first
-pub record AreFaulty (text : List ℕ) (trees : Trees) (errors : List (Error Rule)) : Type 0 where
-  pub fault : Fault
-  pub first : first_fault text trees ≡ Some fault
-  pub tells : TellsOf fault errors
+-- trees of a text have a flaw, and one error tells of the first
+pub record AreFlawed (text : List ℕ) (trees : Trees) (errors : List (Error Rule)) : Type 0 where
+  pub flaw : Flaw
+  pub first : first_flaw text trees ≡ Some flaw
+  pub tells : TellsOf flaw errors
 
--- trees of a text give rules in which something is found, and the errors tell of it
+-- trees of a text give rules in which something is found, reports of the stack pass among it, and the errors
+-- tell of it
 pub record HaveFindings (text : List ℕ) (trees : Trees) (errors : List (Error Rule)) : Type 0 where
   pub rules : Grammar
   pub give : Give text trees rules
   pub some : errors ≢ []
-  pub tell : AreReported give.read errors
+  pub tell : TellFindings give.read errors
 
--- why trees of a text are not accepted: memory is wanting, or they have a fault, or something is found in
+-- why trees of a text are not accepted: memory is wanting, or they have a flaw, or something is found in
 -- their rules
 abbrev pub AreRejected : List ℕ → Trees → code.Fault → Type 0
 AreRejected text trees (fault_is.Memory e) = ⊤
-AreRejected text trees (fault_is.Grammar errors) = AreFaulty text trees errors.items
+AreRejected text trees (fault_is.Grammar errors) = AreFlawed text trees errors.items
     ⊎ HaveFindings text trees errors.items
 
 -- what there is to say of the names in trees of a text: keywords, names defined twice, undefined names
@@ -100,7 +105,7 @@ pub record IsMisnamed (text : List ℕ) (trees : Trees) (errors : List (Error Ru
 pub record IsRefusedGrammar (text : List ℕ) (errors : List (Error Rule)) : Type 0 where
   pub trees : Trees
   pub of_text : HasTrees text trees
-  pub why : IsMisnamed text trees errors ⊎ (AreFaulty text trees errors ⊎ HaveFindings text trees errors)
+  pub why : IsMisnamed text trees errors ⊎ (AreFlawed text trees errors ⊎ HaveFindings text trees errors)
 
 -- why a text has no answer: memory is wanting, or it is no grammar, or a grammar that is refused
 abbrev pub IsRefusal : List ℕ → code.Fault → Type 0

@@ -1,5 +1,5 @@
 //! Laws over the definitions alone.
-ghost use Rattle.pest_meta.specs.Laws.{FaultyGiveNothing, HasOneListOfTrees, HasTreesOrFails, IsNotBoth, SpellsOneGrammar};
+ghost use Rattle.pest_meta.specs.Laws.{FlawedGiveNothing, HasOneListOfTrees, HasTreesOrFails, IsNotBoth, SpellsOneGrammar};
 
 /// A text spells one list of rules at most.
 pub fn spells_one_grammar()
@@ -7,10 +7,10 @@ pub fn spells_one_grammar()
 {}
 
 /// A text has one list of trees at most. If it has one, it is not refused as no grammar; and if these have a
-/// fault, they give no rules. So where there is an answer for a text, there is no reason to refuse it.
+/// flaw, they give no rules. So where there is an answer for a text, there is no reason to refuse it.
 pub fn one_kind_of_answer()
     ensures trees { HasOneListOfTrees }
     ensures syntax { HasTreesOrFails }
-    ensures faults { FaultyGiveNothing }
+    ensures flaws { FlawedGiveNothing }
     ensures exclusive { IsNotBoth }
 {}

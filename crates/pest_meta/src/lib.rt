@@ -1,19 +1,20 @@
 //! The front end: from a grammar's text to its optimized rules.
 #![tactic(auto)]
 
+pub mod ast;
 pub mod laws;
 pub mod parser;
 mod report;
 pub mod validator;
 
-ghost use Rattle.std.specs.Prelude.{IfErr, IfOk};
+ghost use Rattle.std.specs.Prelude.{[], IfErr, IfOk};
 ghost use Rattle.meta_ast.specs.Optimized.{optimized_rules_of};
 ghost use Rattle.meta_base.specs.Language.WellFormed.{IsPlain};
-ghost use Rattle.pest_meta.specs.Promises.{Ends, HasOutcomesOf, IsSound, OfSpelled};
+ghost use Rattle.meta_stack.specs.Certain.{AreReports};
+ghost use Rattle.pest_meta.specs.Promises.{Ends, HasOutcomesOf, IsSound, OfRead, OfSpelled};
 ghost use Rattle.meta_restorer.specs.Agreeing.{AgreesLoosely, WrappersSuffice};
-ghost use Rattle.pest_meta.specs.Spelling.{IsAnswer, IsRefusal};
+ghost use Rattle.pest_meta.specs.Spelling.{HasRefusal, IsAnswer, IsRefusal};
 
-pub use meta_ast::ast;
 use meta_base::grammar::Rule;
 pub use meta_base::runtime;
 pub use meta_optimizer as optimizer;
@@ -30,11 +31,12 @@ use validator::validate_pairs;
 /// The builtins are the names that it calls and doesn't define, each once, in the order of their first calls,
 /// each as it is written there. The rules are those that the text spells, in order, with their names and
 /// types. Where `POP_ALL` is named nowhere and `WHITESPACE` and `COMMENT` reach no `POP`, it does not matter
-/// for them what a failed `POP` leaves of the stack.
+/// for them what a failed `POP` leaves of the stack. Of an accepted text the stack pass reports nothing.
 ///
-/// Refused where memory is; where the text is no grammar, with one syntax error; where its names are not in
-/// order, with the errors of `validator::validate_pairs`; and where its rules are not, with those of
-/// `parser::consume_rules`.
+/// Refused for want of memory; where the text is no grammar, with one syntax error; where its names are not
+/// in order, with the errors of `validator::validate_pairs`; and where its rules are not, with those of
+/// `parser::consume_rules`, reports of the stack pass among them. An answer is given only where there is no
+/// such reason.
 pub fn parse_and_optimize<'i>(
     alloc: Global,
     grammar: &'i str,
@@ -46,9 +48,11 @@ pub fn parse_and_optimize<'i>(
     ensures ends { IfOk result (λ answer. OfSpelled grammar.entry.now (λ rules. IsPlain rules → Ends rules)) }
     ensures answer_ends { IfOk result (λ answer. OfSpelled grammar.entry.now
         (λ rules. IsPlain rules → Ends (optimized_rules_of answer.1.items))) }
+    ensures no_reports { IfOk result (λ answer. OfRead grammar.entry.now (λ rules. AreReports rules [])) }
     ensures agrees { IfOk result (λ answer. WrappersSuffice (optimized_rules_of answer.1.items)
         → AgreesLoosely (optimized_rules_of answer.1.items)) }
     ensures refused { IfErr result (IsRefusal grammar.entry.now) }
+    ensures faultless { IfOk result (λ answer. HasRefusal grammar.entry.now → ⊥) }
 {
     let pairs = PestParser::parse(alloc, Rule::grammar_rules, grammar)?;
     let copy = match pairs.clone() {

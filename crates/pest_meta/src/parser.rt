@@ -7,6 +7,7 @@ ghost use Rattle.meta_base.specs.Language.WellFormed.{HasReadableCounts};
 ghost use Rattle.meta_syntax.specs.Parses.{AreOfAGrammar};
 ghost use Rattle.pest_meta.specs.Spelling.{AreAccepted, AreRejected};
 
+use crate::validator::validate_ast;
 use meta_ast::ast;
 use meta_base::runtime::{Fault, Pairs};
 use meta_nodes::erase_spans;
@@ -14,14 +15,13 @@ pub use meta_reader::parser::{
     ParserExpr, ParserNode, ParserRule, PestParser, Rule, consume_rules_with_spans,
     filter_internal, parse, rename_meta_rule,
 };
-use meta_validator::validator::validate_ast;
 use std::alloc::Global;
 
 /// The rules that the pairs of a grammar's text spell, in order, without spans. `pairs` are all those of a
 /// parse of a text by `grammar_rules`.
 ///
-/// Refused where memory is; with the one error of the first fault, as `consume_rules_with_spans`; or with all
-/// errors that `validate_ast` finds in the rules.
+/// Refused for want of memory; with the one error of the first flaw, as `consume_rules_with_spans`; or with
+/// all errors that `validate_ast` finds in the rules, reports of the stack pass among them.
 pub fn consume_rules(alloc: Global, pairs: Pairs<'_, Rule>) -> Result<Vec<ast::Rule>, Fault>
     requires { AreOfAGrammar pairs }
     ensures rules { IfOk result

@@ -9,7 +9,7 @@ use std::alloc::{AllocError, Global};
 /// What is said of a fault.
 #[derive(Debug, Drop)]
 pub enum Report {
-    /// Memory was wanting, for the answer or for the text.
+    /// Want of memory, for the answer or for the text.
     Memory,
     /// `grammar error`, an empty line, and the printed errors with an empty line between two of them.
     Text(String),

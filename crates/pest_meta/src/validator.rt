@@ -1,6 +1,46 @@
 //! What is wrong with a grammar's names and rules, as errors.
+ghost use Rattle.std.specs.Prelude.{◌≡◌, [], IfErr, IfOk, alloc_error};
+ghost use Rattle.meta_base.specs.Language.WellFormed.{IsWellFormed};
+ghost use Rattle.meta_nodes.specs.Erasure.{rules_without_spans};
+ghost use Rattle.meta_nodes.specs.Nodes.{rule_views};
+ghost use Rattle.meta_stack.specs.Certain.{AreReports};
+ghost use Rattle.pest_meta.specs.Findings.{TellFindings};
+
+use meta_base::grammar::Rule;
+use meta_base::runtime::{Error, Fault};
 pub use meta_names::{
     unicode_property_names, validate_already_defined, validate_pairs, validate_pest_keywords,
     validate_rust_keywords, validate_undefined,
 };
-pub use meta_validator::validator::{is_non_failing, is_non_progressing, validate_ast};
+use meta_nodes::ParserRule;
+use meta_stack::sorted_reports;
+pub use meta_stack::validate_stack_repetition;
+use meta_validator::validator::validate_rules;
+pub use meta_validator::validator::{is_non_failing, is_non_progressing};
+use std::alloc::Global;
+
+/// What is wrong with rules, in the order of their places (at one place repetitions, then those that never
+/// end by what is known of the stack, then choices, then skipped rules, then left recursion).
+///
+/// A repetition `e*`, `e+` or `e{n,}` is wrong where its body cannot fail or may take nothing, or where it
+/// certainly never ends by what is known of the stack (`validate_stack_repetition`); an alternative with
+/// others behind it where it cannot fail; a rule named `WHITESPACE` or `COMMENT` where it cannot fail or may
+/// take nothing; a rule where it is left-recursive, at most once for a name. Each error stands where the
+/// fault does. The only fault is a want of memory.
+pub fn validate_ast<'i>(
+    alloc: Global,
+    rules: &Vec<ParserRule<'i>>,
+) -> Result<Vec<Error<Rule>>, Fault>
+    ensures exact { IfOk result (λ errors. TellFindings (rule_views rules.now.items) errors.items) }
+    ensures accepted { IfOk result (λ errors. errors.items ≡ []
+        → IsWellFormed (rules_without_spans (rule_views rules.now.items))) }
+    ensures silent { IfOk result (λ errors. errors.items ≡ [] → AreReports (rule_views rules.now.items) []) }
+    ensures memory { IfErr result (λ fault. fault ≡ Fault.Memory alloc_error) }
+{
+    let endless = match sorted_reports(alloc, rules.as_slice()) {
+        Ok(endless) => endless,
+        Err(error) => return Err(Fault::Memory(error)),
+    };
+    let errors = validate_rules(alloc, rules, endless.as_slice())?;
+    Ok(errors)
+}

@@ -9,11 +9,11 @@ use Rattle.meta_syntax.specs.Shape.{Mark}
 use Rattle.meta_nodes.specs.Spanned as spanned
 use Rattle.meta_nodes.specs.Spanned.{Spanned, Leaf, One, Two, Span, Unary, starting, ending, end_of}
 use Rattle.meta_reader.specs.Reading.{AnExpression, ATerm, Reads, Postfixed, done, more, Postfix, pos_pred, neg_pred, one_term, one_alternative, sequence, choice, unbarred, grouped, around, both, piece}
-use Rattle.meta_reader.specs.Faults.{own_fault}
+use Rattle.meta_reader.specs.Flaws.{own_flaw}
 use Rattle.meta_nodes.specs.Erasure.{round, between}
 use Rattle.reading_back.specs.Nesting.{nested_right, sequence_of, choice_of}
 use Rattle.reading_back.proofs.Deriving.{at, is_solid, Calls, Skips, str, call, seq, seq_first, left, right, opt_none, rep, rep_none, turn, turn_none, stays, one_blank, fails}
-use Rattle.reading_back.proofs.Parts.{Link, Tilde, Bar, sign, joined_by, part, MayFollowTerm, tilde, bar, brace, paren, MayFollowExpression, by_brace, by_paren, TermStart, term_start, NodeStart, node_start, term_begins, Denotes, one_says, starting_says, ending_says, IsLeftAt, IsFaultless, faultless_none, faultless_both, faultless_tree, still_left, OperatorsAt, NodeAt, TermAt, TermCall, ChainAt, ExpressionAt}
+use Rattle.reading_back.proofs.Parts.{Link, Tilde, Bar, sign, joined_by, category, MayFollowTerm, tilde, bar, brace, paren, MayFollowExpression, by_brace, by_paren, TermStart, term_start, NodeStart, node_start, term_begins, Denotes, one_says, starting_says, ending_says, IsLeftAt, IsFlawless, flawless_none, flawless_both, flawless_tree, still_left, OperatorsAt, NodeAt, TermAt, TermCall, ChainAt, ExpressionAt}
 
 -- nesting to the right is the same whichever side is nested_right first
 before_seq-assoc : (a b c : Expression) → sequence_of (sequence_of a b) c ≡ sequence_of a (sequence_of b c)
@@ -85,23 +85,23 @@ module _ (text : List ℕ) where
   no_operators b h p = let l = leaving h p in record {
     begin = _;
     skip = l.skip;
-    from_start = record { end = _; trees = None'; does = rep_none l.none; place = l.place; after = l.stay; reads = λ x i. (x, done, i); faultless = faultless_none text };
-    going_on = record { end = _; trees = None'; does = turn_none l.skip l.none; place = l.place; after = l.skip; reads = λ x i. (x, done, i); faultless = faultless_none text };
+    from_start = record { end = _; trees = None'; does = rep_none l.none; place = l.place; after = l.stay; reads = λ x i. (x, done, i); flawless = flawless_none text };
+    going_on = record { end = _; trees = None'; does = turn_none l.skip l.none; place = l.place; after = l.skip; reads = λ x i. (x, done, i); flawless = flawless_none text };
   }
 
   -- one more postfix operator
   pub operator : {r : Text} {inner : Trees} (p q c : ℕ) (t u K : Text) (f : Unary) (a b : Expression) → is_solid c ≡ true
       → Calls is.postfix_operator (at p (c ∷ t)) (Success (at q u) (Tree r p q inner None'))
-      → Postfix text r inner f → IsFaultless text (Tree r p q inner None') → OperatorsAt text q u (round f a) b K → OperatorsAt text p (c ∷ t) a b K
-  operator {r} {inner} p q c t u K f a b solid d says faultless l =
+      → Postfix text r inner f → IsFlawless text (Tree r p q inner None') → OperatorsAt text q u (round f a) b K → OperatorsAt text p (c ∷ t) a b K
+  operator {r} {inner} p q c t u K f a b solid d says flawless l =
       let o = l.going_on in
       let reads : (x : Spanned) → Denotes x a → (y : Spanned) × Postfixed text x (Tree r p q inner o.trees) y × Denotes y b = λ x h.
       let (y, m, k) = o.reads (around text q f x) (one_says _ f h) in (y, more says m, k) in
       record {
         begin = _;
         skip = stays c t p solid;
-        from_start = record { end = o.end; trees = _; does = rep d o.does; place = o.place; after = o.after; reads = reads; faultless = faultless_both text faultless o.faultless };
-        going_on = record { end = o.end; trees = _; does = turn (stays c t p solid) d o.does; place = o.place; after = o.after; reads = reads; faultless = faultless_both text faultless o.faultless };
+        from_start = record { end = o.end; trees = _; does = rep d o.does; place = o.place; after = o.after; reads = reads; flawless = flawless_both text flawless o.flawless };
+        going_on = record { end = o.end; trees = _; does = turn (stays c t p solid) d o.does; place = o.place; after = o.after; reads = reads; flawless = flawless_both text flawless o.flawless };
       }
 
   -- a node without a predicate before it
@@ -129,7 +129,7 @@ module _ (text : List ℕ) where
         said = n.said;
         reads = n.reads;
         says = n.says;
-        faultless = n.faultless;
+        flawless = n.flawless;
       }
 
   positive_sign : (t : Text) (p : ℕ) → Calls is.prefix_operator (at p (38 ∷ t)) (Success (at (p + 1) t) (Tree (codes "positive_predicate_operator") p (p + 1) None' None'))
@@ -141,7 +141,7 @@ module _ (text : List ℕ) where
   negative_sign t p = call is.prefix_operator refl (right (call is.positive_predicate_operator refl str) (call is.negative_predicate_operator refl str))
 
   pub positive : {p : ℕ} {t : Text} {e : Expression} {K : Text} → TermAt text (p + 1) t e K → TermAt text p (38 ∷ t) (PosPred e) K
-  unfolding own_fault
+  unfolding own_flaw
   positive {p} {t} n =
       record {
         starts = term_start 38 t refl refl refl;
@@ -164,11 +164,11 @@ module _ (text : List ℕ) where
         said = One (piece text p (end_of n.said)) spanned.PosPred n.said;
         reads = pos_pred n.reads;
         says = one_says _ spanned.PosPred n.says;
-        faultless = faultless_tree text (λ vs. refl) (faultless_none text) n.faultless;
+        flawless = flawless_tree text (λ vs. refl) (flawless_none text) n.flawless;
       }
 
   pub negative : {p : ℕ} {t : Text} {e : Expression} {K : Text} → TermAt text (p + 1) t e K → TermAt text p (33 ∷ t) (NegPred e) K
-  unfolding own_fault
+  unfolding own_flaw
   negative {p} {t} n =
       record {
         starts = term_start 33 t refl refl refl;
@@ -191,11 +191,11 @@ module _ (text : List ℕ) where
         said = One (piece text p (end_of n.said)) spanned.NegPred n.said;
         reads = neg_pred n.reads;
         says = one_says _ spanned.NegPred n.says;
-        faultless = faultless_tree text (λ vs. refl) (faultless_none text) n.faultless;
+        flawless = flawless_tree text (λ vs. refl) (flawless_none text) n.flawless;
       }
 
   pub as_term : {p : ℕ} {t : Text} {e : Expression} {K : Text} → TermAt text p t e K → TermCall text p t e K
-  unfolding whitespace comment own_fault
+  unfolding whitespace comment own_flaw
   as_term {p} {t} n =
       record {
         starts = n.starts;
@@ -207,7 +207,7 @@ module _ (text : List ℕ) where
         said = n.said;
         reads = n.reads;
         says = n.says;
-        faultless = faultless_tree text (λ vs. refl) n.faultless (faultless_none text);
+        flawless = flawless_tree text (λ vs. refl) n.flawless (flawless_none text);
       }
 
   -- a sign, a blank and a term
@@ -216,22 +216,22 @@ module _ (text : List ℕ) where
   infix_sign Tilde t p = call is.infix_operator refl (left (call is.sequence_operator refl str))
   infix_sign Bar t p = call is.infix_operator refl (right (call is.sequence_operator refl str) (call is.choice_operator refl str))
 
-  sign_faultless : (l : Link) (p : ℕ) → IsFaultless text (Tree (sign_name l) p (p + 1) None' None')
-  unfolding own_fault
-  sign_faultless Tilde p = faultless_tree text (λ vs. refl) (faultless_none text) (faultless_none text)
-  sign_faultless Bar p = faultless_tree text (λ vs. refl) (faultless_none text) (faultless_none text)
+  sign_flawless : (l : Link) (p : ℕ) → IsFlawless text (Tree (sign_name l) p (p + 1) None' None')
+  unfolding own_flaw
+  sign_flawless Tilde p = flawless_tree text (λ vs. refl) (flawless_none text) (flawless_none text)
+  sign_flawless Bar p = flawless_tree text (λ vs. refl) (flawless_none text) (flawless_none text)
 
   -- one more term behind what is read
-  read_on : (l : Link) (i j k m : ℕ) (us inner : Trees) (x y : Spanned) (a b : Expression) → Reads text (part l) us x → Denotes x a → Reads text ATerm inner y → Denotes y b
-      → (z : Spanned) × Reads text (part l) (joined us (Mark (sign_name l) i j (Tree (codes "term") k m inner None'))) z × Denotes z (joined_by l a b)
+  read_on : (l : Link) (i j k m : ℕ) (us inner : Trees) (x y : Spanned) (a b : Expression) → Reads text (category l) us x → Denotes x a → Reads text ATerm inner y → Denotes y b
+      → (z : Spanned) × Reads text (category l) (joined us (Mark (sign_name l) i j (Tree (codes "term") k m inner None'))) z × Denotes z (joined_by l a b)
   read_on Tilde i j k m us inner x y a b r h s g = (both text spanned.Seq x y, sequence i j k m r s, link_says Tilde h g)
   read_on Bar i j k m us inner x y a b r h s g = (both text spanned.Choice x y, choice i j r (one_term s), link_says Bar h g)
 
-  read_first : (l : Link) (k m : ℕ) (inner : Trees) (x : Spanned) → Reads text ATerm inner x → Reads text (part l) (Tree (codes "term") k m inner None') x
+  read_first : (l : Link) (k m : ℕ) (inner : Trees) (x : Spanned) → Reads text ATerm inner x → Reads text (category l) (Tree (codes "term") k m inner None') x
   read_first Tilde k m inner x r = one_term r
   read_first Bar k m inner x r = one_alternative (one_term r)
 
-  read_all : (l : Link) (us : Trees) (x : Spanned) → Reads text (part l) us x → Reads text AnExpression us x
+  read_all : (l : Link) (us : Trees) (x : Spanned) → Reads text (category l) us x → Reads text AnExpression us x
   read_all Tilde us x r = unbarred (one_alternative r)
   read_all Bar us x r = unbarred r
 
@@ -247,7 +247,7 @@ module _ (text : List ℕ) where
         place = n.place;
         after = n.after;
         reads = λ a us x r h. read_on l p (p + 1) (p + 1 + 1) n.end.position us n.inner x n.said a e r h n.reads n.says;
-        faultless = faultless_both text (sign_faultless l p) n.faultless;
+        flawless = flawless_both text (sign_flawless l p) n.flawless;
       }
 
   pub more_terms : (l : Link) (p : ℕ) (t : Text) (a b : Expression) (u K : Text) (n : TermCall text (p + 1 + 1) t a u) → ChainAt text l n.place u b K → ChainAt text l p (sign l ∷ 32 ∷ t) (joined_by l a b) K
@@ -266,13 +266,13 @@ module _ (text : List ℕ) where
         reads = λ e us x r h.
             let (y, s, i) = read_on l p (p + 1) (p + 1 + 1) n.end.position us n.inner x n.said e a r h n.reads n.says in
             let (z, q, j) = c.reads (joined_by l e a) (joined us first_trees) y s i in
-            (z, subst (λ vs. Reads text (part l) vs z) (joined_assoc us first_trees trees) q, record { same = j.same ∙ link-assoc l e a b });
-        faultless = faultless_both text (faultless_both text (sign_faultless l p) n.faultless) c.faultless;
+            (z, subst (λ vs. Reads text (category l) vs z) (joined_assoc us first_trees trees) q, record { same = j.same ∙ link-assoc l e a b });
+        flawless = flawless_both text (flawless_both text (sign_flawless l p) n.flawless) c.flawless;
       }
 
   -- an expression of one term, and of several
   pub lone : (p : ℕ) (t : Text) (e : Expression) (K₀ K : Text) → MayFollowExpression K₀ K → TermCall text p t e K → ExpressionAt text p t e K
-  unfolding whitespace comment own_fault
+  unfolding whitespace comment own_flaw
   lone p t e K₀ K c n =
       record {
         starts = n.starts;
@@ -284,11 +284,11 @@ module _ (text : List ℕ) where
         said = n.said;
         reads = unbarred (one_alternative (one_term n.reads));
         says = n.says;
-        faultless = faultless_tree text (λ vs. refl) n.faultless (faultless_none text);
+        flawless = flawless_tree text (λ vs. refl) n.flawless (flawless_none text);
       }
 
   pub chained : (l : Link) (p : ℕ) (t : Text) (a b : Expression) (u K : Text) (n : TermCall text p t a u) → ChainAt text l n.place u b K → ExpressionAt text p t (joined_by l a b) K
-  unfolding whitespace comment own_fault
+  unfolding whitespace comment own_flaw
   chained l p t a b u K n c =
       let first : Trees = Tree (codes "term") p n.end.position n.inner None' in
       let (y, r, h) = c.reads a first n.said (read_first l p n.end.position n.inner n.said n.reads) n.says in
@@ -302,7 +302,7 @@ module _ (text : List ℕ) where
         said = y;
         reads = read_all l _ y r;
         says = h;
-        faultless = faultless_tree text (λ vs. refl) (faultless_both text n.faultless c.faultless) (faultless_none text);
+        flawless = flawless_tree text (λ vs. refl) (flawless_both text n.flawless c.flawless) (flawless_none text);
       }
 
   -- an expression in parentheses
@@ -316,7 +316,7 @@ module _ (text : List ℕ) where
 
   pub in_parentheses : (p : ℕ) (t : Text) (e b : Expression) (K₀ K : Text) → IsLeftAt text p (40 ∷ t) → ExpressionAt text (p + 1) t e (41 ∷ K₀)
       → ((q : ℕ) → IsLeftAt text q K₀ → OperatorsAt text q K₀ e b K) → NodeAt text p (40 ∷ t) b K
-  unfolding whitespace comment own_fault
+  unfolding whitespace comment own_flaw
   in_parentheses p t e b K₀ K h x loop =
       let d : Calls is.node (at p (40 ∷ t)) (Success (at (x.place + 1) K₀) (Mark (codes "opening_paren") p (p + 1) (Tree (codes "expression") (p + 1) x.end.position x.inner (Mark (codes "closing_paren") x.place (x.place + 1) None')))) =
       call is.node refl (left (seq (seq (opening t p) (stays_at x.starts (p + 1)) x.does) x.after (closing K₀ x.place))) in
@@ -338,7 +338,7 @@ module _ (text : List ℕ) where
         said = starting p y;
         reads = grouped x.reads r;
         says = starting_says p s;
-        faultless =
-            faultless_tree text (λ vs. refl) (faultless_none text)
-            (faultless_both text x.faultless (faultless_tree text (λ vs. refl) (faultless_none text) o.faultless));
+        flawless =
+            flawless_tree text (λ vs. refl) (flawless_none text)
+            (flawless_both text x.flawless (flawless_tree text (λ vs. refl) (flawless_none text) o.flawless));
       }

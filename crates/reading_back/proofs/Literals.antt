@@ -18,12 +18,12 @@ use Rattle.meta_syntax.specs.Firsts.{may_begin}
 use Rattle.reading_back.specs.ReadsBack.{is_name_start}
 use Rattle.meta_syntax.proofs.Steps.{ran_any}
 use Rattle.meta_reader.specs.Reading.{leaf, string, insensitive, range, literal}
-use Rattle.meta_reader.specs.Faults.{own_fault, wrong_literal, faulty, NoScalarValue}
+use Rattle.meta_reader.specs.Flaws.{own_flaw, wrong_literal, flaw_if, NoScalarValue}
 use Rattle.meta_reader.specs.Literal.{unescaped}
 use Rattle.meta_reader.proofs.Literals.{unescaped_plain}
 use Rattle.reading_back.proofs.PrintedBefore.{escapes_before, append-escapes, literal_before, range_before}
 use Rattle.reading_back.proofs.Deriving.{at, Gives, Calls, str, call, neg_pred, seq, seq_first, seq_second, left, right, opt, opt_none, rep, rep_none, turn, turn_none, atomic, compound_atomic, stays, fails}
-use Rattle.reading_back.proofs.Parts.{node_start, IsLeftAt, IsFaultless, faultless_none, faultless_tree, still_left, IsNodeText}
+use Rattle.reading_back.proofs.Parts.{node_start, IsLeftAt, IsFlawless, flawless_none, flawless_tree, still_left, IsNodeText}
 use Rattle.reading_back.proofs.Characters.{past, sign_misses, start_misses}
 use Rattle.reading_back.proofs.Escapes.{CharacterForm, as_itself, by_escape, form_in_double, form_in_single}
 use Rattle.reading_back.proofs.WrittenBetween.{written_is}
@@ -121,36 +121,36 @@ module _ (text : List ℕ) (utf8 : IsUtf8 text) where
       ap unescaped (written_is text utf8 (p + 1) s.close w (34 ∷ K) (subst (λ x. IsLeftAt text (p + 1) x) (sym (append-escapes 34 t (34 ∷ K))) i) j) ∙ unescaped_all 34 form_in_double t
 
   right_literal : (i j : ℕ) (us : Trees) (t : Text) → literal text us ≡ t → IsText t → wrong_literal text i j us ≡ None
-  right_literal i j us t e h = ap (λ x. faulty text (not (all_scalars x)) NoScalarValue i j) e ∙ ap (λ b. faulty text (not b) NoScalarValue i j) (are_scalars t h)
+  right_literal i j us t e h = ap (λ x. flaw_if text (not (all_scalars x)) NoScalarValue i j) e ∙ ap (λ b. flaw_if text (not b) NoScalarValue i j) (are_scalars t h)
 
-  string_faultless : (p q : ℕ) (us : Trees) (t : Text) → literal text us ≡ t → IsText t → IsFaultless text us → IsFaultless text (Tree (codes "string") p q us None')
-  unfolding own_fault
-  string_faultless p q us t e h c = faultless_tree text (λ vs. right_literal p q us t e h) c (faultless_none text)
+  string_flawless : (p q : ℕ) (us : Trees) (t : Text) → literal text us ≡ t → IsText t → IsFlawless text us → IsFlawless text (Tree (codes "string") p q us None')
+  unfolding own_flaw
+  string_flawless p q us t e h c = flawless_tree text (λ vs. right_literal p q us t e h) c (flawless_none text)
 
-  insensitive_faultless : (p q i j : ℕ) (us : Trees) (t : Text) → literal text us ≡ t → IsText t → IsFaultless text us → IsFaultless text (Tree (codes "insensitive_string") p q (Tree (codes "string") i j us None') None')
-  unfolding own_fault
-  insensitive_faultless p q i j us t e h c = faultless_tree text (λ vs. right_literal p q us t e h) (string_faultless i j us t e h c) (faultless_none text)
+  insensitive_flawless : (p q i j : ℕ) (us : Trees) (t : Text) → literal text us ≡ t → IsText t → IsFlawless text us → IsFlawless text (Tree (codes "insensitive_string") p q (Tree (codes "string") i j us None') None')
+  unfolding own_flaw
+  insensitive_flawless p q i j us t e h c = flawless_tree text (λ vs. right_literal p q us t e h) (string_flawless i j us t e h c) (flawless_none text)
 
-  pub character_faultless : (p q : ℕ) (us vs : Trees) (t : Text) → literal text us ≡ t → IsText t → IsFaultless text us → IsFaultless text vs → IsFaultless text (Tree (codes "character") p q us vs)
-  unfolding own_fault
-  character_faultless p q us vs t e h c d = faultless_tree text (λ ws. right_literal p q us t e h) c d
+  pub character_flawless : (p q : ℕ) (us vs : Trees) (t : Text) → literal text us ≡ t → IsText t → IsFlawless text us → IsFlawless text vs → IsFlawless text (Tree (codes "character") p q us vs)
+  unfolding own_flaw
+  character_flawless p q us vs t e h c d = flawless_tree text (λ ws. right_literal p q us t e h) c d
 
-  string_trees_faultless : (p e : ℕ) → IsFaultless text (string_trees p e)
-  unfolding own_fault
-  string_trees_faultless p e = faultless_tree text (λ vs. refl) (faultless_none text) (faultless_tree text (λ vs. refl) (faultless_none text) (faultless_tree text (λ vs. refl) (faultless_none text) (faultless_none text)))
+  string_trees_flawless : (p e : ℕ) → IsFlawless text (string_trees p e)
+  unfolding own_flaw
+  string_trees_flawless p e = flawless_tree text (λ vs. refl) (flawless_none text) (flawless_tree text (λ vs. refl) (flawless_none text) (flawless_tree text (λ vs. refl) (flawless_none text) (flawless_none text)))
 
   pub string_text : (t : Text) → IsText t → IsNodeText text (λ K. literal_before t K) (Str t)
-  unfolding whitespace comment own_fault
+  unfolding whitespace comment own_flaw
   string_text t h p b K₀ K here f loop =
       let s = string_at t K₀ p in
       let L : Text = escapes_before 34 t (34 ∷ K₀) in
       let value = string_value p t K₀ s here in
       let node = as_node text 34 L p refl (call is.terminal refl (left (left (right (no_word 34 L p refl refl refl) s.does)))) in
       node_with text p (s.close + 1) (literal_before t K₀) K₀ K _ _ _ (Str t) b (node_start 34 L refl refl refl refl) node (leaf string) (record { same = ap Str value })
-      (string_faultless p (s.close + 1) (string_trees p s.close) t value h (string_trees_faultless p s.close)) here loop
+      (string_flawless p (s.close + 1) (string_trees p s.close) t value h (string_trees_flawless p s.close)) here loop
 
   pub insensitive_text : (t : Text) → IsText t → IsNodeText text (λ K. 94 ∷ literal_before t K) (Insens t)
-  unfolding whitespace comment own_fault
+  unfolding whitespace comment own_flaw
   insensitive_text t h p b K₀ K here f loop =
       let s = string_at t K₀ (p + 1) in
       let L : Text = literal_before t K₀ in
@@ -160,7 +160,7 @@ module _ (text : List ℕ) (utf8 : IsUtf8 text) where
       call is.insensitive_string refl (seq str (stays 34 M (p + 1) refl) s.does) in
       let node = as_node text 94 L p refl (call is.terminal refl (left (right (right (no_word 94 L p refl refl refl) (fails is.string 94 L p refl)) does))) in
       node_with text p (s.close + 1) (94 ∷ L) K₀ K _ _ _ (Insens t) b (node_start 94 L refl refl refl refl) node (leaf insensitive) (record { same = ap Insens value })
-      (insensitive_faultless p (s.close + 1) (p + 1) (s.close + 1) (string_trees (p + 1) s.close) t value h (string_trees_faultless (p + 1) s.close)) here loop
+      (insensitive_flawless p (s.close + 1) (p + 1) (s.close + 1) (string_trees (p + 1) s.close) t value h (string_trees_flawless (p + 1) s.close)) here loop
 
 -- a bound of a range
 abbrev character_trees : ℕ → ℕ → Trees
@@ -197,12 +197,12 @@ module _ (text : List ℕ) (utf8 : IsUtf8 text) where
       ap unescaped (written_is text utf8 (p + 1) s.close (escaped 39 c) (39 ∷ K) i j)
       ∙ (ap unescaped (sym (append-nil (escaped 39 c))) ∙ unescaped_form 39 c (escaped 39 c) [] (form_in_single c))
 
-  character_trees_faultless : (p e : ℕ) → IsFaultless text (character_trees p e)
-  unfolding own_fault
-  character_trees_faultless p e = faultless_tree text (λ vs. refl) (faultless_none text) (faultless_tree text (λ vs. refl) (faultless_none text) (faultless_tree text (λ vs. refl) (faultless_none text) (faultless_none text)))
+  character_trees_flawless : (p e : ℕ) → IsFlawless text (character_trees p e)
+  unfolding own_flaw
+  character_trees_flawless p e = flawless_tree text (λ vs. refl) (flawless_none text) (flawless_tree text (λ vs. refl) (flawless_none text) (flawless_tree text (λ vs. refl) (flawless_none text) (flawless_none text)))
 
   range_of : (c d : ℕ) → IsText (c ∷ []) → IsText (d ∷ []) → IsNodeText text (λ K. range_before (c ∷ []) (d ∷ []) K) (Range (c ∷ []) (d ∷ []))
-  unfolding whitespace comment own_fault
+  unfolding whitespace comment own_flaw
   range_of c d h k p b K₀ K here f loop =
       let M : Text = 39 ∷ (escaped 39 d ++ (39 ∷ K₀)) in
       let L : Text = escaped 39 c ++ (39 ∷ 46 ∷ 46 ∷ M) in
@@ -217,11 +217,11 @@ module _ (text : List ℕ) (utf8 : IsUtf8 text) where
       call is.range refl (seq (seq s.does (stays 46 (46 ∷ M) q refl) (call is.range_operator refl str)) (stays 39 (escaped 39 d ++ (39 ∷ K₀)) (q + 2) refl) u.does) in
       let node = as_node text 39 L p refl (call is.terminal refl (right (right (right (no_word 39 L p refl refl refl) (fails is.string 39 L p refl)) (fails is.insensitive_string 39 L p refl)) does)) in
       node_with text p (u.close + 1) (39 ∷ L) K₀ K _ _ _ (Range (c ∷ []) (d ∷ [])) b (node_start 39 L refl refl refl refl) node (leaf range) (record { same = ap₂ Range low high })
-      (faultless_tree text (λ vs. refl)
-      (character_faultless text utf8 p q (character_trees p s.close) _ (c ∷ []) low h (character_trees_faultless p s.close)
-      (faultless_tree text (λ vs. refl) (faultless_none text)
-      (character_faultless text utf8 (q + 2) (u.close + 1) (character_trees (q + 2) u.close) None' (d ∷ []) high k (character_trees_faultless (q + 2) u.close) (faultless_none text))))
-      (faultless_none text)) here loop
+      (flawless_tree text (λ vs. refl)
+      (character_flawless text utf8 p q (character_trees p s.close) _ (c ∷ []) low h (character_trees_flawless p s.close)
+      (flawless_tree text (λ vs. refl) (flawless_none text)
+      (character_flawless text utf8 (q + 2) (u.close + 1) (character_trees (q + 2) u.close) None' (d ∷ []) high k (character_trees_flawless (q + 2) u.close) (flawless_none text))))
+      (flawless_none text)) here loop
 
   pub range_text : (t u : Text) → IsText t → IsText u → length t ≡ 1 → length u ≡ 1 → IsNodeText text (λ K. range_before t u K) (Range t u)
   range_text (c ∷ []) (d ∷ []) h k i j = range_of c d h k

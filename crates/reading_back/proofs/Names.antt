@@ -10,10 +10,10 @@ use Rattle.meta_base.specs.declared.grammar.Rule.TheVariants as is
 use Rattle.meta_syntax.specs.Firsts.{is_among}
 use Rattle.meta_syntax.specs.MetaGrammar.{rule, ◌or◌}
 use Rattle.meta_reader.specs.Reading.{leaf, identifier}
-use Rattle.meta_reader.specs.Faults.{own_fault}
+use Rattle.meta_reader.specs.Flaws.{own_flaw}
 use Rattle.reading_back.specs.ReadsBack.{is_name, is_name_start, is_name_character, are_name_characters}
 use Rattle.reading_back.proofs.Deriving.{at, Gives, Calls, Skips, str, range, call, neg_pred, seq, seq_first, seq_second, left, right, rep, rep_none, turn, turn_none, atomic, stays, one_blank}
-use Rattle.reading_back.proofs.Parts.{MayFollowTerm, tilde, bar, brace, paren, MayFollowNode, an_operator, no_operator, node_start, faultless_none, faultless_tree, still_left, IsNodeText}
+use Rattle.reading_back.proofs.Parts.{MayFollowTerm, tilde, bar, brace, paren, MayFollowNode, an_operator, no_operator, node_start, flawless_none, flawless_tree, still_left, IsNodeText}
 use Rattle.reading_back.proofs.Characters.{differs, excluded, solid_when, refused, past, sign_misses, text_misses, word_takes, word_misses, start_takes}
 use Rattle.reading_back.proofs.WrittenBetween.{written_is}
 use Rattle.reading_back.proofs.Nodes.{node_with, as_node}
@@ -152,7 +152,7 @@ no_slice n K₀ h f p = go (begins nat_eq (codes "PEEK") n) refl
 
 module _ (text : List ℕ) (utf8 : IsUtf8 text) where
   pub name_node : (c : ℕ) (n : Text) → is_name (c ∷ n) ≡ true → IsNodeText text (λ K. c ∷ (n ++ K)) (Ident (c ∷ n))
-  unfolding whitespace comment own_fault
+  unfolding whitespace comment own_flaw
   name_node c n h p b K₀ K here f loop =
       let t : Text = n ++ K₀ in
       let (q, d) = name_does c n K₀ h (first_of f) p in
@@ -166,7 +166,7 @@ module _ (text : List ℕ) (utf8 : IsUtf8 text) where
       let node = as_node text c t p (differs is_name_start 40 c refl i) (call is.terminal refl (left (left (left (right (right (right no_literal no_push) no_peek) d))))) in
       node_with text p q (c ∷ t) K₀ K _ _ _ (Ident (c ∷ n)) b
       (node_start c t (solid_when is_name_start c refl refl i) (excluded is_name_start (codes "#") c refl i) (excluded is_name_start (codes "|") c refl i) (excluded is_name_start (codes "&!") c refl i))
-      node (leaf identifier) (record { same = ap Ident (written_is text utf8 p q (c ∷ n) K₀ here (still_left text d here)) }) (faultless_tree text (λ vs. refl) (faultless_none text) (faultless_none text)) here loop
+      node (leaf identifier) (record { same = ap Ident (written_is text utf8 p q (c ∷ n) K₀ here (still_left text d here)) }) (flawless_tree text (λ vs. refl) (flawless_none text) (flawless_none text)) here loop
 
   pub name_text : (n : Text) → is_name n ≡ true → IsNodeText text (λ K. n ++ K) (Ident n)
   name_text [] h = cc

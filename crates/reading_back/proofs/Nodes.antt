@@ -8,17 +8,17 @@ use Rattle.meta_syntax.specs.Shape.{Mark}
 use Rattle.meta_nodes.specs.Spanned as spanned
 use Rattle.meta_nodes.specs.Spanned.{Spanned, Leaf, One, end_of}
 use Rattle.meta_reader.specs.Reading.{ANode, Reads, bare, pushed}
-use Rattle.meta_reader.specs.Faults.{own_fault}
+use Rattle.meta_reader.specs.Flaws.{own_flaw}
 use Rattle.reading_back.proofs.Deriving.{at, Calls, str, call, seq, seq_first, left, right, stays}
-use Rattle.reading_back.proofs.Parts.{NodeStart, node_start, Denotes, one_says, IsLeftAt, IsFaultless, faultless_none, faultless_both, faultless_tree, still_left, OperatorsAt, NodeAt, ExpressionAt}
+use Rattle.reading_back.proofs.Parts.{NodeStart, node_start, Denotes, one_says, IsLeftAt, IsFlawless, flawless_none, flawless_both, flawless_tree, still_left, OperatorsAt, NodeAt, ExpressionAt}
 use Rattle.reading_back.proofs.Assembly.{opening, closing, stays_at}
 use Rattle.reading_back.proofs.Characters.{sign_misses}
 
 module _ (text : List ℕ) where
   pub node_with : (p q : ℕ) (t K₀ K : Text) (r : Text) (inner : Trees) (x : Spanned) (e b : Expression) → NodeStart t
-      → Calls is.node (at p t) (Success (at q K₀) (Tree r p q inner None')) → Reads text ANode (Tree r p q inner None') x → Denotes x e → IsFaultless text (Tree r p q inner None')
+      → Calls is.node (at p t) (Success (at q K₀) (Tree r p q inner None')) → Reads text ANode (Tree r p q inner None') x → Denotes x e → IsFlawless text (Tree r p q inner None')
       → IsLeftAt text p t → ((k : ℕ) → IsLeftAt text k K₀ → OperatorsAt text k K₀ e b K) → NodeAt text p t b K
-  node_with p q t K₀ K r inner x e b starts d reads says faultless h loop =
+  node_with p q t K₀ K r inner x e b starts d reads says flawless h loop =
       let l = loop q (still_left text d h) in
       let o = l.from_start in
       let (y, m, s) = o.reads x says in
@@ -37,7 +37,7 @@ module _ (text : List ℕ) where
         said = y;
         reads = bare reads m;
         says = s;
-        faultless = faultless_both text faultless o.faultless;
+        flawless = flawless_both text flawless o.flawless;
       }
 
   -- a node of a terminal rule
@@ -48,12 +48,12 @@ module _ (text : List ℕ) where
   -- a `PUSH` round an expression
   pub push_node : (p : ℕ) (t : Text) (e b : Expression) (K₀ K : Text) → IsLeftAt text p (80 ∷ 85 ∷ 83 ∷ 72 ∷ 40 ∷ t) → ExpressionAt text (p + 4 + 1) t e (41 ∷ K₀)
       → ((q : ℕ) → IsLeftAt text q K₀ → OperatorsAt text q K₀ (Push e) b K) → NodeAt text p (80 ∷ 85 ∷ 83 ∷ 72 ∷ 40 ∷ t) b K
-  unfolding whitespace comment own_fault
+  unfolding whitespace comment own_flaw
   push_node p t e b K₀ K h x loop =
       let u : Text = 85 ∷ 83 ∷ 72 ∷ 40 ∷ t in
       let pushes : Calls is._push (at p (80 ∷ u)) (Success (at (x.place + 1) K₀) (Tree (codes "_push") p (x.place + 1) (Mark (codes "opening_paren") (p + 4) (p + 4 + 1) (Tree (codes "expression") (p + 4 + 1) x.end.position x.inner (Mark (codes "closing_paren") x.place (x.place + 1) None'))) None')) =
       call is._push refl (seq (seq (seq str (stays 40 t (p + 4) refl) (opening text t (p + 4))) (stays_at text x.starts (p + 4 + 1)) x.does) x.after (closing text K₀ x.place)) in
       let d = as_node 80 u p refl (call is.terminal refl (left (left (left (left (left (right (call is._push_literal refl (seq_first (seq_first (seq_first str)))) pushes))))))) in
       node_with p (x.place + 1) (80 ∷ u) K₀ K _ _ _ (Push e) b (node_start 80 u refl refl refl refl) d (pushed x.reads) (one_says _ spanned.Push x.says)
-      (faultless_tree text (λ vs. refl) (faultless_tree text (λ vs. refl) (faultless_none text) (faultless_both text x.faultless (faultless_tree text (λ vs. refl) (faultless_none text) (faultless_none text)))) (faultless_none text))
+      (flawless_tree text (λ vs. refl) (flawless_tree text (λ vs. refl) (flawless_none text) (flawless_both text x.flawless (flawless_tree text (λ vs. refl) (flawless_none text) (flawless_none text)))) (flawless_none text))
       h loop

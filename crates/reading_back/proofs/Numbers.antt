@@ -16,9 +16,9 @@ use Rattle.meta_base.specs.declared.grammar.Rule.TheVariants as is
 use Rattle.meta_syntax.specs.MetaGrammar.{body_of}
 use Rattle.meta_syntax.specs.Shape.{Mark}
 use Rattle.meta_reader.specs.Reading.{number}
-use Rattle.meta_reader.specs.Faults.{own_fault, or_else, faulty, past_u32, zero_times, number_fault, closes, PastU32, ZeroTimes}
+use Rattle.meta_reader.specs.Flaws.{own_flaw, or_else, flaw_if, past_u32, zero_times, number_flaw, closes, PastU32, ZeroTimes}
 use Rattle.reading_back.proofs.Deriving.{at, Gives, Calls, Skips, call, seq, rep, rep_none, turn, turn_none, rep_once, atomic, stays}
-use Rattle.reading_back.proofs.Parts.{IsLeftAt, IsFaultless, faultless_none, faultless_tree}
+use Rattle.reading_back.proofs.Parts.{IsLeftAt, IsFlawless, flawless_none, flawless_tree}
 use Rattle.reading_back.proofs.Characters.{past, range_takes, range_misses, solid_when, differs, sign_misses}
 use Rattle.reading_back.proofs.WrittenBetween.{slice_is}
 
@@ -80,23 +80,23 @@ module _ (text : List ℕ) (utf8 : IsUtf8 text) where
   number_is p q n ds K h e from to = ap (digits_value 10) (digits_are p q ds K h.1 from to) ∙ e
 
   small : (i j n : ℕ) → number text i j ≡ n → n < 2 ^ 32 → past_u32 text i j ≡ None
-  small i j n e h = ap (λ x. faulty text (not (nat_lt x (2 ^ 32))) PastU32 i j) e ∙ ap (λ b. faulty text (not b) PastU32 i j) (lt-ltb n (2 ^ 32) h)
+  small i j n e h = ap (λ x. flaw_if text (not (nat_lt x (2 ^ 32))) PastU32 i j) e ∙ ap (λ b. flaw_if text (not b) PastU32 i j) (lt-ltb n (2 ^ 32) h)
 
   not_zero : (i j n : ℕ) → number text i j ≡ n → 1 ≤ n → zero_times text i j ≡ None
-  not_zero i j n e h = ap (λ x. faulty text (nat_eq x 0) ZeroTimes i j) e ∙ ap (λ b. faulty text b ZeroTimes i j) (ne_eqb n 0 (λ k. omega (arith, h, k)))
+  not_zero i j n e h = ap (λ x. flaw_if text (nat_eq x 0) ZeroTimes i j) e ∙ ap (λ b. flaw_if text b ZeroTimes i j) (ne_eqb n 0 (λ k. omega (arith, h, k)))
 
-  fine_count : (i j n : ℕ) → number text i j ≡ n → n < 2 ^ 32 → 1 ≤ n → (vs : Trees) → number_fault text i j vs ≡ None
+  fine_count : (i j n : ℕ) → number text i j ≡ n → n < 2 ^ 32 → 1 ≤ n → (vs : Trees) → number_flaw text i j vs ≡ None
   fine_count i j n e h k vs = go (closes vs)
     where
       go : (b : Bool) → (if b then or_else (past_u32 text i j) (zero_times text i j) else past_u32 text i j) ≡ None
       go true = rw (small i j n e h) (not_zero i j n e k)
       go false = small i j n e h
 
-  -- a number tree without a fault: as a count, and before a comma
-  pub count_faultless : (i j n : ℕ) (us : Trees) → number text i j ≡ n → n < 2 ^ 32 → 1 ≤ n → IsFaultless text us → IsFaultless text (Mark (codes "number") i j us)
-  unfolding own_fault
-  count_faultless i j n us e h k c = faultless_tree text (λ vs. fine_count i j n e h k (joined us vs)) (faultless_none text) c
+  -- a number tree without a flaw: as a count, and before a comma
+  pub count_flawless : (i j n : ℕ) (us : Trees) → number text i j ≡ n → n < 2 ^ 32 → 1 ≤ n → IsFlawless text us → IsFlawless text (Mark (codes "number") i j us)
+  unfolding own_flaw
+  count_flawless i j n us e h k c = flawless_tree text (λ vs. fine_count i j n e h k (joined us vs)) (flawless_none text) c
 
-  pub number_faultless : (i j n a b : ℕ) (us : Trees) → number text i j ≡ n → n < 2 ^ 32 → IsFaultless text us → IsFaultless text (Mark (codes "number") i j (Mark (codes "comma") a b us))
-  unfolding own_fault
-  number_faultless i j n a b us e h c = faultless_tree text (λ vs. small i j n e h) (faultless_none text) (faultless_tree text (λ vs. refl) (faultless_none text) c)
+  pub number_flawless : (i j n a b : ℕ) (us : Trees) → number text i j ≡ n → n < 2 ^ 32 → IsFlawless text us → IsFlawless text (Mark (codes "number") i j (Mark (codes "comma") a b us))
+  unfolding own_flaw
+  number_flawless i j n a b us e h c = flawless_tree text (λ vs. small i j n e h) (flawless_none text) (flawless_tree text (λ vs. refl) (flawless_none text) c)

@@ -16,11 +16,11 @@ use Rattle.meta_syntax.specs.Shape.{Mark}
 use Rattle.meta_reader.specs.Reading as reading
 use Rattle.meta_reader.specs.Reading.{Postfix, exact, min, max, min_max, number}
 use Rattle.meta_nodes.specs.Erasure.{round}
-use Rattle.reading_back.proofs.Numbers.{is_digit, number_at, number_is, count_faultless, number_faultless}
+use Rattle.reading_back.proofs.Numbers.{is_digit, number_at, number_is, count_flawless, number_flawless}
 use Rattle.reading_back.proofs.Characters.{sign_misses}
-use Rattle.meta_reader.specs.Faults.{own_fault}
+use Rattle.meta_reader.specs.Flaws.{own_flaw}
 use Rattle.reading_back.proofs.Deriving.{at, Calls, Gives, is_solid, str, range, call, seq, seq_first, seq_second, left, right, rep_once, stays}
-use Rattle.reading_back.proofs.Parts.{IsNodeText, an_operator, IsLeftAt, IsFaultless, faultless_tree, faultless_none, still_left}
+use Rattle.reading_back.proofs.Parts.{IsNodeText, an_operator, IsLeftAt, IsFlawless, flawless_tree, flawless_none, still_left}
 use Rattle.reading_back.proofs.Assembly.{operator}
 
 module _ (text : List ℕ) (utf8 : IsUtf8 text) where
@@ -40,22 +40,22 @@ module _ (text : List ℕ) (utf8 : IsUtf8 text) where
       (call is.repeat_once_operator refl str))))))
 
   pub opt_text : (F : Text → Text) (e : Expression) → IsNodeText text F e → IsNodeText text (λ K. F (63 ∷ K)) (Opt e)
-  unfolding own_fault
+  unfolding own_flaw
   opt_text F e node p b K₀ K h f loop = node p b (63 ∷ K₀) K h (an_operator 63 K₀ refl) (λ q i.
       operator text q (q + 1) 63 K₀ K₀ K spanned.Opt e b refl (question K₀ q) reading.opt
-      (faultless_tree text (λ vs. refl) (faultless_none text) (faultless_none text)) (loop (q + 1) (still_left text (question K₀ q) i)))
+      (flawless_tree text (λ vs. refl) (flawless_none text) (flawless_none text)) (loop (q + 1) (still_left text (question K₀ q) i)))
 
   pub rep_text : (F : Text → Text) (e : Expression) → IsNodeText text F e → IsNodeText text (λ K. F (42 ∷ K)) (Rep e)
-  unfolding own_fault
+  unfolding own_flaw
   rep_text F e node p b K₀ K h f loop = node p b (42 ∷ K₀) K h (an_operator 42 K₀ refl) (λ q i.
       operator text q (q + 1) 42 K₀ K₀ K spanned.Rep e b refl (star K₀ q) reading.rep
-      (faultless_tree text (λ vs. refl) (faultless_none text) (faultless_none text)) (loop (q + 1) (still_left text (star K₀ q) i)))
+      (flawless_tree text (λ vs. refl) (flawless_none text) (flawless_none text)) (loop (q + 1) (still_left text (star K₀ q) i)))
 
   pub rep_once_text : (F : Text → Text) (e : Expression) → IsNodeText text F e → IsNodeText text (λ K. F (43 ∷ K)) (RepOnce e)
-  unfolding own_fault
+  unfolding own_flaw
   rep_once_text F e node p b K₀ K h f loop = node p b (43 ∷ K₀) K h (an_operator 43 K₀ refl) (λ q i.
       operator text q (q + 1) 43 K₀ K₀ K spanned.RepOnce e b refl (plus K₀ q) reading.rep_once
-      (faultless_tree text (λ vs. refl) (faultless_none text) (faultless_none text)) (loop (q + 1) (still_left text (plus K₀ q) i)))
+      (flawless_tree text (λ vs. refl) (flawless_none text) (flawless_none text)) (loop (q + 1) (still_left text (plus K₀ q) i)))
 
   -- an operator that counts
   record Counted (r : Text) (p : ℕ) (t u : Text) (f : Unary) : Type 0 where
@@ -63,13 +63,13 @@ module _ (text : List ℕ) (utf8 : IsUtf8 text) where
     inner : Trees
     does : Calls is.postfix_operator (at p (123 ∷ t)) (Success (at place u) (Tree r p place inner None'))
     says : Postfix text r inner f
-    faultless : IsFaultless text (Tree r p place inner None')
+    flawless : IsFlawless text (Tree r p place inner None')
 
   counted_text : (r : Text) (F G : Text → Text) (e : Expression) (f : Unary) → ((p : ℕ) (K : Text) → IsLeftAt text p (123 ∷ G K) → Counted r p (G K) K f)
       → IsNodeText text F e → IsNodeText text (λ K. F (123 ∷ G K)) (round f e)
   counted_text r F G e f counted node p b K₀ K h g loop = node p b (123 ∷ G K₀) K h (an_operator 123 (G K₀) refl) (λ q i.
       let c = counted q K₀ i in
-      operator text q c.place 123 (G K₀) K₀ K f e b refl c.does c.says c.faultless (loop c.place (still_left text c.does i)))
+      operator text q c.place 123 (G K₀) K₀ K f e b refl c.does c.says c.flawless (loop c.place (still_left text c.does i)))
 
   no_sign : (t : Text) (p : ℕ) → Gives (Run NonAtomicMode (rule is.optional_operator or rule is.repeat_operator or rule is.repeat_once_operator)) (at p (123 ∷ t)) Failure
   unfolding whitespace comment
@@ -95,7 +95,7 @@ module _ (text : List ℕ) (utf8 : IsUtf8 text) where
   decimal_is n h = decimal_is_IsNumeral n (omega (arith, h))
 
   exactly : (n : ℕ) → 1 ≤ n → n < 2 ^ 32 → (p : ℕ) (K : Text) → IsLeftAt text p (123 ∷ (decimal n ++ (125 ∷ K))) → Counted (codes "repeat_exact") p (decimal n ++ (125 ∷ K)) K (spanned.RepExact n)
-  unfolding whitespace comment own_fault
+  unfolding whitespace comment own_flaw
   exactly n low high p K h =
       let d = decimal_is n high in
       let t : Text = decimal n ++ (125 ∷ K) in
@@ -108,7 +108,7 @@ module _ (text : List ℕ) (utf8 : IsUtf8 text) where
         inner = inner;
         does = call is.postfix_operator refl (left (left (left (right (no_sign t p) (call is.repeat_exact refl (seq (seq (brace t p) k.skip k.does) (stays 125 K k.place refl) (unbrace K k.place)))))));
         says = subst (λ m. Postfix text (codes "repeat_exact") inner (spanned.RepExact m)) value exact;
-        faultless = faultless_tree text (λ vs. refl) (faultless_tree text (λ vs. refl) (faultless_none text) (count_faultless text utf8 (p + 1) k.place n _ value high low (faultless_tree text (λ vs. refl) (faultless_none text) (faultless_none text)))) (faultless_none text);
+        flawless = flawless_tree text (λ vs. refl) (flawless_tree text (λ vs. refl) (flawless_none text) (count_flawless text utf8 (p + 1) k.place n _ value high low (flawless_tree text (λ vs. refl) (flawless_none text) (flawless_none text)))) (flawless_none text);
       }
 
   pub exact_text : (F : Text → Text) (e : Expression) (i : ℕ) → 1 ≤ i → i < 2 ^ 32 → IsNodeText text F e → IsNodeText text (λ K. F (123 ∷ (decimal i ++ (125 ∷ K)))) (RepExact e i)
@@ -122,7 +122,7 @@ module _ (text : List ℕ) (utf8 : IsUtf8 text) where
       call is.repeat_exact refl (seq_second (seq (brace (decimal n ++ (c ∷ L)) p) k.skip k.does) (stays c L k.place i) (call is.closing_brace refl (sign_misses 125 [] c L k.place j)))
 
   at_least : (n : ℕ) → n < 2 ^ 32 → (p : ℕ) (K : Text) → IsLeftAt text p (123 ∷ (decimal n ++ (44 ∷ 125 ∷ K))) → Counted (codes "repeat_min") p (decimal n ++ (44 ∷ 125 ∷ K)) K (spanned.RepMin n)
-  unfolding whitespace comment own_fault
+  unfolding whitespace comment own_flaw
   at_least n high p K h =
       let d = decimal_is n high in
       let t : Text = decimal n ++ (44 ∷ 125 ∷ K) in
@@ -137,14 +137,14 @@ module _ (text : List ℕ) (utf8 : IsUtf8 text) where
         does = call is.postfix_operator refl (left (left (right (right (no_sign t p) (no_exact n 44 (125 ∷ K) high refl refl refl p))
             (call is.repeat_min refl (seq (seq (seq (brace t p) k.skip k.does) (stays 44 (125 ∷ K) q refl) (a_comma (125 ∷ K) q)) (stays 125 K (q + 1) refl) (unbrace K (q + 1)))))));
         says = subst (λ m. Postfix text (codes "repeat_min") inner (spanned.RepMin m)) value min;
-        faultless = faultless_tree text (λ vs. refl) (faultless_tree text (λ vs. refl) (faultless_none text) (number_faultless text utf8 (p + 1) q n q (q + 1) _ value high (faultless_tree text (λ vs. refl) (faultless_none text) (faultless_none text)))) (faultless_none text);
+        flawless = flawless_tree text (λ vs. refl) (flawless_tree text (λ vs. refl) (flawless_none text) (number_flawless text utf8 (p + 1) q n q (q + 1) _ value high (flawless_tree text (λ vs. refl) (flawless_none text) (flawless_none text)))) (flawless_none text);
       }
 
   pub min_text : (F : Text → Text) (e : Expression) (i : ℕ) → i < 2 ^ 32 → IsNodeText text F e → IsNodeText text (λ K. F (123 ∷ (decimal i ++ (44 ∷ 125 ∷ K)))) (RepMin e i)
   min_text F e i high node = counted_text (codes "repeat_min") F (λ K. decimal i ++ (44 ∷ 125 ∷ K)) e (spanned.RepMin i) (at_least i high) node
 
   at_most : (n : ℕ) → 1 ≤ n → n < 2 ^ 32 → (p : ℕ) (K : Text) → IsLeftAt text p (123 ∷ 44 ∷ (decimal n ++ (125 ∷ K))) → Counted (codes "repeat_max") p (44 ∷ (decimal n ++ (125 ∷ K))) K (spanned.RepMax n)
-  unfolding whitespace comment own_fault
+  unfolding whitespace comment own_flaw
   at_most n low high p K h =
       let d = decimal_is n high in
       let u : Text = decimal n ++ (125 ∷ K) in
@@ -163,7 +163,7 @@ module _ (text : List ℕ) (utf8 : IsUtf8 text) where
             (right (right (no_sign t p) (call is.repeat_exact refl (seq_first (seq_second (brace t p) stay no_number)))) (call is.repeat_min refl (seq_first (seq_first (seq_second (brace t p) stay no_number)))))
             (call is.repeat_max refl (seq (seq (seq (brace t p) stay (a_comma u (p + 1))) k.skip k.does) (stays 125 K q refl) (unbrace K q)))));
         says = subst (λ m. Postfix text (codes "repeat_max") inner (spanned.RepMax m)) value max;
-        faultless = faultless_tree text (λ vs. refl) (faultless_tree text (λ vs. refl) (faultless_none text) (faultless_tree text (λ vs. refl) (faultless_none text) (count_faultless text utf8 (p + 1 + 1) q n _ value high low (faultless_tree text (λ vs. refl) (faultless_none text) (faultless_none text))))) (faultless_none text);
+        flawless = flawless_tree text (λ vs. refl) (flawless_tree text (λ vs. refl) (flawless_none text) (flawless_tree text (λ vs. refl) (flawless_none text) (count_flawless text utf8 (p + 1 + 1) q n _ value high low (flawless_tree text (λ vs. refl) (flawless_none text) (flawless_none text))))) (flawless_none text);
       }
 
   pub max_text : (F : Text → Text) (e : Expression) (i : ℕ) → 1 ≤ i → i < 2 ^ 32 → IsNodeText text F e → IsNodeText text (λ K. F (123 ∷ 44 ∷ (decimal i ++ (125 ∷ K)))) (RepMax e i)
@@ -171,7 +171,7 @@ module _ (text : List ℕ) (utf8 : IsUtf8 text) where
 
   from_to : (m n : ℕ) → m < 2 ^ 32 → 1 ≤ n → n < 2 ^ 32 → (p : ℕ) (K : Text) → IsLeftAt text p (123 ∷ (decimal m ++ (44 ∷ 32 ∷ (decimal n ++ (125 ∷ K)))))
       → Counted (codes "repeat_min_max") p (decimal m ++ (44 ∷ 32 ∷ (decimal n ++ (125 ∷ K)))) K (spanned.RepMinMax m n)
-  unfolding whitespace comment own_fault
+  unfolding whitespace comment own_flaw
   from_to m n wide low high p K h =
       let c = decimal_is m wide in
       let d = decimal_is n high in
@@ -198,8 +198,8 @@ module _ (text : List ℕ) (utf8 : IsUtf8 text) where
             (right (right (right (no_sign t p) (no_exact m 44 u wide refl refl refl p)) no_min) no_max)
             (call is.repeat_min_max refl (seq (seq two (k.blank (i + 1)) k.does) (stays 125 K q refl) (unbrace K q))));
         says = subst (λ x. Postfix text (codes "repeat_min_max") inner (spanned.RepMinMax x n)) first (subst (λ x. Postfix text (codes "repeat_min_max") inner (spanned.RepMinMax (number text (p + 1) i) x)) second min_max);
-        faultless = faultless_tree text (λ vs. refl) (faultless_tree text (λ vs. refl) (faultless_none text)
-            (number_faultless text utf8 (p + 1) i m i (i + 1) _ first wide (count_faultless text utf8 (i + 1 + 1) q n _ second high low (faultless_tree text (λ vs. refl) (faultless_none text) (faultless_none text))))) (faultless_none text);
+        flawless = flawless_tree text (λ vs. refl) (flawless_tree text (λ vs. refl) (flawless_none text)
+            (number_flawless text utf8 (p + 1) i m i (i + 1) _ first wide (count_flawless text utf8 (i + 1 + 1) q n _ second high low (flawless_tree text (λ vs. refl) (flawless_none text) (flawless_none text))))) (flawless_none text);
       }
 
   pub min_max_text : (F : Text → Text) (e : Expression) (i j : ℕ) → i < 2 ^ 32 → 1 ≤ j → j < 2 ^ 32 → IsNodeText text F e → IsNodeText text (λ K. F (123 ∷ (decimal i ++ (44 ∷ 32 ∷ (decimal j ++ (125 ∷ K)))))) (RepMinMax e i j)

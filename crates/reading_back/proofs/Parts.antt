@@ -1,4 +1,4 @@
--- What is said of a printed part: which calls succeed on it, that their trees have no fault, and what these are read as.
+-- What is said of a printed part: which calls succeed on it, that their trees have no flaw, and what these are read as.
 -- Throughout, p and q are places in bytes, t is what is left of the text at p, K₀ is what stands behind the part, and K is the same
 -- behind the blank that may stand there. A part doesn't say where its call ended, since a call may take that blank or leave it: it says
 -- that skipping leads on to K.
@@ -17,8 +17,8 @@ use Rattle.meta_syntax.specs.MetaGrammar.{rule, ◌~◌}
 use Rattle.meta_syntax.specs.Firsts.{may_begin}
 use Rattle.meta_nodes.specs.Spanned as spanned
 use Rattle.meta_nodes.specs.Spanned.{Spanned, Leaf, One, Two, Span, Unary, starting, ending, placed}
-use Rattle.meta_reader.specs.Reading.{Part, AnExpression, Alternatives, ASequence, ATerm, Reads, Postfixed}
-use Rattle.meta_reader.specs.Faults.{first_fault, own_fault}
+use Rattle.meta_reader.specs.Reading.{Category, AnExpression, Alternatives, ASequence, ATerm, Reads, Postfixed}
+use Rattle.meta_reader.specs.Flaws.{first_flaw, own_flaw}
 use Rattle.meta_nodes.specs.Erasure.{without_spans, round}
 use Rattle.reading_back.specs.Nesting.{nested_right}
 use Rattle.reading_back.proofs.Deriving.{at, is_solid, Gives, Calls, Skips}
@@ -36,9 +36,9 @@ abbrev pub joined_by : Link → Expression → Expression → Expression
 joined_by Tilde a b = Seq a b
 joined_by Bar a b = Choice a b
 
-abbrev pub part : Link → Part
-part Tilde = ASequence
-part Bar = Alternatives
+abbrev pub category : Link → Category
+category Tilde = ASequence
+category Bar = Alternatives
 
 -- a sign and a term
 abbrev pub linked : Expression
@@ -109,21 +109,21 @@ module _ (text : List ℕ) where
   abbrev pub IsLeftAt : ℕ → Text → Type 0
   IsLeftAt p t = Stands (chars text) (at p t)
 
-  -- trees without a fault before others without one
-  pub record IsFaultless (us : Trees) : Type 0 where
-    pub keeps : (vs : Trees) → first_fault text vs ≡ None → first_fault text (joined us vs) ≡ None
+  -- trees without a flaw before others without one
+  pub record IsFlawless (us : Trees) : Type 0 where
+    pub keeps : (vs : Trees) → first_flaw text vs ≡ None → first_flaw text (joined us vs) ≡ None
 
-  pub faultless_none : IsFaultless None'
-  faultless_none = record { keeps = λ vs h. h }
+  pub flawless_none : IsFlawless None'
+  flawless_none = record { keeps = λ vs h. h }
 
-  pub faultless_both : {us vs : Trees} → IsFaultless us → IsFaultless vs → IsFaultless (joined us vs)
-  faultless_both {us} {vs} h k = record { keeps = λ ws i. rw (joined_assoc us vs ws) (h.keeps (joined vs ws) (k.keeps ws i)) }
+  pub flawless_both : {us vs : Trees} → IsFlawless us → IsFlawless vs → IsFlawless (joined us vs)
+  flawless_both {us} {vs} h k = record { keeps = λ ws i. rw (joined_assoc us vs ws) (h.keeps (joined vs ws) (k.keeps ws i)) }
 
-  pub no_fault : {us : Trees} → IsFaultless us → first_fault text us ≡ None
-  no_fault {us} h = subst (λ x. first_fault text x ≡ None) (joined_nil us) (h.keeps None' refl)
+  pub no_flaw : {us : Trees} → IsFlawless us → first_flaw text us ≡ None
+  no_flaw {us} h = subst (λ x. first_flaw text x ≡ None) (joined_nil us) (h.keeps None' refl)
 
-  pub faultless_tree : {r : Text} {i j : ℕ} {inner us : Trees} → ((vs : Trees) → own_fault text r i j inner (joined us vs) ≡ None) → IsFaultless inner → IsFaultless us → IsFaultless (Tree r i j inner us)
-  faultless_tree {r} {i} {j} {inner} {us} h k l = record { keeps = λ vs m. rw (h vs, no_fault k) (l.keeps vs m) }
+  pub flawless_tree : {r : Text} {i j : ℕ} {inner us : Trees} → ((vs : Trees) → own_flaw text r i j inner (joined us vs) ≡ None) → IsFlawless inner → IsFlawless us → IsFlawless (Tree r i j inner us)
+  flawless_tree {r} {i} {j} {inner} {us} h k l = record { keeps = λ vs m. rw (h vs, no_flaw k) (l.keeps vs m) }
 
   pub still_left : {k : Task} {s : State} {q : ℕ} {K : Text} {us : Trees} → Gives k s (Success (at q K) us) → Stands (chars text) s → IsLeftAt q K
   still_left d h = (fits (chars text) (d (λ n c. false)) h).0
@@ -136,7 +136,7 @@ module _ (text : List ℕ) where
     pub place : ℕ
     pub after : Skips end place K
     pub reads : (x : Spanned) → Denotes x a → (y : Spanned) × Postfixed text x trees y × Denotes y b
-    pub faultless : IsFaultless trees
+    pub flawless : IsFlawless trees
 
   abbrev pub postfixes : Expression
   postfixes = rule is.postfix_operator
@@ -163,7 +163,7 @@ module _ (text : List ℕ) where
     pub said : Spanned
     pub reads : Reads text ATerm (joined node_trees trees) said
     pub says : Denotes said b
-    pub faultless : IsFaultless (joined node_trees trees)
+    pub flawless : IsFlawless (joined node_trees trees)
 
   -- a term: predicates before a node
   pub record TermAt (p : ℕ) (t : Text) (e : Expression) (K : Text) : Type 0 where
@@ -187,7 +187,7 @@ module _ (text : List ℕ) where
     pub said : Spanned
     pub reads : Reads text ATerm (joined (joined signs node_trees) trees) said
     pub says : Denotes said e
-    pub faultless : IsFaultless (joined (joined signs node_trees) trees)
+    pub flawless : IsFlawless (joined (joined signs node_trees) trees)
 
   -- the same as a call of `term`
   pub record TermCall (p : ℕ) (t : Text) (e : Expression) (K : Text) : Type 0 where
@@ -200,7 +200,7 @@ module _ (text : List ℕ) where
     pub said : Spanned
     pub reads : Reads text ATerm inner said
     pub says : Denotes said e
-    pub faultless : IsFaultless (Tree (codes "term") p end.position inner None')
+    pub flawless : IsFlawless (Tree (codes "term") p end.position inner None')
 
   -- signs and terms behind a term
   pub record ChainAt (l : Link) (p : ℕ) (t : Text) (e : Expression) (K : Text) : Type 0 where
@@ -212,8 +212,8 @@ module _ (text : List ℕ) where
     pub others : Gives (Turns NonAtomicMode linked) middle (Success end trees)
     pub place : ℕ
     pub after : Skips end place K
-    pub reads : (a : Expression) (us : Trees) (x : Spanned) → Reads text (part l) us x → Denotes x a → (y : Spanned) × Reads text (part l) (joined us (joined first_trees trees)) y × Denotes y (joined_by l a e)
-    pub faultless : IsFaultless (joined first_trees trees)
+    pub reads : (a : Expression) (us : Trees) (x : Spanned) → Reads text (category l) us x → Denotes x a → (y : Spanned) × Reads text (category l) (joined us (joined first_trees trees)) y × Denotes y (joined_by l a e)
+    pub flawless : IsFlawless (joined first_trees trees)
 
   -- a call of `expression`
   pub record ExpressionAt (p : ℕ) (t : Text) (e : Expression) (K : Text) : Type 0 where
@@ -226,7 +226,7 @@ module _ (text : List ℕ) where
     pub said : Spanned
     pub reads : Reads text AnExpression inner said
     pub says : Denotes said e
-    pub faultless : IsFaultless (Tree (codes "expression") p end.position inner None')
+    pub flawless : IsFlawless (Tree (codes "expression") p end.position inner None')
 
   -- what holds of an expression's text, whatever stands behind it
   abbrev pub IsNodeText : (Text → Text) → Expression → Type 0

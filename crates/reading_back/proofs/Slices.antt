@@ -17,11 +17,11 @@ use Rattle.meta_base.specs.declared.grammar.Rule.TheVariants as is
 use Rattle.meta_syntax.specs.MetaGrammar.{rule}
 use Rattle.meta_syntax.specs.Shape.{Mark}
 use Rattle.meta_reader.specs.Reading.{integer, leaf, slice_from, slice_between}
-use Rattle.meta_reader.specs.Faults.{own_fault, faulty, past_i32, fits_i32, PastI32}
+use Rattle.meta_reader.specs.Flaws.{own_flaw, flaw_if, past_i32, fits_i32, PastI32}
 use Rattle.reading_back.specs.ReadsBack.{FitsI32}
 use Rattle.reading_back.proofs.PrintedBefore.{slice_before}
 use Rattle.reading_back.proofs.Deriving.{at, Gives, Calls, Skips, str, range, call, seq, seq_first, left, right, opt, opt_none, rep_none, rep_once, atomic, stays}
-use Rattle.reading_back.proofs.Parts.{node_start, IsLeftAt, IsFaultless, faultless_none, faultless_tree, still_left, IsNodeText}
+use Rattle.reading_back.proofs.Parts.{node_start, IsLeftAt, IsFlawless, flawless_none, flawless_tree, still_left, IsNodeText}
 use Rattle.reading_back.proofs.Characters.{past, range_takes, range_misses, solid_when, sign_misses}
 use Rattle.reading_back.proofs.WrittenBetween.{slice_is}
 use Rattle.reading_back.proofs.Numbers.{is_digit, digit_is, number_body}
@@ -97,11 +97,11 @@ module _ (text : List ℕ) (utf8 : IsUtf8 text) where
       ascii (pos n) h = let j = ltb-true n (2 ^ 31) h in IsAscii-signed (pos n) (omega (arith, j))
       ascii (negsuc n) h = let j = ltb-true n (2 ^ 31) h in IsAscii-signed (negsuc n) (omega (arith, j))
 
-  integer_faultless : (j k : ℕ) (i : ℤ) (us : Trees) → integer text j k ≡ i → fits_i32 i ≡ true → IsFaultless text us → IsFaultless text (Mark (codes "integer") j k us)
-  unfolding own_fault
-  integer_faultless j k i us e h c =
-      let f : past_i32 text j k ≡ None = ap (λ x. faulty text (not (fits_i32 x)) PastI32 j k) e ∙ ap (λ b. faulty text (not b) PastI32 j k) h in
-      faultless_tree text (λ vs. f) (faultless_none text) c
+  integer_flawless : (j k : ℕ) (i : ℤ) (us : Trees) → integer text j k ≡ i → fits_i32 i ≡ true → IsFlawless text us → IsFlawless text (Mark (codes "integer") j k us)
+  unfolding own_flaw
+  integer_flawless j k i us e h c =
+      let f : past_i32 text j k ≡ None = ap (λ x. flaw_if text (not (fits_i32 x)) PastI32 j k) e ∙ ap (λ b. flaw_if text (not b) PastI32 j k) h in
+      flawless_tree text (λ vs. f) (flawless_none text) c
 
   bracket : (t : Text) (p : ℕ) → Calls is.opening_brack (at p (91 ∷ t)) (Success (at (p + 1) t) (Tree (codes "opening_brack") p (p + 1) None' None'))
   unfolding whitespace comment
@@ -123,7 +123,7 @@ module _ (text : List ℕ) (utf8 : IsUtf8 text) where
       (right (call is._push_literal refl (seq_first (seq_first (seq_first str)))) (call is._push refl (seq_first (seq_first (seq_first str))))) d))))))
 
   open_slice : (i : ℤ) → fits_i32 i ≡ true → IsNodeText text (λ K. slice_before i None K) (PeekSlice i None)
-  unfolding whitespace comment own_fault
+  unfolding whitespace comment own_flaw
   open_slice i h p b K₀ K here f loop =
       let v : Text = 93 ∷ K₀ in
       let u : Text = signed_decimal i ++ (46 ∷ 46 ∷ v) in
@@ -137,10 +137,10 @@ module _ (text : List ℕ) (utf8 : IsUtf8 text) where
       call is.peek_slice refl (seq (seq (seq (seq (seq str (stays 91 u (p + 4) refl) (bracket u (p + 4))) n.skip (opt n.does)) (stays 46 (46 ∷ v) q refl) (dots v q)) (stays 93 K₀ (q + 2) refl) (opt_none no_number)) (stays 93 K₀ (q + 2) refl) (unbracket K₀ (q + 2))) in
       node_with text p (q + 2 + 1) (codes "PEEK[" ++ u) K₀ K (codes "peek_slice") inner _ (PeekSlice i None) b (node_start 80 _ refl refl refl refl) (slice_node p _ does) (leaf slice_from)
       (record { same = ap (λ x. PeekSlice x None) value })
-      (faultless_tree text (λ vs. refl) (faultless_tree text (λ vs. refl) (faultless_none text) (integer_faultless (p + 4 + 1) q i _ value h (faultless_tree text (λ vs. refl) (faultless_none text) (faultless_tree text (λ vs. refl) (faultless_none text) (faultless_none text))))) (faultless_none text)) here loop
+      (flawless_tree text (λ vs. refl) (flawless_tree text (λ vs. refl) (flawless_none text) (integer_flawless (p + 4 + 1) q i _ value h (flawless_tree text (λ vs. refl) (flawless_none text) (flawless_tree text (λ vs. refl) (flawless_none text) (flawless_none text))))) (flawless_none text)) here loop
 
   closed_slice : (i j : ℤ) → fits_i32 i ≡ true → fits_i32 j ≡ true → IsNodeText text (λ K. slice_before i (Some j) K) (PeekSlice i (Some j))
-  unfolding whitespace comment own_fault
+  unfolding whitespace comment own_flaw
   closed_slice i j h k p b K₀ K here f loop =
       let v : Text = signed_decimal j ++ (93 ∷ K₀) in
       let u : Text = signed_decimal i ++ (46 ∷ 46 ∷ v) in
@@ -158,8 +158,8 @@ module _ (text : List ℕ) (utf8 : IsUtf8 text) where
       call is.peek_slice refl (seq (seq (seq (seq (seq str (stays 91 u (p + 4) refl) (bracket u (p + 4))) n.skip (opt n.does)) (stays 46 (46 ∷ v) q refl) (dots v q)) m.skip (opt m.does)) (stays 93 K₀ r refl) (unbracket K₀ r)) in
       node_with text p (r + 1) (codes "PEEK[" ++ u) K₀ K (codes "peek_slice") inner _ (PeekSlice i (Some j)) b (node_start 80 _ refl refl refl refl) (slice_node p _ does) (leaf slice_between)
       (record { same = ap₂ (λ x y. PeekSlice x (Some y)) first second })
-      (faultless_tree text (λ vs. refl) (faultless_tree text (λ vs. refl) (faultless_none text) (integer_faultless (p + 4 + 1) q i _ first h (faultless_tree text (λ vs. refl) (faultless_none text)
-      (integer_faultless (q + 2) r j _ second k (faultless_tree text (λ vs. refl) (faultless_none text) (faultless_none text)))))) (faultless_none text)) here loop
+      (flawless_tree text (λ vs. refl) (flawless_tree text (λ vs. refl) (flawless_none text) (integer_flawless (p + 4 + 1) q i _ first h (flawless_tree text (λ vs. refl) (flawless_none text)
+      (integer_flawless (q + 2) r j _ second k (flawless_tree text (λ vs. refl) (flawless_none text) (flawless_none text)))))) (flawless_none text)) here loop
 
   pub slice_text : (i : ℤ) (j : Option ℤ) → fits_i32 i ≡ true → FitsI32 j → IsNodeText text (λ K. slice_before i j K) (PeekSlice i j)
   slice_text i None h k = open_slice i h

@@ -12,7 +12,7 @@ use Rattle.meta_base.specs.Language.Text.{Text, IsText, IsScalarValue}
 use Rattle.meta_base.specs.Language.Builtins.{is_between}
 use Rattle.meta_base.specs.Language.Expression.{Expression, Str, Insens, Range, Ident, PeekSlice, PosPred, NegPred, Seq, Choice, Opt, Rep, RepOnce, RepExact, RepMin, RepMax, RepMinMax, Skip, Push, RestoreOnErr, RuleType, Normal, Silent, Atomic, CompoundAtomic, NonAtomic, Rule, Grammar}
 use Rattle.meta_ast.specs.Printing.{escaped, is_control, numbered, hex_digit}
-use Rattle.meta_reader.specs.Faults.{fits_i32}
+use Rattle.meta_reader.specs.Flaws.{fits_i32}
 use Rattle.meta_ast.specs.Printing.{Place, Alone, AfterTilde, AfterBar, BeforePostfix, slice_end}
 use Rattle.reading_back.proofs.WholeGrammar.{rule_before, lines_before, all_lines}
 use Rattle.reading_back.specs.ReadsBack.{IsWritable, IsWritableRule, FitsI32, TextsExist, GrammarTextsExist, grammar_text, modifier, rule_text, is_name, is_name_start, is_name_character, are_name_characters}

@@ -18,14 +18,14 @@ use Rattle.meta_nodes.specs.Spanned.{Spanned, SpannedRule}
 use Rattle.meta_nodes.specs.Erasure.{without_spans, rules_without_spans}
 use Rattle.meta_reader.specs.Reading as reading
 use Rattle.meta_reader.specs.Reading.{AnExpression, Reads, ReadsRule, ReadsRules, defined, end_of_input, normal, modified, characters_between, piece}
-use Rattle.meta_reader.specs.Faults.{own_fault}
+use Rattle.meta_reader.specs.Flaws.{own_flaw}
 use Rattle.meta_ast.specs.Printing.{Alone, printed}
 use Rattle.reading_back.specs.Nesting.{nested_right, nested_rules}
 use Rattle.reading_back.specs.ReadsBack.{IsWritable, IsWritableRule, is_name, is_name_start, modifier, rule_line, grammar_text, IsReadAs, ReadsBack, GrammarsReadBack}
 use Rattle.reading_back.proofs.PrintedBefore.{printed_before, append-printed_at, more, both, counted}
 use Rattle.reading_back.proofs.Characters.{excluded, solid_when}
 use Rattle.reading_back.proofs.Deriving.{at, Gives, Calls, Skips, str, range, call, neg_pred, seq, seq_first, seq_second, left, right, opt, opt_none, rep, rep_none, turn, turn_none, skips, between, atomic, stays, one_blank, a_line_feed, one_line_feed, fails}
-use Rattle.reading_back.proofs.Parts.{by_brace, IsLeftAt, IsFaultless, faultless_none, faultless_both, faultless_tree, no_fault, still_left}
+use Rattle.reading_back.proofs.Parts.{by_brace, IsLeftAt, IsFlawless, flawless_none, flawless_both, flawless_tree, no_flaw, still_left}
 use Rattle.reading_back.proofs.Assembly.{blank_at}
 use Rattle.reading_back.proofs.WrittenBetween.{written_is}
 use Rattle.reading_back.proofs.Names.{and_left, and_right, name_does, following}
@@ -93,19 +93,19 @@ record ModifierAt (text : List ℕ) (ty : RuleType) (p : ℕ) (t : Text) : Type 
   pub trees : Trees
   pub does : Gives (Run NonAtomicMode (plain.Opt (rule is.modifier))) (at p (modifier ty ++ (123 ∷ t))) (Success (at place (123 ∷ t)) trees)
   pub blank : (q : ℕ) → Skips (at q (32 ∷ (modifier ty ++ (123 ∷ t)))) (q + 1) (modifier ty ++ (123 ∷ t))
-  pub faultless : IsFaultless text trees
+  pub flawless : IsFlawless text trees
   pub reads : (i j a b c d e f g h : ℕ) (body : Trees) (x : Spanned) → Reads text AnExpression body x
       → ReadsRule text (Mark (codes "identifier") i j (Mark (codes "assignment_operator") a b (joined trees (Braced c d e f g h body))))
       (Some (record { name = characters_between text i j; span = piece text i j; type_of = ty; body = x }))
 
 modifier_at : (text : List ℕ) (ty : RuleType) (p : ℕ) (t : Text) → ModifierAt text ty p t
-unfolding whitespace comment own_fault
+unfolding whitespace comment own_flaw
 modifier_at text Normal p t = record {
   place = p;
   trees = None';
   does = opt_none (fails is.modifier 123 t p refl);
   blank = λ q. one_blank 123 t q refl;
-  faultless = faultless_none text;
+  flawless = flawless_none text;
   reads = λ i j a b c d e f g h body x r. normal r;
 }
 modifier_at text Silent p t = record {
@@ -113,7 +113,7 @@ modifier_at text Silent p t = record {
   trees = Mark (codes "silent_modifier") p (p + 1) None';
   does = opt (call is.modifier refl (left (left (left (call is.silent_modifier refl str)))));
   blank = λ q. one_blank 95 (123 ∷ t) q refl;
-  faultless = faultless_tree text (λ vs. refl) (faultless_none text) (faultless_none text);
+  flawless = flawless_tree text (λ vs. refl) (flawless_none text) (flawless_none text);
   reads = λ i j a b c d e f g h body x r. modified reading.silent r;
 }
 modifier_at text Atomic p t = record {
@@ -121,7 +121,7 @@ modifier_at text Atomic p t = record {
   trees = Mark (codes "atomic_modifier") p (p + 1) None';
   does = opt (call is.modifier refl (left (left (right (call is.silent_modifier refl str) (call is.atomic_modifier refl str)))));
   blank = λ q. one_blank 64 (123 ∷ t) q refl;
-  faultless = faultless_tree text (λ vs. refl) (faultless_none text) (faultless_none text);
+  flawless = flawless_tree text (λ vs. refl) (flawless_none text) (flawless_none text);
   reads = λ i j a b c d e f g h body x r. modified reading.atomic r;
 }
 modifier_at text CompoundAtomic p t = record {
@@ -129,7 +129,7 @@ modifier_at text CompoundAtomic p t = record {
   trees = Mark (codes "compound_atomic_modifier") p (p + 1) None';
   does = opt (call is.modifier refl (left (right (right (call is.silent_modifier refl str) (call is.atomic_modifier refl str)) (call is.compound_atomic_modifier refl str))));
   blank = λ q. one_blank 36 (123 ∷ t) q refl;
-  faultless = faultless_tree text (λ vs. refl) (faultless_none text) (faultless_none text);
+  flawless = flawless_tree text (λ vs. refl) (flawless_none text) (flawless_none text);
   reads = λ i j a b c d e f g h body x r. modified reading.compound_atomic r;
 }
 modifier_at text NonAtomic p t = record {
@@ -139,7 +139,7 @@ modifier_at text NonAtomic p t = record {
       (right (right (call is.silent_modifier refl str) (call is.atomic_modifier refl str)) (call is.compound_atomic_modifier refl str))
       (call is.non_atomic_modifier refl str)));
   blank = λ q. one_blank 33 (123 ∷ t) q refl;
-  faultless = faultless_tree text (λ vs. refl) (faultless_none text) (faultless_none text);
+  flawless = flawless_tree text (λ vs. refl) (flawless_none text) (flawless_none text);
   reads = λ i j a b c d e f g h body x r. modified reading.non_atomic r;
 }
 
@@ -155,7 +155,7 @@ record RuleAt (text : List ℕ) (p : ℕ) (n : Text) (ty : RuleType) (e : Expres
   pub name : said.name ≡ n
   pub type_of : said.type_of ≡ ty
   pub body : nested_right (without_spans said.body) ≡ nested_right e
-  pub faultless : IsFaultless text (Tree (codes "grammar_rule") p place inner None')
+  pub flawless : IsFlawless text (Tree (codes "grammar_rule") p place inner None')
 
 starts_name : (c : ℕ) (n : Text) → is_name (c ∷ n) ≡ true → is_name_start c ≡ true
 starts_name c n h = and_left _ _ (and_right _ _ h)
@@ -167,7 +167,7 @@ before_rule (c ∷ n) ty e K q h = one_line_feed c _ q (solid_when is_name_start
 
 module _ (text : List ℕ) (utf8 : IsUtf8 text) where
   rule_at : (n : Text) (ty : RuleType) (e : Expression) → is_name n ≡ true → IsWritable e → (p : ℕ) (K : Text) → IsLeftAt text p (rule_before n ty e K) → RuleAt text p n ty e K
-  unfolding whitespace comment own_fault
+  unfolding whitespace comment own_flaw
   rule_at [] ty e h w p K here = cc
   rule_at (c ∷ n) ty e h w p K here =
       let E : Text = printed_before Alone e (32 ∷ 125 ∷ K) in
@@ -208,14 +208,14 @@ module _ (text : List ℕ) (utf8 : IsUtf8 text) where
         name = written_is text utf8 p q (c ∷ n) (32 ∷ 61 ∷ 32 ∷ T) here named;
         type_of = refl;
         body = b.says.same;
-        faultless =
-            faultless_tree text (λ vs. refl)
-            (faultless_tree text (λ vs. refl) (faultless_none text)
-            (faultless_tree text (λ vs. refl) (faultless_none text)
-            (faultless_both text
-            (faultless_both text (faultless_both text m.faultless (faultless_tree text (λ vs. refl) (faultless_none text) (faultless_none text))) b.faultless)
-            (faultless_tree text (λ vs. refl) (faultless_none text) (faultless_none text)))))
-            (faultless_none text);
+        flawless =
+            flawless_tree text (λ vs. refl)
+            (flawless_tree text (λ vs. refl) (flawless_none text)
+            (flawless_tree text (λ vs. refl) (flawless_none text)
+            (flawless_both text
+            (flawless_both text (flawless_both text m.flawless (flawless_tree text (λ vs. refl) (flawless_none text) (flawless_none text))) b.flawless)
+            (flawless_tree text (λ vs. refl) (flawless_none text) (flawless_none text)))))
+            (flawless_none text);
       }
 
   -- the rules behind one, up to the end
@@ -228,7 +228,7 @@ module _ (text : List ℕ) (utf8 : IsUtf8 text) where
     pub said : List SpannedRule
     pub reads : ReadsRules text (joined trees (Mark (codes "EOI") place place None')) said
     pub same : nested_rules (rules_without_spans said) ≡ nested_rules rs
-    pub faultless : IsFaultless text trees
+    pub flawless : IsFlawless text trees
 
   no_more : (p : ℕ) → RulesBehind p [] []
   no_more p = record {
@@ -240,7 +240,7 @@ module _ (text : List ℕ) (utf8 : IsUtf8 text) where
     said = [];
     reads = end_of_input;
     same = refl;
-    faultless = faultless_none text;
+    flawless = flawless_none text;
   }
 
   one_more : (n m : Text) (t u : RuleType) (a b : Expression) (g h : Grammar) → n ≡ m → t ≡ u → a ≡ b → g ≡ h
@@ -257,7 +257,7 @@ module _ (text : List ℕ) (utf8 : IsUtf8 text) where
     said = [];
     reads = end_of_input;
     same = refl;
-    faultless = faultless_none text;
+    flawless = flawless_none text;
   }
   rules_behind (r ∷ rs) h p here =
       let writable = All-head IsWritableRule r rs h in
@@ -274,13 +274,13 @@ module _ (text : List ℕ) (utf8 : IsUtf8 text) where
         said = x.said ∷ m.said;
         reads = defined x.reads m.reads;
         same = one_more _ _ _ _ _ _ _ _ x.name x.type_of x.body m.same;
-        faultless = faultless_both text x.faultless m.faultless;
+        flawless = flawless_both text x.flawless m.flawless;
       }
 
   -- a rule and those behind it are the whole text
   whole : (n : Text) (ty : RuleType) (e : Expression) (K : Text) (rs : Grammar) → chars text ≡ rule_before n ty e K
       → (x : RuleAt text 0 n ty e K) → RulesBehind x.place K rs → IsReadAs text (record { name = n; type_of = ty; body = e } ∷ rs)
-  unfolding whitespace comment own_fault
+  unfolding whitespace comment own_flaw
   whole n ty e K rs split x m =
       let all : Trees = Tree (codes "grammar_rule") 0 x.place x.inner (joined m.trees (Mark (codes "EOI") m.place m.place None')) in
       let does : Calls is.grammar_rules (at 0 (rule_before n ty e K)) (Success (at m.place []) all) =
@@ -288,14 +288,14 @@ module _ (text : List ℕ) (utf8 : IsUtf8 text) where
       record {
         trees = all;
         spelled = λ z. (at m.place [], subst (λ t. Does meta_grammar z (Run NonAtomicMode (Ident (name_of is.grammar_rules))) (at 0 t) (Success (at m.place []) all)) (sym split) (does z));
-        no_fault = no_fault text (faultless_both text x.faultless (faultless_both text m.faultless (faultless_tree text (λ vs. refl) (faultless_none text) (faultless_none text))));
+        flawless = no_flaw text (flawless_both text x.flawless (flawless_both text m.flawless (flawless_tree text (λ vs. refl) (flawless_none text) (flawless_none text))));
         said = x.said ∷ m.said;
         read = defined x.reads m.reads;
         same = one_more _ _ _ _ _ _ _ _ x.name x.type_of x.body m.same;
       }
 
   nothing : chars text ≡ [] → IsReadAs text []
-  unfolding whitespace comment own_fault
+  unfolding whitespace comment own_flaw
   nothing split =
       let all : Trees = Mark (codes "EOI") 0 0 None' in
       let does : Calls is.grammar_rules (at 0 []) (Success (at 0 []) all) =
@@ -303,7 +303,7 @@ module _ (text : List ℕ) (utf8 : IsUtf8 text) where
       record {
         trees = all;
         spelled = λ z. (at 0 [], subst (λ t. Does meta_grammar z (Run NonAtomicMode (Ident (name_of is.grammar_rules))) (at 0 t) (Success (at 0 []) all)) (sym split) (does z));
-        no_fault = refl;
+        flawless = refl;
         said = [];
         read = end_of_input;
         same = refl;

@@ -14,7 +14,7 @@ use Rattle.meta_syntax.specs.Parses.{Spells}
 use Rattle.meta_nodes.specs.Spanned.{SpannedRule}
 use Rattle.meta_nodes.specs.Erasure.{rules_without_spans}
 use Rattle.meta_reader.specs.Reading.{ReadsRules}
-use Rattle.meta_reader.specs.Faults.{first_fault, fits_i32}
+use Rattle.meta_reader.specs.Flaws.{first_flaw, fits_i32}
 use Rattle.meta_ast.specs.Printing.{printed}
 use Rattle.reading_back.specs.Nesting.{nested_rules}
 
@@ -94,11 +94,11 @@ abbrev pub grammar_text : Grammar → Text
 grammar_text [] = []
 grammar_text (r ∷ rs) = rule_line r ++ grammar_text rs
 
--- the text spells rules without a fault, and they are these up to nesting
+-- the text spells rules without a flaw, and they are these up to nesting
 pub record IsReadAs (text : List ℕ) (rules : Grammar) : Type 0 where
   pub trees : Trees
   pub spelled : Spells grammar_rules text trees
-  pub no_fault : first_fault text trees ≡ None
+  pub flawless : first_flaw text trees ≡ None
   pub said : List SpannedRule
   pub read : ReadsRules text trees said
   pub same : nested_rules (rules_without_spans said) ≡ nested_rules rules

@@ -1,4 +1,4 @@
-// Laws of printing and reading.
+//! Laws of printing and reading.
 ghost use Rattle.reading_back.specs.PrintedRows.{PrintedRows};
 ghost use Rattle.reading_back.specs.ReadsBack.{GrammarsReadBack, GrammarTextsExist, NamesAreIdentifiers};
 ghost use Rattle.reading_back.specs.ReadsBack.{PredicateBeforeQuestionMark, ReadsAsOne};

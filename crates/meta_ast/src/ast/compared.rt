@@ -83,7 +83,7 @@ struct Both<'a> {
     second: &'a Expr,
 }
 
-// Whether two expressions are equal, by a loop. Refused where memory is.
+// Whether two expressions are equal, by a loop. The only fault is a want of memory.
 #[tactic(auto, using(crate::proofs::Sameness::are_equal_one, crate::proofs::Sameness::lighter))]
 fn equal_by_list(alloc: Global, a: &Expr, b: &Expr) -> Result<bool, AllocError>
     ensures { IfOk result (λ answer. answer ≡ expression_eq (expression_of a.now) (expression_of b.now)) }
@@ -101,7 +101,8 @@ fn equal_by_list(alloc: Global, a: &Expr, b: &Expr) -> Result<bool, AllocError>
     Ok(true)
 }
 
-// Whether two expressions are equal but for their operands, which are put on a list. Refused where memory is.
+// Whether two expressions are equal but for their operands, which are put on a list. The only fault is a want
+// of memory.
 #[tactic(auto, using(crate::proofs::Sameness::are_equal_last, crate::proofs::Sameness::heaviness_last))]
 fn equal_outside<'a>(
     a: &'a Expr,

@@ -1,12 +1,15 @@
 //! Expressions as text.
-ghost use Rattle.std.specs.Prelude.{◌++◌, Some, encode_utf8_all};
+ghost use Rattle.std.specs.Prelude.{◌≡◌, ◌≤◌, ◌+◌, ◌++◌, ◌∷◌, [], Some, IfOk, encode_utf8_all};
 ghost use Rattle.std.specs.Fmt.{WritesOnOk};
 ghost use Rattle.meta_ast.specs.Ast.{expression_of};
 ghost use Rattle.meta_ast.specs.Printing.{printed};
 ghost use Rattle.meta_ast.specs.PrintedBytes.{written_bytes, choice_bytes, predicate_bytes, sequence_bytes};
+ghost use Rattle.meta_ast.specs.Sides.{side_bytes, weight_aside, with_side, with_sides};
+ghost use Rattle.meta_ast.specs.Weight.{weight};
 
 use super::Expr;
-use crate::printing::{fmt_literal, fmt_range, fmt_skip, fmt_slice};
+use crate::printing::{fmt_literal, fmt_openings, fmt_range, fmt_skip, fmt_slice};
+use std::alloc::{AllocError, Global};
 use std::fmt;
 
 /// An expression as a grammar's text has it.
@@ -39,8 +42,8 @@ fn fmt_alone<W: fmt::Write>(f: &mut fmt::Formatter<W>, expr: &Expr) -> fmt::Resu
         Expr::PeekSlice(start, end) => fmt_slice(f, *start, *end),
         Expr::PosPred(inner) => fmt_predicate(f, "&", inner),
         Expr::NegPred(inner) => fmt_predicate(f, "!", inner),
-        Expr::Seq(left, right) => fmt_sequence(f, left, right),
-        Expr::Choice(left, right) => fmt_choice(f, left, right),
+        Expr::Seq(left, right) => fmt_pair(f, left, Side::Sequence(right)),
+        Expr::Choice(left, right) => fmt_pair(f, left, Side::Choice(right)),
         Expr::Opt(inner) => fmt_postfix(f, inner, "?"),
         Expr::Rep(inner) => fmt_postfix(f, inner, "*"),
         Expr::RepOnce(inner) => fmt_postfix(f, inner, "+"),
@@ -77,6 +80,99 @@ fn fmt_predicate<W: fmt::Write>(f: &mut fmt::Formatter<W>, sign: &str, inner: &E
 {
     f.write_str(sign)?;
     fmt_alone(f, inner)
+}
+
+// The right side of a `~` or a `|`, which is written behind the left one.
+#[derive(Clone, Copy)]
+enum Side<'a> {
+    Sequence(&'a Expr),
+    Choice(&'a Expr),
+}
+
+// Writes two sides: along left sides by a loop, or by calls where there is no memory for its list.
+#[cycle(printing)]
+fn fmt_pair<W: fmt::Write>(
+    f: &mut fmt::Formatter<W>,
+    left: &Box<Expr>,
+    side: Side<'_>,
+) -> fmt::Result
+    ensures { WritesOnOk W.write_str_gives f.old result
+        (with_side side.entry (written_bytes left.now.value).alone) f.new }
+{
+    match left_end(*Box::allocator(left), left, side) {
+        Ok((end, sides)) => fmt_sides(f, end, sides),
+        Err(_) => match side {
+            Side::Sequence(right) => fmt_sequence(f, left, right),
+            Side::Choice(right) => fmt_choice(f, left, right),
+        },
+    }
+}
+
+// What stands at the end of left sides, and the right sides on the way there, the outermost first. The only
+// fault is a want of memory.
+fn left_end<'a>(
+    alloc: Global,
+    left: &'a Expr,
+    side: Side<'a>,
+) -> Result<(&'a Expr, Vec<Side<'a>>), AllocError>
+    ensures bytes { IfOk result (λ end. with_sides end.1.items (written_bytes end.0.now).alone
+        ≡ with_side side.entry (written_bytes left.entry.now).alone) }
+    ensures lighter { IfOk result (λ end. weight (expression_of end.0.now) + weight_aside end.1.items
+        ≤ weight (expression_of left.entry.now) + weight_aside (side.entry ∷ [])) }
+{
+    let mut sides = Vec::new(alloc);
+    sides.push(side)?;
+    let mut end = left;
+    'down: loop {
+        match end {
+            Expr::Seq(left, right) => {
+                sides.push(Side::Sequence(right))?;
+                end = left;
+            }
+            Expr::Choice(left, right) => {
+                sides.push(Side::Choice(right))?;
+                end = left;
+            }
+            _ => return Ok((end, sides)),
+        }
+    }
+}
+
+// Writes an expression with right sides behind it, the last of them first.
+#[cycle(printing)]
+fn fmt_sides<W: fmt::Write>(
+    f: &mut fmt::Formatter<W>,
+    end: &Expr,
+    sides: Vec<Side<'_>>,
+) -> fmt::Result
+    ensures { WritesOnOk W.write_str_gives f.old result
+        (with_sides sides.entry.items (written_bytes end.now).alone) f.new }
+{
+    let mut sides = sides;
+    fmt_openings(f, sides.len())?;
+    fmt_alone(f, end)?;
+    while let Some(side) = sides.pop() {
+        fmt_side(f, side)?;
+    }
+    Ok(())
+}
+
+// Writes a right side, with its sign and its closing parenthesis.
+#[cycle(printing)]
+fn fmt_side<W: fmt::Write>(f: &mut fmt::Formatter<W>, side: Side<'_>) -> fmt::Result
+    ensures { WritesOnOk W.write_str_gives f.old result (side_bytes side.entry) f.new }
+{
+    match side {
+        Side::Sequence(right) => {
+            f.write_str(" ~ ")?;
+            fmt_after_tilde(f, right)?;
+        }
+        Side::Choice(right) => {
+            f.write_str(" | ")?;
+            fmt_after_bar(f, right)?;
+        }
+    }
+    f.write_str(")")
 }
 
 // Writes `(left ~ right)`.

@@ -81,7 +81,7 @@ struct Both<'a> {
     second: &'a OptimizedExpr,
 }
 
-// Whether two expressions are equal, by a loop. Refused where memory is.
+// Whether two expressions are equal, by a loop. The only fault is a want of memory.
 #[tactic(auto, using(crate::proofs::OptimizedSameness::are_equal_one, crate::proofs::OptimizedSameness::lighter))]
 fn equal_by_list(alloc: Global, a: &OptimizedExpr, b: &OptimizedExpr) -> Result<bool, AllocError>
     ensures { IfOk result
@@ -100,7 +100,8 @@ fn equal_by_list(alloc: Global, a: &OptimizedExpr, b: &OptimizedExpr) -> Result<
     Ok(true)
 }
 
-// Whether two expressions are equal but for their operands, which are put on a list. Refused where memory is.
+// Whether two expressions are equal but for their operands, which are put on a list. The only fault is a want
+// of memory.
 #[tactic(auto, using(crate::proofs::OptimizedSameness::are_equal_last, crate::proofs::OptimizedSameness::heaviness_last))]
 fn equal_outside<'a>(
     a: &'a OptimizedExpr,

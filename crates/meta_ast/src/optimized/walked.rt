@@ -23,9 +23,8 @@ impl OptimizedExpr {
     }
 
     /// The expression with `f` done at it, then at each operand of its answer, and so on down; the left side
-    /// comes before the right. `f` answers no more nodes than it gets. Refused where memory is, or with the
-    /// first `Err` that
-    /// `f` answers.
+    /// comes before the right. `f` answers no more nodes than it gets. Refused for want of memory, or with
+    /// the first `Err` that `f` answers.
     pub fn map_top_down<F>(self, alloc: Global, f: F) -> Result<OptimizedExpr, Fault>
     where
         F: FnMut(OptimizedExpr) -> Result<OptimizedExpr, Fault> + Drop,
@@ -38,7 +37,7 @@ impl OptimizedExpr {
     }
 
     /// The expression with `f` done at what stands in each node, the left side before the right, and then at
-    /// the node with what that gives in it. Refused where memory is, or with the first `Err` that `f`
+    /// the node with what that gives in it. Refused for want of memory, or with the first `Err` that `f`
     /// answers.
     pub fn map_bottom_up<F>(self, alloc: Global, f: F) -> Result<OptimizedExpr, Fault>
     where

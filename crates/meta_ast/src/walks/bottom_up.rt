@@ -1,4 +1,4 @@
-// Maps that meet a node after its operands.
+//! Maps that meet a node after its operands.
 ghost use Rattle.std.specs.Prelude.{◌<◌, IfErr, IfOk};
 ghost use Rattle.meta_ast.specs.Maps.{MapsBottomUp, RefusesBottomUp};
 ghost use Rattle.meta_ast.specs.Frames.{LeadsBottomUp, StopsBottomUp, nodes_to_meet};

@@ -1,4 +1,4 @@
-// The next expression of a walk.
+//! The next expression of a walk.
 ghost use Rattle.std.specs.Prelude.{◌≡◌, ◌<◌, ◌∷◌, [], length, IfOk, MatchOption, OnErr};
 ghost use Rattle.meta_ast.specs.TopDownIterators.{waiting};
 

@@ -1,4 +1,4 @@
-// Maps that meet a node before its operands.
+//! Maps that meet a node before its operands.
 ghost use Rattle.std.specs.Prelude.{◌<◌, IfErr, IfOk};
 ghost use Rattle.meta_ast.specs.Maps.{MapsTopDown, RefusesTopDown, NeverGrows};
 ghost use Rattle.meta_ast.specs.Frames.{LeadsTopDown, StopsTopDown, nodes_to_meet};

@@ -41,7 +41,8 @@ pub data Joins : RuleType → Expression → Expression → Type 0 where
   join_literals : {a b : Text} → Joins Atomic (Seq (Str a) (Str b)) (Str (a ++ b))
   join_insensitive : {a b : Text} → Joins Atomic (Seq (Insens a) (Insens b)) (Insens (a ++ b))
 
--- `(l ~ r) | (l ~ q)` to `l ~ (r | q)`; in the two atomic types `(l ~ r) | l` to `l ~ r?`; `l | (l ~ r)` to `l`
+-- `(l ~ r) | (l ~ q)` to `l ~ (r | q)`; in the two atomic types `(l ~ r) | l` to `l ~ r?`; `l | (l ~ r)` to
+-- `l`
 pub data Factors : RuleType → Expression → Expression → Type 0 where
   factor_prefix : {y : RuleType} {l r q : Expression}
       → Factors y (Choice (Seq l r) (Seq l q)) (Seq l (Choice r q))

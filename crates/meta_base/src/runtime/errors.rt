@@ -1,4 +1,4 @@
-// Errors, with the places and the line that they print.
+//! Errors, with the places and the line that they print.
 ghost use Rattle.std.specs.Prelude.{◌≡◌, Some, IfOk, IfErr, ◌++◌, filter, alloc_error, string_bytes};
 ghost use Rattle.std.specs.Str.{chars, encode_utf8_all};
 ghost use Rattle.meta_base.specs.Pieces.Span.{span_text, span_start, span_end, position_text, position_offset};

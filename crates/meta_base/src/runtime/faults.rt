@@ -1,4 +1,4 @@
-// Why a call of this crate or of those above has no answer.
+//! Why a call of this crate or of those above has no answer.
 use super::errors::Error;
 use crate::grammar::Rule;
 use std::alloc::AllocError;
@@ -7,7 +7,7 @@ use thiserror::Error as DeriveError;
 /// Why a call has no answer.
 #[derive(Debug, Drop, DeriveError)]
 pub enum Fault {
-    /// Memory was wanting.
+    /// Want of memory.
     #[error("out of memory")]
     Memory(#[from(alloc)] AllocError),
     /// The text is at fault, as these errors say.

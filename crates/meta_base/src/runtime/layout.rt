@@ -1,4 +1,4 @@
-// What stands beside and under the line that an error prints.
+//! What stands beside and under the line that an error prints.
 ghost use Rattle.std.specs.Prelude.{◌≡◌, ◌+◌, ◌-◌, ◌≤◌, Some, length, take, map, replicate};
 ghost use Rattle.std.specs.Fmt.{decimal, WritesOnOk};
 ghost use Rattle.std.specs.Str.{chars};

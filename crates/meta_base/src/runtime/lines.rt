@@ -1,4 +1,4 @@
-// The ends of the line in which a place stands.
+//! The ends of the line in which a place stands.
 ghost use Rattle.std.specs.Prelude.{◌≡◌};
 ghost use Rattle.meta_base.specs.Pieces.LineColumn.{first_line, last_line};
 

@@ -1,4 +1,4 @@
-// Places in a text, and the parts between them.
+//! Places in a text, and the parts between them.
 ghost use Rattle.std.specs.Prelude.{◌≡◌, ◌≤◌, ◌↔◌, IsSome, IfSome, take, drop, slice_range};
 ghost use Rattle.std.specs.Str.{IsCharBoundary};
 ghost use Rattle.meta_base.specs.Pieces.LineColumn.{line_column};

@@ -1,4 +1,4 @@
-// Pairs: rules with the parts of a text that they matched.
+//! Pairs: rules with the parts of a text that they matched.
 ghost use Rattle.std.specs.Prelude.{◌≤◌, length};
 ghost use Rattle.std.specs.Str.{IsCharBoundary};
 ghost use Rattle.meta_base.specs.Pieces.TokenTrees.{AreNested, AreNested-prop};

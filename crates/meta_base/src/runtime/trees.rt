@@ -1,4 +1,4 @@
-// The trees that pairs are made of.
+//! The trees that pairs are made of.
 ghost use Rattle.std.specs.Prelude.{◌≡◌, IfOk, MatchOption, map};
 ghost use Rattle.meta_base.specs.Pieces.TokenTrees.{NoTokens, Token};
 ghost use Rattle.meta_base.specs.Pieces.TreeViews.{tree_of, trees_of};

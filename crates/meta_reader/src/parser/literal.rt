@@ -1,4 +1,4 @@
-// Literals.
+//! Literals.
 ghost use Rattle.std.specs.Prelude.{◌≡◌, ◌<◌, ℕ, IfOk, IfSome, MatchOption, [], ◌∷◌, chars, length, string_bytes};
 ghost use Rattle.std.specs.Char.{IsScalar};
 ghost use Rattle.meta_base.specs.Pieces.NamedTrees.{named_trees_of};
@@ -7,7 +7,7 @@ ghost use Rattle.meta_reader.specs.Pieces.{IsPiece, StandIn};
 ghost use Rattle.meta_syntax.specs.Shape.{IsQuoted};
 ghost use Rattle.meta_reader.specs.Views.{AnswersLiteral, IsSameNumber, NamesFirst, Unescapes};
 
-use crate::parser::faults::{Cause, ReadError};
+use crate::parser::flaws::{Cause, ReadError};
 use crate::parser::pieces::{error_of, span_of, text_of};
 use meta_base::grammar::Rule;
 use meta_base::runtime::{FirstTree, TokenTree};
@@ -109,7 +109,7 @@ fn unescape(alloc: Global, text: &str) -> Result<Option<String>, AllocError>
 }
 
 /// What a literal stands for, `quoted` being the trees in it: a quote, what is quoted, a quote.
-/// An escape that names no character is a fault of the whole literal.
+/// An escape that names no character is a flaw of the whole literal.
 pub fn literal<'i>(
     alloc: Global,
     text: &'i str,

@@ -1,4 +1,4 @@
-// Postfix operators.
+//! Postfix operators.
 ghost use Rattle.std.specs.Prelude.{codes};
 ghost use Rattle.meta_base.specs.Pieces.NamedTrees.{named_trees_of};
 ghost use Rattle.meta_base.specs.Pieces.Span.{span_text};
@@ -8,7 +8,7 @@ ghost use Rattle.meta_syntax.specs.Shape.{ArePostfixes, IsCounted, IsPostfix};
 ghost use Rattle.meta_nodes.specs.Spanned.{RepExact, RepMax, RepMin, RepMinMax};
 ghost use Rattle.meta_reader.specs.Views.{AnswersCount, AnswersPostfix, AnswersPostfixes, StandsBefore};
 
-use crate::parser::faults::ReadError;
+use crate::parser::flaws::ReadError;
 use crate::parser::pieces::{count, number, span_at};
 use meta_base::grammar::Rule;
 use meta_base::runtime::{FirstTree, Span, TokenTree};
@@ -16,7 +16,7 @@ use meta_nodes::{ParserExpr, ParserNode};
 use meta_syntax::trees::{first_tree, leading_tree};
 use std::alloc::Global;
 
-/// The count of `{n}`, by the trees in it. A number that fits no `u32` is a fault, and so is 0.
+/// The count of `{n}`, by the trees in it. A number that fits no `u32` is a flaw, and so is 0.
 fn exact<'i>(text: &'i str, inner: &[TokenTree<Rule>]) -> Result<u32, ReadError<'i>>
     requires shape { IsCounted text.now (codes "repeat_exact") (named_trees_of inner.now) }
     requires nested { StandIn text.now (named_trees_of inner.now) }
@@ -27,7 +27,7 @@ fn exact<'i>(text: &'i str, inner: &[TokenTree<Rule>]) -> Result<u32, ReadError<
     count(text, times)
 }
 
-/// The least number of `{n,}`, by the trees in it. A number that fits no `u32` is a fault.
+/// The least number of `{n,}`, by the trees in it. A number that fits no `u32` is a flaw.
 fn at_least<'i>(text: &'i str, inner: &[TokenTree<Rule>]) -> Result<u32, ReadError<'i>>
     requires shape { IsCounted text.now (codes "repeat_min") (named_trees_of inner.now) }
     requires nested { StandIn text.now (named_trees_of inner.now) }
@@ -38,7 +38,7 @@ fn at_least<'i>(text: &'i str, inner: &[TokenTree<Rule>]) -> Result<u32, ReadErr
     number(text, least)
 }
 
-/// The greatest number of `{,n}`, by the trees in it. A number that fits no `u32` is a fault, and so is 0.
+/// The greatest number of `{,n}`, by the trees in it. A number that fits no `u32` is a flaw, and so is 0.
 fn at_most<'i>(text: &'i str, inner: &[TokenTree<Rule>]) -> Result<u32, ReadError<'i>>
     requires shape { IsCounted text.now (codes "repeat_max") (named_trees_of inner.now) }
     requires nested { StandIn text.now (named_trees_of inner.now) }
@@ -50,7 +50,7 @@ fn at_most<'i>(text: &'i str, inner: &[TokenTree<Rule>]) -> Result<u32, ReadErro
     count(text, most)
 }
 
-/// The numbers of `{m,n}`, by the trees in it. A number that fits no `u32` is a fault, and so is 0 as
+/// The numbers of `{m,n}`, by the trees in it. A number that fits no `u32` is a flaw, and so is 0 as
 /// the second.
 fn between<'i>(text: &'i str, inner: &[TokenTree<Rule>]) -> Result<(u32, u32), ReadError<'i>>
     requires shape { IsCounted text.now (codes "repeat_min_max") (named_trees_of inner.now) }
@@ -124,7 +124,7 @@ fn postfix<'i>(
     }
 }
 
-/// What the postfix operators behind a node make of it, or their first fault.
+/// What the postfix operators behind a node make of it, or their first flaw.
 pub fn postfixed<'i>(
     alloc: Global,
     text: &'i str,

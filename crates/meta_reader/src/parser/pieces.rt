@@ -1,14 +1,14 @@
-// Pieces of the text, and the numbers that are written there.
+//! Pieces of the text, and the numbers that are written there.
 ghost use Rattle.std.specs.Prelude.{◌≡◌, slice_range};
-ghost use Rattle.meta_reader.specs.Faults.{not_a_count, past_u32, past_i32};
+ghost use Rattle.meta_reader.specs.Flaws.{not_a_count, past_u32, past_i32};
 ghost use Rattle.meta_reader.specs.Pieces.{IsPiece};
 ghost use Rattle.meta_reader.specs.Reading.{number, integer, piece};
 ghost use Rattle.meta_syntax.specs.Shape.{IsNumber, IsInteger};
 ghost use Rattle.meta_reader.specs.Views.{Answers};
 ghost use Rattle.meta_nodes.specs.Nodes.{piece_of};
-ghost use Rattle.meta_reader.specs.declared.parser.faults.ReadError.TheVariants.{Found};
+ghost use Rattle.meta_reader.specs.declared.parser.flaws.ReadError.TheVariants.{Found};
 
-use crate::parser::faults::{Cause, Finding, ReadError};
+use crate::parser::flaws::{Cause, Flaw, ReadError};
 use meta_base::grammar::Rule;
 use meta_base::runtime::{FirstTree, Span};
 
@@ -36,14 +36,14 @@ pub fn text_of<'i>(text: &'i str, tree: FirstTree<'_, Rule>) -> &'i str
     &text[tree.start..tree.end]
 }
 
-/// The error that a fault is.
+/// The error that a flaw is.
 pub fn error_of<'i>(cause: Cause, span: Span<'i>) -> ReadError<'i>
     ensures { result ≡ Found (record { cause = cause; span = span.entry }) }
 {
-    ReadError::Found(Finding { cause, span })
+    ReadError::Found(Flaw { cause, span })
 }
 
-/// The number that a tree stands for, as how often at least. One that fits no `u32` is a fault.
+/// The number that a tree stands for, as how often at least. One that fits no `u32` is a flaw.
 pub fn number<'i>(text: &'i str, tree: FirstTree<'_, Rule>) -> Result<u32, ReadError<'i>>
     requires place { IsPiece text.now tree.start tree.end }
     requires digits { IsNumber text.now tree.start tree.end }
@@ -56,7 +56,7 @@ pub fn number<'i>(text: &'i str, tree: FirstTree<'_, Rule>) -> Result<u32, ReadE
     }
 }
 
-/// The number that a tree stands for, as how often at most. One that fits no `u32` is a fault, and so is 0.
+/// The number that a tree stands for, as how often at most. One that fits no `u32` is a flaw, and so is 0.
 pub fn count<'i>(text: &'i str, tree: FirstTree<'_, Rule>) -> Result<u32, ReadError<'i>>
     requires place { IsPiece text.now tree.start tree.end }
     requires digits { IsNumber text.now tree.start tree.end }
@@ -70,7 +70,7 @@ pub fn count<'i>(text: &'i str, tree: FirstTree<'_, Rule>) -> Result<u32, ReadEr
     Ok(n)
 }
 
-/// The number of a slice that a tree stands for. One that fits no `i32` is a fault.
+/// The number of a slice that a tree stands for. One that fits no `i32` is a flaw.
 pub fn slice_number<'i>(text: &'i str, tree: FirstTree<'_, Rule>) -> Result<i32, ReadError<'i>>
     requires place { IsPiece text.now tree.start tree.end }
     requires digits { IsInteger text.now tree.start tree.end }

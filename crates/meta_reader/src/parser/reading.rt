@@ -1,4 +1,4 @@
-// From trees to nodes.
+//! From trees to nodes.
 ghost use Rattle.std.specs.Prelude.{◌≡◌, ℕ, List, IfOk, MatchOption, codes};
 ghost use Rattle.meta_base.specs.Pieces.NamedTrees.{named_trees_of};
 ghost use Rattle.meta_base.specs.Pieces.Span.{span_start, span_end};
@@ -11,7 +11,7 @@ ghost use Rattle.meta_nodes.specs.Spanned.{Choice, Seq};
 ghost use Rattle.meta_reader.specs.Views.{AnswersFront, TakesTerm, IsBehindBar, IsRest, ReadsAs, alone, alone_as, group_from};
 ghost use Rattle.meta_nodes.specs.Nodes.{view};
 
-use crate::parser::faults::ReadError;
+use crate::parser::flaws::ReadError;
 use crate::parser::operators::postfixed;
 use crate::parser::pieces::span_at;
 use crate::parser::signs::{behind_signs, with_signs};
@@ -89,7 +89,7 @@ fn next_term(trees: &[TokenTree<Rule>]) -> Option<(&[TokenTree<Rule>], &[TokenTr
     Some((term.inner, term.others))
 }
 
-/// An expression, by the trees in it, or its first fault.
+/// An expression, by the trees in it, or its first flaw.
 #[cycle(read)]
 pub fn expression<'i>(
     alloc: Global,
@@ -109,7 +109,7 @@ pub fn expression<'i>(
     Ok(left)
 }
 
-/// Terms with `~` between them, as far as they go, and what follows them; or their first fault.
+/// Terms with `~` between them, as far as they go, and what follows them; or their first flaw.
 #[cycle(read)]
 fn sequence<'i, 't>(
     alloc: Global,
@@ -131,7 +131,7 @@ fn sequence<'i, 't>(
     Ok((left, rest))
 }
 
-/// A term, by the trees in it, or its first fault.
+/// A term, by the trees in it, or its first flaw.
 #[cycle(read)]
 fn term<'i>(
     alloc: Global,
@@ -149,7 +149,7 @@ fn term<'i>(
 }
 
 /// What is left of a term behind its signs: a node or an expression in parentheses, and postfix
-/// operators; or its first fault.
+/// operators; or its first flaw.
 #[cycle(read)]
 fn operand<'i>(
     alloc: Global,
@@ -191,7 +191,7 @@ fn group<'i>(
     Ok(node)
 }
 
-/// The node of a rule, or its first fault.
+/// The node of a rule, or its first flaw.
 #[cycle(read)]
 fn node<'i>(
     alloc: Global,
@@ -208,7 +208,7 @@ fn node<'i>(
     }
 }
 
-/// What `PUSH` makes of the expression in it, or its first fault. It ends where the expression does.
+/// What `PUSH` makes of the expression in it, or its first flaw. It ends where the expression does.
 #[cycle(read)]
 fn push<'i>(
     alloc: Global,

@@ -1,4 +1,4 @@
-// What errors call the rules of the meta-grammar.
+//! What errors call the rules of the meta-grammar.
 ghost use Rattle.std.specs.Prelude.{◌≡◌, alloc_error, string_bytes, MatchResult};
 ghost use Rattle.meta_base.specs.Pieces.MetaRules.{name_of};
 ghost use Rattle.meta_reader.specs.ShownNames.{shown_name};
@@ -11,7 +11,7 @@ use std::alloc::Global;
 /// written as one; `//!` and `///` for the comments that document; its own name for any other, `EOI`
 /// included.
 ///
-/// The one fault is a want of memory.
+/// The only fault is a want of memory.
 pub fn rename_meta_rule(alloc: Global, rule: &Rule) -> Result<String, Fault>
     ensures { MatchResult result
         (λ name. string_bytes name ≡ shown_name rule.now)

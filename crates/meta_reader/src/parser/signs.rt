@@ -1,4 +1,4 @@
-// The signs of predicates before what they stand for.
+//! The signs of predicates before what they stand for.
 ghost use Rattle.std.specs.Prelude.{◌≡◌, ℕ, List, All, IfOk};
 ghost use Rattle.meta_base.specs.Pieces.NamedTrees.{named_trees_of};
 ghost use Rattle.meta_base.specs.Pieces.Span.{span_end, span_text};

@@ -1,4 +1,4 @@
-// Nodes that hold no expression.
+//! Nodes that hold no expression.
 ghost use Rattle.std.specs.Prelude.{codes};
 ghost use Rattle.meta_base.specs.Pieces.NamedTrees.{named_trees_of};
 ghost use Rattle.meta_reader.specs.Pieces.{StandIn};
@@ -7,7 +7,7 @@ ghost use Rattle.meta_base.specs.Pieces.MetaRules.{name_of};
 ghost use Rattle.meta_syntax.specs.Shape.{IsSlice, IsTerminal, MayBeNumber};
 ghost use Rattle.meta_reader.specs.Views.{AnswersBound, ReadsAs, alone, alone_as};
 
-use crate::parser::faults::{Cause, ReadError};
+use crate::parser::flaws::{Cause, ReadError};
 use crate::parser::literal::literal;
 use crate::parser::pieces::{error_of, slice_number, span_of, text_of};
 use meta_base::grammar::Rule;
@@ -16,7 +16,7 @@ use meta_nodes::{ParserExpr, ParserNode};
 use meta_syntax::trees::leading_tree;
 use std::alloc::Global;
 
-/// A range. A fault is its literals'.
+/// A range. A flaw is its literals'.
 fn range<'i>(
     alloc: Global,
     text: &'i str,
@@ -37,7 +37,7 @@ fn range<'i>(
     })
 }
 
-/// The number that may stand first, and what follows it. A number that fits no `i32` is a fault.
+/// The number that may stand first, and what follows it. A number that fits no `i32` is a flaw.
 fn bound<'i, 't>(
     text: &'i str,
     trees: &'t [TokenTree<Rule>],
@@ -56,7 +56,7 @@ fn bound<'i, 't>(
     }
 }
 
-/// A slice of the stack. A fault is its numbers'.
+/// A slice of the stack. A flaw is its numbers'.
 fn slice<'i>(text: &'i str, tree: FirstTree<'_, Rule>) -> Result<ParserNode<'i>, ReadError<'i>>
     requires shape { IsSlice text.now (named_trees_of tree.inner.now) }
     requires nested { StandIn text.now (alone_as (codes "peek_slice") tree) }
@@ -72,7 +72,7 @@ fn slice<'i>(text: &'i str, tree: FirstTree<'_, Rule>) -> Result<ParserNode<'i>,
     })
 }
 
-/// The node of a rule that holds no expression, or its first fault.
+/// The node of a rule that holds no expression, or its first flaw.
 pub fn terminal<'i>(
     alloc: Global,
     text: &'i str,

@@ -1,4 +1,4 @@
-// Marks as a binary number, the top one last.
+//! Marks as a binary number, the top one last.
 ghost use Rattle.std.specs.Prelude.{◌≡◌, ◌≤◌, ◌<◌, ◌+◌, ◌∷◌};
 ghost use Rattle.meta_stacks.specs.Marks.{room, marks_of, blank_marks};
 ghost use Rattle.meta_stacks.specs.Stack.{both_marks, marks_eq};

@@ -113,7 +113,7 @@ fn grammars_are_printed(rt: HostRuntime) {
 type Told = [&'static str; 5];
 
 /// Texts with the errors that are reported for them.
-static REFUSED: [(&str, &[Told]); 15] = [
+static REFUSED: [(&str, &[Told]); 18] = [
     (
         "a = { b } a = { c }",
         &[
@@ -250,6 +250,36 @@ static REFUSED: [(&str, &[Told]); 15] = [
             "a = { \"x\"? ~ a }",
             "             ^",
             "rule a is left-recursive (a -> a); pest::pratt_parser might be useful in this case",
+        ]],
+    ),
+    (
+        "a = { POP_ALL ~ PEEK_ALL* }",
+        &[[
+            "1:17",
+            "1",
+            "a = { POP_ALL ~ PEEK_ALL* }",
+            "                ^-------^",
+            "expression inside repetition is non-progressing and will repeat infinitely",
+        ]],
+    ),
+    (
+        "e = { \"(\" ~ e ~ \")\" | POP_ALL ~ PEEK_ALL* }",
+        &[[
+            "1:33",
+            "1",
+            "e = { \"(\" ~ e ~ \")\" | POP_ALL ~ PEEK_ALL* }",
+            "                                ^-------^",
+            "expression inside repetition is non-progressing and will repeat infinitely",
+        ]],
+    ),
+    (
+        "a = { (PUSH(\"\") ~ POP)* }",
+        &[[
+            "1:7",
+            "1",
+            "a = { (PUSH(\"\") ~ POP)* }",
+            "      ^---------------^",
+            "expression inside repetition is non-progressing and will repeat infinitely",
         ]],
     ),
     (

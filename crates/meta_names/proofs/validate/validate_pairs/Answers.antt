@@ -5,8 +5,8 @@ use Rattle.meta_names.specs.GrammarNames.{definitions_of, calls_of}
 use Rattle.meta_names.proofs.Places.{on_ok, tell_none}
 use Rattle.meta_names.proofs.validate.validate_pairs.Goals as goal
 
-pub returns-clause-faultless : goal.returns-clause-faultless
-returns-clause-faultless c =
+pub returns-clause-no_complaints : goal.returns-clause-no_complaints
+returns-clause-no_complaints c =
     let d : map piece_of c.in_ok-definitions.definitions.items ≡ definitions_of c.args.pairs = search rules in
     let e : map piece_of c.in_ok-calls.calls.items ≡ calls_of c.args.pairs = search rules in
     let none : c.in_ok-errors.errors.items ≡ [] = first_of (search rules, grind (arith, common_steps)) in

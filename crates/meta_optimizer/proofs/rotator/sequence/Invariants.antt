@@ -3,14 +3,14 @@ use Rattle.meta_base.specs.Language.Expression.{Expression, Seq}
 use Rattle.meta_ast.specs.Ast.{expression_of}
 use Rattle.meta_base.specs.Rewritings.Rewriting.{Rotates}
 use Rattle.meta_optimizer.specs.Here.{Exhausted}
-use Rattle.meta_optimizer.specs.Size.{size}
+use Rattle.meta_ast.specs.Operands.{count_of_nodes}
 use Rattle.meta_optimizer.proofs.rotator.sequence.Given as goal
 
 abbrev pub invariant-turn : goal.invariant-turn
 invariant-turn l =
     ((b : Expression) → Exhausted Rotates (Seq (expression_of l.left.value) (expression_of l.right.value)) b
     → Exhausted Rotates (Seq (expression_of l.fn.left.value) (expression_of l.fn.right.value)) b)
-    × (size (expression_of l.left.value) + size (expression_of l.right.value) ≡ size (expression_of l.fn.left.value) + size (expression_of l.fn.right.value))
+    × (count_of_nodes (expression_of l.left.value) + count_of_nodes (expression_of l.right.value) ≡ count_of_nodes (expression_of l.fn.left.value) + count_of_nodes (expression_of l.fn.right.value))
 
 abbrev pub decreases-turn : goal.decreases-turn
-decreases-turn l = size (expression_of l.left.value)
+decreases-turn l = count_of_nodes (expression_of l.left.value)

@@ -2,7 +2,7 @@ use Rattle.std.proofs.Common.{◌≡◌, ◌∙◌, replicate, ◌-◌}
 use Rattle.meta_base.specs.Language.Expression.{Opt}
 use Rattle.meta_base.specs.Language.Meaning.{exactly}
 use Rattle.meta_ast.specs.Ast.{expression_of}
-use Rattle.meta_optimizer.proofs.Walks.{carried}
+use Rattle.meta_optimizer.proofs.Carried.{carried}
 use Rattle.meta_optimizer.proofs.Unrolling.{few, more, first_optional}
 use Rattle.meta_optimizer.proofs.unroller.between.Goals as goal
 
@@ -13,6 +13,6 @@ pub returns : goal.returns
 returns c =
     let x = expression_of c.args.expr in
     let others : expression_of c.in_ok-others.others ≡ exactly (Opt (expression_of c.args.expr)) (c.args.max - c.args.min) = rw (c.in_ok-new.ensures.ok, c.in_ok-clone.ensures.cases) at c.in_ok-others.ensures in
-    carried c.repeated.result
+    carried c.repeated-copies.result
     (λ e h. h (Opt x) (replicate (c.args.max - c.args.min - 1) (Opt x)) (others ∙ first_optional x c.args.min c.args.max c.if-max-min.false) ∙ more x c.args.min c.args.max c.if-max-min.false)
-    c.repeated.ensures
+    c.repeated-copies.ensures

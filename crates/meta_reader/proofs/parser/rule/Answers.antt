@@ -30,7 +30,7 @@ returns-in_err-node c =
     let m = rw (c.leading_tree-brace.ensures, c.leading_tree-body.ensures) at c.modifier-ty.ensures in
     let b = rule_body h m in
     let p = err_from_is_err_and c.from_residual.result c.from_residual.ensures.1 in
-    rw (p.1, p.2, c.leading_tree-first.ensures, c.in-identifier.is, c.leading_tree-assignment.ensures, b.fault) (c.in_err-node.ensures)
+    rw (p.1, p.2, c.leading_tree-first.ensures, c.in-identifier.is, c.leading_tree-assignment.ensures, b.flaw) (c.in_err-node.ensures)
 
 pub returns : goal.returns
 returns c =
@@ -39,4 +39,4 @@ returns c =
     let b = rule_body h m in
     let e = c.in_ok-node.ensures in
     rw (c.leading_tree-first.ensures, c.in-identifier.is, c.leading_tree-assignment.ensures)
-    (rw (b.fault, e.0) refl, rw (c.in_ok-name.ensures.ok, c.text_of.ensures, c.span_of-span.ensures) (b.reads (view c.in_ok-node.node) e.1))
+    (rw (b.flaw, e.0) refl, rw (c.in_ok-name.ensures.ok, c.text_of.ensures, c.span_of-span.ensures) (b.reads (view c.in_ok-node.node) e.1))

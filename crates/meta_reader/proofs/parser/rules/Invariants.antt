@@ -1,6 +1,6 @@
 use Rattle.std.proofs.Common.{◌≡◌, ◌++◌, List}
 use Rattle.meta_base.specs.Pieces.NamedTrees.{named_trees_of}
-use Rattle.meta_reader.specs.Faults.{first_fault}
+use Rattle.meta_reader.specs.Flaws.{first_flaw}
 use Rattle.meta_reader.specs.Pieces.{StandIn}
 use Rattle.meta_reader.specs.Reading.{ReadsRules}
 use Rattle.meta_nodes.specs.Spanned.{SpannedRule}
@@ -13,7 +13,7 @@ abbrev pub invariant-loop-tree : goal.invariant-loop-tree
 invariant-loop-tree l = record {
   shape : IsLeft l.text (named_trees_of l.rest);
   nested : StandIn l.text (named_trees_of l.rest);
-  faults : first_fault l.text (named_trees_of l.trees) ≡ first_fault l.text (named_trees_of l.rest);
+  flaws : first_flaw l.text (named_trees_of l.trees) ≡ first_flaw l.text (named_trees_of l.rest);
   reads : (rs : List SpannedRule) → ReadsLeft l.text (named_trees_of l.rest) rs
       → ReadsRules l.text (named_trees_of l.trees) (rule_views l.read.items ++ rs);
 }

@@ -4,8 +4,10 @@ use Rattle.meta_stack.proofs.validate.sorted_reports.Goals as goal
 
 pub returns : goal.returns
 returns c = record {
-  reports = map piece_of c.in_ok-found.found.items;
-  certain = c.in_ok-found.ensures.certain;
-  plain = c.in_ok-found.ensures.plain;
-  sorted = c.in_ok-sort_spans.ensures;
+  exact = record {
+    reports = map piece_of c.in_ok-found.found.items;
+    certain = c.in_ok-found.ensures.certain;
+    plain = c.in_ok-found.ensures.plain;
+    sorted = c.in_ok-sort_spans.ensures;
+  };
 }

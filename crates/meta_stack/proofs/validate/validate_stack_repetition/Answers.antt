@@ -7,6 +7,6 @@ use Rattle.meta_stack.proofs.validate.validate_stack_repetition.Goals as goal
 pub returns-clause-exact : goal.returns-clause-exact
 returns-clause-exact c = record {
   spans = map piece_of c.in-Ok.found.items;
-  found = subst (λ z. AreReports (rule_views z) (map piece_of c.in-Ok.found.items)) c.as_slice.ensures.value c.in-Ok.ensures;
+  found = subst (λ z. AreReports (rule_views z) (map piece_of c.in-Ok.found.items)) c.as_slice.ensures.value c.in-Ok.ensures.exact;
   told = subst (λ z. Tell (map complaint_at (map piece_of z)) c.in_ok-errors.errors.items) c.as_slice-2.ensures.value c.in_ok-errors.ensures.told;
 }

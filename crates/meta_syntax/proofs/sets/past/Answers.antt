@@ -1,6 +1,5 @@
 use Rattle.std.proofs.Common.{rules, ℕ, length, ap, sym, ◌∙◌, arith, length-append}
 use Rattle.std.specs.Prelude.{IsUtf8}
-use Rattle.meta_syntax.specs.Runs.{mode_of}
 use Rattle.meta_syntax.proofs.LeafLemmas.{past_one}
 use Rattle.meta_syntax.proofs.SetCharacters.{before_both, before_itself, turn_past}
 use Rattle.meta_syntax.proofs.sets.past.Goals as goal

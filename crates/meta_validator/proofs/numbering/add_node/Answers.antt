@@ -1,6 +1,5 @@
 use Rattle.std.proofs.Common.{◌≡◌, ◌∙◌, ◌-◌, ◌++◌, ◌∷◌, [], ap, sym, subst, rules, length}
 use Rattle.meta_nodes.specs.Nodes.{view}
-use Rattle.meta_nodes.specs.Spanned.{Leaf, One, Two}
 use Rattle.meta_validator.specs.Layout.{AreNumbered, IsBehind, start_of}
 use Rattle.meta_validator.specs.Names.{grammar_of, kind_in}
 use Rattle.meta_validator.specs.Numbering.{IsMadeOf, wrap_kind, both_kind}

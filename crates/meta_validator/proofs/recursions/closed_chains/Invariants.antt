@@ -1,12 +1,13 @@
 use Rattle.std.proofs.Common.{◌≡◌, ◌<◌, ℕ, []}
-use Rattle.meta_base.specs.Language.Text.{Text}
-use Rattle.meta_base.specs.Language.WellFormed.{Leads}
-use Rattle.meta_validator.specs.Names.{grammar_of}
+use Rattle.std.specs.List.{range_with_len}
+use Rattle.meta_nodes.specs.Nodes.{rule_views}
+use Rattle.meta_validator.specs.Findings.{OfRecursion, Reports}
+use Rattle.meta_validator.specs.Reporting.{findings_of}
 use Rattle.meta_validator.specs.Searching.{NeverComesBack}
 use Rattle.meta_validator.proofs.recursions.closed_chains.Given as goal
 
 abbrev pub invariant-loop-place : goal.invariant-loop-place
 invariant-loop-place l = record {
-  none : l.found.items ≡ [] → (k : ℕ) → k < l.place → NeverComesBack l.rules l.facts.table.roots.items k;
-  some : (l.found.items ≡ [] → ⊥) → (n : Text) × Leads (grammar_of l.rules) n n;
+  exact : Reports (OfRecursion (rule_views l.rules)) (range_with_len 0 l.place) (findings_of l.found.items);
+  none : findings_of l.found.items ≡ [] → (k : ℕ) → k < l.place → NeverComesBack l.rules l.facts.table.roots.items k;
 }

@@ -1,15 +1,18 @@
-use Rattle.std.proofs.Common.{◌≡◌, List, [], ◌∷◌, refl, ap}
+use Rattle.std.proofs.Common.{sym, subst}
+use Rattle.meta_nodes.specs.Nodes.{rule_views}
+use Rattle.meta_validator.specs.Findings.{OfRecursion, Reports, places}
 use Rattle.meta_validator.specs.Reporting.{findings_of}
-use Rattle.meta_validator.specs.declared.findings.Finding as code
 use Rattle.meta_validator.proofs.ClosingLemmas.{none_leads}
+use Rattle.meta_validator.proofs.RecursionLemmas.{none_found, some_found}
 use Rattle.meta_validator.proofs.recursions.recursions.Goals as goal
 
-none_found : (fs : List code.Finding) → findings_of fs ≡ [] → fs ≡ []
-none_found [] e = refl
-none_found (f ∷ fs) e = cc
+pub returns-then-falls-clause-exact : goal.returns-then-falls-clause-exact
+returns-then-falls-clause-exact c =
+    let V = rule_views c.args.rules.now in
+    subst (λ z. Reports (OfRecursion V) (places V) (findings_of z)) (sym c.new.ensures.items) (none_found c.args.rules.now (c.in_ok-falls.ensures c.if-falls.true))
 
 pub returns-clause-none : goal.returns-clause-none
-returns-clause-none c = λ e n l. none_leads c.args.rules.now c.args.facts.now.table.roots.items (c.in_ok-found.ensures.none (none_found c.in_ok-found.found.items e)) n l
+returns-clause-none c = λ e n l. none_leads c.args.rules.now c.args.facts.now.table.roots.items (c.in_ok-found.ensures.none e) n l
 
 pub returns-clause-some : goal.returns-clause-some
-returns-clause-some c = λ f. c.in_ok-found.ensures.some (λ e. f (ap (λ z. findings_of z) e))
+returns-clause-some c = some_found c.args.rules.now c.in_ok-found.ensures.exact

@@ -1,7 +1,6 @@
 use Rattle.std.proofs.Common.{◌≡◌, ◌∙◌, ◌++◌, ◌∷◌, [], ap, sym, subst, refl, append-nil, arith}
-use Rattle.meta_nodes.specs.Nodes.{rule_views}
 use Rattle.meta_validator.specs.Numbering.{nodes_of}
-use Rattle.meta_validator.specs.Searching.{cost, ordered, rest, IsSearch}
+use Rattle.meta_validator.specs.Searching.{cost, rest, IsSearch}
 use Rattle.meta_validator.specs.declared.recursions.Task.TheVariants.{Visit, Leave}
 use Rattle.meta_validator.proofs.NodeSteps.{cost-append}
 use Rattle.meta_validator.proofs.SearchCalls.{finished}

@@ -1,4 +1,4 @@
-use Rattle.std.proofs.Common.{◌≡◌, ◌∙◌, ap, sym, subst, slice_get, Some, None, arith}
+use Rattle.std.proofs.Common.{◌≡◌, ◌∙◌, ap, sym, subst, slice_get, Some, arith}
 use Rattle.meta_validator.specs.Searching.{called_in, IsClosing}
 use Rattle.meta_validator.proofs.WalkSteps.{in_range, closing, walk_called, walk_inner}
 use Rattle.meta_validator.proofs.recursions.walk_node.Goals as goal

@@ -1,14 +1,24 @@
-use Rattle.std.proofs.Common.{◌≡◌, ◌≢◌, [], inr, refl, rules, subst, arith}
+use Rattle.std.proofs.Common.{List, ◌≡◌, ◌≢◌, [], inr, refl, rules, subst, arith}
 use Rattle.std.proofs.lemmas.Grind.{common_steps}
 use Rattle.meta_ast.specs.Ast.{rules_of}
 use Rattle.meta_base.specs.Pieces.NamedTrees.{named}
 use Rattle.meta_base.specs.Pieces.Pairs.{pairs_text, pairs_trees}
+use Rattle.meta_base.specs.declared.grammar.Rule.{Rule}
+use Rattle.meta_base.specs.declared.runtime.errors.Error.{Error}
 use Rattle.meta_nodes.specs.Erasure.{rules_without_spans}
+use Rattle.meta_nodes.specs.Spanned.{SpannedRule}
 use Rattle.meta_nodes.specs.Nodes.{rule_views}
 use Rattle.meta_reader.proofs.ReadableCounts.{counts_readable}
 use Rattle.meta_validator.specs.Reported.{AreReported}
+use Rattle.meta_validator.proofs.NothingElse.{none_endless}
+use Rattle.pest_meta.specs.Findings.{TellFindings}
 use Rattle.pest_meta.proofs.Spelled.{given}
 use Rattle.pest_meta.proofs.parser.consume_rules.Goals as goal
+
+nothing_found : (rules : List SpannedRule) (errors : List (Error Rule)) → errors ≡ [] → TellFindings rules errors → AreReported rules [] []
+nothing_found rules errors none told =
+    let tell = subst (AreReported rules told.endless) none told.tell in
+    subst (λ spans. AreReported rules spans []) (none_endless rules told.endless tell) tell
 
 pub returns-then-not-is_empty-clause-refused : goal.returns-then-not-is_empty-clause-refused
 returns-then-not-is_empty-clause-refused c =
@@ -17,7 +27,7 @@ returns-then-not-is_empty-clause-refused c =
     let some : c.in_ok-errors.errors.items ≢ [] = first_of (search rules, grind (arith, common_steps)) in
     inr (record {
       rules = rules_without_spans views;
-      give = given c.args.pairs views (rules_without_spans views) read.faultless read.rules refl;
+      give = given c.args.pairs views (rules_without_spans views) read.flawless read.rules refl;
       some = some;
       tell = c.in_ok-errors.ensures.exact;
     })
@@ -28,12 +38,13 @@ returns-in-Ok-clause-rules c =
     let views = rule_views c.in_ok-rules.rules.items in
     let none : c.in_ok-errors.errors.items ≡ [] = first_of (search rules, grind (arith, common_steps)) in
     record {
-      give = given c.args.pairs views (rules_of c.in-Ok.rules.items) read.faultless read.rules c.in-Ok.ensures;
-      nothing_found = subst (AreReported views) none c.in_ok-errors.ensures.exact;
+      give = given c.args.pairs views (rules_of c.in-Ok.rules.items) read.flawless read.rules c.in-Ok.ensures;
+      no_reports = c.in_ok-errors.ensures.silent none;
+      nothing_found = nothing_found views c.in_ok-errors.errors.items none c.in_ok-errors.ensures.exact;
       well_formed = rw c.in-Ok.ensures (c.in_ok-errors.ensures.accepted none);
     }
 
 pub returns-in-Ok-clause-counts : goal.returns-in-Ok-clause-counts
 returns-in-Ok-clause-counts c =
     let read = c.in_ok-rules.ensures in
-    rw c.in-Ok.ensures (counts_readable (pairs_text c.args.pairs) {us = named (pairs_trees c.args.pairs)} read.rules read.faultless)
+    rw c.in-Ok.ensures (counts_readable (pairs_text c.args.pairs) {us = named (pairs_trees c.args.pairs)} read.rules read.flawless)

@@ -1,33 +1,44 @@
-use Rattle.std.proofs.Common.{◌≡◌, ◌≤◌, ◌+◌, ◌*◌, ◌++◌, ℕ, List}
+use Rattle.std.proofs.Common.{◌≡◌, ◌≤◌, ◌+◌, ◌*◌, ◌++◌, ◌∷◌, [], length, ℕ, List}
 use Rattle.std.specs.Fmt.{HasWritten, IsPlainFormatter}
 use Rattle.meta_ast.specs.Ast.{expression_of}
 use Rattle.meta_ast.specs.PrintedBytes.{written_bytes}
+use Rattle.meta_ast.specs.Sides.{weight_aside, with_sides}
 use Rattle.meta_ast.specs.Weight.{weight}
+use Rattle.meta_ast.proofs.Sides.{behind}
 use Rattle.meta_ast.proofs.ast.printed.+printing.Given as goal
 
 abbrev pub decreases-fmt_alone : goal.decreases-fmt_alone
-decreases-fmt_alone g l = 3 * weight (expression_of l.expr.now) + 1
+decreases-fmt_alone g l = 5 * weight (expression_of l.expr.now) + 3
 
 abbrev pub decreases-fmt_predicate : goal.decreases-fmt_predicate
-decreases-fmt_predicate g l = 3 * weight (expression_of l.inner.now) + 2
+decreases-fmt_predicate g l = 5 * weight (expression_of l.inner.now) + 4
+
+abbrev pub decreases-fmt_pair : goal.decreases-fmt_pair
+decreases-fmt_pair g l = 5 * (2 * weight (expression_of l.left.now.value) + weight_aside (l.side ∷ [])) + 2
+
+abbrev pub decreases-fmt_sides : goal.decreases-fmt_sides
+decreases-fmt_sides g l = 5 * (weight (expression_of l.end.now) + weight_aside l.sides.items) + 4
+
+abbrev pub decreases-fmt_side : goal.decreases-fmt_side
+decreases-fmt_side g l = 5 * weight_aside (l.side ∷ [])
 
 abbrev pub decreases-fmt_sequence : goal.decreases-fmt_sequence
-decreases-fmt_sequence g l = 3 * (2 * weight (expression_of l.left.now) + weight (expression_of l.right.now) + 1)
+decreases-fmt_sequence g l = 5 * (2 * weight (expression_of l.left.now) + weight (expression_of l.right.now) + 1)
 
 abbrev pub decreases-fmt_choice : goal.decreases-fmt_choice
-decreases-fmt_choice g l = 3 * (2 * weight (expression_of l.left.now) + weight (expression_of l.right.now) + 1)
+decreases-fmt_choice g l = 5 * (2 * weight (expression_of l.left.now) + weight (expression_of l.right.now) + 1)
 
 abbrev pub decreases-fmt_postfix : goal.decreases-fmt_postfix
-decreases-fmt_postfix g l = 3 * weight (expression_of l.inner.now) + 3
+decreases-fmt_postfix g l = 5 * weight (expression_of l.inner.now) + 5
 
 abbrev pub decreases-fmt_after_tilde : goal.decreases-fmt_after_tilde
-decreases-fmt_after_tilde g l = 3 * weight (expression_of l.expr.now) + 2
+decreases-fmt_after_tilde g l = 5 * weight (expression_of l.expr.now) + 4
 
 abbrev pub decreases-fmt_after_bar : goal.decreases-fmt_after_bar
-decreases-fmt_after_bar g l = 3 * weight (expression_of l.expr.now) + 2
+decreases-fmt_after_bar g l = 5 * weight (expression_of l.expr.now) + 4
 
 abbrev pub decreases-fmt_before_postfix : goal.decreases-fmt_before_postfix
-decreases-fmt_before_postfix g l = 3 * weight (expression_of l.expr.now) + 2
+decreases-fmt_before_postfix g l = 5 * weight (expression_of l.expr.now) + 4
 
 -- what is left is no heavier, and behind what is written it makes the whole
 abbrev pub invariant-fmt_after_tilde-loop-rest : goal.invariant-fmt_after_tilde-loop-rest
@@ -43,3 +54,14 @@ invariant-fmt_after_bar-loop-rest g l =
     × (IsPlainFormatter l.fn.f
     → (done : List ℕ) × HasWritten g.W.Write.write_str_gives l.fn.f done l.f
     × (done ++ (written_bytes l.rest).after_bar ≡ (written_bytes l.expr).after_bar))
+
+-- no more is aside, and the right sides that are left come behind what is written
+abbrev pub invariant-fmt_sides-loop-side : goal.invariant-fmt_sides-loop-side
+invariant-fmt_sides-loop-side g l =
+    (weight_aside l.sides.items ≤ weight_aside l.fn.sides.items)
+    × (IsPlainFormatter l.fn.f
+    → (done : List ℕ) × HasWritten g.W.Write.write_str_gives l.fn.f done l.f
+    × (done ++ behind l.sides.items ≡ with_sides l.fn.sides.items (written_bytes l.end).alone))
+
+abbrev pub decreases-fmt_sides-loop-side : goal.decreases-fmt_sides-loop-side
+decreases-fmt_sides-loop-side g l = length l.sides.items

@@ -1,7 +1,10 @@
-use Rattle.std.proofs.Common.{◌≡◌, ◌+◌, ◌*◌, ◌++◌, ap, ◌∙◌, codes, refl, arith, rules}
+use Rattle.std.proofs.Common.{◌≡◌, ◌+◌, ◌*◌, ◌++◌, ap, ◌∙◌, codes, length, refl, replicate, arith, rules}
 use Rattle.std.proofs.Output.{has_written_append, has_written_of_eq}
 use Rattle.meta_ast.specs.Optimized.{optimized_expression_of}
+use Rattle.meta_ast.specs.PrintedBytes.{optimized_bytes}
 use Rattle.meta_ast.specs.Weight.{weight}
+use Rattle.meta_ast.proofs.OptimizedSides.{behind, one_side_more, opened, weight_of_one_more}
+use Rattle.meta_ast.proofs.Weights.{some_weight}
 use Rattle.meta_ast.proofs.WrittenBytes.{optimized_alone-not-Seq, optimized_alone-not-Choice, one_part_more}
 use Rattle.meta_ast.proofs.optimized.printed.+printing.Goals as goal
 
@@ -48,3 +51,42 @@ fmt_after_bar-returns g t c plain ok =
     let (done, before, whole) = c.loop-rest.invariant.1 plain in
     let last = c.fmt_alone-2.ensures before.plain ok in
     has_written_of_eq _ _ _ _ _ (ap (λ l. done ++ l) (optimized_alone-not-Choice c.loop-rest.rest.now c.in_default.not-Choice) ∙ whole) (has_written_append _ _ _ _ _ _ before last)
+
+pub fmt_pair-fmt_sides-requires : goal.fmt_pair-fmt_sides-requires
+fmt_pair-fmt_sides-requires g t c κs within =
+    let some = some_weight (optimized_expression_of c.args.left.now.value) in
+    let lighter = rw c.deref.ensures at c.in-Ok.ensures.lighter in
+    (omega (arith, some, lighter, c.decreases), within)
+
+pub fmt_sides-loop-side-init : goal.fmt_sides-loop-side-init
+fmt_sides-loop-side-init g t c = (
+  omega arith,
+  λ plain.
+      let all = c.args.sides.items in
+      let end = (optimized_bytes c.args.end.now).alone in
+      let openings = c.fmt_openings.ensures plain (search rules) in
+      let inside = c.fmt_alone.ensures openings.plain (search rules) in
+      let count : c.len.result ≡ length all = search rules in (
+        _,
+        has_written_append _ _ _ _ _ _ openings inside,
+        ap (λ n. (replicate n 40 ++ end) ++ behind all) count ∙ opened all end,
+      ),
+)
+
+pub fmt_sides-fmt_side-requires : goal.fmt_sides-fmt_side-requires
+fmt_sides-fmt_side-requires g t c κs within =
+    let one = weight_of_one_more c.pop.new.self.items c.loop-side.sides.items c.in-Some.side c.in-Some.ensures.items in
+    (omega (arith, one, c.loop-side.invariant.0, c.decreases), within)
+
+pub fmt_sides-loop-side-preserved : goal.fmt_sides-loop-side-preserved
+fmt_sides-loop-side-preserved g t c =
+    let one = weight_of_one_more c.pop.new.self.items c.loop-side.sides.items c.in-Some.side c.in-Some.ensures.items in (
+      omega (arith, one, c.loop-side.invariant.0),
+      λ plain.
+          let (done, before, whole) = c.loop-side.invariant.1 plain in
+          let part = c.fmt_side.ensures before.plain (search rules) in (
+            _,
+            has_written_append _ _ _ _ _ _ before part,
+            one_side_more done _ c.loop-side.sides.items c.pop.new.self.items c.in-Some.side whole c.in-Some.ensures.items,
+          ),
+    )

@@ -1,4 +1,4 @@
-use Rattle.meta_reader.proofs.FaultsInOrder.{answers_as}
+use Rattle.meta_reader.proofs.FlawsInOrder.{answers_as}
 use Rattle.meta_reader.proofs.Operators.{min_trees}
 use Rattle.meta_reader.proofs.TreesStandInText.{first_piece, stand_behind}
 use Rattle.meta_reader.proofs.parser.operators.at_least.Goals as goal
@@ -12,4 +12,4 @@ number-requires c =
 pub returns : goal.returns
 returns c =
     let h = min_trees (rw (c.leading_tree-brace.ensures, c.leading_tree-least.ensures) at c.requires.shape) in
-    rw (c.leading_tree-brace.ensures, c.leading_tree-least.ensures) (answers_as _ _ _ _ _ h.fault h.says c.number.ensures)
+    rw (c.leading_tree-brace.ensures, c.leading_tree-least.ensures) (answers_as _ _ _ _ _ h.flaw h.says c.number.ensures)

@@ -1,4 +1,4 @@
-use Rattle.meta_reader.proofs.FaultsInOrder.{answers_as}
+use Rattle.meta_reader.proofs.FlawsInOrder.{answers_as}
 use Rattle.meta_reader.proofs.Operators.{exact_trees}
 use Rattle.meta_reader.proofs.TreesStandInText.{first_piece, stand_behind}
 use Rattle.meta_reader.proofs.parser.operators.exact.Goals as goal
@@ -12,4 +12,4 @@ count-requires c =
 pub returns : goal.returns
 returns c =
     let h = exact_trees (rw (c.leading_tree-brace.ensures, c.leading_tree-times.ensures) at c.requires.shape) in
-    rw (c.leading_tree-brace.ensures, c.leading_tree-times.ensures) (answers_as _ _ _ _ _ h.fault h.says c.count.ensures)
+    rw (c.leading_tree-brace.ensures, c.leading_tree-times.ensures) (answers_as _ _ _ _ _ h.flaw h.says c.count.ensures)

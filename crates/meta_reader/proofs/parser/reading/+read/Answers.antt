@@ -9,12 +9,12 @@ use Rattle.meta_syntax.specs.Shape.{Mark, IsExpression, IsChain, IsTerm, IsNode}
 use Rattle.meta_reader.specs.Signs.{IsOperand, signed}
 use Rattle.meta_reader.specs.Views.{count_of}
 use Rattle.meta_nodes.specs.Nodes.{view}
-use Rattle.meta_reader.proofs.FaultsInOrder.{first_in, answers_as}
+use Rattle.meta_reader.proofs.FlawsInOrder.{first_in, answers_as}
 use Rattle.meta_reader.proofs.Chains.{expression_start, expression_step, expression_piece, expression_end, sequence_start, has_term, chain_tree, rest_tree, stand_rest, same_text, quiet_bar, quiet_term}
 use Rattle.meta_reader.proofs.Nodes.{end_of-view}
 use Rattle.meta_reader.proofs.TreesStandInText.{stand_behind, stand_inner, stand_alone}
 use Rattle.meta_reader.proofs.Signs.{signs_place}
-use Rattle.meta_reader.proofs.Terms.{paren_tree, node_tree, node_fault, before_operators, count_positive, lone_paren, open_group, group_tree, inside, outermost, view_ending, view_starting, push_tree, push_piece}
+use Rattle.meta_reader.proofs.Terms.{paren_tree, node_tree, node_flaw, before_operators, count_positive, lone_paren, open_group, group_tree, inside, outermost, view_ending, view_starting, push_tree, push_piece}
 use Rattle.meta_reader.proofs.parser.reading.+read.Goals as goal
 
 -- an expression
@@ -28,7 +28,7 @@ expression-loop-bar-init t c =
     record {
       shape = e.shape;
       nested = stand_rest c.args.text.now _ _ _ e.split (b.nested s);
-      faults = b.faults ∙ e.faults;
+      flaws = b.flaws ∙ e.flaws;
       shorter = omega (arith, b.shorter, e.shorter);
       reads = expression_start c.args.text.now b s e.split e.reads;
     }
@@ -44,7 +44,7 @@ pub expression-returns-in_err-right : goal.expression-returns-in_err-right
 expression-returns-in_err-right t c =
     let r = rest_tree (rw c.in-Some.ensures at c.loop-bar.invariant.shape) in
     let p = err_from_is_err_and c.from_residual-in_err-right.result c.from_residual-in_err-right.ensures.1 in
-    rw (p.1, p.2, c.loop-bar.invariant.faults, c.in-Some.ensures, r.0, r.1, quiet_bar) (c.in_err-right.ensures)
+    rw (p.1, p.2, c.loop-bar.invariant.flaws, c.in-Some.ensures, r.0, r.1, quiet_bar) (c.in_err-right.ensures)
 
 pub expression-choice-requires : goal.expression-choice-requires
 expression-choice-requires t c =
@@ -63,14 +63,14 @@ expression-loop-bar-preserved t c =
     record {
       shape = e.shape;
       nested = stand_rest c.args.text.now _ _ _ e.split s;
-      faults = rw (c.loop-bar.invariant.faults, c.in-Some.ensures, r.0, r.1, quiet_bar) e.faults;
+      flaws = rw (c.loop-bar.invariant.flaws, c.in-Some.ensures, r.0, r.1, quiet_bar) e.flaws;
       shorter = omega (arith, k, e.shorter);
       reads = rw c.in_ok-left-2.ensures (expression_step c.args.text.now h e.split e.reads);
     }
 
 pub expression-returns : goal.expression-returns
 expression-returns t c =
-    (rw (c.loop-bar.invariant.faults, c.in_default.ensures) refl, expression_end c.args.text.now (rw c.in_default.ensures at c.loop-bar.invariant.reads))
+    (rw (c.loop-bar.invariant.flaws, c.in_default.ensures) refl, expression_end c.args.text.now (rw c.in_default.ensures at c.loop-bar.invariant.reads))
 
 -- a sequence
 
@@ -98,7 +98,7 @@ sequence-loop-inner-init t c =
     record {
       shape = k.2;
       nested = stand_behind (rw c.leading_tree-first.ensures at s);
-      faults = rw (c.leading_tree-first.ensures, k.0, quiet_term, e.0) refl;
+      flaws = rw (c.leading_tree-first.ensures, k.0, quiet_term, e.0) refl;
       shorter = rw c.leading_tree-first.ensures (omega arith);
       reads = rw (c.leading_tree-first.ensures, k.0) (sequence_start c.args.text.now e.1);
     }
@@ -112,7 +112,7 @@ pub sequence-returns-in_err-right : goal.sequence-returns-in_err-right
 sequence-returns-in_err-right t c =
     let w = has_term (c.in-Some.ensures c.args.text.now c.loop-inner.invariant.shape) in
     let p = err_from_is_err_and c.from_residual-in_err-right.result c.from_residual-in_err-right.ensures.1 in
-    rw (p.1, p.2, c.loop-inner.invariant.faults, w.fault) (first_in _ _ _ c.in_err-right.ensures)
+    rw (p.1, p.2, c.loop-inner.invariant.flaws, w.flaw) (first_in _ _ _ c.in_err-right.ensures)
 
 pub sequence-in_sequence-requires : goal.sequence-in_sequence-requires
 sequence-in_sequence-requires t c =
@@ -132,7 +132,7 @@ sequence-loop-inner-preserved t c =
     record {
       shape = w.others;
       nested = w.stand_others c.loop-inner.invariant.nested;
-      faults = rw (c.loop-inner.invariant.faults, w.fault, e.0) refl;
+      flaws = rw (c.loop-inner.invariant.flaws, w.flaw, e.0) refl;
       shorter = omega (arith, w.shorter, c.loop-inner.invariant.shorter);
       reads = rw c.in_ok-left-2.ensures (w.step (named_trees_of c.args.trees.now) (view c.loop-inner.left) (view c.in_ok-right.right) c.loop-inner.invariant.reads e.1);
     }
@@ -152,7 +152,7 @@ term-returns-in_err-operand t c =
     let h : IsTerm c.args.text.now (named_trees_of c.args.trees.now) = assumption in
     let b = c.in_ok-signs.ensures c.args.text.now h in
     let p = err_from_is_err_and c.from_residual-in_err-operand.result c.from_residual-in_err-operand.ensures.1 in
-    rw (p.1, p.2, b.faults) (c.in_err-operand.ensures)
+    rw (p.1, p.2, b.flaws) (c.in_err-operand.ensures)
 
 pub term-with_signs-requires : goal.term-with_signs-requires
 term-with_signs-requires t c =
@@ -171,7 +171,7 @@ term-returns t c =
     let k = same_text c.in_ok-operand.operand g.from g.to e.1 g.nested in
     let q = c.in_ok-node.ensures ∙ ap (λ u. signed u c.in_ok-signs.signs.items (view c.in_ok-operand.operand)) k in
     let r = b.reads (view c.in_ok-operand.operand) e.1 in
-    (b.faults ∙ e.0, subst (λ y. Reads c.args.text.now ATerm (named_trees_of c.args.trees.now) y) (sym q) r)
+    (b.flaws ∙ e.0, subst (λ y. Reads c.args.text.now ATerm (named_trees_of c.args.trees.now) y) (sym q) r)
 
 -- an operand
 
@@ -212,7 +212,7 @@ operand-returns-in_err-node-in_default t c =
     let u = c.leading_tree-tree.result in
     let k = node_tree u.rule (rw c.leading_tree-tree.ensures at h) refl d.not-opening_paren in
     let p = err_from_is_err_and c.from_residual.result c.from_residual.ensures.1 in
-    let f = node_fault c.args.text.now u.start u.end (named_trees_of u.inner.now) (named_trees_of u.others.now) k.0 in
+    let f = node_flaw c.args.text.now u.start u.end (named_trees_of u.inner.now) (named_trees_of u.others.now) k.0 in
     rw (p.1, p.2, c.leading_tree-tree.ensures, f) (first_in _ _ _ (c.in_err-node-in_default.ensures))
 
 pub operand-postfixed-requires : goal.operand-postfixed-requires
@@ -231,7 +231,7 @@ operand-returns-in_ok-node-in_default t c =
     let u = c.leading_tree-tree.result in
     let k = node_tree u.rule (rw c.leading_tree-tree.ensures at h) refl d.not-opening_paren in
     let e = c.in_ok-node-in_default.ensures in
-    let f = node_fault c.args.text.now u.start u.end (named_trees_of u.inner.now) (named_trees_of u.others.now) k.0 in
+    let f = node_flaw c.args.text.now u.start u.end (named_trees_of u.inner.now) (named_trees_of u.others.now) k.0 in
     rw c.leading_tree-tree.ensures (answers_as _ _ _ _ _ (f ∙ rw e.0 refl) (λ n q. bare e.1 q) (c.postfixed.ensures))
 
 -- a group
@@ -259,7 +259,7 @@ group-returns-in_err-inside t c =
     let h : IsOperand c.args.text.now (Mark (codes "opening_paren") c.args.paren.start c.args.paren.end (named_trees_of c.args.paren.others.now)) = assumption in
     let g = group_tree (rw (c.leading_tree-body.ensures, c.leading_tree-close.ensures) at h) in
     let p = err_from_is_err_and c.from_residual.result c.from_residual.ensures.1 in
-    rw (p.1, p.2, c.leading_tree-body.ensures, c.leading_tree-close.ensures, g.fault) (first_in _ _ _ (c.in_err-inside.ensures))
+    rw (p.1, p.2, c.leading_tree-body.ensures, c.leading_tree-close.ensures, g.flaw) (first_in _ _ _ (c.in_err-inside.ensures))
 
 pub group-span_at-inside-requires : goal.group-span_at-inside-requires
 group-span_at-inside-requires t c =
@@ -287,7 +287,7 @@ group-returns-in_err-node t c =
     let g = group_tree (rw (c.leading_tree-body.ensures, c.leading_tree-close.ensures) at h) in
     let e = c.in_ok-inside.ensures in
     let p = err_from_is_err_and c.from_residual-in_err-node.result c.from_residual-in_err-node.ensures.1 in
-    rw (p.1, p.2, c.leading_tree-body.ensures, c.leading_tree-close.ensures, g.fault, e.0) (c.in_err-node.ensures)
+    rw (p.1, p.2, c.leading_tree-body.ensures, c.leading_tree-close.ensures, g.flaw, e.0) (c.in_err-node.ensures)
 
 pub group-span_at-node-requires : goal.group-span_at-node-requires
 group-span_at-node-requires t c =
@@ -314,7 +314,7 @@ group-returns t c =
     let r = g.reads (view c.in_ok-inside.inside) (view c.in_ok-node.node) e.1 (rw v at q.1) in
     let o = outermost c.in_ok-node.node (rw (c.leading_tree-body.ensures, c.leading_tree-close.ensures) at s) r in
     let w = view_starting c.in_ok-node.node (record { expr = c.in_ok-node.node.expr; span = c.span_at-node.result }) o.same_text refl (rw c.end.ensures at c.span_at-node.ensures) in
-    rw (c.leading_tree-body.ensures, c.leading_tree-close.ensures) (rw (g.fault, e.0, q.0) refl, rw w r)
+    rw (c.leading_tree-body.ensures, c.leading_tree-close.ensures) (rw (g.flaw, e.0, q.0) refl, rw w r)
 
 -- `PUSH`
 
@@ -332,7 +332,7 @@ push-returns-in_err-node t c =
     let h : IsNode c.args.text.now (codes "_push") (named_trees_of c.args.tree.inner.now) = assumption in
     let g = push_tree (rw (c.leading_tree-paren.ensures, c.leading_tree-body.ensures) at h) in
     let p = err_from_is_err_and c.from_residual.result c.from_residual.ensures.1 in
-    rw (p.1, p.2, c.leading_tree-paren.ensures, c.leading_tree-body.ensures, g.fault c.args.tree.start c.args.tree.end) (c.in_err-node.ensures)
+    rw (p.1, p.2, c.leading_tree-paren.ensures, c.leading_tree-body.ensures, g.flaw c.args.tree.start c.args.tree.end) (c.in_err-node.ensures)
 
 pub push-span_at-span-requires : goal.push-span_at-span-requires
 push-span_at-span-requires t c =
@@ -350,4 +350,4 @@ push-returns t c =
     let g = push_tree (rw (c.leading_tree-paren.ensures, c.leading_tree-body.ensures) at h) in
     let e = c.in_ok-node.ensures in
     let r = g.reads c.args.tree.start c.args.tree.end (view c.in_ok-node.node) e.1 in
-    rw (c.leading_tree-paren.ensures, c.leading_tree-body.ensures) (rw (g.fault c.args.tree.start c.args.tree.end, e.0) refl, rw (c.span_at-span.ensures, c.end.ensures, c.in_ok-new.ensures.ok) (rw (end_of-view c.in_ok-node.node) at r))
+    rw (c.leading_tree-paren.ensures, c.leading_tree-body.ensures) (rw (g.flaw c.args.tree.start c.args.tree.end, e.0) refl, rw (c.span_at-span.ensures, c.end.ensures, c.in_ok-new.ensures.ok) (rw (end_of-view c.in_ok-node.node) at r))

@@ -1,6 +1,6 @@
 use Rattle.std.proofs.Common.{◌≡◌, ◌+◌, ◌*◌, ◌≤◌, ◌<◌}
 use Rattle.meta_base.specs.Pieces.NamedTrees.{named_trees_of}
-use Rattle.meta_reader.specs.Faults.{first_fault}
+use Rattle.meta_reader.specs.Flaws.{first_flaw}
 use Rattle.meta_reader.specs.Pieces.{StandIn}
 use Rattle.meta_syntax.specs.Shape.{IsMore}
 use Rattle.meta_reader.specs.Views.{IsRest, count_of}
@@ -36,7 +36,7 @@ abbrev pub invariant-expression-loop-bar : goal.invariant-expression-loop-bar
 invariant-expression-loop-bar l = record {
   shape : IsRest l.text (named_trees_of l.rest);
   nested : StandIn l.text (named_trees_of l.rest);
-  faults : first_fault l.text (named_trees_of l.trees) ≡ first_fault l.text (named_trees_of l.rest);
+  flaws : first_flaw l.text (named_trees_of l.trees) ≡ first_flaw l.text (named_trees_of l.rest);
   shorter : count_of (named_trees_of l.rest) ≤ count_of (named_trees_of l.trees);
   reads : SplitOff l.text (named_trees_of l.trees) (named_trees_of l.rest) (view l.left);
 }
@@ -48,7 +48,7 @@ abbrev pub invariant-sequence-loop-inner : goal.invariant-sequence-loop-inner
 invariant-sequence-loop-inner l = record {
   shape : IsMore l.text (named_trees_of l.rest);
   nested : StandIn l.text (named_trees_of l.rest);
-  faults : first_fault l.text (named_trees_of l.trees) ≡ first_fault l.text (named_trees_of l.rest);
+  flaws : first_flaw l.text (named_trees_of l.trees) ≡ first_flaw l.text (named_trees_of l.rest);
   shorter : count_of (named_trees_of l.rest) < count_of (named_trees_of l.trees);
   reads : InFront l.text (named_trees_of l.trees) (named_trees_of l.rest) (view l.left);
 }

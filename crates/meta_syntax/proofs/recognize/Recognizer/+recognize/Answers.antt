@@ -1,15 +1,18 @@
 use Rattle.std.proofs.Common.{rules, refl, sym, true, length, ◌≡◌, ◌<◌, ap, ◌∙◌, arith}
+use Rattle.std.proofs.lemmas.Bool.{ltb-true}
 use Rattle.meta_base.specs.Language.Expression.{Ident}
 use Rattle.meta_base.specs.Pieces.MetaRules.{name_of}
 use Rattle.meta_base.specs.Language.State.{None'}
 use Rattle.meta_base.proofs.Steps.{ran_str, ran_range}
 use Rattle.meta_syntax.specs.Entries.{named_entries}
-use Rattle.meta_syntax.specs.Forms.{IsSpelled, all_take, expression_of}
+use Rattle.meta_syntax.specs.Forms.{IsSpelled, all_take, expression_of, good}
 use Rattle.meta_syntax.specs.Sets.{spelled_by}
 use Rattle.meta_syntax.specs.Runs.{IsLeft, IsSound}
 use Rattle.meta_syntax.proofs.EntryLists.{adds_tree, not_grown}
 use Rattle.meta_syntax.proofs.Memory.{failed_within, fails_again, sound_on}
-use Rattle.meta_syntax.proofs.Steps.{call_failed, call_found, copies_if_ok, cut_opened, fails_first, fails_not, fails_once, fails_second, fails_start, finds_blanks, finds_comments, finds_left, finds_no_opt, finds_no_rep, finds_no_skipping, finds_not, finds_once, finds_opt, finds_rep, finds_seq, finds_skipped, finds_start, finds_turns, gives_leaving, ran_any, right_if_ok, so_far_nothing, so_far_blank, so_far_comment, so_far_turn}
+use Rattle.meta_syntax.proofs.Steps.{call_failed, call_found, copies_if_ok, cut_opened, fails_first, fails_not, fails_once, fails_start, finds_blanks, finds_comments, finds_left, finds_no_opt, finds_no_rep, finds_no_skipping, finds_not, finds_once, finds_opt, finds_rep, finds_seq, finds_skipped, finds_start, finds_turns, gives_leaving, ran_any, right_if_ok, so_far_nothing, so_far_blank, so_far_comment, so_far_turn}
+use Rattle.meta_syntax.proofs.Sequences.{begun_further, fails_followed, fails_part, found_further, found_whole}
+use Rattle.meta_syntax.proofs.Quiet.{and_first, and_second}
 use Rattle.meta_syntax.proofs.Choices.{failed_at, found_among, found_at, goes_on_at}
 use Rattle.meta_base.specs.declared.grammar.Rule.TheVariants as is
 use Rattle.meta_syntax.specs.MetaGrammar.{body_of}
@@ -46,7 +49,7 @@ pub run-returns-in-RepMinMax-clause-means : goal.run-returns-in-RepMinMax-clause
 run-returns-in-RepMinMax-clause-means t c =
     let h : IsSpelled c.args.form.now = search rules in
     let k = rw c.in-RepMinMax.is at h in
-    rw c.in-RepMinMax.is (copies_if_ok _ _ _ _ _ _ _ _ _ _ _ _ k.0 c.copies.ensures.means)
+    rw c.in-RepMinMax.is (copies_if_ok _ _ _ _ _ _ _ _ _ _ _ _ k.0 c.copies-in-RepMinMax.ensures.means)
 
 pub choice-returns-in-Some-clause-means : goal.choice-returns-in-Some-clause-means
 choice-returns-in-Some-clause-means t c = let x = rw c.in-Some.is at c.in_ok-after.ensures.means in finds_left x
@@ -112,20 +115,40 @@ once_or_more-returns-clause-means t c =
 
 pub sequence-returns-in_default-clause-means : goal.sequence-returns-in_default-clause-means
 sequence-returns-in_default-clause-means t c =
-    let x = rw c.in_default.is at c.in_ok-after.ensures.means in
-    fails_first x
+    let x = rw c.in_default.is at c.in_ok-rest.ensures.means in
+    fails_followed (expression_of c.args.first.now) c.args.others.now x
 
-pub sequence-returns-in-Some-2-clause-means : goal.sequence-returns-in-Some-2-clause-means
-sequence-returns-in-Some-2-clause-means t c =
-    let x = rw c.in-Some.is at c.in_ok-after.ensures.means in
-    let y = rw c.in-Some-2.is at c.in_ok-last.ensures.means in
-    finds_seq x c.in_ok-next.ensures.means y
+pub sequence-returns-in_default-2-clause-means : goal.sequence-returns-in_default-2-clause-means
+sequence-returns-in_default-2-clause-means t c =
+    let x = rw c.in_default-2.is at c.in_ok-after.ensures.means in
+    fails_part c.loop-next.invariant.means c.in_ok-next.ensures.means _ _ c.parts_of-parts.ensures.parts c.cut.ensures c.count_of_entries-mark.ensures x
 
-pub sequence-returns-in-None-clause-means : goal.sequence-returns-in-None-clause-means
-sequence-returns-in-None-clause-means t c =
-    let x = rw c.in-Some.is at c.in_ok-after.ensures.means in
-    let y = rw c.in-None.is at c.in_ok-last.ensures.means in
-    fails_second x c.in_ok-next.ensures.means y c.cut.ensures c.count_of_entries-mark.ensures
+pub sequence-returns-in_default-others-clause-means : goal.sequence-returns-in_default-others-clause-means
+sequence-returns-in_default-others-clause-means t c =
+    let x = rw c.in-Some-2.is at c.in_ok-after.ensures.means in
+    let h = rw c.in_default-others.is at c.parts_of-parts.ensures.parts in
+    found_whole c.loop-next.invariant.means c.in_ok-next.ensures.means _ h.0 h.1 x
+
+pub sequence-loop-next-preserved : goal.sequence-loop-next-preserved
+sequence-loop-next-preserved t c =
+    let i = c.loop-next.invariant in
+    let x = rw c.in-Some-2.is at c.in_ok-after.ensures.means in
+    let g = rw c.in-Some-2.is at c.in_ok-after.ensures.goes_on in
+    let h = rw c.in-Some-others.is at c.parts_of-parts.ensures.parts in
+    let n = c.in_ok-next.ensures.goes_on in
+    let good_parts = sym h.good ∙ i.good in
+    let good_others = and_second (good c.parts_of-parts.result.first.now) _ good_parts in
+    record {
+      text = search rules;
+      means = found_further i.means c.in_ok-next.ensures.means c.parts_of-parts.result.first.now c.in-Some-others.others.now h.followed x;
+      good = and_first _ _ good_others;
+      spelled = (h.spelled i.spelled).1;
+      below = ltb-true _ _ (and_second (good c.in-Some-others.others.now) _ good_others);
+      left = g.left;
+      shorter = omega (arith, g.shorter, n.shorter, i.shorter);
+      begun = begun_further _ _ _ _ c.args.first.now c.args.others.now _ c.parts_of-parts.result.first.now c.in-Some-others.others.now i.begun i.shorter n.shorter g.shorter g.consumed h.null h.cost;
+      sound = search rules;
+    }
 
 pub repetition-returns-in_ok-last-in-Some-clause-means : goal.repetition-returns-in_ok-last-in-Some-clause-means
 repetition-returns-in_ok-last-in-Some-clause-means t c =

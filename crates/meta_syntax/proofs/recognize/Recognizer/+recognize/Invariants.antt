@@ -1,13 +1,14 @@
-use Rattle.std.proofs.Common.{◌+◌, ◌≤◌, ◌∷◌, length, max, take, if◌then◌else◌}
+use Rattle.std.proofs.Common.{◌+◌, ◌<◌, ◌≤◌, Some, ◌∷◌, length, max, take, if◌then◌else◌}
 use denote.Shadow.{shadow}
 use denote.Text.{Utf8}
 use Rattle.meta_base.specs.Language.Expression.{Ident}
 use Rattle.meta_base.specs.Language.Meaning.{Run, Turns}
 use Rattle.meta_base.specs.Pieces.MetaRules.{name_of}
-use Rattle.meta_syntax.specs.Forms.{choice_among, cost, greatest_rank, null, expression_of, rank_of}
+use Rattle.meta_syntax.specs.Forms.{IsGood, IsSpelled, choice_among, cost, count_of_parts, expression_of, followed, greatest_rank, null, rank_of}
 use Rattle.meta_syntax.specs.Runs.{Fails, IsLeft, IsSound, measure, mode_of, skips_in, skips_in_call}
 use Rattle.meta_syntax.proofs.Quoted.{text_of_string}
 use Rattle.meta_base.specs.Language.State.{AtomicMode}
+use Rattle.meta_syntax.proofs.Sequences.{Begun, FoundBefore}
 use Rattle.meta_syntax.proofs.Steps.{SoFar, blanks, comments}
 use Rattle.meta_syntax.proofs.recognize.Recognizer.+recognize.Given as goal
 
@@ -75,7 +76,23 @@ abbrev pub decreases-once_or_more : goal.decreases-once_or_more
 decreases-once_or_more l = measure l.rest.now (skips_in l.mode) (2 + cost l.body.now)
 
 abbrev pub decreases-sequence : goal.decreases-sequence
-decreases-sequence l = measure l.rest.now (skips_in l.mode) (2 + max (cost l.first.now) (if null l.first.now then cost l.second.now else 0))
+decreases-sequence l = measure l.from.now (skips_in l.mode) (2 + max (cost l.first.now) (if null l.first.now then cost l.others.now else 0))
+
+abbrev pub invariant-sequence-loop-next : goal.invariant-sequence-loop-next
+invariant-sequence-loop-next l = record {
+  text : shadow (Utf8 l.rest);
+  means : FoundBefore (mode_of l.mode) (followed (Some (expression_of l.first)) l.others) l.text l.from l.fn.self.entries.items l.fn.self.furthest l.left l.rest l.self.entries.items l.self.furthest;
+  good : IsGood l.left;
+  spelled : IsSpelled l.left;
+  below : cost l.left < 1000;
+  left : IsLeft l.text l.rest;
+  shorter : length l.rest ≤ length l.from;
+  begun : Begun l.from l.rest l.first l.others l.left;
+  sound : IsSound l.text l.self;
+}
+
+abbrev pub decreases-sequence-loop-next : goal.decreases-sequence-loop-next
+decreases-sequence-loop-next l = count_of_parts l.left
 
 abbrev pub decreases-skip : goal.decreases-skip
 decreases-skip l = measure l.from.now (skips_in l.mode) 1

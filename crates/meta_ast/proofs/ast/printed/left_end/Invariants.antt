@@ -1,0 +1,14 @@
+use Rattle.std.proofs.Common.{◌≡◌, ◌≤◌, ◌+◌, ◌∷◌, []}
+use Rattle.meta_ast.specs.Ast.{expression_of}
+use Rattle.meta_ast.specs.PrintedBytes.{written_bytes}
+use Rattle.meta_ast.specs.Sides.{weight_aside, with_side, with_sides}
+use Rattle.meta_ast.specs.Weight.{weight}
+use Rattle.meta_ast.proofs.ast.printed.left_end.Given as goal
+
+abbrev pub invariant-down : goal.invariant-down
+invariant-down l =
+    (with_sides l.sides.items (written_bytes l.end).alone ≡ with_side l.fn.side (written_bytes l.fn.left).alone)
+    × (weight (expression_of l.end) + weight_aside l.sides.items ≤ weight (expression_of l.fn.left) + weight_aside (l.fn.side ∷ []))
+
+abbrev pub decreases-down : goal.decreases-down
+decreases-down l = weight (expression_of l.end)

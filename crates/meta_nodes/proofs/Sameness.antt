@@ -1,0 +1,40 @@
+-- Two more that are to be compared.
+use Rattle.std.proofs.Common.{◌≡◌, ◌+◌, ◌<◌, Bool, true, false, ◌&&◌, List, [], ◌∷◌, ◌++◌, refl, sym, ap, ◌∙◌, arith}
+use Rattle.meta_ast.specs.Weight.{weight}
+use Rattle.meta_nodes.specs.Erasure.{without_spans}
+use Rattle.meta_nodes.specs.Nodes.{view}
+use Rattle.meta_nodes.specs.Sameness.{is_equal, are_equal, heaviness}
+use Rattle.meta_nodes.specs.declared.compared.Both.{Both}
+
+swapped : (a b c : Bool) → (a && (b && c)) ≡ (b && (a && c))
+swapped true b c = refl
+swapped false true c = refl
+swapped false false c = refl
+
+pub are_equal_last : (ps : List Both) (p : Both) → are_equal (ps ++ (p ∷ [])) ≡ (is_equal p && are_equal ps)
+are_equal_last [] p = refl
+are_equal_last (q ∷ ps) p = ap (λ b. is_equal q && b) (are_equal_last ps p) ∙ swapped (is_equal q) (is_equal p) (are_equal ps)
+
+pub heaviness_last : (ps : List Both) (p : Both) → heaviness (ps ++ (p ∷ [])) ≡ heaviness ps + weight (without_spans (view p.first.now))
+heaviness_last [] p = omega arith
+heaviness_last (q ∷ ps) p = let others = heaviness_last ps p in omega arith
+
+alone : (b : Bool) → (b && true) ≡ b
+alone true = refl
+alone false = refl
+
+pub are_equal_one : (ps : List Both) (p : Both) → ps ≡ [] ++ (p ∷ []) → are_equal ps ≡ is_equal p
+are_equal_one ps p h = ap are_equal h ∙ alone (is_equal p)
+
+-- the last two are compared, and what is inside them waits
+compared : (whole answer : Bool) (os ms ns : List Both) (p : Both) → are_equal os ≡ whole → os ≡ ms ++ (p ∷ []) → (answer && are_equal ns) ≡ (is_equal p && are_equal ms) → (answer && are_equal ns) ≡ whole
+compared whole answer os ms ns p h i j = j ∙ (sym (are_equal_last ms p) ∙ (sym (ap are_equal i) ∙ h))
+
+pub differ : (whole answer : Bool) (os ms ns : List Both) (p : Both) → are_equal os ≡ whole → os ≡ ms ++ (p ∷ []) → (answer && are_equal ns) ≡ (is_equal p && are_equal ms) → answer ≡ false → false ≡ whole
+differ whole answer os ms ns p h i j k = ap (λ b. b && are_equal ns) (sym k) ∙ compared whole answer os ms ns p h i j
+
+pub remain : (whole answer : Bool) (os ms ns : List Both) (p : Both) → are_equal os ≡ whole → os ≡ ms ++ (p ∷ []) → (answer && are_equal ns) ≡ (is_equal p && are_equal ms) → answer ≡ true → are_equal ns ≡ whole
+remain whole answer os ms ns p h i j k = ap (λ b. b && are_equal ns) (sym k) ∙ compared whole answer os ms ns p h i j
+
+pub lighter : (os ms ns : List Both) (p : Both) → os ≡ ms ++ (p ∷ []) → heaviness ns < weight (without_spans (view p.first.now)) + heaviness ms → heaviness ns < heaviness os
+lighter os ms ns p i h = let all : heaviness os ≡ heaviness ms + weight (without_spans (view p.first.now)) = ap heaviness i ∙ heaviness_last ms p in omega arith

@@ -1,0 +1,82 @@
+-- The flaws that trees of a grammar's text may have, and the first of them.
+use Rattle.std.specs.Prelude.{ℕ, ℤ, pos, negsuc, List, ◌^◌, Option, Some, None, Bool, true, false, not, if◌then◌else◌, bytes_eq, codes, nat_lt, nat_eq}
+use Rattle.std.specs.Str.{all_scalars}
+use Rattle.meta_base.specs.Language.Text.{Text}
+use Rattle.meta_base.specs.Language.State.{Trees, None', Tree}
+use Rattle.meta_nodes.specs.Spanned.{Span}
+use Rattle.meta_reader.specs.Reading.{piece, number, integer, literal}
+
+pub data Cause : Type 0 where
+  PushLiteralCalled : Cause
+  NoScalarValue : Cause
+  PastI32 : Cause
+  PastU32 : Cause
+  ZeroTimes : Cause
+
+-- what is wrong, and where
+pub record Flaw : Type 0 where
+  pub cause : Cause
+  pub span : Span
+
+abbrev pub or_else : Option Flaw → Option Flaw → Option Flaw
+or_else (Some f) o = Some f
+or_else None o = o
+
+abbrev pub fits_i32 : ℤ → Bool
+fits_i32 (pos n) = nat_lt n (2 ^ 31)
+fits_i32 (negsuc n) = nat_lt n (2 ^ 31)
+
+-- the trees in the first of them
+abbrev pub first_inner : Trees → Trees
+first_inner None' = None'
+first_inner (Tree r i j inner us) = inner
+
+-- the first of the trees is a closing brace
+abbrev pub closes : Trees → Bool
+closes None' = false
+closes (Tree r i j inner us) = bytes_eq r (codes "closing_brace")
+
+module _ (text : List ℕ) where
+  -- the flaw at a place, if there is one
+  abbrev pub flaw_if : Bool → Cause → ℕ → ℕ → Option Flaw
+  flaw_if b cause i j = if b then Some (record { cause = cause; span = piece text i j }) else None
+
+  -- a literal from i to j, with these trees in it, has an escape that is no character's number
+  abbrev pub wrong_literal : ℕ → ℕ → Trees → Option Flaw
+  wrong_literal i j us = flaw_if (not (all_scalars (literal text us))) NoScalarValue i j
+
+  -- numbers that fit no u32, and no i32
+  abbrev pub past_u32 : ℕ → ℕ → Option Flaw
+  past_u32 i j = flaw_if (not (nat_lt (number text i j) (2 ^ 32))) PastU32 i j
+
+  abbrev pub past_i32 : ℕ → ℕ → Option Flaw
+  past_i32 i j = flaw_if (not (fits_i32 (integer text i j))) PastI32 i j
+
+  -- a count of how often at most fits a u32, and is not 0
+  abbrev pub zero_times : ℕ → ℕ → Option Flaw
+  zero_times i j = flaw_if (nat_eq (number text i j) 0) ZeroTimes i j
+
+  abbrev pub not_a_count : ℕ → ℕ → Option Flaw
+  not_a_count i j = or_else (past_u32 i j) (zero_times i j)
+
+  -- what is wrong with a number, by what is behind it: before a closing brace it counts how often at most
+  abbrev pub number_flaw : ℕ → ℕ → Trees → Option Flaw
+  number_flaw i j others = if closes others then not_a_count i j else past_u32 i j
+
+  -- what is wrong with a tree of the rule r from i to j, by itself, by what it holds and by what is
+  -- behind it
+  unfoldable pub own_flaw : Text → ℕ → ℕ → Trees → Trees → Option Flaw
+  own_flaw r i j inner others =
+      if bytes_eq r (codes "_push_literal") then flaw_if true PushLiteralCalled i j
+      else (if bytes_eq r (codes "string") then wrong_literal i j inner
+      else (if bytes_eq r (codes "character") then wrong_literal i j inner
+      else (if bytes_eq r (codes "insensitive_string") then wrong_literal i j (first_inner inner)
+      else (if bytes_eq r (codes "integer") then past_i32 i j
+      else (if bytes_eq r (codes "number") then number_flaw i j others
+      else None)))))
+
+  -- the first flaw: of the first tree itself, in it, or behind it
+  abbrev pub first_flaw : Trees → Option Flaw
+  first_flaw None' = None
+  first_flaw (Tree r i j inner others) =
+      or_else (own_flaw r i j inner others) (or_else (first_flaw inner) (first_flaw others))

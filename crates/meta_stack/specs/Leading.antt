@@ -1,0 +1,68 @@
+-- Which nodes lead to calls of which rules, and ranks by which calls come to an end.
+use Rattle.std.specs.Prelude.{◌≡◌, ◌↔◌, ◌⊎◌, ℕ, ◌+◌, ◌<◌, ◌≤◌, List, Option, Some, None, Bool, true, false, slice_get, length, unwrap_or, ⊤}
+use Rattle.meta_stack.specs.Flags.{is_set_at}
+use Rattle.meta_stack.specs.Table.{called_by, parts_of}
+use Rattle.meta_stack.specs.declared.table.Kind.TheVariants as is
+use Rattle.meta_stack.specs.declared.table.Node.{Node}
+use Rattle.meta_stack.specs.declared.table.Parts.{Parts}
+use Rattle.meta_stack.specs.declared.table.Parts.TheVariants as parts
+
+abbrev pub IsOperand : ℕ → Parts → Type 0
+IsOperand j parts.Nothing = ⊥
+IsOperand j (parts.Inside k required optional endless) = j ≡ k
+IsOperand j (parts.Both k l choice) = (j ≡ k) ⊎ (j ≡ l)
+
+module _ (ns : List Node) (roots : List ℕ) where
+  -- a rule is called in a node, or in a body that is called there
+  pub data Leads : ℕ → ℕ → Type 0 where
+    to_call : {i r : ℕ} {n : Node} → slice_get ns i ≡ Some n → n.kind ≡ is.Call r → Leads i r
+    by_body : {i j r s : ℕ} {n : Node} → slice_get ns i ≡ Some n → n.kind ≡ is.Call r
+        → slice_get roots r ≡ Some j → Leads j s → Leads i s
+    by_operand : {i j s : ℕ} {n : Node} → slice_get ns i ≡ Some n → IsOperand j (parts_of n.kind)
+        → Leads j s → Leads i s
+
+  -- the body of a rule leads to a call of the rule
+  abbrev pub LeadsBack : ℕ → Type 0
+  LeadsBack r = (j : ℕ) × (slice_get roots r ≡ Some j) × Leads j r
+
+abbrev pub rank_in : List ℕ → ℕ → ℕ
+rank_in ranks i = unwrap_or (slice_get ranks i) 0
+
+abbrev pub PartsFall : List ℕ → ℕ → Parts → Type 0
+PartsFall ranks i parts.Nothing = ⊤
+PartsFall ranks i (parts.Inside j required optional endless) = rank_in ranks j ≤ rank_in ranks i
+PartsFall ranks i (parts.Both j k choice) =
+    (rank_in ranks j ≤ rank_in ranks i) × (rank_in ranks k ≤ rank_in ranks i)
+
+module _ (roots : List ℕ) (recursive : List Bool) (ranks : List ℕ) where
+  -- the body of a rule that is called at a node has no higher rank, and a lower one if calls are followed
+  pub record BodyFalls (i r j : ℕ) : Type 0 where
+    pub never_above : rank_in ranks j ≤ rank_in ranks i
+    pub below : is_set_at recursive r ≡ false → rank_in ranks j < rank_in ranks i
+
+  abbrev pub CallFalls : ℕ → Option ℕ → Type 0
+  CallFalls i None = ⊤
+  CallFalls i (Some r) = (j : ℕ) → slice_get roots r ≡ Some j → BodyFalls i r j
+
+  pub record IsRanked (i : ℕ) (n : Node) : Type 0 where
+    pub few : rank_in ranks i ≤ length roots
+    pub operands : PartsFall ranks i (parts_of n.kind)
+    pub call : CallFalls i (called_by n.kind)
+
+abbrev pub AreRanked : List Node → List ℕ → List Bool → List ℕ → Type 0
+AreRanked ns roots recursive ranks =
+    (i : ℕ) (n : Node) → slice_get ns i ≡ Some n → IsRanked roots recursive ranks i n
+
+-- these flags tell which rules reach themselves, and calls of the others lead to lower ranks
+pub record AreCalls (ns : List Node) (roots : List ℕ) (recursive : List Bool) (ranks : List ℕ) : Type 0 where
+  pub exact : (r : ℕ) → (is_set_at recursive r ≡ true) ↔ LeadsBack ns roots r
+  pub ranked : AreRanked ns roots recursive ranks
+
+abbrev pub bit : Bool → ℕ
+bit true = 1
+bit false = 0
+
+-- one more where the flag is set
+pub record AreRaised (ranks : List ℕ) (flags : List Bool) (raised : List ℕ) : Type 0 where
+  pub alike : length raised ≡ length flags
+  pub each : (i : ℕ) → rank_in raised i ≡ rank_in ranks i + bit (is_set_at flags i)

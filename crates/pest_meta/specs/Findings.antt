@@ -1,0 +1,14 @@
+-- What is found in rules, the reports of the stack pass among it.
+use Rattle.std.specs.Prelude.{List}
+use Rattle.meta_base.specs.declared.grammar.Rule.{Rule}
+use Rattle.meta_base.specs.declared.runtime.errors.Error.{Error}
+use Rattle.meta_nodes.specs.Spanned.{Span, SpannedRule}
+use Rattle.meta_stack.specs.Certain.{AreReports}
+use Rattle.meta_validator.specs.Reported.{AreReported}
+
+-- the errors tell of all that is found in the rules, by place: the repetitions that the stack pass reports
+-- are among it, and there are no others that are known to be endless
+pub record TellFindings (rules : List SpannedRule) (errors : List (Error Rule)) : Type 0 where
+  pub endless : List Span
+  pub reports : AreReports rules endless
+  pub tell : AreReported rules endless errors
