@@ -1,13 +1,15 @@
 -- Expressions that are taken apart, and frames that are closed: one frame more or less at the end of a list.
-use Rattle.std.proofs.Common.{◌≡◌, ℕ, ◌+◌, ◌<◌, ◌≤◌, List, [], ◌∷◌, ◌++◌, refl, ap, ◌∙◌, arith}
+use Rattle.std.proofs.Common.{◌≡◌, ℕ, ◌+◌, ◌*◌, ◌<◌, ◌≤◌, List, [], ◌∷◌, ◌++◌, refl, ap, ◌∙◌, arith}
 use Rattle.meta_base.specs.Language.Expression.{Expression}
 use Rattle.meta_base.specs.Language.Expression as e
 use Rattle.meta_ast.specs.Operands.{operands, over, count_of_nodes}
-use Rattle.meta_ast.specs.Frames.{Unary, PosPred, NegPred, Opt, Rep, RepOnce, RepExact, RepMin, RepMax, RepMinMax, Push, around, joined, AllClose, nodes_aside}
+use Rattle.meta_ast.specs.Frames.{Unary, PosPred, NegPred, Opt, Rep, RepOnce, RepExact, RepMin, RepMax, RepMinMax, Push, around, joined, AllClose, Opens, leaf, one, two, Closes, enclosed, put_together, turned, work_aside, work_left}
 use Rattle.meta_ast.specs.declared.walks.Joint.{Joint}
 use Rattle.meta_ast.specs.declared.walks.Joint.TheVariants as joint
 use Rattle.meta_ast.specs.declared.walks.Frame.{Frame}
 use Rattle.meta_ast.specs.declared.walks.Frame.TheVariants as frame
+use Rattle.meta_ast.specs.declared.walks.Onward.{Onward}
+use Rattle.meta_ast.specs.declared.walks.Onward.TheVariants as onward
 
 pub operands-around : (u : Unary) (x : Expression) → operands (around u x) ≡ x ∷ []
 operands-around PosPred x = refl
@@ -139,36 +141,44 @@ module _ {K F : Type 0} (closes : K → F → Expression → Expression → F �
       let i = split_last ks k f h d m a in record { middle = i.middle; state = i.state; last = i.last; others = (m, h, i.others, b) }
 
 module _ {E S : Type 0} (says : E → Expression) where
-  pub nodes_aside-last : (ks : List (Frame E S)) (k : Frame E S) → nodes_aside says (ks ++ (k ∷ [])) ≡ nodes_aside says ks + nodes_aside says (k ∷ [])
-  nodes_aside-last [] (frame.Around s) = omega arith
-  nodes_aside-last [] (frame.Before j x) = omega arith
-  nodes_aside-last [] (frame.After j x) = omega arith
-  nodes_aside-last (frame.Around s ∷ ks) k = nodes_aside-last ks k
-  nodes_aside-last (frame.Before j x ∷ ks) k = let h = nodes_aside-last ks k in omega arith
-  nodes_aside-last (frame.After j x ∷ ks) k = nodes_aside-last ks k
+  work_aside-last : (ks : List (Frame E S)) (k : Frame E S) → work_aside says (ks ++ (k ∷ [])) ≡ work_aside says ks + work_aside says (k ∷ [])
+  work_aside-last [] (frame.Around s) = omega arith
+  work_aside-last [] (frame.Before j x) = omega arith
+  work_aside-last [] (frame.After j x) = omega arith
+  work_aside-last (frame.Around s ∷ ks) k = let h = work_aside-last ks k in omega arith
+  work_aside-last (frame.Before j x ∷ ks) k = let h = work_aside-last ks k in omega arith
+  work_aside-last (frame.After j x ∷ ks) k = let h = work_aside-last ks k in omega arith
 
-  -- less is to be met: below a node that is no larger than `n`, and at a right side whose left one is done
-  pub less_one : (ks ls : List (Frame E S)) (u : Unary) (s : S) (x : E) (y : Expression) (n : ℕ) → count_of_nodes y ≤ n → y ≡ around u (says x) → ls ≡ ks ++ (frame.Around s ∷ []) → count_of_nodes (says x) + nodes_aside says ls < n + nodes_aside says ks
-  less_one ks ls u s x y n b p q =
-      let h : count_of_nodes y ≡ count_of_nodes (says x) + 1 = ap count_of_nodes p ∙ count_of_nodes-around u (says x) in
-      let i : nodes_aside says ls ≡ nodes_aside says ks + 0 = rw q (nodes_aside-last ks (frame.Around s)) in
-      omega arith
+  module _ (stands_for : S → Unary) where
+    -- less is left below an expression of no more than `n` nodes
+    pub opens_less : (ks ls : List (Frame E S)) (whole : Expression) (n : ℕ) (next : Onward E) → count_of_nodes whole ≤ n → Opens says stands_for whole ks next ls → work_left says next ls < 3 * n + work_aside says ks
+    opens_less ks ls whole n (onward.Done x) b (leaf p q e) =
+        let h : work_aside says ls ≡ work_aside says ks = ap (work_aside says) e in
+        let i : 0 < count_of_nodes whole = some_node whole in
+        omega arith
+    opens_less ks ls whole n (onward.Next x) b (one s p q) =
+        let h : count_of_nodes whole ≡ count_of_nodes (says x) + 1 = ap count_of_nodes p ∙ count_of_nodes-around (stands_for s) (says x) in
+        let i : work_aside says ls ≡ work_aside says ks + (1 + 0) = rw q (work_aside-last ks (frame.Around s)) in
+        omega arith
+    opens_less ks ls whole n (onward.Next x) b (two j y p q) =
+        let h : count_of_nodes whole ≡ count_of_nodes (says x) + count_of_nodes (says y) + 1 = ap count_of_nodes p ∙ count_of_nodes-joined j (says x) (says y) in
+        let i : work_aside says ls ≡ work_aside says ks + (3 * count_of_nodes (says y) + 2 + 0) = rw q (work_aside-last ks (frame.Before j y)) in
+        omega arith
 
-  pub less_two : (ks ls : List (Frame E S)) (j : Joint) (x z : E) (y : Expression) (n : ℕ) → count_of_nodes y ≤ n → y ≡ joined j (says x) (says z) → ls ≡ ks ++ (frame.Before j z ∷ []) → count_of_nodes (says x) + nodes_aside says ls < n + nodes_aside says ks
-  less_two ks ls j x z y n b p q =
-      let h : count_of_nodes y ≡ count_of_nodes (says x) + count_of_nodes (says z) + 1 = ap count_of_nodes p ∙ count_of_nodes-joined j (says x) (says z) in
-      let i : nodes_aside says ls ≡ nodes_aside says ks + (count_of_nodes (says z) + 0) = rw q (nodes_aside-last ks (frame.Before j z)) in
-      omega arith
-
-  pub less_over : (os ks ls ms : List (Frame E S)) (j : Joint) (x z : E) (y : Expression) → ls ≡ ks ++ (frame.After j x ∷ []) → ms ≡ ks ++ (frame.Before j z ∷ []) → nodes_aside says ms ≤ nodes_aside says os → count_of_nodes (says z) + nodes_aside says ls < count_of_nodes y + nodes_aside says os
-  less_over os ks ls ms j x z y p q b =
-      let h : nodes_aside says ls ≡ nodes_aside says ks + 0 = rw p (nodes_aside-last ks (frame.After j x)) in
-      let i : nodes_aside says ms ≡ nodes_aside says ks + (count_of_nodes (says z) + 0) = rw q (nodes_aside-last ks (frame.Before j z)) in
-      let k : 0 < count_of_nodes y = some_node y in
-      omega arith
-
-  -- no more is aside when the last frame is closed
-  pub less_aside : (os ks ms : List (Frame E S)) (k : Frame E S) → ms ≡ ks ++ (k ∷ []) → nodes_aside says ms ≤ nodes_aside says os → nodes_aside says ks ≤ nodes_aside says os
-  less_aside os ks ms k q b =
-      let i : nodes_aside says ms ≡ nodes_aside says ks + nodes_aside says (k ∷ []) = rw q (nodes_aside-last ks k) in
-      omega arith
+    -- less is left once the last frame is closed, or its right side is met next
+    pub closes_less : (ks ls ms : List (Frame E S)) (d : E) (k : Frame E S) (next : Onward E) → ms ≡ ks ++ (k ∷ []) → Closes says stands_for ks d k next ls → work_left says next ls < work_aside says ms
+    closes_less ks ls ms d (frame.Around s) (onward.Done x) m (enclosed p q) =
+        let h : work_aside says ms ≡ work_aside says ks + (1 + 0) = rw m (work_aside-last ks (frame.Around s)) in
+        let i : work_aside says ls ≡ work_aside says ks = ap (work_aside says) q in
+        omega arith
+    closes_less ks ls ms d (frame.After j a) (onward.Done x) m (put_together p q) =
+        let h : work_aside says ms ≡ work_aside says ks + (1 + 0) = rw m (work_aside-last ks (frame.After j a)) in
+        let i : work_aside says ls ≡ work_aside says ks = ap (work_aside says) q in
+        omega arith
+    closes_less ks ls ms d (frame.Before j x) (onward.Next _) m (turned q) =
+        let h : work_aside says ms ≡ work_aside says ks + (3 * count_of_nodes (says x) + 2 + 0) = rw m (work_aside-last ks (frame.Before j x)) in
+        let i : work_aside says ls ≡ work_aside says ks + (1 + 0) = rw q (work_aside-last ks (frame.After j d)) in
+        omega arith
+    closes_less ks ls ms d (frame.Around s) (onward.Next _) m c = elim c [ ]
+    closes_less ks ls ms d (frame.After j a) (onward.Next _) m c = elim c [ ]
+    closes_less ks ls ms d (frame.Before j x) (onward.Done _) m c = elim c [ ]

@@ -76,6 +76,16 @@ infixl 5 ◌then◌
 ◌then◌ : {a b A B : List ℕ} → IsInBytes a A → IsInBytes b B → IsInBytes (a ++ b) (A ++ B)
 ◌then◌ {a} {b} h k = record { same = encodes-append a b ∙ ap₂ ◌++◌ h.same k.same }
 
+-- the same bytes, put together in another order
+grouped : {a A B : List ℕ} → IsInBytes a A → A ≡ B → IsInBytes a B
+grouped h e = record { same = h.same ∙ e }
+
+three_behind : (t a b c : List ℕ) → t ++ a ++ b ++ c ≡ t ++ (a ++ b ++ c)
+three_behind t a b c = append_assoc (t ++ a) b c ∙ (append_assoc t a (b ++ c) ∙ ap (λ x. t ++ x) (sym (append_assoc a b c)))
+
+five_behind : (t a b c d e : List ℕ) → t ++ a ++ b ++ c ++ d ++ e ≡ t ++ (a ++ b ++ c ++ d ++ e)
+five_behind t a b c d e = ap (λ x. x ++ d ++ e) (three_behind t a b c) ∙ three_behind t (a ++ b ++ c) d e
+
 in_parentheses : {a A : List ℕ} → IsInBytes a A → IsInBytes (parenthesized a) (enclosed A)
 in_parentheses h = signs (codes "(") refl then h then signs (codes ")") refl
 
@@ -167,13 +177,13 @@ in_bytes (plain.Opt' p x) k = all_places k (postfix (codes "?") refl (in_bytes x
 in_bytes (plain.Rep' p x) k = all_places k (postfix (codes "*") refl (in_bytes x))
 in_bytes (plain.RepOnce' p x) k = all_places k (postfix (codes "+") refl (in_bytes x))
 in_bytes (plain.RepExact' p x n) k =
-    all_places k (in_bytes x BeforePostfix then signs (codes "{") refl then number n then signs (codes "}") refl)
+    all_places k (grouped (in_bytes x BeforePostfix then signs (codes "{") refl then number n then signs (codes "}") refl) (three_behind (written_bytes x).before_postfix (codes "{") (decimal n) (codes "}")))
 in_bytes (plain.RepMin' p x m) k =
-    all_places k (in_bytes x BeforePostfix then signs (codes "{") refl then number m then signs (codes ",}") refl)
+    all_places k (grouped (in_bytes x BeforePostfix then signs (codes "{") refl then number m then signs (codes ",}") refl) (three_behind (written_bytes x).before_postfix (codes "{") (decimal m) (codes ",}")))
 in_bytes (plain.RepMax' p x n) k =
-    all_places k (in_bytes x BeforePostfix then signs (codes "{,") refl then number n then signs (codes "}") refl)
+    all_places k (grouped (in_bytes x BeforePostfix then signs (codes "{,") refl then number n then signs (codes "}") refl) (three_behind (written_bytes x).before_postfix (codes "{,") (decimal n) (codes "}")))
 in_bytes (plain.RepMinMax' p x m n) k =
-    all_places k (in_bytes x BeforePostfix then signs (codes "{") refl then number m then signs (codes ", ") refl then number n then signs (codes "}") refl)
+    all_places k (grouped (in_bytes x BeforePostfix then signs (codes "{") refl then number m then signs (codes ", ") refl then number n then signs (codes "}") refl) (five_behind (written_bytes x).before_postfix (codes "{") (decimal m) (codes ", ") (decimal n) (codes "}")))
 in_bytes (plain.Skip ss) k = all_places k (search_for ss.items)
 in_bytes (plain.Push' p x) k = all_places k (pushed (in_bytes x))
 

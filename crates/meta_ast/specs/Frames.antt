@@ -1,9 +1,8 @@
 -- How a walk takes expressions apart, and what stands round the place where it is.
-use Rattle.std.specs.Prelude.{◌≡◌, ◌⊎◌, ℕ, ◌+◌, List, [], ◌∷◌, Result, Ok, Err, alloc_error}
+use Rattle.std.specs.Prelude.{◌≡◌, ℕ, ◌+◌, ◌*◌, List, [], ◌∷◌, ◌++◌, Result}
 use Rattle.meta_base.specs.Language.Expression.{Expression}
 use Rattle.meta_base.specs.Language.Expression as e
 use Rattle.meta_base.specs.declared.runtime.faults.Fault.{Fault}
-use Rattle.meta_base.specs.declared.runtime.faults.Fault.TheVariants.{Memory}
 use Rattle.meta_ast.specs.Operands.{operands, count_of_nodes}
 use Rattle.meta_ast.specs.Maps.{Progress, Becomes, TopDown, BottomUp}
 use Rattle.meta_ast.specs.declared.walks.Joint.{Joint}
@@ -52,6 +51,26 @@ module _ {E S : Type 0} (says : E → Expression) (stands_for : S → Unary) whe
   IsOpened whole (node.One s x) = whole ≡ around (stands_for s) (says x)
   IsOpened whole (node.Two j x y) = whole ≡ joined j (says x) (says y)
 
+  -- what is to be met next of an expression; what stands round it is behind the frames `ks`
+  pub data Opens (whole : Expression) (ks : List (Frame E S)) : Onward E → List (Frame E S) → Type 0 where
+    leaf : {x : E} {ls : List (Frame E S)}
+        → says x ≡ whole → operands whole ≡ [] → ls ≡ ks → Opens whole ks (onward.Done x) ls
+    one : (s : S) {x : E} {ls : List (Frame E S)}
+        → whole ≡ around (stands_for s) (says x) → ls ≡ ks ++ (frame.Around s ∷ [])
+        → Opens whole ks (onward.Next x) ls
+    two : (j : Joint) {x : E} (y : E) {ls : List (Frame E S)}
+        → whole ≡ joined j (says x) (says y) → ls ≡ ks ++ (frame.Before j y ∷ [])
+        → Opens whole ks (onward.Next x) ls
+
+  -- what becomes of the frame behind the frames `ks`, once `d` is done in it
+  pub data Closes (ks : List (Frame E S)) (d : E) : Frame E S → Onward E → List (Frame E S) → Type 0 where
+    enclosed : {s : S} {x : E} {ls : List (Frame E S)}
+        → says x ≡ around (stands_for s) (says d) → ls ≡ ks → Closes ks d (frame.Around s) (onward.Done x) ls
+    put_together : {j : Joint} {a x : E} {ls : List (Frame E S)}
+        → says x ≡ joined j (says a) (says d) → ls ≡ ks → Closes ks d (frame.After j a) (onward.Done x) ls
+    turned : {j : Joint} {x : E} {ls : List (Frame E S)}
+        → ls ≡ ks ++ (frame.After j d ∷ []) → Closes ks d (frame.Before j x) (onward.Next x) ls
+
   module _ {F : Type 0} (step : F → E → Result E Fault → F → Type 0) where
     -- with `d` in its place a frame becomes `w`, while the calls lead from `s` to `t`: node before operands
     abbrev pub ClosesTopDown : Frame E S → Progress F → Expression → Expression → Progress F → Type 0
@@ -75,53 +94,31 @@ module _ {K C : Type 0} (closes : K → C → Expression → Expression → C �
   AllClose [] s d w t = (w ≡ d) × (t ≡ s)
   AllClose (k ∷ ks) s d w t = (m : Expression) × (r : C) × AllClose ks s d m r × closes k r m w t
 
-  module _ {E : Type 0} (says : E → Expression) (maps : C → Expression → Expression → C → Type 0) where
-    -- what is left of a walk becomes `w`, while the calls lead from `s` to `t`
-    abbrev pub Ends : Onward E → List K → C → Expression → C → Type 0
-    Ends (onward.Next x) ks s w t = (d : Expression) × (r : C) × maps s (says x) d r × AllClose ks r d w t
-    Ends (onward.Whole x) ks s w t = (w ≡ says x) × (t ≡ s)
-
 -- `says x`: the expression that a value x of code says
 module _ {E : Type 0} (says : E → Expression) where
-  -- how many nodes the right sides have that are still to be met
-  abbrev pub nodes_aside : {S : Type 0} → List (Frame E S) → ℕ
-  nodes_aside [] = 0
-  nodes_aside (frame.Around s ∷ fs) = nodes_aside fs
-  nodes_aside (frame.Before j x ∷ fs) = count_of_nodes (says x) + nodes_aside fs
-  nodes_aside (frame.After j x ∷ fs) = nodes_aside fs
+  -- how much there is to be done with the frames of a list
+  abbrev pub work_aside : {S : Type 0} → List (Frame E S) → ℕ
+  work_aside [] = 0
+  work_aside (frame.Around s ∷ fs) = 1 + work_aside fs
+  work_aside (frame.Before j x ∷ fs) = 3 * count_of_nodes (says x) + 2 + work_aside fs
+  work_aside (frame.After j x ∷ fs) = 1 + work_aside fs
 
-  abbrev pub nodes_to_meet : {S : Type 0} → Onward E → List (Frame E S) → ℕ
-  nodes_to_meet (onward.Next x) fs = count_of_nodes (says x) + nodes_aside fs
-  nodes_to_meet (onward.Whole x) fs = 0
+  -- how much there is to be done at all
+  abbrev pub work_left : {S : Type 0} → Onward E → List (Frame E S) → ℕ
+  work_left (onward.Next x) fs = 3 * count_of_nodes (says x) + work_aside fs
+  work_left (onward.Done x) fs = work_aside fs
 
 module _ {E S F : Type 0} (says : E → Expression) (stands_for : S → Unary)
     (step : F → E → Result E Fault → F → Type 0) where
   -- what is left of a map becomes `w`, while the calls lead from `s` to `t`: node before operands
   abbrev pub EndsTopDown : Onward E → List (Frame E S) → Progress F → Expression → Progress F → Type 0
-  EndsTopDown next ks s w t =
-      Ends (ClosesTopDown says stands_for step) says (TopDown says step) next ks s w t
+  EndsTopDown (onward.Next x) ks s w t = (d : Expression) × (r : Progress F)
+      × TopDown says step s (says x) d r × AllClose (ClosesTopDown says stands_for step) ks r d w t
+  EndsTopDown (onward.Done x) ks s w t = AllClose (ClosesTopDown says stands_for step) ks s (says x) w t
 
-  -- whatever it becomes from the second of two places, it becomes from the first
-  abbrev pub LeadsTopDown : Onward E → List (Frame E S) → F → Onward E → List (Frame E S) → F → Type 0
-  LeadsTopDown x ks f y ls g = (w : Expression) (t : Progress F)
-      → EndsTopDown y ls (Ok g) w t → EndsTopDown x ks (Ok f) w t
-
-  -- memory is wanting, or the calls come to a fault
-  abbrev pub StopsTopDown : Onward E → List (Frame E S) → F → Fault → Type 0
-  StopsTopDown x ks f fault =
-      (fault ≡ Memory alloc_error) ⊎ ((w : Expression) × EndsTopDown x ks (Ok f) w (Err fault))
-
-  -- the same, operands before node
+  -- the same, operands before node: at what is done a call is still to come
   abbrev pub EndsBottomUp : Onward E → List (Frame E S) → Progress F → Expression → Progress F → Type 0
-  EndsBottomUp next ks s w t =
-      Ends (ClosesBottomUp says stands_for step) says (BottomUp says step) next ks s w t
-
-  -- whatever it becomes from the second of two places, it becomes from the first
-  abbrev pub LeadsBottomUp : Onward E → List (Frame E S) → F → Onward E → List (Frame E S) → F → Type 0
-  LeadsBottomUp x ks f y ls g = (w : Expression) (t : Progress F)
-      → EndsBottomUp y ls (Ok g) w t → EndsBottomUp x ks (Ok f) w t
-
-  -- memory is wanting, or the calls come to a fault
-  abbrev pub StopsBottomUp : Onward E → List (Frame E S) → F → Fault → Type 0
-  StopsBottomUp x ks f fault =
-      (fault ≡ Memory alloc_error) ⊎ ((w : Expression) × EndsBottomUp x ks (Ok f) w (Err fault))
+  EndsBottomUp (onward.Next x) ks s w t = (d : Expression) × (r : Progress F)
+      × BottomUp says step s (says x) d r × AllClose (ClosesBottomUp says stands_for step) ks r d w t
+  EndsBottomUp (onward.Done x) ks s w t = (d : Expression) × (r : Progress F)
+      × Becomes says step s (says x) d r × AllClose (ClosesBottomUp says stands_for step) ks r d w t

@@ -17,8 +17,8 @@ with_operand around.Push x = e.Push x
 with_operand around.RestoreOnErr x = e.RestoreOnErr x
 with_operand (around.FirstOfSeq right) x = e.Seq x (optimized_expression_of right.now)
 with_operand (around.FirstOfChoice right) x = e.Choice x (optimized_expression_of right.now)
-with_operand (around.SecondOfSeq left) x = e.Seq (optimized_expression_of left) x
-with_operand (around.SecondOfChoice left) x = e.Choice (optimized_expression_of left) x
+with_operand (around.SecondOfSeq left) x = e.Seq (optimized_expression_of left.value) x
+with_operand (around.SecondOfChoice left) x = e.Choice (optimized_expression_of left.value) x
 
 -- how much there is to be done once the operand is made
 abbrev pub waits_of : Around → ℕ

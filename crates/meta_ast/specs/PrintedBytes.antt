@@ -7,6 +7,8 @@ use Rattle.std.specs.Fmt.{decimal, signed_decimal}
 use Rattle.meta_base.specs.Language.Text.{Text}
 use Rattle.meta_ast.specs.Ast.{text_of}
 use Rattle.meta_ast.specs.Printing.{literal, bound_literal, slice_end}
+use Rattle.meta_ast.specs.declared.printing.Counts.{Counts}
+use Rattle.meta_ast.specs.declared.printing.Counts.TheVariants as counts
 use Rattle.meta_ast.specs.declared.ast.Expr as plain
 use Rattle.meta_ast.specs.declared.optimized.OptimizedExpr as optimized
 
@@ -72,6 +74,13 @@ choice_bytes x y =
 abbrev pub postfix_bytes : ByPlace → List ℕ → ByPlace
 postfix_bytes x sign = everywhere (x.before_postfix ++ sign)
 
+-- how often something is repeated
+abbrev pub counts_bytes : Counts → List ℕ
+counts_bytes (counts.Exactly n) = codes "{" ++ decimal n ++ codes "}"
+counts_bytes (counts.AtLeast m) = codes "{" ++ decimal m ++ codes ",}"
+counts_bytes (counts.AtMost n) = codes "{," ++ decimal n ++ codes "}"
+counts_bytes (counts.Between m n) = codes "{" ++ decimal m ++ codes ", " ++ decimal n ++ codes "}"
+
 -- what a wrapper holds
 abbrev pub wrapper_bytes : ByPlace → ByPlace
 wrapper_bytes x =
@@ -91,15 +100,10 @@ written_bytes (plain.Choice' p x q y) = choice_bytes (written_bytes x) (written_
 written_bytes (plain.Opt' p x) = postfix_bytes (written_bytes x) (codes "?")
 written_bytes (plain.Rep' p x) = postfix_bytes (written_bytes x) (codes "*")
 written_bytes (plain.RepOnce' p x) = postfix_bytes (written_bytes x) (codes "+")
-written_bytes (plain.RepExact' p x n) =
-    everywhere ((written_bytes x).before_postfix ++ codes "{" ++ decimal n ++ codes "}")
-written_bytes (plain.RepMin' p x m) =
-    everywhere ((written_bytes x).before_postfix ++ codes "{" ++ decimal m ++ codes ",}")
-written_bytes (plain.RepMax' p x n) =
-    everywhere ((written_bytes x).before_postfix ++ codes "{," ++ decimal n ++ codes "}")
-written_bytes (plain.RepMinMax' p x m n) =
-    everywhere ((written_bytes x).before_postfix
-    ++ codes "{" ++ decimal m ++ codes ", " ++ decimal n ++ codes "}")
+written_bytes (plain.RepExact' p x n) = postfix_bytes (written_bytes x) (counts_bytes (counts.Exactly n))
+written_bytes (plain.RepMin' p x m) = postfix_bytes (written_bytes x) (counts_bytes (counts.AtLeast m))
+written_bytes (plain.RepMax' p x n) = postfix_bytes (written_bytes x) (counts_bytes (counts.AtMost n))
+written_bytes (plain.RepMinMax' p x m n) = postfix_bytes (written_bytes x) (counts_bytes (counts.Between m n))
 written_bytes (plain.Skip ss) = everywhere (skip_bytes ss.items)
 written_bytes (plain.Push' p x) = everywhere (codes "PUSH(" ++ (written_bytes x).alone ++ codes ")")
 

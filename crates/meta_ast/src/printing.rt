@@ -1,9 +1,9 @@
 //! Texts as literals, and what expressions without parts print.
-ghost use Rattle.std.specs.Prelude.{◌<◌, encode_utf8_all, replicate};
+ghost use Rattle.std.specs.Prelude.{◌<◌, ◌++◌, codes, encode_utf8_all, replicate};
 ghost use Rattle.std.specs.Fmt.{WritesOnOk};
 ghost use Rattle.std.specs.Str.{chars};
 ghost use Rattle.meta_ast.specs.Printing.{bound_literal, escaped, literal, numbered};
-ghost use Rattle.meta_ast.specs.PrintedBytes.{alternatives_bytes, range_bytes, skip_bytes, slice_bytes};
+ghost use Rattle.meta_ast.specs.PrintedBytes.{alternatives_bytes, counts_bytes, range_bytes, skip_bytes, slice_bytes};
 
 use std::fmt;
 
@@ -50,6 +50,36 @@ fn fmt_numbered<W: fmt::Write>(f: &mut fmt::Formatter<W>, c: char) -> fmt::Resul
     ensures { WritesOnOk W.write_str_gives f.old result (encode_utf8_all (numbered c)) f.new }
 {
     write!(f, "\\u{{{:02x}}}", u32::from(c))
+}
+
+// Writes a text that is matched up to the case of its letters: `^"a"`.
+pub(crate) fn fmt_insensitive<W: fmt::Write>(f: &mut fmt::Formatter<W>, text: &str) -> fmt::Result
+    ensures { WritesOnOk W.write_str_gives f.old result
+        (codes "^" ++ encode_utf8_all (literal 34 (chars text.now))) f.new }
+{
+    f.write_str("^")?;
+    fmt_literal(f, text, '"')
+}
+
+/// How often something is repeated.
+#[derive(Clone, Copy)]
+pub(crate) enum Counts {
+    Exactly(u32),
+    AtLeast(u32),
+    AtMost(u32),
+    Between(u32, u32),
+}
+
+// Writes how often something is repeated: `{2}`, `{2,}`, `{,2}` or `{2, 3}`.
+pub(crate) fn fmt_counts<W: fmt::Write>(f: &mut fmt::Formatter<W>, counts: Counts) -> fmt::Result
+    ensures { WritesOnOk W.write_str_gives f.old result (counts_bytes counts) f.new }
+{
+    match counts {
+        Counts::Exactly(count) => write!(f, "{{{count}}}"),
+        Counts::AtLeast(least) => write!(f, "{{{least},}}"),
+        Counts::AtMost(greatest) => write!(f, "{{,{greatest}}}"),
+        Counts::Between(least, greatest) => write!(f, "{{{least}, {greatest}}}"),
+    }
 }
 
 // Writes so many opening parentheses.

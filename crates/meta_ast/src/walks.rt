@@ -4,10 +4,11 @@
 //! A map keeps the frames round the place where it is on a list of its own, so no nesting of an expression
 //! takes depth.
 mod bottom_up;
+mod frames;
 mod preorder;
 mod top_down;
 
-ghost use Rattle.std.specs.Prelude.{◌≡◌, ◌++◌, ◌∷◌, [], alloc_error, IfErr, IfOk, OnOk};
+ghost use Rattle.std.specs.Prelude.{◌≡◌, alloc_error, IfErr, IfOk};
 ghost use Rattle.meta_base.specs.Language.Expression.{Expression};
 ghost use Rattle.meta_ast.specs.Frames.{Unary, around, joined, IsOpened};
 
@@ -48,8 +49,8 @@ pub(crate) enum Frame<E, S> {
 pub(crate) enum Onward<E> {
     /// This is to be met next.
     Next(E),
-    /// All is met, and this is the whole.
-    Whole(E),
+    /// All that stands in this is met.
+    Done(E),
 }
 
 /// Expressions that can be taken apart and put together again.
@@ -78,17 +79,6 @@ pub(crate) trait Tree: Drop {
     /// The same expression again.
     fn copy(&self) -> Result<Self, AllocError>
         ensures { IfOk result (λ copy. says copy ≡ says self.now) };
-}
-
-// Puts a frame behind the others.
-fn keep<E: Drop, S: Drop>(frames: &mut Vec<Frame<E, S>>, frame: Frame<E, S>) -> Result<(), Fault>
-    ensures kept { OnOk result (frames.new.items ≡ frames.old.items ++ (frame ∷ [])) }
-    ensures memory { IfErr result (λ fault. fault ≡ Fault.Memory alloc_error) }
-{
-    match frames.push(frame) {
-        Ok(()) => Ok(()),
-        Err(refused) => Err(Fault::Memory(refused.into())),
-    }
 }
 
 /// An operand in a box of its own.

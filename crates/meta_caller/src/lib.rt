@@ -1,10 +1,13 @@
-//! What a program does with the front end, as CALLING.md tells it: two callers, each proved.
+//! What a program does with the front end, as CALLING.md tells it: two callers, each proved; and callers of
+//! the maps of expressions.
 #![tactic(auto)]
 
 ghost use Rattle.std.specs.Prelude.{◌≡◌, IfOk, map};
 ghost use Rattle.meta_caller.specs.NamedPlaces.{AreNamedPlaces, named_place, named_place_of};
 ghost use Rattle.meta_nodes.specs.Nodes.{rule_views};
 ghost use Rattle.pest_meta.specs.Spelling.{IsAnswer};
+
+pub mod mapped;
 
 use pest_meta::optimizer::OptimizedRule;
 use pest_meta::parser::{ParserRule, Rule, consume_rules_with_spans, parse};

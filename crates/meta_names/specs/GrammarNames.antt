@@ -72,6 +72,6 @@ abbrev pub AreWrittenAt : List Span → List (Bor (List ℕ)) → Type 0
 AreWrittenAt places texts = map (λ t. t.now) texts ≡ map written places
 
 -- want of memory, or just what there is to say, which is something
-abbrev pub IsRefusal : List Complaint → Fault → Type 0
-IsRefusal complaints (fault_is.Memory e) = ⊤
-IsRefusal complaints (fault_is.Grammar errors) = (complaints ≢ []) × Tell complaints errors.items
+abbrev pub IsNameRefusal : List Complaint → Fault → Type 0
+IsNameRefusal complaints (fault_is.Memory e) = ⊤
+IsNameRefusal complaints (fault_is.Grammar errors) = (complaints ≢ []) × Tell complaints errors.items

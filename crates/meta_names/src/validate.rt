@@ -1,7 +1,7 @@
 //! The names of a whole grammar.
 ghost use Rattle.std.specs.Prelude.{[], ◌≡◌, IfErr, IfOk, OnOk, alloc_error, map};
 ghost use Rattle.meta_base.specs.Pieces.Saying.{Tell, piece_of};
-ghost use Rattle.meta_names.specs.GrammarNames.{AreWrittenAt, IsRefusal, complaints_of, first_calls, first_calls_of, name_complaints};
+ghost use Rattle.meta_names.specs.GrammarNames.{AreWrittenAt, IsNameRefusal, complaints_of, first_calls, first_calls_of, name_complaints};
 
 use crate::found;
 use crate::keywords::{validate_already_defined, validate_pest_keywords};
@@ -24,7 +24,7 @@ use std::alloc::{AllocError, Global};
 pub fn validate_pairs<'i>(alloc: Global, pairs: Pairs<'i, Rule>) -> Result<Vec<&'i str>, Fault>
     ensures no_complaints { OnOk result (complaints_of pairs.entry ≡ []) }
     ensures builtins { IfOk result (λ names. AreWrittenAt (first_calls_of pairs.entry) names.items) }
-    ensures refused { IfErr result (IsRefusal (complaints_of pairs.entry)) }
+    ensures refused { IfErr result (IsNameRefusal (complaints_of pairs.entry)) }
 {
     let text = pairs.get_input();
     let trees = pairs.trees();

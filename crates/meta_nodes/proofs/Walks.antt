@@ -1,6 +1,5 @@
 -- Walks over nodes: what waits on a stack, and the answers of one more call.
 use Rattle.std.proofs.Common.{◌≡◌, suc, ◌≤◌, List, [], ◌∷◌, ◌++◌, Option, Some, None, map, option_to_list, Bor, length, refl, sym, ap, ◌∙◌, append_assoc, append-nil, arith, subst, cond, Result, Ok, Err, is_ok, OnOk}
-use Rattle.std.proofs.lemmas.Bool.{false≢true}
 use Rattle.std.specs.List.{filter_map, cons_option}
 use Rattle.std.specs.Option.{option_map}
 use Rattle.meta_nodes.specs.Nodes.{view}
@@ -55,8 +54,3 @@ module _ {F T : Type 0} (step : F → ParserNode → Option T → F → Type 0) 
   answered_as see read each [] f last answers h = ap (map see) h.1
   answered_as see read each (x ∷ xs) f last answers (r, g, others, at, rest, e) =
       rw e (seen see r others (read x) (filter_map read xs) (each f g at.node r at.called ∙ ap read at.reads) (answered_as see read each xs g last others rest))
-
--- what holds where a call succeeds holds where its answer, with another error, is a success
-pub held_where_ok : {X E D P : Type 0} (r : Result X E) (q : Result X D) (x : X) → is_ok q ≡ is_ok r → q ≡ Ok x → OnOk r P → P
-held_where_ok (Ok y) q x o e h = h
-held_where_ok (Err d) q x o e h = absurd (false≢true (sym o ∙ ap is_ok e))

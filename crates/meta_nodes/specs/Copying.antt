@@ -22,8 +22,8 @@ with_operand (around.RepMinMax s m n) x = One (piece_of s) (spanned.RepMinMax m 
 with_operand (around.Push s) x = One (piece_of s) spanned.Push x
 with_operand (around.FirstOfSeq s right) x = Two (piece_of s) spanned.Seq x (view right.now)
 with_operand (around.FirstOfChoice s right) x = Two (piece_of s) spanned.Choice x (view right.now)
-with_operand (around.SecondOfSeq s left) x = Two (piece_of s) spanned.Seq (view left) x
-with_operand (around.SecondOfChoice s left) x = Two (piece_of s) spanned.Choice (view left) x
+with_operand (around.SecondOfSeq s left) x = Two (piece_of s) spanned.Seq (view left.value) x
+with_operand (around.SecondOfChoice s left) x = Two (piece_of s) spanned.Choice (view left.value) x
 
 -- how much there is to be done once the operand is made
 abbrev pub waits_of : Around → ℕ

@@ -23,8 +23,8 @@ with_operand (around.RepMinMax m n) x = e.RepMinMax x m n
 with_operand around.Push x = e.Push x
 with_operand (around.FirstOfSeq right) x = e.Seq x (without_spans (view right))
 with_operand (around.FirstOfChoice right) x = e.Choice x (without_spans (view right))
-with_operand (around.SecondOfSeq left) x = e.Seq (expression_of left) x
-with_operand (around.SecondOfChoice left) x = e.Choice (expression_of left) x
+with_operand (around.SecondOfSeq left) x = e.Seq (expression_of left.value) x
+with_operand (around.SecondOfChoice left) x = e.Choice (expression_of left.value) x
 
 -- how much there is to be done once the operand is made
 abbrev pub waits_of : Around → ℕ

@@ -60,9 +60,9 @@ enum Around<'n, 'i> {
     /// The same of a `|`.
     FirstOfChoice(Span<'i>, &'n ParserNode<'i>),
     /// A `~` whose right side is copied, and the copy of the left one.
-    SecondOfSeq(Span<'i>, ParserNode<'i>),
+    SecondOfSeq(Span<'i>, Box<ParserNode<'i>>),
     /// The same of a `|`.
-    SecondOfChoice(Span<'i>, ParserNode<'i>),
+    SecondOfChoice(Span<'i>, Box<ParserNode<'i>>),
 }
 
 impl<'n, 'i> Rebuild for Around<'n, 'i> {
@@ -112,36 +112,21 @@ impl<'n, 'i> Rebuild for Around<'n, 'i> {
                 expr: E::PeekSlice(*start, *end),
                 span,
             })),
-            E::PosPred(inner) => Ok(Step::Inside(Around::PosPred(span), inner.as_ref())),
-            E::NegPred(inner) => Ok(Step::Inside(Around::NegPred(span), inner.as_ref())),
-            E::Opt(inner) => Ok(Step::Inside(Around::Opt(span), inner.as_ref())),
-            E::Rep(inner) => Ok(Step::Inside(Around::Rep(span), inner.as_ref())),
-            E::RepOnce(inner) => Ok(Step::Inside(Around::RepOnce(span), inner.as_ref())),
-            E::RepExact(inner, count) => Ok(Step::Inside(
-                Around::RepExact(span, *count),
-                inner.as_ref(),
-            )),
-            E::RepMin(inner, least) => Ok(Step::Inside(
-                Around::RepMin(span, *least),
-                inner.as_ref(),
-            )),
-            E::RepMax(inner, greatest) => Ok(Step::Inside(
-                Around::RepMax(span, *greatest),
-                inner.as_ref(),
-            )),
+            E::PosPred(inner) => Ok(Step::Inside(Around::PosPred(span), inner)),
+            E::NegPred(inner) => Ok(Step::Inside(Around::NegPred(span), inner)),
+            E::Opt(inner) => Ok(Step::Inside(Around::Opt(span), inner)),
+            E::Rep(inner) => Ok(Step::Inside(Around::Rep(span), inner)),
+            E::RepOnce(inner) => Ok(Step::Inside(Around::RepOnce(span), inner)),
+            E::RepExact(inner, count) => Ok(Step::Inside(Around::RepExact(span, *count), inner)),
+            E::RepMin(inner, least) => Ok(Step::Inside(Around::RepMin(span, *least), inner)),
+            E::RepMax(inner, greatest) => Ok(Step::Inside(Around::RepMax(span, *greatest), inner)),
             E::RepMinMax(inner, least, greatest) => Ok(Step::Inside(
                 Around::RepMinMax(span, *least, *greatest),
-                inner.as_ref(),
+                inner,
             )),
-            E::Push(inner) => Ok(Step::Inside(Around::Push(span), inner.as_ref())),
-            E::Seq(left, right) => Ok(Step::Inside(
-                Around::FirstOfSeq(span, right.as_ref()),
-                left.as_ref(),
-            )),
-            E::Choice(left, right) => Ok(Step::Inside(
-                Around::FirstOfChoice(span, right.as_ref()),
-                left.as_ref(),
-            )),
+            E::Push(inner) => Ok(Step::Inside(Around::Push(span), inner)),
+            E::Seq(left, right) => Ok(Step::Inside(Around::FirstOfSeq(span, right), left)),
+            E::Choice(left, right) => Ok(Step::Inside(Around::FirstOfChoice(span, right), left)),
         }
     }
 
@@ -151,6 +136,7 @@ impl<'n, 'i> Rebuild for Around<'n, 'i> {
         operand: ParserNode<'i>,
     ) -> Result<Step<&'n ParserNode<'i>, Around<'n, 'i>, ParserNode<'i>>, AllocError> {
         use ParserExpr as E;
+        let operand = Box::new(alloc, operand)?;
         match self {
             Around::FirstOfSeq(span, right) => Ok(Step::Inside(
                 Around::SecondOfSeq(span, operand),
@@ -161,53 +147,61 @@ impl<'n, 'i> Rebuild for Around<'n, 'i> {
                 right,
             )),
             Around::PosPred(span) => Ok(Step::Made(ParserNode {
-                expr: E::PosPred(Box::new(alloc, operand)?),
+                expr: E::PosPred(operand),
                 span,
             })),
             Around::NegPred(span) => Ok(Step::Made(ParserNode {
-                expr: E::NegPred(Box::new(alloc, operand)?),
+                expr: E::NegPred(operand),
                 span,
             })),
             Around::Opt(span) => Ok(Step::Made(ParserNode {
-                expr: E::Opt(Box::new(alloc, operand)?),
+                expr: E::Opt(operand),
                 span,
             })),
             Around::Rep(span) => Ok(Step::Made(ParserNode {
-                expr: E::Rep(Box::new(alloc, operand)?),
+                expr: E::Rep(operand),
                 span,
             })),
             Around::RepOnce(span) => Ok(Step::Made(ParserNode {
-                expr: E::RepOnce(Box::new(alloc, operand)?),
+                expr: E::RepOnce(operand),
                 span,
             })),
-            Around::RepExact(span, count) => Ok(Step::Made(ParserNode {
-                expr: E::RepExact(Box::new(alloc, operand)?, count),
-                span,
-            })),
+            Around::RepExact(span, count) => {
+                Ok(Step::Made(ParserNode {
+                    expr: E::RepExact(operand, count),
+                    span,
+                }))
+            }
             Around::RepMin(span, least) => Ok(Step::Made(ParserNode {
-                expr: E::RepMin(Box::new(alloc, operand)?, least),
+                expr: E::RepMin(operand, least),
                 span,
             })),
-            Around::RepMax(span, greatest) => Ok(Step::Made(ParserNode {
-                expr: E::RepMax(Box::new(alloc, operand)?, greatest),
-                span,
-            })),
-            Around::RepMinMax(span, least, greatest) => Ok(Step::Made(ParserNode {
-                expr: E::RepMinMax(Box::new(alloc, operand)?, least, greatest),
-                span,
-            })),
+            Around::RepMax(span, greatest) => {
+                Ok(Step::Made(ParserNode {
+                    expr: E::RepMax(operand, greatest),
+                    span,
+                }))
+            }
+            Around::RepMinMax(span, least, greatest) => {
+                Ok(Step::Made(ParserNode {
+                    expr: E::RepMinMax(operand, least, greatest),
+                    span,
+                }))
+            }
             Around::Push(span) => Ok(Step::Made(ParserNode {
-                expr: E::Push(Box::new(alloc, operand)?),
+                expr: E::Push(operand),
                 span,
             })),
             Around::SecondOfSeq(span, left) => Ok(Step::Made(ParserNode {
-                expr: E::Seq(Box::new(alloc, left)?, Box::new(alloc, operand)?),
+                expr: E::Seq(left, operand),
                 span,
             })),
-            Around::SecondOfChoice(span, left) => Ok(Step::Made(ParserNode {
-                expr: E::Choice(Box::new(alloc, left)?, Box::new(alloc, operand)?),
-                span,
-            })),
+            Around::SecondOfChoice(span, left) => {
+                Ok(Step::Made(ParserNode {
+                    expr: E::Choice(left, operand),
+                    span,
+                }))
+            }
         }
     }
 }

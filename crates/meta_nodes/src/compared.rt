@@ -181,26 +181,26 @@ fn same(a: &ParserNode<'_>, b: &ParserNode<'_>) -> bool
 fn same_expr(a: &ParserExpr<'_>, b: &ParserExpr<'_>) -> bool
     ensures { result ≡ spanned_eq (unplaced a.now) (unplaced b.now) }
 {
+    use ParserExpr as E;
     match (a, b) {
-        (ParserExpr::Str(s), ParserExpr::Str(t)) => same_text(s, t),
-        (ParserExpr::Insens(s), ParserExpr::Insens(t)) => same_text(s, t),
-        (ParserExpr::Range(s, u), ParserExpr::Range(t, v)) => same_text(s, t) && same_text(u, v),
-        (ParserExpr::Ident(s), ParserExpr::Ident(t)) => same_text(s, t),
-        (ParserExpr::PeekSlice(i, j), ParserExpr::PeekSlice(k, l)) => i == k && j == l,
-        (ParserExpr::PosPred(x), ParserExpr::PosPred(y)) => same(x, y),
-        (ParserExpr::NegPred(x), ParserExpr::NegPred(y)) => same(x, y),
-        (ParserExpr::Seq(x, y), ParserExpr::Seq(z, w)) => same(x, z) && same(y, w),
-        (ParserExpr::Choice(x, y), ParserExpr::Choice(z, w)) => same(x, z) && same(y, w),
-        (ParserExpr::Opt(x), ParserExpr::Opt(y)) => same(x, y),
-        (ParserExpr::Rep(x), ParserExpr::Rep(y)) => same(x, y),
-        (ParserExpr::RepOnce(x), ParserExpr::RepOnce(y)) => same(x, y),
-        (ParserExpr::RepExact(x, m), ParserExpr::RepExact(y, n)) => m == n && same(x, y),
-        (ParserExpr::RepMin(x, m), ParserExpr::RepMin(y, n)) => m == n && same(x, y),
-        (ParserExpr::RepMax(x, m), ParserExpr::RepMax(y, n)) => m == n && same(x, y),
-        (ParserExpr::RepMinMax(x, k, m), ParserExpr::RepMinMax(y, l, n)) => {
-            k == l && m == n && same(x, y)
+        (E::Str(s), E::Str(t)) | (E::Insens(s), E::Insens(t)) | (E::Ident(s), E::Ident(t)) => {
+            same_text(s, t)
         }
-        (ParserExpr::Push(x), ParserExpr::Push(y)) => same(x, y),
+        (E::Range(s, u), E::Range(t, v)) => same_text(s, t) && same_text(u, v),
+        (E::PeekSlice(i, j), E::PeekSlice(k, l)) => i == k && j == l,
+        (E::PosPred(x), E::PosPred(y))
+        | (E::NegPred(x), E::NegPred(y))
+        | (E::Opt(x), E::Opt(y))
+        | (E::Rep(x), E::Rep(y))
+        | (E::RepOnce(x), E::RepOnce(y))
+        | (E::Push(x), E::Push(y)) => same(x, y),
+        (E::Seq(x, y), E::Seq(z, w)) | (E::Choice(x, y), E::Choice(z, w)) => {
+            same(x, z) && same(y, w)
+        }
+        (E::RepExact(x, m), E::RepExact(y, n))
+        | (E::RepMin(x, m), E::RepMin(y, n))
+        | (E::RepMax(x, m), E::RepMax(y, n)) => m == n && same(x, y),
+        (E::RepMinMax(x, k, m), E::RepMinMax(y, l, n)) => k == l && m == n && same(x, y),
         _ => false,
     }
 }

@@ -53,9 +53,9 @@ enum Around<'i> {
     /// The same of a `|`.
     FirstOfChoice(ParserNode<'i>),
     /// A `~` whose right side is at hand, and what the left one is without spans.
-    SecondOfSeq(Expr),
+    SecondOfSeq(Box<Expr>),
     /// The same of a `|`.
-    SecondOfChoice(Expr),
+    SecondOfChoice(Box<Expr>),
 }
 
 impl<'i> Rebuild for Around<'i> {
@@ -125,39 +125,26 @@ impl<'i> Rebuild for Around<'i> {
         alloc: Global,
         operand: Expr,
     ) -> Result<Step<ParserNode<'i>, Around<'i>, Expr>, AllocError> {
+        let operand = Box::new(alloc, operand)?;
         match self {
-            Around::PosPred => Ok(Step::Made(Expr::PosPred(Box::new(alloc, operand)?))),
-            Around::NegPred => Ok(Step::Made(Expr::NegPred(Box::new(alloc, operand)?))),
-            Around::Opt => Ok(Step::Made(Expr::Opt(Box::new(alloc, operand)?))),
-            Around::Rep => Ok(Step::Made(Expr::Rep(Box::new(alloc, operand)?))),
-            Around::RepOnce => Ok(Step::Made(Expr::RepOnce(Box::new(alloc, operand)?))),
-            Around::RepExact(count) => Ok(Step::Made(Expr::RepExact(
-                Box::new(alloc, operand)?,
-                count,
-            ))),
-            Around::RepMin(least) => Ok(Step::Made(Expr::RepMin(Box::new(alloc, operand)?, least))),
-            Around::RepMax(greatest) => Ok(Step::Made(Expr::RepMax(
-                Box::new(alloc, operand)?,
-                greatest,
-            ))),
-            Around::RepMinMax(least, greatest) => Ok(Step::Made(Expr::RepMinMax(
-                Box::new(alloc, operand)?,
-                least,
-                greatest,
-            ))),
-            Around::Push => Ok(Step::Made(Expr::Push(Box::new(alloc, operand)?))),
+            Around::PosPred => Ok(Step::Made(Expr::PosPred(operand))),
+            Around::NegPred => Ok(Step::Made(Expr::NegPred(operand))),
+            Around::Opt => Ok(Step::Made(Expr::Opt(operand))),
+            Around::Rep => Ok(Step::Made(Expr::Rep(operand))),
+            Around::RepOnce => Ok(Step::Made(Expr::RepOnce(operand))),
+            Around::RepExact(count) => Ok(Step::Made(Expr::RepExact(operand, count))),
+            Around::RepMin(least) => Ok(Step::Made(Expr::RepMin(operand, least))),
+            Around::RepMax(greatest) => Ok(Step::Made(Expr::RepMax(operand, greatest))),
+            Around::RepMinMax(least, greatest) => {
+                Ok(Step::Made(Expr::RepMinMax(operand, least, greatest)))
+            }
+            Around::Push => Ok(Step::Made(Expr::Push(operand))),
             Around::FirstOfSeq(right) => Ok(Step::Inside(Around::SecondOfSeq(operand), right)),
             Around::FirstOfChoice(right) => {
                 Ok(Step::Inside(Around::SecondOfChoice(operand), right))
             }
-            Around::SecondOfSeq(left) => {
-                let left = Box::new(alloc, left)?;
-                Ok(Step::Made(Expr::Seq(left, Box::new(alloc, operand)?)))
-            }
-            Around::SecondOfChoice(left) => {
-                let left = Box::new(alloc, left)?;
-                Ok(Step::Made(Expr::Choice(left, Box::new(alloc, operand)?)))
-            }
+            Around::SecondOfSeq(left) => Ok(Step::Made(Expr::Seq(left, operand))),
+            Around::SecondOfChoice(left) => Ok(Step::Made(Expr::Choice(left, operand))),
         }
     }
 }

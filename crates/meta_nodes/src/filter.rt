@@ -23,8 +23,10 @@ impl<'i> ParserNode<'i> {
     {
         let mut f = f;
         let mut answers = Vec::new(alloc);
-        walk(alloc, &self, &mut f, &mut answers).map_err(Fault::Memory)?;
-        Ok(answers)
+        match walk(alloc, &self, &mut f, &mut answers) {
+            Ok(()) => Ok(answers),
+            Err(refused) => Err(Fault::Memory(refused)),
+        }
     }
 }
 
@@ -50,8 +52,10 @@ where
     ensures callable { F.IsAlwaysCallable f.new }
 {
     let mut found = Vec::new(alloc);
-    walk(alloc, &node, f, &mut found).map_err(Fault::Memory)?;
-    answers.append(&mut found).map_err(Fault::Memory)
+    match walk(alloc, &node, f, &mut found) {
+        Ok(()) => answers.append(&mut found).map_err(Fault::Memory),
+        Err(refused) => Err(Fault::Memory(refused)),
+    }
 }
 
 /// Appends the answers of `f` at a node and at all below it. The only fault is a want of memory, and then

@@ -60,14 +60,17 @@ fn leaned<'i>(mut left: Box<ParserNode<'i>>, right: Box<ParserNode<'i>>) -> Pars
             let _ = Box::replace(&mut left, ParserNode { expr, span });
             sequence(first, left, span)
         }
-        E::PosPred(inner) | E::NegPred(inner) | E::Opt(inner) => sequence(inner, right, span),
-        E::Rep(inner) | E::RepOnce(inner) | E::Push(inner) => sequence(inner, right, span),
-        E::RepExact(inner, _) | E::RepMin(inner, _) | E::RepMax(inner, _) => sequence(
-            inner, right, span,
-        ),
-        E::RepMinMax(inner, _, _) => sequence(inner, right, span),
-        E::Str(_) | E::Insens(_) | E::Ident(_) => Box::into_inner(right),
-        E::Range(_, _) | E::PeekSlice(_, _) => Box::into_inner(right),
+        E::PosPred(inner)
+        | E::NegPred(inner)
+        | E::Opt(inner)
+        | E::Rep(inner)
+        | E::RepOnce(inner)
+        | E::RepExact(inner, _)
+        | E::RepMin(inner, _)
+        | E::RepMax(inner, _)
+        | E::RepMinMax(inner, _, _)
+        | E::Push(inner) => sequence(inner, right, span),
+        _ => Box::into_inner(right),
     }
 }
 

@@ -1,6 +1,6 @@
 -- The passes over each rule are passes over all rules, and a chain of steps that keeps the outcomes.
 use Rattle.std.proofs.Common.{◌≡◌, ◌∷◌, Result, Ok, Err, IfOk}
-use Rattle.meta_base.specs.Language.Expression.{Expression, RuleType, Rule, Grammar}
+use Rattle.meta_base.specs.Language.Expression.{Expression, RuleType, Grammar}
 use Rattle.meta_base.specs.Rewritings.Rewriting.{EachBody, no_rules, also_rule, IsDone, Many, Rotates, SkipsUntil, Joins, Rewrites, by_skipping, Chain, done, step}
 use Rattle.meta_base.proofs.StepsKeepOutcomes.{each_body, keeps}
 use Rattle.meta_base.proofs.PassesAreChains.{pass}
@@ -9,7 +9,7 @@ use Rattle.meta_base.specs.Rewritings.Listing.{listed}
 use Rattle.meta_base.specs.Rewritings.Wrapping.{EachRestored}
 use Rattle.meta_restorer.specs.Restoring.{AreSameErased}
 use Rattle.meta_optimizer.proofs.Wrapped.{all_bare, erased_listing}
-use Rattle.meta_optimizer.specs.Passes.{IsUnrolling, IsFactoring, IsListing, IsOptimizedBody, Passes, IsOptimized}
+use Rattle.meta_optimizer.specs.Passes.{IsUnrolling, IsFactoring, IsOptimizedBody, Passes, IsOptimized}
 
 -- one relation and then another
 pub record Then (P Q : RuleType → Expression → Expression → Type 0) (y : RuleType) (a c : Expression) : Type 0 where

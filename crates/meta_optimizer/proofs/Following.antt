@@ -1,13 +1,12 @@
 -- Along an expression whose first names are known.
-use Rattle.std.proofs.Common.{◌≡◌, ◌∙◌, refl, sym, ap, subst, ℕ, List, [], ◌∷◌, Option, Some, None, true, false, string_bytes, Global, Bool}
-use Rattle.std.specs.Str.{chars}
+use Rattle.std.proofs.Common.{◌≡◌, ◌∙◌, refl, sym, ap, subst, ℕ, List, Option, Some, None, string_bytes, Global, Bool}
 use Rattle.std.specs.HashMap.{HashMap}
 use Rattle.std.specs.declared.string.String.{String}
 use denote.Ref.{Bor}
 use Rattle.meta_base.specs.Language.Text.{Text}
 use Rattle.meta_base.specs.Language.Expression.{Expression, Choice, Grammar}
 use Rattle.meta_base.specs.Language.Expression as e
-use Rattle.meta_base.specs.Rewritings.Rewriting.{IsLeaf, literal, name, Strings}
+use Rattle.meta_base.specs.Rewritings.Rewriting.{IsLeaf, name}
 use Rattle.meta_ast.specs.Ast.{expression_of, text_of}
 use Rattle.meta_ast.specs.declared.ast.Expr.{Expr, Choice'}
 use Rattle.meta_ast.specs.declared.ast.Expr.TheVariants.{Str, Ident}

@@ -1,12 +1,12 @@
 -- A map of bodies, filled rule by rule.
-use Rattle.std.proofs.Common.{◌≡◌, refl, sym, ◌∙◌, ap, ℕ, ◌+◌, ◌<◌, cond, List, [], ◌∷◌, ◌++◌, map, take, get_or, length, Option, Some, None, Bool, true, false, if◌then◌else◌, bytes_eq, string_bytes, Global}
+use Rattle.std.proofs.Common.{◌≡◌, refl, sym, ◌∙◌, ap, ℕ, ◌+◌, ◌<◌, cond, List, [], ◌∷◌, ◌++◌, take, get_or, length, Option, Some, None, Bool, true, false, if◌then◌else◌, bytes_eq, string_bytes, Global}
 use Rattle.std.proofs.lemmas.List.{map-append, take_more}
 use Rattle.meta_ast.specs.declared.ast.Rule as code_rule
 use Rattle.std.specs.Option.{option_map}
 use Rattle.std.specs.HashMap.{HashMap, get_by_text}
 use Rattle.std.specs.declared.string.String.{String}
 use Rattle.meta_base.specs.Language.Text.{Text}
-use Rattle.meta_base.specs.Language.Expression.{Expression, Rule, Grammar, rule_of, or_else}
+use Rattle.meta_base.specs.Language.Expression.{Rule, Grammar, rule_of, or_else}
 use Rattle.meta_ast.specs.Ast.{expression_of, text_of, rule_of_code, rules_of}
 use Rattle.meta_ast.proofs.Characters.{string_eq-text_of}
 use Rattle.meta_ast.specs.declared.ast.Expr.{Expr}

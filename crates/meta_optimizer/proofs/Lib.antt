@@ -1,10 +1,12 @@
 pub mod Carried
 pub mod Mapped
+pub mod Staying
 pub mod Chains
 pub mod Operands
 pub mod Rotating
 pub mod Unrolling
 pub mod Joining
+pub mod Concatenated
 pub mod Factoring
 pub mod Listed
 pub mod Unrolled
@@ -18,3 +20,4 @@ pub mod Looking
 pub mod Telling
 pub mod Skipping
 pub mod Holding
+pub mod Turning

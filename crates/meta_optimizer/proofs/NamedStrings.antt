@@ -1,11 +1,11 @@
 -- Strings of expressions, by way of names.
-use Rattle.std.proofs.Common.{◌≡◌, refl, sym, ◌∙◌, ap, subst, ℕ, ◌≤◌, ◌<◌, List, [], ◌∷◌, ◌++◌, Option, Some, None, arith, string_bytes, Global}
+use Rattle.std.proofs.Common.{◌≡◌, refl, sym, ◌∙◌, ap, subst, ℕ, ◌≤◌, List, Option, Some, None, arith, string_bytes, Global}
 use Rattle.std.specs.Option.{option_map}
 use Rattle.std.specs.Str.{chars}
 use Rattle.std.specs.HashMap.{HashMap, get_by_text}
 use Rattle.std.specs.declared.string.String.{String}
 use Rattle.meta_base.specs.Language.Text.{Text}
-use Rattle.meta_base.specs.Language.Expression.{Expression, Str, Ident, Choice, Rule, Grammar, rule_of}
+use Rattle.meta_base.specs.Language.Expression.{Expression, Ident, Choice, Rule, Grammar, rule_of}
 use Rattle.meta_base.specs.Rewritings.Rewriting.{IsLeaf, Strings, one, named, more}
 use Rattle.meta_base.proofs.OneOutcome.{same_rule}
 use Rattle.meta_ast.specs.Ast.{expression_of, text_of}

@@ -1,5 +1,5 @@
 -- Where runs are put in at each node from the root down, none is left to put in.
-use Rattle.std.proofs.Common.{◌≡◌, ◌∙◌, refl, sym, ap, ap₂, subst, List, [], ◌∷◌, ◌++◌, map, codes, string_bytes, Global, Box, ℕ, Bool, true, false, not, Option, Some, None, Result, Ok, Err, IfOk}
+use Rattle.std.proofs.Common.{◌≡◌, ◌∙◌, refl, sym, ap, ap₂, subst, List, ◌∷◌, ◌++◌, map, codes, string_bytes, Global, Box, ℕ, Bool, true, false, not, Option, Some, None, Result, Ok, Err, IfOk}
 use Rattle.std.proofs.Math.Utf8.{encodes}
 use Rattle.std.specs.Str.{chars, bytes_eq}
 use Rattle.std.proofs.lemmas.Slice.Eq.{bytes_eq-Decides}
@@ -7,13 +7,13 @@ use Rattle.std.specs.declared.alloc.AllocError.{AllocError}
 use Rattle.std.specs.declared.string.String.{String}
 use Rattle.std.specs.declared.vec.Vec.{Vec}
 use Rattle.meta_base.specs.Language.Text.{Text}
-use Rattle.meta_base.specs.Language.Expression.{Expression, Str, Ident, NegPred, Seq, Choice, Rep, Skip, Atomic, RuleType, Rule, Grammar, Part, whole, of_pos_pred, of_neg_pred, of_seq_left, of_seq_right, of_choice_left, of_choice_right, of_opt, of_rep, of_rep_once, of_rep_exact, of_rep_min, of_rep_max, of_rep_min_max, of_push, of_restore}
-use Rattle.meta_base.specs.Rewritings.Rewriting.{Many, no_step, one_step, here, Strings, one, named, more, SkipsUntil, skip_until, Nowhere, IsDone, Rewrites, by_skipping, Chain, done, EachBody}
+use Rattle.meta_base.specs.Language.Expression.{Expression, Ident, NegPred, Seq, Choice, Rep, Skip, Atomic, Rule, Grammar, Part, whole, of_pos_pred, of_neg_pred, of_seq_left, of_seq_right, of_choice_left, of_choice_right, of_opt, of_rep, of_rep_once, of_rep_exact, of_rep_min, of_rep_max, of_rep_min_max, of_push, of_restore}
+use Rattle.meta_base.specs.Rewritings.Rewriting.{Many, no_step, one_step, here, Strings, more, SkipsUntil, skip_until, IsDone, Rewrites, by_skipping, Chain, done}
 use Rattle.meta_base.proofs.StepsKeepOutcomes.{each_body}
 use Rattle.meta_base.proofs.PassesAreChains.{pass}
 use Rattle.meta_base.proofs.Replacing as replacing
 use Rattle.meta_ast.specs.Ast.{expression_of, rule_type_of, text_of}
-use Rattle.meta_ast.specs.declared.ast.Expr.{Expr, Rep'}
+use Rattle.meta_ast.specs.declared.ast.Expr.{Expr, Rep', Seq'}
 use Rattle.meta_ast.specs.declared.ast.Expr.TheVariants as form
 use Rattle.meta_ast.proofs.Characters.{encodes-text_of}
 use Rattle.meta_ast.specs.declared.ast.RuleType as code
@@ -190,6 +190,10 @@ any_shape e c s h i = h ∙ ap (λ n. Seq (NegPred c) (Ident n)) i
 pub no_turns : (g : Grammar) (x : Expr) → ((b : Boxed) → x ≡ form.Rep b → ⊥) → (q : Expression) → SkipsUntil g Atomic (expression_of x) q → ⊥
 no_turns g (Rep' p x) n q s = n _ refl
 no_turns g _ n q s = elim s [ ]
+
+pub no_turn_inside : (g : Grammar) (x : Expr) → ((a b : Boxed) → x ≡ form.Seq a b → ⊥) → (q : Expression) → SkipsUntil g Atomic (Rep (expression_of x)) q → ⊥
+no_turn_inside g (Seq' p x r y) n q s = n _ _ refl
+no_turn_inside g _ n q s = elim s [ ]
 
 pub texts_differ : (bs cs : List ℕ) (r : Bool) → r ≡ not (bytes_eq bs cs) → r ≡ true → bs ≡ cs → ⊥
 texts_differ bs cs r h i e = let t = (bytes_eq-Decides bs cs).1 e in let j : not (bytes_eq bs cs) ≡ true = sym h ∙ i in let k : not true ≡ true = ap not (sym t) ∙ j in cc

@@ -1,7 +1,7 @@
 -- The strings of parts that are still to be told, the last part first.
 use Rattle.std.specs.declared.alloc.AllocError.{AllocError}
 use Rattle.std.specs.declared.vec.Vec.{Vec}
-use Rattle.std.proofs.Common.{Result, Ok, Err, IfOk, MatchOption, map, ◌≡◌, refl, sym, ◌∙◌, ap, subst, ℕ, zero, suc, ◌+◌, ◌-◌, ◌≤◌, ◌<◌, List, [], ◌∷◌, ◌++◌, Option, Some, None, append_assoc, arith, string_bytes, Global, Box, sub-one}
+use Rattle.std.proofs.Common.{Result, Ok, Err, IfOk, MatchOption, map, ◌≡◌, refl, sym, ◌∙◌, ap, subst, ℕ, zero, suc, ◌+◌, ◌-◌, ◌<◌, List, [], ◌∷◌, ◌++◌, Option, Some, None, append_assoc, arith, string_bytes, Global, Box, sub-one}
 use Rattle.std.proofs.lemmas.List.{append-nil}
 use Rattle.std.specs.HashMap.{HashMap, get_by_text}
 use Rattle.std.specs.declared.string.String.{String}
@@ -16,7 +16,7 @@ use Rattle.meta_ast.specs.declared.ast.Expr.{Expr, Choice'}
 use Rattle.meta_optimizer.specs.declared.strings.Part.{Part}
 use Rattle.meta_optimizer.specs.Bodies as within
 use Rattle.meta_optimizer.specs.Bodies.{HoldsBodies, StringsWithin, HasStrings, StringsOrNone}
-use Rattle.meta_optimizer.proofs.NamedStrings.{higher, found}
+use Rattle.meta_optimizer.proofs.NamedStrings.{higher}
 
 module _ (g : Grammar) where
   pub data Gives : List Part → List Text → Type 0 where

@@ -1,5 +1,5 @@
 -- Expressions and rules without wrappers.
-use Rattle.std.proofs.Common.{◌≡◌, [], ◌∷◌, refl, sym, ◌∙◌, ap, ap₂}
+use Rattle.std.proofs.Common.{◌≡◌, refl, ◌∙◌, ap, ap₂}
 use Rattle.std.specs.List.{All}
 use Rattle.std.proofs.lemmas.List.Elements.{All-nil, All-cons, All-head, All-tail, All-contains}
 use Rattle.meta_base.specs.Rewritings.Erased.{erased}

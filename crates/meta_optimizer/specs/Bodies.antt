@@ -1,5 +1,5 @@
 -- What `skip` looks up and finds.
-use Rattle.std.specs.Prelude.{◌≡◌, ℕ, ◌<◌, List, [], ◌∷◌, ◌++◌, Option, Some, None, Bool, true, false, MatchOption, map, string_bytes, ⊤}
+use Rattle.std.specs.Prelude.{◌≡◌, ℕ, ◌<◌, List, [], ◌∷◌, ◌++◌, Option, Some, None, Bool, true, false, MatchOption, map, string_bytes, ⊤, ◌⊎◌}
 use Rattle.std.specs.Option.{option_map}
 use Rattle.std.specs.Str.{chars, bytes_eq}
 use Rattle.std.specs.HashMap.{HashMap, get_by, get_by_text}
@@ -8,10 +8,11 @@ use Rattle.std.specs.declared.string.String.{String}
 use Rattle.std.specs.declared.vec.Vec.{Vec}
 use denote.Ref.{Bor}
 use Rattle.meta_base.specs.Language.Text.{Text}
-use Rattle.meta_base.specs.Language.Expression.{Expression, Str, Ident, Choice, Rep, Skip, Atomic, Rule, Grammar, rule_of}
+use Rattle.meta_base.specs.Language.Expression.{Expression, Str, Ident, NegPred, Seq, Choice, Rep, Skip, Atomic, Rule, Grammar, rule_of}
 use Rattle.meta_base.specs.Rewritings.Rewriting.{IsLeaf, SkipsUntil, Strings}
 use Rattle.meta_ast.specs.Ast.{expression_of, text_of}
 use Rattle.meta_ast.specs.declared.ast.Expr.{Expr}
+use Rattle.meta_optimizer.specs.Traversals.{AllStay}
 use Rattle.meta_optimizer.specs.declared.strings.Found.{Found}
 use Rattle.meta_optimizer.specs.declared.strings.Found.TheVariants as found
 
@@ -25,6 +26,23 @@ HoldsBodies m g = (n : String Global)
 pub data SkippedHere (g : Grammar) : Expression → Expression → Type 0 where
   skipped : {a b : Expression} → SkipsUntil g Atomic a b → SkippedHere g a b
   stays : {a : Expression} → ((q : Expression) → SkipsUntil g Atomic a q → ⊥) → SkippedHere g a a
+
+-- `(!c ~ n)*`, the only thing in place of which a run may be put
+abbrev pub IsTurn : Expression → Type 0
+IsTurn (Rep (Seq (NegPred c) (Ident n))) = ⊤
+IsTurn _ = ⊥
+
+abbrev pub HasNoTurn : Expression → Type 0
+HasNoTurn e = AllStay (λ a b. IsTurn a → ⊥) e
+
+-- none stands in an Atomic rule
+abbrev pub HaveNoTurns : Grammar → Type 0
+HaveNoTurns [] = ⊤
+HaveNoTurns (r ∷ g) = (r.type_of ≡ Atomic → HasNoTurn r.body) × HaveNoTurns g
+
+-- the map holds the bodies of the rules, or `skip` needs none of them
+abbrev pub SufficeFor : {S : Type 0} → HashMap (String Global) Expr S → Grammar → Grammar → Type 0
+SufficeFor m g rules = HoldsBodies m g ⊎ (HoldsBodies m [] × HaveNoTurns rules)
 
 -- a name whose strings an expression needs
 pub data Needs : Expression → Text → Type 0 where

@@ -1,7 +1,6 @@
 -- Which rules have readable counts.
 use Rattle.std.specs.Prelude.{⊤, ◌<◌}
-use Rattle.std.specs.List.{All}
-use Rattle.meta_base.specs.Language.Expression.{Expression, PosPred, NegPred, Seq, Choice, Opt, Rep, RepOnce, RepExact, RepMin, RepMax, RepMinMax, Push, RestoreOnErr, Rule, Grammar, Part}
+use Rattle.meta_base.specs.Language.Expression.{Expression, PosPred, NegPred, Seq, Choice, Opt, Rep, RepOnce, RepExact, RepMin, RepMax, RepMinMax, Push, RestoreOnErr, Part}
 use Rattle.meta_base.specs.Language.WellFormed.{CountIsReadable}
 
 -- nothing in it may be repeated 0 times at most

@@ -1,4 +1,5 @@
 pub mod Traversals
+pub mod Held
 pub mod Here
 pub mod Unrolled
 pub mod Counts
@@ -8,3 +9,4 @@ pub mod Skipped
 pub mod Faults
 pub mod Converting
 pub mod Listed
+pub mod Joined

@@ -1,9 +1,13 @@
 //! The bodies of rules by their names.
-ghost use Rattle.std.specs.Prelude.{IfOk};
-ghost use Rattle.meta_ast.specs.Ast.{rules_of};
-ghost use Rattle.meta_optimizer.specs.Bodies.{HoldsBodies};
+ghost use Rattle.std.specs.Prelude.{◌≡◌, IfOk};
+ghost use Rattle.std.specs.Bool.{OnTrue};
+ghost use Rattle.meta_base.specs.Language.Expression.{Atomic};
+ghost use Rattle.meta_ast.specs.Ast.{expression_of, rule_type_of, rules_of};
+ghost use Rattle.meta_optimizer.specs.Bodies.{HoldsBodies, HasNoTurn, HaveNoTurns, IsTurn, SufficeFor};
 
-use meta_ast::ast::{Expr, Rule};
+use crate::skipper::is_no_turn;
+use crate::traversal::{Pass, all_stay};
+use meta_ast::ast::{Expr, Rule, RuleType};
 use std::alloc::{AllocError, Global};
 use std::collections::HashMap;
 
@@ -21,6 +25,57 @@ pub(crate) fn bodies_of(
         bodies.insert(name, body)?;
     }
     Ok(bodies)
+}
+
+/// What `skip` looks up in these rules: their bodies; none where no Atomic rule has anything in place of which
+/// a run may be put. The only fault is a want of memory.
+pub(crate) fn bodies_for_skip(
+    alloc: Global,
+    rules: &Vec<Rule>,
+) -> Result<HashMap<String, Expr>, AllocError>
+    ensures { IfOk result
+        (λ bodies. SufficeFor bodies (rules_of rules.now.items) (rules_of rules.now.items)) }
+{
+    let are_free = are_free_of_turns(alloc, rules)?;
+    if are_free {
+        return Ok(HashMap::new(alloc));
+    }
+    bodies_of(alloc, rules)
+}
+
+// Whether there is nothing in the Atomic rules in place of which a run may be put.
+fn are_free_of_turns(alloc: Global, rules: &Vec<Rule>) -> Result<bool, AllocError>
+    ensures { IfOk result (λ yes. OnTrue yes (HaveNoTurns (rules_of rules.now.items))) }
+{
+    for rule in rules {
+        let is_free = is_free_of_turns(alloc, rule)?;
+        if !is_free {
+            return Ok(false);
+        }
+    }
+    Ok(true)
+}
+
+fn is_free_of_turns(alloc: Global, rule: &Rule) -> Result<bool, AllocError>
+    ensures { IfOk result (λ yes. OnTrue yes (rule_type_of rule.now.ty ≡ Atomic
+        → HasNoTurn (expression_of rule.now.expr))) }
+{
+    match rule.ty {
+        RuleType::Atomic => all_stay(alloc, &Turns, &rule.expr),
+        _ => Ok(true),
+    }
+}
+
+// Looks for what a run may be put in place of.
+#[derive(Drop)]
+struct Turns;
+
+impl Pass for Turns {
+    ghost gives = { λ _ a b. IsTurn a → ⊥ };
+
+    fn stays_at(&self, node: &Expr) -> bool {
+        is_no_turn(node)
+    }
 }
 
 /// Lets bodies go by a loop each, since as they were read they may be very wide.

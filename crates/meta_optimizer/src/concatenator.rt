@@ -1,14 +1,15 @@
 //! Puts literals in sequence together.
-ghost use Rattle.std.specs.Prelude.{◌≡◌, ◌++◌, IfErr, IfOk};
-ghost use Rattle.meta_base.specs.Language.Expression.{Seq};
+ghost use Rattle.std.specs.Prelude.{◌≡◌, IfErr, IfOk};
 ghost use Rattle.meta_base.specs.Rewritings.Replacing.{KeepsOutcomes, IsChained};
 ghost use Rattle.meta_base.specs.Rewritings.Rewriting.{IsDone, Joins};
 ghost use Rattle.meta_ast.specs.Ast.{text_of, expression_of, rule_of_code, rule_type_of};
 ghost use Rattle.meta_optimizer.specs.Faults.{IsMemory};
-ghost use Rattle.meta_optimizer.specs.Here.{concatenated_here, joined_here};
+ghost use Rattle.meta_optimizer.specs.Here.{joined_here};
+ghost use Rattle.meta_optimizer.specs.Traversals.{BottomUp};
 
 use crate::Fault;
-use crate::traversal::{Finish, bottom_up};
+use crate::joined::with_literals_joined;
+use crate::traversal::{Pass, all_stay};
 use meta_ast::ast::{Expr, Rule, RuleType};
 use std::alloc::{AllocError, Global};
 
@@ -25,52 +26,40 @@ pub fn concatenate(alloc: Global, rule: Rule) -> Result<Rule, Fault>
     ensures memory { IfErr result IsMemory }
 {
     let Rule { name, ty, expr } = rule;
-    match bottom_up(alloc, &Concatenator { ty }, expr) {
-        Ok(expr) => Ok(Rule { name, ty, expr }),
-        Err(error) => Err(Fault::Memory(error)),
+    match ty {
+        RuleType::Atomic => match joined(alloc, expr) {
+            Ok(expr) => Ok(Rule { name, ty, expr }),
+            Err(error) => Err(Fault::Memory(error)),
+        },
+        _ => Ok(Rule { name, ty, expr }),
     }
 }
 
 #[derive(Drop)]
-struct Concatenator {
-    ty: RuleType,
-}
+struct Concatenator;
 
-impl Finish for Concatenator {
-    ghost gives = { λ s a b. concatenated_here (rule_type_of s.ty) a ≡ b };
+impl Pass for Concatenator {
+    ghost gives = { λ _ a b. joined_here a ≡ b };
 
-    fn finish(&self, alloc: Global, expr: Expr) -> Result<Expr, AllocError> {
-        match self.ty {
-            RuleType::Atomic => match expr {
-                Expr::Seq(left, right) => joined(
-                    alloc,
-                    Box::into_inner(left),
-                    Box::into_inner(right),
-                ),
-                other => Ok(other),
+    fn stays_at(&self, node: &Expr) -> bool {
+        match node {
+            Expr::Seq(left, right) => match (&**left, &**right) {
+                (Expr::Str(_), Expr::Str(_)) | (Expr::Insens(_), Expr::Insens(_)) => false,
+                _ => true,
             },
-            _ => Ok(expr),
+            _ => true,
         }
     }
 }
 
-// `left ~ right`, or one literal.
-fn joined(alloc: Global, left: Expr, right: Expr) -> Result<Expr, AllocError>
+// The expression, with literals put together.
+fn joined(alloc: Global, expr: Expr) -> Result<Expr, AllocError>
     ensures { IfOk result
-        (λ e. joined_here (Seq (expression_of left) (expression_of right)) ≡ expression_of e) }
+        (λ e. BottomUp (λ a b. joined_here a ≡ b) (expression_of expr) (expression_of e)) }
 {
-    match (left, right) {
-        (Expr::Str(first), Expr::Str(second)) => Ok(Expr::Str(appended(first, second)?)),
-        (Expr::Insens(first), Expr::Insens(second)) => Ok(Expr::Insens(appended(first, second)?)),
-        (left, right) => Ok(Expr::Seq(Box::new(alloc, left)?, Box::new(alloc, right)?)),
+    let is_done = all_stay(alloc, &Concatenator, &expr)?;
+    if is_done {
+        return Ok(expr);
     }
-}
-
-// One text and then the other.
-fn appended(first: String, second: String) -> Result<String, AllocError>
-    ensures { IfOk result (λ s. text_of s ≡ text_of first ++ text_of second) }
-{
-    let mut text = first;
-    text.push_str(&second)?;
-    Ok(text)
+    with_literals_joined(alloc, expr)
 }

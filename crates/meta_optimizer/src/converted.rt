@@ -31,10 +31,10 @@ enum Around {
     Rep,
     Push,
     // A `~` or a `|` whose left side is at hand, with the right one; and with the left one as it is made.
-    FirstOfSeq(Expr),
-    FirstOfChoice(Expr),
-    SecondOfSeq(OptimizedExpr),
-    SecondOfChoice(OptimizedExpr),
+    FirstOfSeq(Box<Expr>),
+    FirstOfChoice(Box<Expr>),
+    SecondOfSeq(Box<OptimizedExpr>),
+    SecondOfChoice(Box<OptimizedExpr>),
 }
 
 impl Rebuild for Around {
@@ -72,12 +72,10 @@ impl Rebuild for Around {
             Expr::Rep(inner) => Ok(Step::Inside(Around::Rep, Box::into_inner(inner))),
             Expr::Push(inner) => Ok(Step::Inside(Around::Push, Box::into_inner(inner))),
             Expr::Seq(left, right) => {
-                let around = Around::FirstOfSeq(Box::into_inner(right));
-                Ok(Step::Inside(around, Box::into_inner(left)))
+                Ok(Step::Inside(Around::FirstOfSeq(right), Box::into_inner(left)))
             }
             Expr::Choice(left, right) => {
-                let around = Around::FirstOfChoice(Box::into_inner(right));
-                Ok(Step::Inside(around, Box::into_inner(left)))
+                Ok(Step::Inside(Around::FirstOfChoice(right), Box::into_inner(left)))
             }
             Expr::RepOnce(_)
             | Expr::RepExact(..)
@@ -99,16 +97,16 @@ impl Rebuild for Around {
             Around::Opt => Ok(Step::Made(E::Opt(Box::new(alloc, operand)?))),
             Around::Rep => Ok(Step::Made(E::Rep(Box::new(alloc, operand)?))),
             Around::Push => Ok(Step::Made(E::Push(Box::new(alloc, operand)?))),
-            Around::FirstOfSeq(right) => Ok(Step::Inside(Around::SecondOfSeq(operand), right)),
+            Around::FirstOfSeq(right) => {
+                let left = Box::new(alloc, operand)?;
+                Ok(Step::Inside(Around::SecondOfSeq(left), Box::into_inner(right)))
+            }
             Around::FirstOfChoice(right) => {
-                Ok(Step::Inside(Around::SecondOfChoice(operand), right))
+                let left = Box::new(alloc, operand)?;
+                Ok(Step::Inside(Around::SecondOfChoice(left), Box::into_inner(right)))
             }
-            Around::SecondOfSeq(left) => {
-                let left = Box::new(alloc, left)?;
-                Ok(Step::Made(E::Seq(left, Box::new(alloc, operand)?)))
-            }
+            Around::SecondOfSeq(left) => Ok(Step::Made(E::Seq(left, Box::new(alloc, operand)?))),
             Around::SecondOfChoice(left) => {
-                let left = Box::new(alloc, left)?;
                 Ok(Step::Made(E::Choice(left, Box::new(alloc, operand)?)))
             }
         }

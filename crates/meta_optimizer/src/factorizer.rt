@@ -1,5 +1,7 @@
 //! Takes out what two alternatives have in common.
 ghost use Rattle.std.specs.Prelude.{◌≡◌, ◌≤◌, IfErr, IfOk};
+ghost use Rattle.std.specs.Bool.{OnTrue};
+ghost use Rattle.meta_base.specs.Language.Expression.{Choice};
 ghost use Rattle.meta_base.specs.Rewritings.Replacing.{KeepsOutcomes, IsChained};
 ghost use Rattle.meta_base.specs.Rewritings.Rewriting.{Many, Factors};
 ghost use Rattle.meta_ast.specs.Ast.{text_of, expression_of, rule_of_code, rule_type_of};
@@ -9,7 +11,7 @@ ghost use Rattle.meta_ast.specs.Operands.{count_of_nodes};
 ghost use Rattle.meta_optimizer.specs.Traversals.{TopDown};
 
 use crate::Fault;
-use crate::traversal::{Shrink, top_down};
+use crate::traversal::{Pass, Shrink, top_down};
 use meta_ast::ast::{Expr, Rule, RuleType};
 use std::alloc::{AllocError, Global};
 
@@ -41,14 +43,40 @@ struct Factorizer {
     ty: RuleType,
 }
 
-impl Shrink for Factorizer {
+impl Pass for Factorizer {
     ghost gives = { λ s a b. factored_here (rule_type_of s.ty) a ≡ b };
 
+    fn stays_at(&self, node: &Expr) -> bool {
+        match node {
+            Expr::Choice(left, right) => has_nothing_common(self.ty, left, right),
+            _ => true,
+        }
+    }
+}
+
+impl Shrink for Factorizer {
     fn shrink(&self, alloc: Global, expr: Expr) -> Result<Expr, AllocError> {
         match expr {
             Expr::Choice(left, right) => factored(alloc, self.ty, left, right),
             other => Ok(other),
         }
+    }
+}
+
+// Whether `left | right` stays.
+fn has_nothing_common(ty: RuleType, left: &Expr, right: &Expr) -> bool
+    ensures { OnTrue result
+        (factored_choice (rule_type_of ty) (expression_of left.now) (expression_of right.now)
+        ≡ Choice (expression_of left.now) (expression_of right.now)) }
+{
+    match (left, right) {
+        (Expr::Seq(front, _), Expr::Seq(other, _)) => **front != **other,
+        (Expr::Seq(front, _), single) => match ty {
+            RuleType::Atomic | RuleType::CompoundAtomic => **front != *single,
+            _ => true,
+        },
+        (single, Expr::Seq(front, _)) => *single != **front,
+        _ => true,
     }
 }
 

@@ -6,6 +6,7 @@ mod concatenator;
 mod converted;
 mod counts;
 mod factorizer;
+mod joined;
 mod lister;
 mod passes;
 mod rotator;

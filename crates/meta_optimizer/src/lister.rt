@@ -1,5 +1,7 @@
 //! Lists: `(x ~ y)* ~ x` as `x ~ (y ~ x)*`.
 ghost use Rattle.std.specs.Prelude.{◌≡◌, IfErr, IfOk};
+ghost use Rattle.std.specs.Bool.{OnTrue};
+ghost use Rattle.meta_base.specs.Language.Expression.{Seq};
 ghost use Rattle.meta_base.specs.Rewritings.Listing.{listed, listed_sequence};
 ghost use Rattle.meta_ast.specs.Ast.{text_of, expression_of, rule_type_of};
 ghost use Rattle.meta_optimizer.specs.Faults.{IsMemory};
@@ -7,7 +9,7 @@ ghost use Rattle.meta_optimizer.specs.Here.{listed_here};
 ghost use Rattle.meta_optimizer.specs.Listed.{KeepsMatches};
 
 use crate::Fault;
-use crate::traversal::{Finish, bottom_up};
+use crate::traversal::{Finish, Pass, bottom_up};
 use meta_ast::ast::{Expr, Rule};
 use std::alloc::{AllocError, Global};
 
@@ -32,9 +34,18 @@ pub fn list(alloc: Global, rule: Rule) -> Result<Rule, Fault>
 #[derive(Drop)]
 struct Lister;
 
-impl Finish for Lister {
+impl Pass for Lister {
     ghost gives = { λ _ a b. listed_here a ≡ b };
 
+    fn stays_at(&self, node: &Expr) -> bool {
+        match node {
+            Expr::Seq(left, right) => is_no_list(left, right),
+            _ => true,
+        }
+    }
+}
+
+impl Finish for Lister {
     fn finish(&self, alloc: Global, expr: Expr) -> Result<Expr, AllocError> {
         match expr {
             Expr::Seq(left, right) => sequence(
@@ -44,6 +55,21 @@ impl Finish for Lister {
             ),
             other => Ok(other),
         }
+    }
+}
+
+// Whether `left ~ right` stays.
+fn is_no_list(left: &Expr, right: &Expr) -> bool
+    ensures { OnTrue result
+        (listed_sequence (expression_of left.now) (expression_of right.now)
+        ≡ Seq (expression_of left.now) (expression_of right.now)) }
+{
+    match left {
+        Expr::Rep(inner) => match &**inner {
+            Expr::Seq(x, _) => **x != *right,
+            _ => true,
+        },
+        _ => true,
     }
 }
 

@@ -1,15 +1,15 @@
 //! All passes over all rules.
-ghost use Rattle.std.specs.Prelude.{◌≡◌, IfErr, IfOk};
-ghost use Rattle.meta_ast.specs.Ast.{text_of, expression_of, rule_type_of, rules_of};
+ghost use Rattle.std.specs.Prelude.{◌≡◌, ◌∷◌, [], IfErr, IfOk};
+ghost use Rattle.meta_ast.specs.Ast.{text_of, expression_of, rule_of_code, rule_type_of, rules_of};
 ghost use Rattle.meta_ast.specs.Optimized.{optimized_expression_of, optimized_rules_of};
 ghost use Rattle.meta_base.specs.Language.Expression.{Grammar};
 ghost use Rattle.meta_base.specs.Rewritings.Rewriting.{EachBody};
 ghost use Rattle.meta_restorer.specs.Agreeing.{AgreesLoosely, WrappersSuffice};
-ghost use Rattle.meta_optimizer.specs.Bodies.{HoldsBodies};
+ghost use Rattle.meta_optimizer.specs.Bodies.{SufficeFor};
 ghost use Rattle.meta_optimizer.specs.Faults.{IsMemory};
 ghost use Rattle.meta_optimizer.specs.Passes.{IsOptimized, IsOptimizedBody};
 
-use crate::bodies::{bodies_of, release_bodies};
+use crate::bodies::{bodies_for_skip, release_bodies};
 use crate::converted::rule_to_optimized_rule;
 use crate::{Fault, OptimizedRule, concatenate, factor, list, rotate, skip, unroll};
 use meta_ast::ast::{Expr, Rule};
@@ -30,7 +30,7 @@ pub fn optimize(alloc: Global, rules: Vec<Rule>) -> Result<Vec<OptimizedRule>, F
         → AgreesLoosely (optimized_rules_of answer.items)) }
     ensures memory { IfErr result IsMemory }
 {
-    match bodies_of(alloc, &rules) {
+    match bodies_for_skip(alloc, &rules) {
         Ok(bodies) => {
             let listing = optimized_rules(alloc, rules, &bodies);
             release_bodies(bodies);
@@ -46,7 +46,8 @@ fn optimized_rules(
     rules: Vec<Rule>,
     bodies: &HashMap<String, Expr>,
 ) -> Result<Vec<OptimizedRule>, Fault>
-    ensures rules { IfOk result (λ answer. (g : Grammar) → HoldsBodies bodies.now g
+    ensures rules { IfOk result
+        (λ answer. (g : Grammar) → SufficeFor bodies.now g (rules_of rules.items)
         → EachBody (IsOptimizedBody g) (rules_of rules.items) (optimized_rules_of answer.items)) }
     ensures memory { IfErr result IsMemory }
 {
@@ -70,7 +71,7 @@ fn optimized_rule(
     ensures name { IfOk result (λ r. text_of r.name ≡ text_of rule.name) }
     ensures ty { IfOk result (λ r. r.ty ≡ rule.ty) }
     ensures body { IfOk result
-        (λ r. (g : Grammar) → HoldsBodies bodies.now g
+        (λ r. (g : Grammar) → SufficeFor bodies.now g (rule_of_code rule ∷ [])
         → IsOptimizedBody g (rule_type_of rule.ty) (expression_of rule.expr)
         (optimized_expression_of r.expr)) }
     ensures memory { IfErr result IsMemory }

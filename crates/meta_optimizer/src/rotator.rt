@@ -9,7 +9,7 @@ ghost use Rattle.meta_optimizer.specs.Here.{Exhausted};
 ghost use Rattle.meta_ast.specs.Operands.{count_of_nodes};
 
 use crate::Fault;
-use crate::traversal::{Shrink, top_down};
+use crate::traversal::{Pass, Shrink, top_down};
 use meta_ast::ast::{Expr, Rule};
 use std::alloc::{AllocError, Global};
 
@@ -34,9 +34,25 @@ pub fn rotate(alloc: Global, rule: Rule) -> Result<Rule, Fault>
 #[derive(Drop)]
 struct Rotator;
 
-impl Shrink for Rotator {
+impl Pass for Rotator {
     ghost gives = { λ _. Exhausted Rotates };
 
+    fn stays_at(&self, node: &Expr) -> bool {
+        match node {
+            Expr::Seq(left, _) => match &**left {
+                Expr::Seq(..) => false,
+                _ => true,
+            },
+            Expr::Choice(left, _) => match &**left {
+                Expr::Choice(..) => false,
+                _ => true,
+            },
+            _ => true,
+        }
+    }
+}
+
+impl Shrink for Rotator {
     fn shrink(&self, alloc: Global, expr: Expr) -> Result<Expr, AllocError> {
         match expr {
             Expr::Seq(left, right) => sequence(alloc, left, right),

@@ -1,15 +1,16 @@
 //! Goes to the next of some texts, in place of looking for them at each character.
 ghost use Rattle.std.specs.Prelude.{◌≡◌, IfErr, IfOk};
+ghost use Rattle.std.specs.Bool.{OnTrue};
 ghost use Rattle.meta_base.specs.Language.Expression.{Grammar};
 ghost use Rattle.meta_base.specs.Rewritings.Rewriting.{IsDone, SkipsUntil};
 ghost use Rattle.meta_ast.specs.Ast.{text_of, expression_of, rule_of_code, rule_type_of};
-ghost use Rattle.meta_optimizer.specs.Bodies.{HoldsBodies, SkippedHere, TextsUntil};
+ghost use Rattle.meta_optimizer.specs.Bodies.{HoldsBodies, IsTurn, SkippedHere, TextsUntil};
 ghost use Rattle.meta_optimizer.specs.Faults.{IsMemory};
 ghost use Rattle.meta_optimizer.specs.Skipped.{IsSkipChained, SkipKeepsOutcomes};
 
 use crate::Fault;
 use crate::strings::strings_of;
-use crate::traversal::{Shrink, top_down};
+use crate::traversal::{Pass, Shrink, top_down};
 use meta_ast::ast::{Expr, Rule, RuleType};
 use std::alloc::{AllocError, Global};
 use std::collections::HashMap;
@@ -44,9 +45,15 @@ struct Skipper<'a> {
     bodies: &'a HashMap<String, Expr>,
 }
 
-impl Shrink for Skipper<'_> {
+impl Pass for Skipper<'_> {
     ghost gives = { λ s a b. (g : Grammar) → HoldsBodies s.bodies.now g → SkippedHere g a b };
 
+    fn stays_at(&self, node: &Expr) -> bool {
+        is_no_turn(node)
+    }
+}
+
+impl Shrink for Skipper<'_> {
     fn shrink(&self, alloc: Global, expr: Expr) -> Result<Expr, AllocError> {
         match expr {
             Expr::Rep(inner) => match texts_until(alloc, self.bodies, &inner)? {
@@ -58,6 +65,22 @@ impl Shrink for Skipper<'_> {
             },
             other => Ok(other),
         }
+    }
+}
+
+/// Whether an expression is anything but `(!c ~ n)*`.
+pub(crate) fn is_no_turn(expr: &Expr) -> bool
+    ensures { OnTrue result (IsTurn (expression_of expr.now) → ⊥) }
+{
+    match expr {
+        Expr::Rep(inner) => match &**inner {
+            Expr::Seq(left, _) => match &**left {
+                Expr::NegPred(_) => false,
+                _ => true,
+            },
+            _ => true,
+        },
+        _ => true,
     }
 }
 

@@ -2,21 +2,30 @@
 //!
 //! Both go by the maps of expressions, which are loops: neither width nor depth takes the machine's stack.
 ghost use Rattle.std.specs.Prelude.{◌≡◌, ◌≤◌, IfOk, Ok};
+ghost use Rattle.std.specs.Bool.{OnTrue};
 ghost use Rattle.meta_base.specs.Language.Expression.{Expression};
 ghost use Rattle.meta_ast.specs.Ast.{expression_of};
-ghost use Rattle.meta_ast.specs.Operands.{count_of_nodes};
-ghost use Rattle.meta_optimizer.specs.Traversals.{TopDown, BottomUp};
+ghost use Rattle.meta_ast.specs.Operands.{count_of_nodes, operands};
+ghost use Rattle.meta_optimizer.specs.Held.{said_of};
+ghost use Rattle.meta_optimizer.specs.Traversals.{TopDown, BottomUp, AllStay};
 
 use meta_ast::ast::Expr;
 use meta_base::runtime::Fault;
 use std::alloc::{AllocError, Global};
 
-/// What is done at a node from the root down. It makes no expression larger.
-pub(crate) trait Shrink {
+/// What is done at each node.
+pub(crate) trait Pass {
     ghost gives: { Self → Expression → Expression → Type 0 };
 
+    /// Whether nothing is done at a node.
+    fn stays_at(&self, node: &Expr) -> bool
+        ensures { OnTrue result (gives self.now (expression_of node.now) (expression_of node.now)) };
+}
+
+/// What is done at a node from the root down. It makes no expression larger.
+pub(crate) trait Shrink: Pass {
     fn shrink(&self, alloc: Global, expr: Expr) -> Result<Expr, AllocError>
-        ensures gives { IfOk result (λ e. gives self.now (expression_of expr) (expression_of e)) }
+        ensures gives { IfOk result (λ e. Self.gives self.now (expression_of expr) (expression_of e)) }
         ensures smaller { IfOk result
             (λ e. count_of_nodes (expression_of e) ≤ count_of_nodes (expression_of expr)) };
 }
@@ -25,6 +34,10 @@ pub(crate) trait Shrink {
 pub(crate) fn top_down<P: Shrink>(alloc: Global, pass: &P, expr: Expr) -> Result<Expr, AllocError>
     ensures { IfOk result (λ e. TopDown (P.gives pass.now) (expression_of expr) (expression_of e)) }
 {
+    let is_done = all_stay(alloc, pass, &expr)?;
+    if is_done {
+        return Ok(expr);
+    }
     let mapped = expr.map_top_down(alloc, |node| match pass.shrink(alloc, node) {
         Ok(answer) => Ok(answer),
         Err(error) => Err(Fault::Memory(error)),
@@ -33,22 +46,77 @@ pub(crate) fn top_down<P: Shrink>(alloc: Global, pass: &P, expr: Expr) -> Result
 }
 
 /// What is done at a node from the leaves up.
-pub(crate) trait Finish {
-    ghost gives: { Self → Expression → Expression → Type 0 };
-
+pub(crate) trait Finish: Pass {
     fn finish(&self, alloc: Global, expr: Expr) -> Result<Expr, AllocError>
-        ensures { IfOk result (λ e. gives self.now (expression_of expr) (expression_of e)) };
+        ensures { IfOk result (λ e. Self.gives self.now (expression_of expr) (expression_of e)) };
 }
 
 /// The expression with `pass` done at each node from the leaves up.
 pub(crate) fn bottom_up<P: Finish>(alloc: Global, pass: &P, expr: Expr) -> Result<Expr, AllocError>
     ensures { IfOk result (λ e. BottomUp (P.gives pass.now) (expression_of expr) (expression_of e)) }
 {
+    let is_done = all_stay(alloc, pass, &expr)?;
+    if is_done {
+        return Ok(expr);
+    }
     let mapped = expr.map_bottom_up(alloc, |node| match pass.finish(alloc, node) {
         Ok(answer) => Ok(answer),
         Err(error) => Err(Fault::Memory(error)),
     });
     only_memory(mapped)
+}
+
+/// Whether nothing is done at any node, so that no node needs to be made anew.
+pub(crate) fn all_stay<P: Pass>(alloc: Global, pass: &P, expr: &Expr) -> Result<bool, AllocError>
+    ensures { IfOk result (λ yes. OnTrue yes (AllStay (P.gives pass.now) (expression_of expr.now))) }
+{
+    let mut waiting = Vec::new(alloc);
+    waiting.push(expr)?;
+    'nodes: while let Some(node) = waiting.pop() {
+        if !pass.stays_at(node) {
+            return Ok(false);
+        }
+        match held_by(node) {
+            Held::Nothing => {}
+            Held::One(inner) => {
+                waiting.push(inner)?;
+            }
+            Held::Two(left, right) => {
+                waiting.push(right)?;
+                waiting.push(left)?;
+            }
+        }
+    }
+    Ok(true)
+}
+
+// The operands of an expression.
+#[derive(Drop)]
+enum Held<'a> {
+    Nothing,
+    One(&'a Expr),
+    Two(&'a Expr, &'a Expr),
+}
+
+fn held_by<'a>(expr: &'a Expr) -> Held<'a>
+    ensures { said_of result ≡ operands (expression_of expr.now) }
+{
+    match expr {
+        Expr::PosPred(inner) => Held::One(&**inner),
+        Expr::NegPred(inner) => Held::One(&**inner),
+        Expr::Opt(inner) => Held::One(&**inner),
+        Expr::Rep(inner) => Held::One(&**inner),
+        Expr::RepOnce(inner) => Held::One(&**inner),
+        Expr::RepExact(inner, _) => Held::One(&**inner),
+        Expr::RepMin(inner, _) => Held::One(&**inner),
+        Expr::RepMax(inner, _) => Held::One(&**inner),
+        Expr::RepMinMax(inner, _, _) => Held::One(&**inner),
+        Expr::Push(inner) => Held::One(&**inner),
+        Expr::Seq(left, right) => Held::Two(&**left, &**right),
+        Expr::Choice(left, right) => Held::Two(&**left, &**right),
+        Expr::Str(_) | Expr::Insens(_) | Expr::Ident(_) => Held::Nothing,
+        Expr::Range(_, _) | Expr::PeekSlice(_, _) | Expr::Skip(_) => Held::Nothing,
+    }
 }
 
 // What a map answers whose closure knows no fault but a want of memory.

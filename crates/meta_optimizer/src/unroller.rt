@@ -10,7 +10,7 @@ ghost use Rattle.meta_optimizer.specs.Here.{unrolled_here};
 ghost use Rattle.meta_optimizer.specs.Unrolled.{IsUnrolled};
 
 use crate::Fault;
-use crate::traversal::{Finish, bottom_up};
+use crate::traversal::{Finish, Pass, bottom_up};
 use meta_ast::ast::{Expr, Rule};
 use std::alloc::{AllocError, Global};
 
@@ -37,9 +37,19 @@ pub fn unroll(alloc: Global, rule: Rule) -> Result<Rule, Fault>
 #[derive(Drop)]
 struct Unroller;
 
-impl Finish for Unroller {
+impl Pass for Unroller {
     ghost gives = { λ _ a b. unrolled_here a ≡ b };
 
+    fn stays_at(&self, node: &Expr) -> bool {
+        match node {
+            Expr::RepOnce(_) | Expr::RepExact(..) | Expr::RepMin(..) => false,
+            Expr::RepMax(..) | Expr::RepMinMax(..) => false,
+            _ => true,
+        }
+    }
+}
+
+impl Finish for Unroller {
     fn finish(&self, alloc: Global, expr: Expr) -> Result<Expr, AllocError> {
         match expr {
             Expr::RepOnce(inner) => {

@@ -9,7 +9,7 @@ use Rattle.meta_reader.specs.Pieces.{StandIn}
 use Rattle.meta_reader.specs.Reading as reading
 use Rattle.meta_reader.specs.Reading.{Reads, AnExpression, ReadsRule, ReadsRules, Modifies, characters_between, piece}
 use Rattle.meta_base.specs.Pieces.MetaRules.{name_of}
-use Rattle.meta_syntax.specs.Shape.{Mark, IsRule, IsGrammar, IsExpression, line_doc, normal, modified, silent, atomic, compound_atomic, non_atomic, end_of_input, grammar_doc, grammar_rule}
+use Rattle.meta_syntax.specs.Shape.{Mark, IsRule, AreGrammarTrees, IsExpression, line_doc, normal, modified, silent, atomic, compound_atomic, non_atomic, end_of_input, grammar_doc, grammar_rule}
 use Rattle.meta_nodes.specs.Spanned.{Spanned, SpannedRule}
 use Rattle.meta_nodes.specs.declared.node.ParserRule.{ParserRule}
 use Rattle.meta_reader.specs.Views.{MayBeModifier, a_modifier, the_brace, TakesModifier, a_type, no_type}
@@ -112,7 +112,7 @@ comment_rule r (modified m h) e d = absurd (d (name_of-injective r rule_is.ident
 -- what is left of a text: nothing, or trees of rules
 pub data IsLeft (text : List ℕ) : Trees → Type 0 where
   none_left : IsLeft text None'
-  left : {us : Trees} → IsGrammar text us → IsLeft text us
+  left : {us : Trees} → AreGrammarTrees text us → IsLeft text us
 
 pub data ReadsLeft (text : List ℕ) : Trees → List SpannedRule → Type 0 where
   nothing : ReadsLeft text None' []
@@ -128,14 +128,14 @@ pub record RuleFirst (text : List ℕ) (us inner others : Trees) : Type 0 where
   pub definition : (r : SpannedRule) → ReadsRule text inner (Some r) → (rs : List SpannedRule)
       → ReadsLeft text others rs → ReadsLeft text us (r ∷ rs)
 
-with_comment : {text : List ℕ} {i j : ℕ} {inner us : Trees} {rs : List SpannedRule} → IsGrammar text us
+with_comment : {text : List ℕ} {i j : ℕ} {inner us : Trees} {rs : List SpannedRule} → AreGrammarTrees text us
     → ReadsRule text inner None → ReadsLeft text us rs
     → ReadsLeft text (Tree (codes "grammar_rule") i j inner us) rs
 with_comment g d nothing = elim g [ ]
 with_comment g d (rules_of e) = rules_of (reading.documented d e)
 
 with_definition : {text : List ℕ} {i j : ℕ} {inner us : Trees} {r : SpannedRule} {rs : List SpannedRule}
-    → IsGrammar text us → ReadsRule text inner (Some r) → ReadsLeft text us rs
+    → AreGrammarTrees text us → ReadsRule text inner (Some r) → ReadsLeft text us rs
     → ReadsLeft text (Tree (codes "grammar_rule") i j inner us) (r ∷ rs)
 with_definition g d nothing = elim g [ ]
 with_definition g d (rules_of e) = rules_of (reading.defined d e)
@@ -157,7 +157,7 @@ at_end : {text : List ℕ} {i j : ℕ} {rs : List SpannedRule} → ReadsLeft tex
 at_end nothing = rules_of reading.end_of_input
 at_end (rules_of d) = elim d [ ]
 
-with_doc : {text : List ℕ} {i j : ℕ} {inner us : Trees} {rs : List SpannedRule} → IsGrammar text us
+with_doc : {text : List ℕ} {i j : ℕ} {inner us : Trees} {rs : List SpannedRule} → AreGrammarTrees text us
     → ReadsLeft text us rs → ReadsLeft text (Tree (codes "grammar_doc") i j inner us) rs
 with_doc g nothing = elim g [ ]
 with_doc g (rules_of d) = rules_of (reading.grammar_doc d)
@@ -176,7 +176,7 @@ pub rule_views-push : (xs : List ParserRule) (x : ParserRule) (rs : List Spanned
 rule_views-push [] x rs = refl
 rule_views-push (y ∷ xs) x rs = ap (λ ys. rule_view y ∷ ys) (rule_views-push xs x rs)
 
-pub init_reads : {text : List ℕ} {us : Trees} {rs : List SpannedRule} → IsGrammar text us
+pub init_reads : {text : List ℕ} {us : Trees} {rs : List SpannedRule} → AreGrammarTrees text us
     → ReadsLeft text us rs → ReadsRules text us rs
 init_reads g nothing = elim g [ ]
 init_reads g (rules_of d) = d

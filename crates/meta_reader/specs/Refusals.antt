@@ -13,23 +13,23 @@ use Rattle.meta_reader.specs.Reading.{ReadsRules}
 use Rattle.meta_nodes.specs.Spanned.{SpannedRule}
 
 -- what the error of a flaw says
-abbrev pub message_of : Cause → List ℕ
-message_of PushLiteralCalled = codes "PUSH_LITERAL requires feature grammar-extras"
-message_of NoScalarValue = codes "escape is not a Unicode scalar value"
-message_of PastI32 = codes "number cannot overflow i32"
-message_of PastU32 = codes "number cannot overflow u32"
-message_of ZeroTimes = codes "cannot repeat 0 times"
+abbrev pub cause_message : Cause → List ℕ
+cause_message PushLiteralCalled = codes "PUSH_LITERAL requires feature grammar-extras"
+cause_message NoScalarValue = codes "escape is not a Unicode scalar value"
+cause_message PastI32 = codes "number cannot overflow i32"
+cause_message PastU32 = codes "number cannot overflow u32"
+cause_message ZeroTimes = codes "cannot repeat 0 times"
 
 -- the errors are one error: it says what is wrong, and stands where the flaw does
 pub record TellsOf (flaw : Flaw) (errors : List (Error Rule)) : Type 0 where
   pub error : Error Rule
   pub one : errors ≡ error ∷ []
-  pub says : SaysAt (message_of flaw.cause) flaw.span error
+  pub says : SaysAt (cause_message flaw.cause) flaw.span error
 
 -- want of memory, or one error that tells of the first flaw
-abbrev pub IsRefusal : Option Flaw → code.Fault → Type 0
-IsRefusal first (code_is.Memory e) = ⊤
-IsRefusal first (code_is.Grammar errors) = MatchOption first ⊥ (λ flaw. TellsOf flaw errors.items)
+abbrev pub IsReadRefusal : Option Flaw → code.Fault → Type 0
+IsReadRefusal first (code_is.Memory e) = ⊤
+IsReadRefusal first (code_is.Grammar errors) = MatchOption first ⊥ (λ flaw. TellsOf flaw errors.items)
 
 -- the pairs are read as these rules
 abbrev pub AreReadAs : Pairs Rule → List SpannedRule → Type 0

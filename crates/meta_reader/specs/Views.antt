@@ -12,7 +12,7 @@ use Rattle.meta_base.specs.Pieces.Span.{span_text, span_end}
 use Rattle.meta_nodes.specs.Spanned as spanned
 use Rattle.meta_reader.specs.Pieces.{StandBehind, StandIn}
 use Rattle.meta_syntax.specs.Shape.{Mark, IsChain, IsMore, IsTerm, IsModifier}
-use Rattle.meta_nodes.specs.Spanned.{Spanned, One, Unary}
+use Rattle.meta_nodes.specs.Spanned.{Spanned, Binary, Seq, Choice, One, Unary, Opt, Rep, RepOnce, RepExact, RepMin, RepMax, RepMinMax}
 use Rattle.meta_nodes.specs.Nodes.{piece_of, view, rule_view, rule_views}
 use Rattle.meta_base.specs.Pieces.NamedTrees.{named_trees_of}
 use Rattle.meta_reader.specs.Reading.{Modifies, Category, AnExpression, Alternatives, ASequence, Reads, ReadsRule, ReadsRules, Postfix, Postfixed, integer, literal}
@@ -31,6 +31,10 @@ use Rattle.meta_reader.specs.declared.parser.flaws.Cause.TheVariants as cause_is
 use Rattle.meta_reader.specs.declared.parser.flaws.Flaw.{Flaw}
 use Rattle.meta_reader.specs.declared.parser.flaws.ReadError as error
 use Rattle.meta_reader.specs.declared.parser.flaws.ReadError.TheVariants as error_is
+use Rattle.meta_reader.specs.declared.parser.operators.Times as code_times
+use Rattle.meta_reader.specs.declared.parser.reading.Infix as code_infix
+use Rattle.meta_reader.specs.declared.parser.reading.Infix.TheVariants as infix_is
+use Rattle.meta_reader.specs.declared.parser.operators.Times.TheVariants as times_is
 
 abbrev pub cause_of : code_cause.Cause → flaws.Cause
 cause_of cause_is.PushLiteralCalled = flaws.PushLiteralCalled
@@ -85,6 +89,21 @@ AnswersLiteral text i j us result =
 abbrev pub AnswersCount : {N : Type 0} → List ℕ → Text → state.Trees → (N → Unary) → Result N error.ReadError
     → Type 0
 AnswersCount text r us says result = Answers (first_flaw text us) result (λ n. Postfix text r us (says n))
+
+-- what is said of how often
+abbrev pub operator_of : code_times.Times → Unary
+operator_of times_is.AtMostOnce = Opt
+operator_of times_is.AnyTimes = Rep
+operator_of times_is.OnceOrMore = RepOnce
+operator_of (times_is.Exactly n) = RepExact n
+operator_of (times_is.AtLeast n) = RepMin n
+operator_of (times_is.AtMost n) = RepMax n
+operator_of (times_is.Between m n) = RepMinMax m n
+
+-- what an operator between two nodes makes of them
+abbrev pub binary_of : code_infix.Infix → Binary
+binary_of infix_is.Sequence = Seq
+binary_of infix_is.Choice = Choice
 
 -- the same number, or both past the greatest scalar value
 abbrev pub IsSameNumber : ℕ → ℕ → Type 0

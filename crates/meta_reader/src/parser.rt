@@ -3,9 +3,9 @@ ghost use Rattle.std.specs.Prelude.{◌≡◌, IfErr, IfOk, MatchResult, OnOk};
 ghost use Rattle.meta_base.specs.Pieces.Pairs.{pairs_text};
 ghost use Rattle.meta_base.specs.Pieces.NamedTrees.{named_trees_of};
 ghost use Rattle.meta_syntax.specs.Parses.{AreOfAGrammar, AreSpelled, ParseRefuses};
-ghost use Rattle.meta_reader.specs.Refusals.{AreReadAs, IsRefusal, first_flaw_of};
+ghost use Rattle.meta_reader.specs.Refusals.{AreReadAs, IsReadRefusal, first_flaw_of};
 ghost use Rattle.meta_reader.specs.Pieces.{StandIn};
-ghost use Rattle.meta_syntax.specs.Shape.{IsGrammar, IsRule};
+ghost use Rattle.meta_syntax.specs.Shape.{AreGrammarTrees, IsRule};
 ghost use Rattle.meta_reader.specs.Views.{AnswersRule, AnswersRules, MayBeModifier, TakesModifier};
 ghost use Rattle.meta_nodes.specs.Nodes.{rule_views, type_of};
 
@@ -65,8 +65,8 @@ fn rule<'i>(
     let (ty, rest) = modifier(assignment.others);
     let brace = leading_tree(rest);
     let body = leading_tree(brace.others);
-    let node = expression(alloc, text, body.inner)?;
     let name = String::from_str(alloc, text_of(text, first))?;
+    let node = expression(alloc, text, body.inner)?;
     let span = span_of(text, first);
     Ok(Some(ParserRule {
         name,
@@ -83,7 +83,7 @@ fn rules<'i>(
     text: &'i str,
     trees: &[TokenTree<Rule>],
 ) -> Result<Vec<ParserRule<'i>>, ReadError<'i>>
-    requires shape { IsGrammar text.now (named_trees_of trees.now) }
+    requires shape { AreGrammarTrees text.now (named_trees_of trees.now) }
     requires nested { StandIn text.now (named_trees_of trees.now) }
     ensures { AnswersRules text.entry.now (named_trees_of trees.now) result }
 {
@@ -103,10 +103,10 @@ fn rules<'i>(
 /// The pairs that the text spells for a rule of the meta-grammar, from its start on, as
 /// `PestParser::parse` answers them; those of a whole grammar are the pairs for `grammar_rules`.
 ///
-/// Places in pairs and errors count bytes. Where the rule fails, the fault holds one
-/// `ParsingError`, at the greatest position at which a rule that gives a token, or `EOI`, was called
-/// and failed, in a mode other than Atomic and in any branch; at 0 where there is none. Any other
-/// fault is a want of memory.
+/// Text may be left over, unless the rule asks for `EOI`. Places in pairs and errors count bytes.
+/// Where the rule fails, the fault holds one `ParsingError`, at the greatest position at which a rule
+/// that gives a token, or `EOI`, was called and failed, in a mode other than Atomic and in any branch;
+/// at 0 where there is none. Any other fault is a want of memory.
 pub fn parse<'i>(alloc: Global, rule: Rule, text: &'i str) -> Result<Pairs<'i, Rule>, Fault>
     ensures text { IfOk result (λ pairs. pairs_text pairs ≡ text.entry.now) }
     ensures spelled { MatchResult result (AreSpelled rule) (ParseRefuses rule text.entry.now) }
@@ -144,7 +144,7 @@ pub fn consume_rules_with_spans<'i>(
     requires { AreOfAGrammar pairs }
     ensures rules { IfOk result (λ rules. AreReadAs pairs.entry (rule_views rules.items)) }
     ensures flawless { OnOk result (first_flaw_of pairs.entry ≡ None) }
-    ensures refused { IfErr result (IsRefusal (first_flaw_of pairs.entry)) }
+    ensures refused { IfErr result (IsReadRefusal (first_flaw_of pairs.entry)) }
 {
     trees_of_a_grammar_have_their_shape();
     match rules(alloc, pairs.get_input(), pairs.trees()) {

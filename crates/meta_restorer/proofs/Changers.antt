@@ -2,7 +2,7 @@
 use Rattle.std.proofs.Common.{◌≡◌, List, [], ◌∷◌, Option, Some, None, Bool, true, false, ◌&&◌, ◌||◌, if◌then◌else◌, bytes_eq, codes, refl, sym, ◌∙◌, ap, ◌⊎◌, inl, inr}
 use Rattle.std.proofs.lemmas.Slice.Eq.{bytes_eq-Decides}
 use Rattle.meta_base.specs.Language.Text.{Text}
-use Rattle.meta_base.specs.Language.Builtins.{Builtin, One, Property, Newline, Soi, Eoi, Peek, Pop, Drop, PeekAll, PopAll, Named, builtins, property_names, is_one_of, looked_up, builtin_of}
+use Rattle.meta_base.specs.Language.Builtins.{Builtin, Property, Pop, Drop, PopAll, Named, builtins, property_names, is_one_of, looked_up, builtin_of}
 use Rattle.meta_restorer.specs.Changing.{is_changer}
 
 -- a builtin that changes the stack has its name

@@ -3,7 +3,7 @@ use Rattle.std.proofs.Common.{◌≡◌, Bool, true, false, ◌||◌, inl, inr, 
 use Rattle.std.specs.Bool.{Decides}
 use Rattle.meta_base.specs.Language.Text.{Text}
 use Rattle.meta_base.specs.Language.Expression.{Expression, Str, Insens, Range, Ident, PeekSlice, PosPred, NegPred, Seq, Choice, Opt, Rep, RepOnce, RepExact, RepMin, RepMax, RepMinMax, Skip, Push, RestoreOnErr, Grammar}
-use Rattle.meta_base.specs.Rewritings.Wrapping.{ChangesStack, changes_push, changes_pop, changes_drop, changes_rule, changes_pos_pred, changes_neg_pred, changes_seq_left, changes_seq_right, changes_left, changes_right, changes_opt, changes_rep, changes_rep_once, changes_rep_exact, changes_rep_min, changes_rep_max, changes_rep_min_max}
+use Rattle.meta_base.specs.Rewritings.Wrapping.{ChangesStack, changes_push, changes_pos_pred, changes_neg_pred, changes_seq_left, changes_seq_right, changes_left, changes_right, changes_opt, changes_rep, changes_rep_once, changes_rep_exact, changes_rep_min, changes_rep_max, changes_rep_min_max}
 use Rattle.meta_ast.specs.Ast.{text_of}
 use Rattle.meta_restorer.specs.Changing.{changes_by}
 use Rattle.meta_restorer.proofs.Changers.{either}

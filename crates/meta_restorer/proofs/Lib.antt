@@ -1,6 +1,7 @@
 pub mod Marking
 pub mod Looking
 pub mod Naming
+pub mod Noting
 pub mod Changers
 pub mod Said
 pub mod Deciding
@@ -8,4 +9,5 @@ pub mod Telling
 pub mod Holding
 pub mod Behind
 pub mod Restoring
+pub mod Quiet
 pub mod Safe

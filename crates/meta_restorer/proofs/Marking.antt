@@ -19,7 +19,7 @@ set_or_one (b ∷ bs) zero (suc j) h = inr h
 set_or_one (b ∷ bs) (suc i) zero h = inr h
 set_or_one (b ∷ bs) (suc i) (suc j) h = elim (set_or_one bs i j h) [ inl e ↦ inl (ap suc e) | inr e ↦ inr e ]
 
-pub sound_one : (cs : List Calls) (marks : List Bool) (i : ℕ) (c : Calls) → slice_get cs i ≡ Some c → shows (is_set_at marks) c ≡ true → length (set marks i true) ≡ length marks → AreSound cs marks → AreSound cs (set marks i true)
+pub sound_one : (cs : List Calls) (marks : List Bool) (i : ℕ) (c : Calls) → slice_get cs i ≡ Some c → shows marks c ≡ true → length (set marks i true) ≡ length marks → AreSound cs marks → AreSound cs (set marks i true)
 sound_one cs marks i c at f l s = record {
   alike = l ∙ s.alike;
   right = λ j h. elim (set_or_one marks i j h) [ inl e ↦ subst (λ n. Holds cs n) (sym e) (holds marks at f s.right) | inr e ↦ s.right j e ];

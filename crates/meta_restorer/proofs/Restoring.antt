@@ -1,5 +1,5 @@
 -- What the restorer makes of expressions and rules.
-use Rattle.std.proofs.Common.{◌≡◌, List, [], ◌∷◌, map, Bool, true, false, if◌then◌else◌, refl, ap, ap₂, ◌∙◌, String, Global}
+use Rattle.std.proofs.Common.{◌≡◌, List, [], ◌∷◌, Bool, true, false, if◌then◌else◌, refl, ap, ap₂, ◌∙◌, String, Global}
 use Rattle.std.specs.Bool.{Decides}
 use Rattle.std.specs.List.{All}
 use Rattle.std.proofs.lemmas.List.Elements.{All-head, All-tail}
@@ -7,14 +7,14 @@ use Rattle.meta_base.specs.Language.Text.{Text}
 use Rattle.meta_base.specs.Rewritings.Erased.{erased}
 use Rattle.meta_base.specs.Language.Expression.{Expression, Ident, PosPred, NegPred, Seq, Choice, Opt, Rep, Push, RestoreOnErr, Rule, Grammar, whole, of_pos_pred, of_neg_pred, of_seq_left, of_seq_right, of_choice_left, of_choice_right, of_opt, of_rep, of_push}
 use Rattle.meta_base.specs.Rewritings.Rewriting.{EachBody, no_rules, also_rule}
-use Rattle.meta_base.specs.Rewritings.Wrapping.{ChangesStack, Wraps, wraps, leaves, RestoresTo, restores_str, restores_insens, restores_range, restores_name, restores_slice, restores_skip, restores_pos_pred, restores_neg_pred, restores_push, restores_seq, restores_choice, restores_opt, restores_rep, EachRestored}
+use Rattle.meta_base.specs.Rewritings.Wrapping.{ChangesStack, Wraps, wraps, leaves, RestoresTo, restores_str, restores_insens, restores_range, restores_name, restores_slice, restores_skip, restores_pos_pred, restores_neg_pred, restores_push, restores_seq, restores_choice, restores_opt, restores_rep}
 use Rattle.meta_base.proofs.SomeRule.{each_rule}
 use Rattle.meta_ast.specs.Ast.{text_of}
 use Rattle.meta_ast.specs.Optimized.{optimized_expression_of, optimized_rule_of, optimized_rules_of}
 use Rattle.meta_ast.specs.declared.optimized.OptimizedExpr as code
 use Rattle.meta_ast.specs.declared.optimized.OptimizedRule.{OptimizedRule}
 use Rattle.meta_restorer.specs.Changing.{changes_by, wrapped_by, restored_by, HasNoWrappers}
-use Rattle.meta_restorer.specs.Restoring.{HaveNoWrappers, AreSameErased, restored_rule_by, restored_rules_by}
+use Rattle.meta_restorer.specs.Restoring.{HaveNoWrappers, AreSameErased, restored_rules_by}
 use Rattle.meta_restorer.proofs.Deciding.{decided}
 use Rattle.meta_restorer.proofs.Said.{IsSaid, said, restored_said}
 

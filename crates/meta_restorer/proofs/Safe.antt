@@ -1,15 +1,15 @@
 -- Wrappers stand where a failure may have lost an entry.
-use Rattle.std.proofs.Common.{◌≡◌, ℕ, min, ◌-◌, [], Bool, true, false, if◌then◌else◌, bytes_eq, codes, Option, Some, None, refl, sym, ap, subst}
+use Rattle.std.proofs.Common.{◌≡◌, ℕ, min, ◌-◌, [], Bool, true, false, if◌then◌else◌, bytes_eq, codes, Option, Some, None, refl, subst}
 use Rattle.meta_base.specs.Language.Text.{Text}
-use Rattle.meta_base.specs.Language.Expression.{Expression, Str, Ident, Push, Seq, Choice, Opt, Rep, RepExact, RepMinMax, RestoreOnErr, Rule, Grammar, rule_of, or_else, whitespace, comment, Part, whole, of_pos_pred, of_neg_pred, of_seq_left, of_seq_right, of_choice_left, of_choice_right, of_opt, of_rep, of_rep_exact, of_rep_min_max, of_push, of_restore}
-use Rattle.meta_base.specs.Language.Builtins.{Pop, PopAll, builtin_of, builtins, property_names, general_categories, binary_properties, scripts}
+use Rattle.meta_base.specs.Language.Expression.{Expression, Str, Ident, Seq, Opt, Rule, Grammar, rule_of, or_else, whitespace, comment, Part, whole, of_pos_pred, of_neg_pred, of_seq_left, of_seq_right, of_choice_left, of_choice_right, of_opt, of_rep, of_rep_exact, of_rep_min_max, of_push, of_restore}
+use Rattle.meta_base.specs.Language.Builtins.{builtin_of, builtins, property_names, general_categories, binary_properties, scripts}
 use Rattle.meta_base.specs.Language.Meaning.{exactly, from_to}
 use Rattle.meta_base.specs.Rewritings.Rewriting.{EachBody, no_rules, also_rule}
 use Rattle.meta_base.specs.Language.WellFormed.{InRules, IsSkipped, is_whitespace, is_comment, Reaches, itself, onward}
 use Rattle.meta_base.specs.Language.LooseMeaning.{Pops, pops, pops_all, pops_rule, pops_left, pops_right, pops_push, pops_rep_exact, pops_rep_min_max, Safe, wrapped, keeps, SafeHere, IsSafe, Restored}
-use Rattle.meta_base.specs.Rewritings.Wrapping.{ChangesStack, changes_push, changes_pop, changes_drop, changes_rule, changes_pos_pred, changes_neg_pred, changes_seq_left, changes_seq_right, changes_left, changes_right, changes_opt, changes_rep, changes_rep_exact, changes_rep_min_max, Wraps, wraps, leaves, RestoresTo, restores_str, restores_insens, restores_range, restores_name, restores_slice, restores_skip, restores_pos_pred, restores_neg_pred, restores_push, restores_seq, restores_choice, restores_opt, restores_rep, EachRestored}
+use Rattle.meta_base.specs.Rewritings.Wrapping.{ChangesStack, changes_push, changes_pop, changes_rule, changes_pos_pred, changes_neg_pred, changes_seq_left, changes_seq_right, changes_left, changes_right, changes_opt, changes_rep, changes_rep_exact, changes_rep_min_max, Wraps, wraps, leaves, RestoresTo, restores_str, restores_insens, restores_range, restores_name, restores_slice, restores_skip, restores_pos_pred, restores_neg_pred, restores_push, restores_seq, restores_choice, restores_opt, restores_rep, EachRestored}
 use Rattle.meta_base.proofs.OneOutcome.{same_rule}
-use Rattle.meta_base.proofs.Moving.{Each', each_copy, each_of_both, in_all}
+use Rattle.meta_base.proofs.Moving.{each_copy, each_of_both, in_all}
 use Rattle.meta_base.proofs.BothMeaningsAgree.{same_endings}
 use Rattle.meta_restorer.specs.Agreeing.{AgreesLoosely, WrappersSuffice}
 use Rattle.meta_restorer.proofs.Changers.{is_pop, is_pop_all}

@@ -1,17 +1,16 @@
 -- Marks that are right and closed tell which names change the stack.
-use Rattle.std.proofs.Common.{◌≡◌, ℕ, zero, suc, ◌<◌, List, [], ◌∷◌, Option, Some, None, Bool, true, false, ◌||◌, inl, inr, slice_get, length, refl, sym, ◌∙◌, ap, subst, arith, String, Global}
+use Rattle.std.proofs.Common.{◌≡◌, ℕ, zero, suc, List, [], ◌∷◌, Option, Some, Bool, true, inl, inr, slice_get, length, refl, sym, ◌∙◌, ap, subst, arith, String, Global}
 use Rattle.meta_base.specs.Language.Text.{Text}
 use Rattle.meta_base.specs.Language.Expression.{Expression, Ident, Rule, rule_of}
 use Rattle.meta_base.specs.Rewritings.Wrapping.{ChangesStack, changes_push, changes_pop, changes_drop, changes_rule, changes_pos_pred, changes_neg_pred, changes_seq_left, changes_seq_right, changes_left, changes_right, changes_opt, changes_rep, changes_rep_once, changes_rep_exact, changes_rep_min, changes_rep_max, changes_rep_min_max}
 use Rattle.meta_ast.specs.Ast.{text_of}
 use Rattle.meta_ast.specs.Optimized.{optimized_expression_of}
 use Rattle.meta_restorer.specs.Bodies.{NamedBody, rule_with, grammar_with}
-use Rattle.meta_restorer.specs.Calls.{is_set_at, shows, number_changes, name_changes, Holds, holds, AreSound, AreClosed}
+use Rattle.meta_restorer.specs.Calls.{is_set_at, number_changes, name_changes, Holds, holds, AreSound, AreClosed}
 use Rattle.meta_restorer.specs.Changing.{is_changer, changes_by}
 use Rattle.meta_restorer.specs.Names.{last_place, number_of, KnowsNames}
-use Rattle.meta_restorer.specs.Telling.{AreCallsOf, told, Tells}
+use Rattle.meta_restorer.specs.Telling.{AreCallsOf}
 use Rattle.meta_restorer.specs.declared.calls.Calls.{Calls}
-use Rattle.meta_restorer.specs.declared.changes.Changes.{Changes}
 use Rattle.meta_restorer.specs.declared.names.Names.{Names}
 use Rattle.meta_restorer.proofs.Changers.{changer_is, drop_named, either, pop_named}
 use Rattle.meta_restorer.proofs.Deciding.{changing, or_left, or_right}
@@ -39,7 +38,7 @@ module _ (bs : List NamedBody) (names : Names) (cs : List Calls) (known : KnowsN
 
   holding : {i : ℕ} → Holds cs i → (b : NamedBody) → slice_get bs i ≡ Some b → ChangesStack (grammar_with bs) (optimized_expression_of b.1)
   holding (holds {i = i} {c = c} marks at sh f) b e =
-      changing (grammar_with bs) (name_changes names marks) (by_number marks (λ j d g k. holding (f j k) d g)) (optimized_expression_of b.1) (said b.1) (sym (met.show i b c e at marks) ∙ sh)
+      changing (grammar_with bs) (name_changes names marks) (by_number marks (λ j d g k. holding (f j k) d g)) (optimized_expression_of b.1) (said b.1) (sym ((met.show i b c e at).show marks) ∙ sh)
 
   module _ (marks : List Bool) (closed : AreClosed cs marks) where
     abbrev p : Text → Bool
@@ -54,7 +53,7 @@ module _ (bs : List NamedBody) (names : Names) (cs : List Calls) (known : KnowsN
             let same : rule_with b ≡ r = cc in
             let own : changes_by p (optimized_expression_of b.1) ≡ true = ap (λ (q : Rule). changes_by p q.body) same ∙ f (subst (λ (q : Rule). IsSaid q.body) same (said b.1)) in
             let (c, here) = got_alike bs cs i b at (sym met.alike) in
-            closed i c here (met.show i b c at here marks ∙ own)
+            closed i c here ((met.show i b c at here).show marks ∙ own)
 
     complete : {e : Expression} → ChangesStack (grammar_with bs) e → IsSaid e → changes_by p e ≡ true
     complete changes_push s = refl

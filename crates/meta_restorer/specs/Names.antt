@@ -1,10 +1,10 @@
 -- Names, and the numbers of rules.
-use Rattle.std.specs.Prelude.{◌≡◌, ℕ, suc, List, [], ◌∷◌, Option, Some, None, if◌then◌else◌, bytes_eq, encode_utf8_all}
+use Rattle.std.specs.Prelude.{◌≡◌, ℕ, suc, [], ◌∷◌, Option, Some, None, if◌then◌else◌, bytes_eq, encode_utf8_all}
 use Rattle.std.specs.HashMap.{get_by_text}
 use Rattle.std.specs.declared.alloc.Global.{Global}
 use Rattle.std.specs.declared.string.String.{String}
 use Rattle.meta_base.specs.Language.Text.{Text}
-use Rattle.meta_base.specs.Language.Expression.{Rule, Grammar}
+use Rattle.meta_base.specs.Language.Expression.{Grammar}
 use Rattle.meta_ast.specs.Ast.{text_of}
 use Rattle.meta_restorer.specs.declared.names.Names.{Names}
 

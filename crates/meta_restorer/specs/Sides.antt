@@ -1,7 +1,7 @@
 -- Restored expressions, and the left sides that a walk along right sides leaves behind.
 use Rattle.std.specs.Prelude.{◌≡◌, List, [], ◌∷◌, Bool, ⊤}
 use Rattle.meta_base.specs.Language.Text.{Text}
-use Rattle.meta_base.specs.Language.Expression.{Expression, Seq, Choice, Ident, Opt, PosPred, NegPred, Push, Rep}
+use Rattle.meta_base.specs.Language.Expression.{Expression, Seq, Choice}
 use Rattle.meta_ast.specs.Optimized.{optimized_expression_of}
 use Rattle.meta_restorer.specs.Changing.{changes_by, wrapped_by}
 use Rattle.meta_restorer.specs.declared.sides.Restored.{Restored}

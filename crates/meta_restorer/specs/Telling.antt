@@ -9,18 +9,16 @@ use Rattle.meta_base.specs.Rewritings.Wrapping.{ChangesStack}
 use Rattle.meta_ast.specs.Ast.{text_of}
 use Rattle.meta_ast.specs.Optimized.{optimized_expression_of}
 use Rattle.meta_restorer.specs.Bodies.{NamedBody}
-use Rattle.meta_restorer.specs.Calls.{is_set_at, shows, name_changes}
-use Rattle.meta_restorer.specs.Changing.{changes_by}
+use Rattle.meta_restorer.specs.Calls.{IsMetIn, name_changes}
 use Rattle.meta_restorer.specs.declared.calls.Calls.{Calls}
 use Rattle.meta_restorer.specs.declared.changes.Changes.{Changes}
 use Rattle.meta_restorer.specs.declared.names.Names.{Names}
 
--- what is met in each body: by whatever marks, what is met changes the stack just where the body does
+-- what is met in each body
 pub record AreCallsOf (names : Names) (bodies : List NamedBody) (cs : List Calls) : Type 0 where
   pub alike : length cs ≡ length bodies
   pub show : (i : ℕ) (b : NamedBody) (c : Calls) → slice_get bodies i ≡ Some b → slice_get cs i ≡ Some c
-      → (marks : List Bool) → shows (is_set_at marks) c
-      ≡ changes_by (name_changes names marks) (optimized_expression_of b.1)
+      → IsMetIn names (optimized_expression_of b.1) c
 
 -- whether a name changes the stack
 abbrev pub told : Changes → Text → Bool

@@ -1,8 +1,7 @@
 //! The bodies of rules, each with its rule's name.
-ghost use Rattle.std.specs.Prelude.{map, IfOk};
+ghost use Rattle.std.specs.Prelude.{◌≡◌, map, IfOk};
 ghost use Rattle.meta_base.specs.Language.Expression.{Grammar};
-ghost use Rattle.meta_ast.specs.Optimized.{optimized_rules_of};
-ghost use Rattle.meta_restorer.specs.Bodies.{said_by, grammar_with, HoldsOptimizedBodies, SameBodies};
+ghost use Rattle.meta_restorer.specs.Bodies.{said_by, named_body, grammar_with, HoldsOptimizedBodies, SameBodies};
 
 use meta_ast::optimized::{OptimizedExpr, OptimizedRule};
 use std::alloc::{AllocError, Global};
@@ -35,8 +34,7 @@ pub(crate) fn bodies_of_rules<'a>(
     alloc: Global,
     rules: &'a [OptimizedRule],
 ) -> Result<Vec<Body<'a>>, AllocError>
-    ensures { IfOk result
-        (λ bodies. SameBodies (grammar_with (map said_by bodies.items)) (optimized_rules_of rules.now)) }
+    ensures { IfOk result (λ bodies. map said_by bodies.items ≡ map named_body rules.now) }
 {
     let mut bodies = Vec::new(alloc);
     for rule in rules {

@@ -2,13 +2,13 @@
 ghost use Rattle.std.specs.Prelude.{◌≡◌, IfOk, map};
 ghost use Rattle.meta_ast.specs.Ast.{text_of};
 ghost use Rattle.meta_restorer.specs.Bodies.{said_by, grammar_with};
-ghost use Rattle.meta_restorer.specs.Calls.{name_changes};
-ghost use Rattle.meta_restorer.specs.Telling.{AreCallsOf, Tells};
+ghost use Rattle.meta_restorer.specs.Names.{number_of};
+ghost use Rattle.meta_restorer.specs.Telling.{AreCallsOf, Tells, told};
 
 use crate::bodies::Body;
-use crate::calls::{Calls, is_set, look};
+use crate::calls::{Calls, calls_in, is_marked};
 use crate::marks::marked;
-use crate::names::{Names, is_changer_name, names_of, number_of_name};
+use crate::names::{Names, is_changer_name, names_of};
 use std::alloc::{AllocError, Global};
 
 /// Which rules change the stack.
@@ -17,6 +17,8 @@ pub struct Changes {
     pub names: Names,
     /// For each rule, by its number, whether it changes the stack.
     pub marks: Vec<bool>,
+    /// For each rule what is met in its body.
+    pub calls: Vec<Calls>,
 }
 
 /// What is met in each body.
@@ -25,11 +27,7 @@ fn calls_of<'a>(alloc: Global, names: &Names, bodies: &[Body<'a>]) -> Result<Vec
 {
     let mut all = Vec::new(alloc);
     for body in bodies {
-        let mut calls = Calls {
-            changes: false,
-            rules: Vec::new(alloc),
-        };
-        look(names, body.expr, &mut calls)?;
+        let calls = calls_in(alloc, names, body.expr)?;
         all.push(calls)?;
     }
     Ok(all)
@@ -37,23 +35,24 @@ fn calls_of<'a>(alloc: Global, names: &Names, bodies: &[Body<'a>]) -> Result<Vec
 
 /// Which rules change the stack.
 pub(crate) fn changes_of<'a>(alloc: Global, bodies: &[Body<'a>]) -> Result<Changes, AllocError>
-    ensures { IfOk result (λ changes. Tells changes (grammar_with (map said_by bodies.now))) }
+    ensures tells { IfOk result (λ changes. Tells changes (grammar_with (map said_by bodies.now))) }
+    ensures calls { IfOk result (λ changes.
+        AreCallsOf changes.names (map said_by bodies.now) changes.calls.items) }
 {
     let names = names_of(alloc, bodies)?;
     let calls = calls_of(alloc, &names, bodies)?;
     let marks = marked(alloc, &calls)?;
-    Ok(Changes { names, marks })
+    Ok(Changes {
+        names,
+        marks,
+        calls,
+    })
 }
 
-/// Whether a call of a name changes the stack.
-pub(crate) fn is_changing(changes: &Changes, name: &String) -> bool
-    ensures { result ≡ name_changes changes.now.names changes.now.marks.items (text_of name.now) }
+/// Whether a call of a name changes the stack, the number of whose rule is known.
+pub(crate) fn is_changing(changes: &Changes, name: &String, rule: Option<usize>) -> bool
+    requires { rule ≡ number_of changes.now.names (text_of name.now) }
+    ensures { result ≡ told changes.now (text_of name.now) }
 {
-    if is_changer_name(name) {
-        return true;
-    }
-    match number_of_name(&changes.names, name) {
-        Some(rule) => is_set(&changes.marks, rule),
-        None => false,
-    }
+    is_changer_name(name) || is_marked(&changes.marks, rule)
 }

@@ -29,8 +29,10 @@ fn callers_of(alloc: Global, calls: &[Calls]) -> Result<Callers, AllocError> {
 
 fn add_caller(callers: &mut Callers, caller: usize, met: &Calls) -> Result<(), AllocError> {
     for rule in &met.rules {
-        if let Some(list) = callers.of.get_mut(*rule) {
-            list.push(caller)?;
+        if let Some(rule) = rule {
+            if let Some(list) = callers.of.get_mut(*rule) {
+                list.push(caller)?;
+            }
         }
     }
     Ok(())

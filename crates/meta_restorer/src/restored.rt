@@ -1,5 +1,6 @@
 //! An expression with wrappers round what changes the stack.
-ghost use Rattle.std.specs.Prelude.{◌≡◌, IfOk};
+ghost use Rattle.std.specs.Prelude.{◌≡◌, ◌<◌, ◌+◌, IfOk, OnOk, Some, length, slice_get};
+ghost use Rattle.meta_restorer.specs.Calls.{AreNoted, names_in};
 ghost use Rattle.meta_restorer.specs.Sides.{IsTold, IsNoPair};
 ghost use Rattle.meta_restorer.specs.Changing.{restored_by};
 ghost use Rattle.meta_restorer.specs.Telling.{told};
@@ -10,13 +11,28 @@ use crate::sides::{Restored, Side, behind, wrapped};
 use meta_ast::optimized::OptimizedExpr;
 use std::alloc::{AllocError, Global};
 
-/// The expression, restored.
+/// What is noted at a place, which moves on.
+fn next_rule(rules: &[Option<usize>], place: &mut usize) -> Option<usize>
+    requires { place.old < length rules.now }
+    ensures rule { slice_get rules.now place.old ≡ Some result }
+    ensures place { place.new ≡ place.old + 1 }
+{
+    let rule = rules[*place];
+    *place += 1;
+    rule
+}
+
+/// The expression, restored, where the rules of its names are noted from a place on.
 #[cycle(restored)]
 pub(crate) fn restored(
     alloc: Global,
     changes: &Changes,
+    rules: &[Option<usize>],
+    place: &mut usize,
     expr: OptimizedExpr,
 ) -> Result<Restored, AllocError>
+    requires noted { AreNoted changes.now.names rules.now (optimized_expression_of expr) place.old }
+    ensures place { OnOk result (place.new ≡ place.old + length (names_in (optimized_expression_of expr))) }
     ensures told { IfOk result (λ r. IsTold (told changes.now) r) }
     ensures made { IfOk result (λ r. optimized_expression_of r.expr
         ≡ restored_by (told changes.now) (optimized_expression_of expr)) }
@@ -26,17 +42,17 @@ pub(crate) fn restored(
     'along: loop {
         match rest {
             OptimizedExpr::Seq(left, right) => {
-                let left = restored(alloc, changes, Box::into_inner(left))?;
+                let left = restored(alloc, changes, rules, place, Box::into_inner(left))?;
                 sides.push(Side::Sequence(left))?;
                 rest = Box::into_inner(right);
             }
             OptimizedExpr::Choice(left, right) => {
-                let left = restored(alloc, changes, Box::into_inner(left))?;
+                let left = restored(alloc, changes, rules, place, Box::into_inner(left))?;
                 sides.push(Side::Choice(left))?;
                 rest = Box::into_inner(right);
             }
             last => {
-                let last = one(alloc, changes, last)?;
+                let last = one(alloc, changes, rules, place, last)?;
                 return behind(alloc, changes, sides, last);
             }
         }
@@ -45,22 +61,30 @@ pub(crate) fn restored(
 
 // An expression that is no `~` and no `|`, restored.
 #[cycle(restored)]
-fn one(alloc: Global, changes: &Changes, expr: OptimizedExpr) -> Result<Restored, AllocError>
-    requires { IsNoPair (optimized_expression_of expr) }
+fn one(
+    alloc: Global,
+    changes: &Changes,
+    rules: &[Option<usize>],
+    place: &mut usize,
+    expr: OptimizedExpr,
+) -> Result<Restored, AllocError>
+    requires single { IsNoPair (optimized_expression_of expr) }
+    requires noted { AreNoted changes.now.names rules.now (optimized_expression_of expr) place.old }
+    ensures place { OnOk result (place.new ≡ place.old + length (names_in (optimized_expression_of expr))) }
     ensures told { IfOk result (λ r. IsTold (told changes.now) r) }
     ensures made { IfOk result (λ r. optimized_expression_of r.expr
         ≡ restored_by (told changes.now) (optimized_expression_of expr)) }
 {
     match expr {
         OptimizedExpr::Ident(name) => {
-            let is_changing = is_changing(changes, &name);
+            let is_changing = is_changing(changes, &name, next_rule(rules, place));
             Ok(Restored {
                 expr: OptimizedExpr::Ident(name),
                 changes: is_changing,
             })
         }
         OptimizedExpr::PosPred(inner) => {
-            let inner = restored(alloc, changes, Box::into_inner(inner))?;
+            let inner = restored(alloc, changes, rules, place, Box::into_inner(inner))?;
             let Restored {
                 expr,
                 changes: is_changing,
@@ -71,7 +95,7 @@ fn one(alloc: Global, changes: &Changes, expr: OptimizedExpr) -> Result<Restored
             })
         }
         OptimizedExpr::NegPred(inner) => {
-            let inner = restored(alloc, changes, Box::into_inner(inner))?;
+            let inner = restored(alloc, changes, rules, place, Box::into_inner(inner))?;
             let Restored {
                 expr,
                 changes: is_changing,
@@ -82,21 +106,21 @@ fn one(alloc: Global, changes: &Changes, expr: OptimizedExpr) -> Result<Restored
             })
         }
         OptimizedExpr::Push(inner) => {
-            let inner = restored(alloc, changes, Box::into_inner(inner))?;
+            let inner = restored(alloc, changes, rules, place, Box::into_inner(inner))?;
             Ok(Restored {
                 expr: OptimizedExpr::Push(Box::new(alloc, inner.expr)?),
                 changes: true,
             })
         }
         OptimizedExpr::Opt(inner) => {
-            let inner = restored(alloc, changes, Box::into_inner(inner))?;
+            let inner = restored(alloc, changes, rules, place, Box::into_inner(inner))?;
             Ok(Restored {
                 expr: OptimizedExpr::Opt(wrapped(alloc, changes, inner)?),
                 changes: false,
             })
         }
         OptimizedExpr::Rep(inner) => {
-            let inner = restored(alloc, changes, Box::into_inner(inner))?;
+            let inner = restored(alloc, changes, rules, place, Box::into_inner(inner))?;
             Ok(Restored {
                 expr: OptimizedExpr::Rep(wrapped(alloc, changes, inner)?),
                 changes: false,

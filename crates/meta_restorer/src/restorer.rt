@@ -1,19 +1,20 @@
 //! Wrappers round what may fail and changes the stack.
-ghost use Rattle.std.specs.Prelude.{◌≡◌, IfErr, IfOk};
+ghost use Rattle.std.specs.Prelude.{◌≡◌, IfErr, IfOk, false, map};
 ghost use Rattle.std.specs.Bool.{Decides};
 ghost use Rattle.meta_base.specs.Rewritings.Erased.{erased};
 ghost use Rattle.meta_base.specs.Language.Expression.{Grammar};
 ghost use Rattle.meta_base.specs.Rewritings.Wrapping.{ChangesStack, RestoresTo, EachRestored};
 ghost use Rattle.meta_ast.specs.Ast.{text_of};
 ghost use Rattle.meta_ast.specs.Optimized.{optimized_expression_of, optimized_rule_of, optimized_rules_of};
-ghost use Rattle.meta_restorer.specs.Bodies.{HoldsOptimizedBodies};
+ghost use Rattle.meta_restorer.specs.Bodies.{HoldsOptimizedBodies, named_body};
+ghost use Rattle.meta_restorer.specs.Calls.{IsMetIn};
 ghost use Rattle.meta_restorer.specs.Changing.{HasNoWrappers, changes_by};
 ghost use Rattle.meta_restorer.specs.Faults.{IsMemory};
-ghost use Rattle.meta_restorer.specs.Restoring.{AreSameErased, HaveNoWrappers, restored_rule_by, restored_rules_by};
-ghost use Rattle.meta_restorer.specs.Telling.{Tells, told};
+ghost use Rattle.meta_restorer.specs.Restoring.{AreQuiet, AreSameErased, HaveNoWrappers, restored_rule_by, restored_rules_by};
+ghost use Rattle.meta_restorer.specs.Telling.{AreCallsOf, Tells, told};
 
 use crate::bodies::{bodies_of_map, bodies_of_rules};
-use crate::calls::{Calls, is_shown, look};
+use crate::calls::{Calls, calls_in, changes_itself, is_shown};
 use crate::changes::{Changes, changes_of};
 use crate::restored::restored;
 use meta_ast::optimized::{OptimizedExpr, OptimizedRule};
@@ -61,7 +62,7 @@ pub fn restore_on_err(
     ensures memory { IfErr result IsMemory }
 {
     match changes_in_map(alloc, rules) {
-        Ok(changes) => match restored_rule(alloc, &changes, rule) {
+        Ok(changes) => match looked_at(alloc, &changes, rule) {
             Ok(rule) => Ok(rule),
             Err(error) => Err(Fault::Memory(error)),
         },
@@ -78,13 +79,28 @@ pub fn restore_rules(alloc: Global, rules: Vec<OptimizedRule>) -> Result<Vec<Opt
         (λ answer. AreSameErased (optimized_rules_of rules.items) (optimized_rules_of answer.items)) }
     ensures memory { IfErr result IsMemory }
 {
+    if !is_any_changing(&rules) {
+        return Ok(rules);
+    }
     match changes_in_rules(alloc, &rules) {
-        Ok(changes) => match restored_rules(alloc, &changes, rules) {
+        Ok(changes) => match restored_rules(alloc, &changes, &changes.calls, rules) {
             Ok(rules) => Ok(rules),
             Err(error) => Err(Fault::Memory(error)),
         },
         Err(error) => Err(Fault::Memory(error)),
     }
+}
+
+// Whether a `PUSH`, `POP` or `DROP` is met in any rule; where none is, no rule changes the stack.
+fn is_any_changing(rules: &[OptimizedRule]) -> bool
+    ensures { result ≡ false → AreQuiet rules.now }
+{
+    for rule in rules {
+        if changes_itself(&rule.expr) {
+            return true;
+        }
+    }
+    false
 }
 
 // Which of the rules in a map change the stack.
@@ -101,7 +117,9 @@ fn changes_in_map(
 
 // Which rules change the stack.
 fn changes_in_rules(alloc: Global, rules: &[OptimizedRule]) -> Result<Changes, AllocError>
-    ensures { IfOk result (λ changes. Tells changes (optimized_rules_of rules.now)) }
+    ensures tells { IfOk result (λ changes. Tells changes (optimized_rules_of rules.now)) }
+    ensures calls { IfOk result (λ changes.
+        AreCallsOf changes.names (map named_body rules.now) changes.calls.items) }
 {
     let bodies = bodies_of_rules(alloc, rules)?;
     changes_of(alloc, &bodies)
@@ -112,16 +130,38 @@ fn is_changed(alloc: Global, changes: &Changes, expr: &OptimizedExpr) -> Result<
     ensures { IfOk result
         (λ yes. yes ≡ changes_by (told changes.now) (optimized_expression_of expr.now)) }
 {
-    let mut calls = Calls {
-        changes: false,
-        rules: Vec::new(alloc),
-    };
-    look(&changes.names, expr, &mut calls)?;
+    let calls = calls_in(alloc, &changes.names, expr)?;
     Ok(is_shown(&calls, &changes.marks))
 }
 
-// A rule with wrappers.
+// A rule with wrappers, where it is known what is met in its body. Where that changes nothing, it stays.
 fn restored_rule(
+    alloc: Global,
+    changes: &Changes,
+    calls: &Calls,
+    rule: OptimizedRule,
+) -> Result<OptimizedRule, AllocError>
+    requires { IsMetIn changes.now.names (optimized_expression_of rule.expr) calls.now }
+    ensures name { IfOk result (λ r. r.name ≡ rule.name) }
+    ensures ty { IfOk result (λ r. r.ty ≡ rule.ty) }
+    ensures whole { IfOk result
+        (λ r. optimized_rule_of r ≡ restored_rule_by (told changes.now) (optimized_rule_of rule)) }
+{
+    if !is_shown(calls, &changes.marks) {
+        return Ok(rule);
+    }
+    let OptimizedRule { name, ty, expr } = rule;
+    let mut place = 0;
+    let restored = restored(alloc, changes, &calls.rules, &mut place, expr)?;
+    Ok(OptimizedRule {
+        name,
+        ty,
+        expr: restored.expr,
+    })
+}
+
+// A rule with wrappers, whose body is looked through first.
+fn looked_at(
     alloc: Global,
     changes: &Changes,
     rule: OptimizedRule,
@@ -131,27 +171,25 @@ fn restored_rule(
     ensures whole { IfOk result
         (λ r. optimized_rule_of r ≡ restored_rule_by (told changes.now) (optimized_rule_of rule)) }
 {
-    let OptimizedRule { name, ty, expr } = rule;
-    let restored = restored(alloc, changes, expr)?;
-    Ok(OptimizedRule {
-        name,
-        ty,
-        expr: restored.expr,
-    })
+    let calls = calls_in(alloc, &changes.names, &rule.expr)?;
+    restored_rule(alloc, changes, &calls, rule)
 }
 
-// Rules with wrappers.
+// Rules with wrappers, where it is known what is met in each body.
 fn restored_rules(
     alloc: Global,
     changes: &Changes,
+    calls: &[Calls],
     rules: Vec<OptimizedRule>,
 ) -> Result<Vec<OptimizedRule>, AllocError>
+    requires { AreCallsOf changes.now.names (map named_body rules.items) calls.now }
     ensures { IfOk result (λ answer. optimized_rules_of answer.items
         ≡ restored_rules_by (told changes.now) (optimized_rules_of rules.items)) }
 {
     let mut answer = Vec::new(alloc);
     for rule in rules {
-        let rule = restored_rule(alloc, changes, rule)?;
+        let place = answer.len();
+        let rule = restored_rule(alloc, changes, &calls[place], rule)?;
         answer.push(rule)?;
     }
     Ok(answer)

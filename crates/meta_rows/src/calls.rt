@@ -1,14 +1,15 @@
 //! The calls that rows name.
 use crate::passes::Pass;
 use crate::{
-    again, front, judged, made, names, passes, places, reading, restoring, syntax, values, walks,
+    again, front, judged, made, names, nodes, passes, pieces, places, reading, restoring, syntax,
+    tables, values, walks,
 };
 use meta_base::runtime::Fault;
 use std::alloc::Global;
 
 /// A call that rows name.
 #[derive(Clone, Copy)]
-pub enum Call {
+pub(crate) enum Call {
     Pairs,
     Entries,
     Flattened,
@@ -17,10 +18,16 @@ pub enum Call {
     Renamed,
     Span,
     Position,
+    EqualPlaces,
+    MadePairs,
+    Faults,
     Names,
     Complaints,
+    Tables,
     Read,
     Erased,
+    ReadAgain,
+    Walked,
     Found,
     Questions,
     Stacked,
@@ -41,13 +48,14 @@ pub enum Call {
     Refusing,
     Again,
     Optimized,
+    Lengths,
     Answer,
     Report,
     Beginnings,
     After(Pass),
 }
 
-static CALLS: [(&str, Call); 41] = [
+static CALLS: [(&str, Call); 48] = [
     ("pairs", Call::Pairs),
     ("entries", Call::Entries),
     ("flattened", Call::Flattened),
@@ -56,10 +64,16 @@ static CALLS: [(&str, Call); 41] = [
     ("renamed", Call::Renamed),
     ("span", Call::Span),
     ("position", Call::Position),
+    ("equal-places", Call::EqualPlaces),
+    ("made-pairs", Call::MadePairs),
+    ("faults", Call::Faults),
     ("names", Call::Names),
     ("complaints", Call::Complaints),
+    ("tables", Call::Tables),
     ("read", Call::Read),
     ("erased", Call::Erased),
+    ("read-again", Call::ReadAgain),
+    ("walked", Call::Walked),
     ("found", Call::Found),
     ("questions", Call::Questions),
     ("stacked", Call::Stacked),
@@ -80,6 +94,7 @@ static CALLS: [(&str, Call); 41] = [
     ("refusing", Call::Refusing),
     ("again", Call::Again),
     ("optimize", Call::Optimized),
+    ("lengths", Call::Lengths),
     ("answer", Call::Answer),
     ("report", Call::Report),
     ("beginnings", Call::Beginnings),
@@ -92,7 +107,7 @@ static CALLS: [(&str, Call); 41] = [
 ];
 
 /// The call of that name.
-pub fn call_of(name: &str) -> Option<Call> {
+pub(crate) fn call_of(name: &str) -> Option<Call> {
     for (word, call) in &CALLS {
         if *word == name {
             return Some(*call);
@@ -102,7 +117,12 @@ pub fn call_of(name: &str) -> Option<Call> {
 }
 
 /// What a call answers on a text.
-pub fn answered(alloc: Global, call: Call, argument: &str, text: &str) -> Result<String, Fault> {
+pub(crate) fn answered(
+    alloc: Global,
+    call: Call,
+    argument: &str,
+    text: &str,
+) -> Result<String, Fault> {
     match call {
         Call::Pairs => syntax::pairs(alloc, argument, text),
         Call::Entries => syntax::entries(alloc, argument, text),
@@ -112,10 +132,16 @@ pub fn answered(alloc: Global, call: Call, argument: &str, text: &str) -> Result
         Call::Renamed => syntax::renamed(alloc, argument),
         Call::Span => places::span(alloc, argument, text),
         Call::Position => places::position(alloc, argument, text),
+        Call::EqualPlaces => pieces::equal_places(alloc),
+        Call::MadePairs => pieces::made_pairs(alloc),
+        Call::Faults => pieces::faults(alloc),
         Call::Names => names::names(alloc, text),
         Call::Complaints => names::complaints(alloc, text),
+        Call::Tables => tables::tables(alloc),
         Call::Read => reading::read(alloc, text),
         Call::Erased => reading::erased(alloc, text),
+        Call::ReadAgain => again::read_again(alloc, text),
+        Call::Walked => nodes::walked(alloc, text),
         Call::Found => judged::found(alloc, text),
         Call::Questions => judged::questions(alloc, text),
         Call::Stacked => judged::stacked(alloc, text),
@@ -136,6 +162,7 @@ pub fn answered(alloc: Global, call: Call, argument: &str, text: &str) -> Result
         Call::Refusing => walks::refusing(alloc, argument, text),
         Call::Again => again::again(alloc, text),
         Call::Optimized => passes::optimized(alloc, text),
+        Call::Lengths => passes::lengths(alloc, text),
         Call::Answer => front::answer(alloc, text),
         Call::Report => front::report(alloc, text),
         Call::Beginnings => front::beginnings(alloc, text),

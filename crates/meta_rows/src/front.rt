@@ -1,13 +1,14 @@
 //! The front end as a whole.
 use crate::passes::write_optimized;
 use crate::refusals::refusal;
+use meta_ast::optimized::release;
 use meta_base::runtime::Fault;
 use pest_meta::parser::{Rule, consume_rules, parse};
 use pest_meta::{Report, parse_and_optimize, unwrap_or_report};
 use std::alloc::{AllocError, Global};
 
 /// The rules of a text that are validated.
-pub fn rules(alloc: Global, text: &str) -> Result<String, Fault> {
+pub(crate) fn rules(alloc: Global, text: &str) -> Result<String, Fault> {
     let pairs = parse(alloc, Rule::grammar_rules, text)?;
     let mut out = String::new(alloc);
     for rule in &consume_rules(alloc, pairs)? {
@@ -17,7 +18,7 @@ pub fn rules(alloc: Global, text: &str) -> Result<String, Fault> {
 }
 
 /// The builtins of a text, its optimized rules, and how their bodies are printed.
-pub fn answer(alloc: Global, text: &str) -> Result<String, Fault> {
+pub(crate) fn answer(alloc: Global, text: &str) -> Result<String, Fault> {
     let (builtins, rules) = parse_and_optimize(alloc, text)?;
     let mut out = String::from_str(alloc, "builtins:")?;
     for name in &builtins {
@@ -31,16 +32,20 @@ pub fn answer(alloc: Global, text: &str) -> Result<String, Fault> {
 }
 
 /// What is said of a text that is refused.
-pub fn report(alloc: Global, text: &str) -> Result<String, Fault> {
+pub(crate) fn report(alloc: Global, text: &str) -> Result<String, Fault> {
     match unwrap_or_report(alloc, parse_and_optimize(alloc, text)) {
-        Ok((_, rules)) => Ok(format!(in alloc; "{} rules", rules.len())?),
+        Ok((_, rules)) => {
+            let count = rules.len();
+            release(rules);
+            Ok(format!(in alloc; "{count} rules")?)
+        }
         Err(Report::Text(text)) => Ok(text),
         Err(Report::Memory) => Ok(String::from_str(alloc, "out of memory")?),
     }
 }
 
 /// What each beginning of a text answers: its length in bytes, and how many rules it has, or its errors.
-pub fn beginnings(alloc: Global, text: &str) -> Result<String, Fault> {
+pub(crate) fn beginnings(alloc: Global, text: &str) -> Result<String, Fault> {
     let mut out = String::new(alloc);
     for (length, _) in text.char_indices() {
         let said = beginning(alloc, &text[..length])?;

@@ -3,6 +3,7 @@ use crate::reading::rules_of;
 use crate::refusals::write_errors;
 use meta_base::grammar::Rule;
 use meta_base::runtime::{Error, Fault};
+use meta_nodes::release;
 use meta_stack::{ast, validate_stack_repetition};
 use pest_meta::validator::{is_non_failing, is_non_progressing, validate_ast};
 use std::alloc::{AllocError, Global};
@@ -18,21 +19,23 @@ fn said(alloc: Global, errors: &[Error<Rule>]) -> Result<String, AllocError> {
 }
 
 /// What is found in the rules of a text.
-pub fn found(alloc: Global, text: &str) -> Result<String, Fault> {
+pub(crate) fn found(alloc: Global, text: &str) -> Result<String, Fault> {
     let rules = rules_of(alloc, text)?;
     let errors = validate_ast(alloc, &rules)?;
+    release(rules);
     Ok(said(alloc, &errors)?)
 }
 
 /// What the stack pass alone finds in the rules of a text.
-pub fn stacked(alloc: Global, text: &str) -> Result<String, Fault> {
+pub(crate) fn stacked(alloc: Global, text: &str) -> Result<String, Fault> {
     let rules = rules_of(alloc, text)?;
     let errors = validate_stack_repetition(alloc, &rules)?;
+    release(rules);
     Ok(said(alloc, &errors)?)
 }
 
 /// The place of the last of some names that is equal to this one.
-pub fn rule_number(alloc: Global, name: &str, words: &str) -> Result<String, Fault> {
+pub(crate) fn rule_number(alloc: Global, name: &str, words: &str) -> Result<String, Fault> {
     let mut names = Vec::new(alloc);
     for word in words.split_whitespace() {
         names.push(word)?;
@@ -44,7 +47,7 @@ pub fn rule_number(alloc: Global, name: &str, words: &str) -> Result<String, Fau
 }
 
 /// Of each body whether it may take nothing, and whether it cannot fail.
-pub fn questions(alloc: Global, text: &str) -> Result<String, Fault> {
+pub(crate) fn questions(alloc: Global, text: &str) -> Result<String, Fault> {
     let rules = rules_of(alloc, text)?;
     let mut out = String::new(alloc);
     for rule in &rules {

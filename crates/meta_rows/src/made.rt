@@ -15,7 +15,7 @@ fn bounds(alloc: Global, word: &str) -> Result<(String, String), AllocError> {
 }
 
 /// Ranges, with bounds that are empty or longer than a character, as they are printed.
-pub fn ranges(alloc: Global, words: &str) -> Result<String, Fault> {
+pub(crate) fn ranges(alloc: Global, words: &str) -> Result<String, Fault> {
     let mut out = String::new(alloc);
     let mut values = Vec::new(alloc);
     let mut copies = Vec::new(alloc);
@@ -31,7 +31,7 @@ pub fn ranges(alloc: Global, words: &str) -> Result<String, Fault> {
 }
 
 /// The same as optimized expressions.
-pub fn optimized_ranges(alloc: Global, words: &str) -> Result<String, Fault> {
+pub(crate) fn optimized_ranges(alloc: Global, words: &str) -> Result<String, Fault> {
     let mut out = String::new(alloc);
     let mut values = Vec::new(alloc);
     let mut copies = Vec::new(alloc);
@@ -58,7 +58,7 @@ fn strings(alloc: Global, word: &str) -> Result<Vec<String>, AllocError> {
 }
 
 /// Runs to the next of some strings, as they are printed.
-pub fn runs(alloc: Global, words: &str) -> Result<String, Fault> {
+pub(crate) fn runs(alloc: Global, words: &str) -> Result<String, Fault> {
     let mut out = String::new(alloc);
     let mut values = Vec::new(alloc);
     let mut copies = Vec::new(alloc);
@@ -94,7 +94,7 @@ fn wrapped(alloc: Global, signs: &str) -> Result<OptimizedExpr, AllocError> {
 }
 
 /// Such names, as they are printed.
-pub fn wrappers(alloc: Global, words: &str) -> Result<String, Fault> {
+pub(crate) fn wrappers(alloc: Global, words: &str) -> Result<String, Fault> {
     let mut out = String::new(alloc);
     let mut values = Vec::new(alloc);
     let mut copies = Vec::new(alloc);
@@ -108,9 +108,9 @@ pub fn wrappers(alloc: Global, words: &str) -> Result<String, Fault> {
     Ok(out)
 }
 
-/// What is counted by a word.
+/// The name `e` so many times as a word counts.
 fn counted(alloc: Global, word: &str) -> Result<Expr, AllocError> {
-    let inner = Box::new(alloc, Expr::Ident(String::new(alloc)))?;
+    let inner = Box::new(alloc, Expr::Ident(String::from_str(alloc, "e")?))?;
     Ok(match word.as_bytes() {
         b"{0}" => Expr::RepExact(inner, 0),
         b"{,0}" => Expr::RepMax(inner, 0),
@@ -121,14 +121,16 @@ fn counted(alloc: Global, word: &str) -> Result<Expr, AllocError> {
     })
 }
 
-/// Whether the counts of a rule are readable that holds such a count, in a sequence in a choice.
-pub fn counts(alloc: Global, words: &str) -> Result<String, Fault> {
+/// Such counts, each in a sequence in a choice: how they are printed, whether the counts of a rule are
+/// readable whose body that is, and those of no rules.
+pub(crate) fn counts(alloc: Global, words: &str) -> Result<String, Fault> {
     let mut out = String::new(alloc);
     for word in words.split(' ') {
-        let left = Box::new(alloc, Expr::Ident(String::new(alloc)))?;
-        let right = Box::new(alloc, Expr::Ident(String::new(alloc)))?;
+        let left = Box::new(alloc, Expr::Ident(String::from_str(alloc, "x")?))?;
+        let right = Box::new(alloc, Expr::Ident(String::from_str(alloc, "y")?))?;
         let sequence = Expr::Seq(left, Box::new(alloc, counted(alloc, word)?)?);
         let expr = Expr::Choice(Box::new(alloc, sequence)?, right);
+        write!(out, "{expr}: ")?;
         let mut rules = Vec::new(alloc);
         let is_readable = counts_are_readable(&rules);
         rules.push(Rule {
@@ -138,7 +140,7 @@ pub fn counts(alloc: Global, words: &str) -> Result<String, Fault> {
         })?;
         write!(
             out,
-            "{word}: {}, and without rules {is_readable}\n",
+            "{}, and without rules {is_readable}\n",
             counts_are_readable(&rules)
         )?;
     }

@@ -11,13 +11,16 @@ mod front;
 mod judged;
 mod made;
 mod names;
+mod nodes;
 mod passes;
+mod pieces;
 mod places;
 mod reading;
 mod refusals;
 mod restoring;
 mod row;
 mod syntax;
+mod tables;
 mod values;
 mod walks;
 

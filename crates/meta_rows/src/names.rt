@@ -10,7 +10,7 @@ use meta_syntax::grammar::PestParser;
 use std::alloc::Global;
 
 /// The names that a text calls and does not define.
-pub fn names(alloc: Global, text: &str) -> Result<String, Fault> {
+pub(crate) fn names(alloc: Global, text: &str) -> Result<String, Fault> {
     let pairs = PestParser::parse(alloc, Rule::grammar_rules, text)?;
     let mut out = String::from_str(alloc, "builtins:")?;
     for name in &validate_pairs(alloc, pairs)? {
@@ -35,7 +35,7 @@ fn places_of(alloc: Global, text: &str, defined: bool) -> Result<Vec<Span<'_>>, 
 }
 
 /// What is said of the names of a text, a kind after the other.
-pub fn complaints(alloc: Global, text: &str) -> Result<String, Fault> {
+pub(crate) fn complaints(alloc: Global, text: &str) -> Result<String, Fault> {
     let defined = places_of(alloc, text, true)?;
     let called = places_of(alloc, text, false)?;
     let mut out = String::new(alloc);

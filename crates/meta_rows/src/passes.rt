@@ -10,7 +10,7 @@ use std::collections::HashMap;
 
 /// A pass over one rule.
 #[derive(Clone, Copy)]
-pub enum Pass {
+pub(crate) enum Pass {
     Rotate,
     Skip,
     Unroll,
@@ -46,7 +46,7 @@ fn bodies_of(alloc: Global, rules: &[Rule]) -> Result<HashMap<String, Expr>, All
 }
 
 /// The rules of a text behind one pass.
-pub fn after(alloc: Global, pass: Pass, text: &str) -> Result<String, Fault> {
+pub(crate) fn after(alloc: Global, pass: Pass, text: &str) -> Result<String, Fault> {
     let rules = erased_rules(alloc, text)?;
     let bodies = bodies_of(alloc, &rules)?;
     let mut out = String::new(alloc);
@@ -58,7 +58,7 @@ pub fn after(alloc: Global, pass: Pass, text: &str) -> Result<String, Fault> {
 }
 
 /// The rules of a text behind all passes.
-pub fn optimized(alloc: Global, text: &str) -> Result<String, Fault> {
+pub(crate) fn optimized(alloc: Global, text: &str) -> Result<String, Fault> {
     let rules = erased_rules(alloc, text)?;
     let mut out = String::new(alloc);
     if !counts_are_readable(&rules) {
@@ -71,8 +71,22 @@ pub fn optimized(alloc: Global, text: &str) -> Result<String, Fault> {
     Ok(out)
 }
 
+/// How many bytes the bodies of a text have as they are printed, and how many behind `rotate`, which nests
+/// them to the right.
+pub(crate) fn lengths(alloc: Global, text: &str) -> Result<String, Fault> {
+    let mut out = String::new(alloc);
+    for rule in erased_rules(alloc, text)? {
+        let read = rule.expr.to_string(alloc)?.len();
+        let rule = rotate(alloc, rule)?;
+        let rotated = rule.expr.to_string(alloc)?.len();
+        rule.expr.release();
+        write!(out, "{read} bytes, {rotated} rotated\n")?;
+    }
+    Ok(out)
+}
+
 /// Writes an optimized rule, and below it how its body is printed.
-pub fn write_optimized(out: &mut String, rule: &OptimizedRule) -> Result<(), AllocError> {
+pub(crate) fn write_optimized(out: &mut String, rule: &OptimizedRule) -> Result<(), AllocError> {
     write!(out, "{} {:?} {:?}\n", rule.name, rule.ty, rule.expr)?;
     write!(out, "    printed {}\n", rule.expr)
 }

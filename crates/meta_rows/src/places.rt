@@ -4,7 +4,7 @@ use meta_base::runtime::{Error, ErrorVariant, Fault, Position, Span};
 use std::alloc::Global;
 
 /// A span's text, and the error there with a message, as `START END MESSAGE` says.
-pub fn span(alloc: Global, argument: &str, text: &str) -> Result<String, Fault> {
+pub(crate) fn span(alloc: Global, argument: &str, text: &str) -> Result<String, Fault> {
     let (start, rest) = argument.split_once(' ').unwrap_or((argument, ""));
     let (end, message) = rest.split_once(' ').unwrap_or((rest, ""));
     let start = start.parse::<u32>().unwrap_or(0) as usize;
@@ -19,7 +19,7 @@ pub fn span(alloc: Global, argument: &str, text: &str) -> Result<String, Fault> 
 }
 
 /// The line and the column of a position, and the error there.
-pub fn position(alloc: Global, argument: &str, text: &str) -> Result<String, Fault> {
+pub(crate) fn position(alloc: Global, argument: &str, text: &str) -> Result<String, Fault> {
     let place = argument.parse::<u32>().unwrap_or(0) as usize;
     let Some(position) = Position::new(text, place) else {
         return Ok(String::from_str(alloc, "no position")?);

@@ -6,18 +6,18 @@ use meta_reader::parser::{ParserExpr, ParserNode, ParserRule, consume_rules_with
 use std::alloc::{AllocError, Global};
 
 /// The rules of a text, which nobody has looked at but the reader.
-pub fn rules_of(alloc: Global, text: &str) -> Result<Vec<ParserRule<'_>>, Fault> {
+pub(crate) fn rules_of(alloc: Global, text: &str) -> Result<Vec<ParserRule<'_>>, Fault> {
     let pairs = parse(alloc, meta_base::grammar::Rule::grammar_rules, text)?;
     consume_rules_with_spans(alloc, pairs)
 }
 
 /// The same rules without their spans.
-pub fn erased_rules(alloc: Global, text: &str) -> Result<Vec<Rule>, Fault> {
+pub(crate) fn erased_rules(alloc: Global, text: &str) -> Result<Vec<Rule>, Fault> {
     erase_spans(alloc, rules_of(alloc, text)?).map_err(Fault::Memory)
 }
 
 /// The rules of a text as they are printed.
-pub fn erased(alloc: Global, text: &str) -> Result<String, Fault> {
+pub(crate) fn erased(alloc: Global, text: &str) -> Result<String, Fault> {
     let mut out = String::new(alloc);
     for rule in &erased_rules(alloc, text)? {
         write!(out, "{} {:?} {}\n", rule.name, rule.ty, rule.expr)?;
@@ -26,7 +26,7 @@ pub fn erased(alloc: Global, text: &str) -> Result<String, Fault> {
 }
 
 /// The rules of a text with their spans, in bytes.
-pub fn read(alloc: Global, text: &str) -> Result<String, Fault> {
+pub(crate) fn read(alloc: Global, text: &str) -> Result<String, Fault> {
     let mut out = String::new(alloc);
     for rule in &rules_of(alloc, text)? {
         let (start, end) = (rule.span.start(), rule.span.end());

@@ -4,7 +4,7 @@ use meta_base::runtime::{Error, InputLocation, LineColLocation};
 use std::alloc::{AllocError, Global};
 
 /// What is said of the errors of a refusal.
-pub fn refusal(alloc: Global, errors: &[Error<Rule>]) -> Result<String, AllocError> {
+pub(crate) fn refusal(alloc: Global, errors: &[Error<Rule>]) -> Result<String, AllocError> {
     let mut out = String::new(alloc);
     for error in errors {
         out.push_str("refused: ")?;
@@ -14,7 +14,7 @@ pub fn refusal(alloc: Global, errors: &[Error<Rule>]) -> Result<String, AllocErr
 }
 
 /// Writes the place of an error in bytes, where it begins as line and column, and what it says.
-pub fn write_error(out: &mut String, error: &Error<Rule>) -> Result<(), AllocError> {
+pub(crate) fn write_error(out: &mut String, error: &Error<Rule>) -> Result<(), AllocError> {
     match error.location {
         InputLocation::Pos(place) => write!(out, "{place}")?,
         InputLocation::Span((start, end)) => write!(out, "{start}-{end}")?,
@@ -27,7 +27,7 @@ pub fn write_error(out: &mut String, error: &Error<Rule>) -> Result<(), AllocErr
 }
 
 /// Writes each error as `write_error` does.
-pub fn write_errors(out: &mut String, errors: &[Error<Rule>]) -> Result<(), AllocError> {
+pub(crate) fn write_errors(out: &mut String, errors: &[Error<Rule>]) -> Result<(), AllocError> {
     for error in errors {
         write_error(out, error)?;
     }

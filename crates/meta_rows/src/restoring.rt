@@ -41,7 +41,7 @@ fn optimized(alloc: Global, expr: &Expr) -> Result<OptimizedExpr, AllocError> {
 }
 
 /// The optimized rules that a text says.
-pub fn optimized_rules(alloc: Global, text: &str) -> Result<Vec<OptimizedRule>, Fault> {
+pub(crate) fn optimized_rules(alloc: Global, text: &str) -> Result<Vec<OptimizedRule>, Fault> {
     let mut rules = Vec::new(alloc);
     for rule in erased_rules(alloc, text)? {
         let expr = optimized(alloc, &rule.expr)?;
@@ -67,7 +67,7 @@ fn bodies_of(
 }
 
 /// The rules of a text with what restores the stack.
-pub fn restored(alloc: Global, text: &str) -> Result<String, Fault> {
+pub(crate) fn restored(alloc: Global, text: &str) -> Result<String, Fault> {
     let rules = optimized_rules(alloc, text)?;
     let bodies = bodies_of(alloc, &rules)?;
     let mut out = String::new(alloc);
@@ -79,7 +79,7 @@ pub fn restored(alloc: Global, text: &str) -> Result<String, Fault> {
 }
 
 /// Of each body of a text whether it changes the stack.
-pub fn changes(alloc: Global, text: &str) -> Result<String, Fault> {
+pub(crate) fn changes(alloc: Global, text: &str) -> Result<String, Fault> {
     let rules = optimized_rules(alloc, text)?;
     let bodies = bodies_of(alloc, &rules)?;
     let mut out = String::new(alloc);

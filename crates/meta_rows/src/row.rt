@@ -5,7 +5,7 @@ use meta_base::runtime::Fault;
 use std::alloc::{AllocError, Global};
 
 /// What the call of a row answers, `CALL ARGUMENT | TEXT`.
-pub fn answer(alloc: Global, row: &str) -> Result<String, AllocError> {
+pub(crate) fn answer(alloc: Global, row: &str) -> Result<String, AllocError> {
     let Some((head, written)) = row.split_once('|') else {
         return String::from_str(alloc, "no row: there is no bar");
     };

@@ -6,7 +6,7 @@ use pest_meta::parser::rename_meta_rule;
 use std::alloc::{AllocError, Global};
 
 /// How deep pairs are written.
-const LEVELS: u32 = 100;
+pub(crate) const LEVELS: u32 = 100;
 
 /// The rule of that name; `EOI` where there is none.
 fn rule_of(alloc: Global, name: &str) -> Result<Rule, AllocError> {
@@ -19,7 +19,7 @@ fn rule_of(alloc: Global, name: &str) -> Result<Rule, AllocError> {
 }
 
 /// The pairs that a text spells for a rule.
-pub fn pairs(alloc: Global, rule: &str, text: &str) -> Result<String, Fault> {
+pub(crate) fn pairs(alloc: Global, rule: &str, text: &str) -> Result<String, Fault> {
     let pairs = PestParser::parse(alloc, rule_of(alloc, rule)?, text)?;
     let mut out = String::new(alloc);
     if pairs.trees().is_empty() {
@@ -32,7 +32,11 @@ pub fn pairs(alloc: Global, rule: &str, text: &str) -> Result<String, Fault> {
 /// Writes each pair as its rule, its start and its end, and the pairs inside it in brackets, as in
 /// `repeat_exact 0..3 [opening_brace 0..1, number 1..2, closing_brace 2..3]`. Below so many levels
 /// nothing is written.
-fn write_pairs(pairs: Pairs<'_, Rule>, levels: u32, out: &mut String) -> Result<(), AllocError> {
+pub(crate) fn write_pairs(
+    pairs: Pairs<'_, Rule>,
+    levels: u32,
+    out: &mut String,
+) -> Result<(), AllocError> {
     if levels == 0 {
         return Ok(());
     }
@@ -58,7 +62,7 @@ fn write_pairs(pairs: Pairs<'_, Rule>, levels: u32, out: &mut String) -> Result<
 }
 
 /// The entries of the flat list.
-pub fn entries(alloc: Global, rule: &str, text: &str) -> Result<String, Fault> {
+pub(crate) fn entries(alloc: Global, rule: &str, text: &str) -> Result<String, Fault> {
     let mut out = String::new(alloc);
     for entry in &PestParser::tokens(alloc, rule_of(alloc, rule)?, text)? {
         write!(out, "{entry:?}\n")?;
@@ -67,7 +71,7 @@ pub fn entries(alloc: Global, rule: &str, text: &str) -> Result<String, Fault> {
 }
 
 /// The pairs, each before those inside it.
-pub fn flattened(alloc: Global, rule: &str, text: &str) -> Result<String, Fault> {
+pub(crate) fn flattened(alloc: Global, rule: &str, text: &str) -> Result<String, Fault> {
     let mut out = String::new(alloc);
     let pairs = PestParser::parse(alloc, rule_of(alloc, rule)?, text)?;
     for pair in pairs.flatten(alloc)? {
@@ -85,7 +89,7 @@ pub fn flattened(alloc: Global, rule: &str, text: &str) -> Result<String, Fault>
 }
 
 /// How many pairs there are, and how many with those inside them.
-pub fn count(alloc: Global, rule: &str, text: &str) -> Result<String, Fault> {
+pub(crate) fn count(alloc: Global, rule: &str, text: &str) -> Result<String, Fault> {
     let pairs = PestParser::parse(alloc, rule_of(alloc, rule)?, text)?;
     let outer = pairs.clone()?.count();
     let mut all = 0u32;
@@ -97,7 +101,7 @@ pub fn count(alloc: Global, rule: &str, text: &str) -> Result<String, Fault> {
 }
 
 /// The errors of a text that is refused, as they are printed.
-pub fn printed(alloc: Global, rule: &str, text: &str) -> Result<String, Fault> {
+pub(crate) fn printed(alloc: Global, rule: &str, text: &str) -> Result<String, Fault> {
     match PestParser::parse(alloc, rule_of(alloc, rule)?, text) {
         Ok(_) => Ok(String::from_str(alloc, "pairs")?),
         Err(Fault::Grammar(errors)) => {
@@ -112,6 +116,6 @@ pub fn printed(alloc: Global, rule: &str, text: &str) -> Result<String, Fault> {
 }
 
 /// What errors call a rule.
-pub fn renamed(alloc: Global, rule: &str) -> Result<String, Fault> {
+pub(crate) fn renamed(alloc: Global, rule: &str) -> Result<String, Fault> {
     rename_meta_rule(alloc, &rule_of(alloc, rule)?)
 }

@@ -1,12 +1,13 @@
 //! Copies of rules, and whether they are equal.
 use crate::reading::{erased_rules, rules_of};
+use meta_ast::{ast, optimized};
 use meta_base::runtime::Fault;
 use meta_optimizer::optimize;
 use std::alloc::{AllocError, Global};
 
 /// Writes how many values there are, and, where one is unlike its copy or like the copy of another, their
 /// numbers.
-pub fn write_equalities<T: PartialEq>(
+pub(crate) fn write_equalities<T: PartialEq>(
     out: &mut String,
     name: &str,
     values: &[T],
@@ -28,11 +29,11 @@ pub fn write_equalities<T: PartialEq>(
 }
 
 /// The rules of a text with their spans, without them, and behind all passes: how they equal their copies.
-pub fn copies(alloc: Global, text: &str) -> Result<String, Fault> {
+pub(crate) fn copies(alloc: Global, text: &str) -> Result<String, Fault> {
     let mut out = String::new(alloc);
     with_spans(alloc, text, &mut out)?;
     without_spans(alloc, text, &mut out)?;
-    optimized(alloc, text, &mut out)?;
+    behind_passes(alloc, text, &mut out)?;
     Ok(out)
 }
 
@@ -43,6 +44,8 @@ fn with_spans(alloc: Global, text: &str, out: &mut String) -> Result<(), Fault> 
         copies.push(rule.clone()?)?;
     }
     write_equalities(out, "rules with spans", &rules, &copies)?;
+    meta_nodes::release(rules);
+    meta_nodes::release(copies);
     Ok(())
 }
 
@@ -53,15 +56,19 @@ fn without_spans(alloc: Global, text: &str, out: &mut String) -> Result<(), Faul
         copies.push(rule.clone()?)?;
     }
     write_equalities(out, "rules", &rules, &copies)?;
+    ast::release(rules);
+    ast::release(copies);
     Ok(())
 }
 
-fn optimized(alloc: Global, text: &str, out: &mut String) -> Result<(), Fault> {
+fn behind_passes(alloc: Global, text: &str, out: &mut String) -> Result<(), Fault> {
     let rules = optimize(alloc, erased_rules(alloc, text)?)?;
     let mut copies = Vec::new(alloc);
     for rule in &rules {
         copies.push(rule.clone()?)?;
     }
     write_equalities(out, "optimized rules", &rules, &copies)?;
+    optimized::release(rules);
+    optimized::release(copies);
     Ok(())
 }

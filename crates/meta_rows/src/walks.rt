@@ -11,7 +11,7 @@ use meta_optimizer::OptimizedExpr;
 use std::alloc::{AllocError, Global};
 
 /// All that stands in the bodies of a text, from the top down.
-pub fn items(alloc: Global, text: &str) -> Result<String, Fault> {
+pub(crate) fn items(alloc: Global, text: &str) -> Result<String, Fault> {
     let mut out = String::new(alloc);
     for rule in &erased_rules(alloc, text)? {
         for item in rule.expr.iter_top_down(alloc)? {
@@ -22,7 +22,7 @@ pub fn items(alloc: Global, text: &str) -> Result<String, Fault> {
 }
 
 /// The same of optimized rules.
-pub fn optimized_items(alloc: Global, text: &str) -> Result<String, Fault> {
+pub(crate) fn optimized_items(alloc: Global, text: &str) -> Result<String, Fault> {
     let mut out = String::new(alloc);
     for rule in &optimized_rules(alloc, text)? {
         for item in rule.expr.iter_top_down(alloc)? {
@@ -90,7 +90,7 @@ fn optional_up_optimized(alloc: Global, expr: OptimizedExpr) -> Result<Optimized
 
 /// The bodies of a text behind maps: whether those that change nothing keep it, how it is turned from the top
 /// down, and how each node is made optional from the bottom up.
-pub fn mapped(alloc: Global, text: &str) -> Result<String, Fault> {
+pub(crate) fn mapped(alloc: Global, text: &str) -> Result<String, Fault> {
     let mut out = String::new(alloc);
     for rule in &erased_rules(alloc, text)? {
         let is_kept = is_kept(alloc, &rule.expr)?;
@@ -106,7 +106,7 @@ pub fn mapped(alloc: Global, text: &str) -> Result<String, Fault> {
 
 /// The bodies of a text as optimized ones behind maps: whether those that change nothing keep it, and how
 /// each node is made optional from the bottom up.
-pub fn optimized_mapped(alloc: Global, text: &str) -> Result<String, Fault> {
+pub(crate) fn optimized_mapped(alloc: Global, text: &str) -> Result<String, Fault> {
     let mut out = String::new(alloc);
     for rule in &optimized_rules(alloc, text)? {
         let is_kept = is_kept_optimized(alloc, &rule.expr)?;
@@ -160,7 +160,7 @@ fn refused_up(alloc: Global, expr: Expr, last: u32) -> Result<(bool, u32), Fault
 
 /// Of the bodies of a text whether maps are refused whose closures refuse their call of that number, and how
 /// often the closures were called.
-pub fn refusing(alloc: Global, number: &str, text: &str) -> Result<String, Fault> {
+pub(crate) fn refusing(alloc: Global, number: &str, text: &str) -> Result<String, Fault> {
     let last = number.parse::<u32>().unwrap_or(0);
     let mut out = String::new(alloc);
     for rule in &erased_rules(alloc, text)? {

@@ -11,7 +11,7 @@ use Rattle.meta_nodes.specs.Spanned as spanned
 use Rattle.meta_nodes.specs.Spanned.{Spanned, Leaf, Unary, PosPred, NegPred, Opt, Rep, RepOnce, RepExact, RepMin, RepMax, RepMinMax, Push, Binary, Seq, Choice}
 use Rattle.meta_nodes.specs.declared.node.ParserRule.{ParserRule}
 use Rattle.meta_stacks.specs.Reported.{KnowsNullable}
-use Rattle.meta_stacks.specs.Reports.{AltersStack, ChangesStack, by_push, by_builtin, by_rule, in_left, in_right, in_first, in_second, in_opt, in_rep, in_rep_once, in_rep_exact, in_rep_min, in_rep_max, in_rep_min_max, in_restore, SkippingChangesStack}
+use Rattle.meta_stacks.specs.Reports.{TakesEntries, AltersStack, by_push, by_builtin, by_rule, in_left, in_right, in_first, in_second, in_opt, in_rep, in_rep_once, in_rep_exact, in_rep_min, in_rep_max, in_rep_min_max, in_restore, SkippingAltersStack}
 use Rattle.meta_stack.specs.Answers.{AreAnswers, at_place, null_kind, changing_kind}
 use Rattle.meta_stack.specs.Expressions.{body_flag, name_flag, may_stay, may_change}
 use Rattle.meta_stack.specs.Flags.{is_set_at}
@@ -199,7 +199,7 @@ module _ (rules : List ParserRule) (ns : List Node) (roots : List ℕ) (tabled :
   binary_changing Seq d e j k h l = ap₂ (λ y z. y || z) h l
   binary_changing Choice d e j k h l = ap₂ (λ y z. y || z) h l
 
-  module _ (right : AreAnswers asks.ChangesStack ns roots flags) where
+  module _ (right : AreAnswers asks.AltersStack ns roots flags) where
     changing_at : (x : Spanned) (i : ℕ) → slice_get all i ≡ Some x → P i ≡ may_change changes (without_spans x)
     changing_at (Leaf s e) i here =
         let (n, at, fit) = tabled.nodes.fit i (Leaf s e) here in
@@ -219,10 +219,10 @@ module _ (rules : List ParserRule) (ns : List Node) (roots : List ℕ) (tabled :
         go o l (absent f) = let z = sym e ∙ f in cc
         go o l (named {r = r} rule at f) = ap (λ q. changing_kind roots P (name_kind n q)) l ∙ sym (ap (body_flag roots flags) l)
 
-    changes_builtin : (n : Text) (b : Builtin) → rule_of G n ≡ None → builtin_of n ≡ Some b → AltersStack b → changes n ≡ true
+    changes_builtin : (n : Text) (b : Builtin) → rule_of G n ≡ None → builtin_of n ≡ Some b → TakesEntries b → changes n ≡ true
     changes_builtin n b e is a = go (last_place G n) refl (resolved rules n)
       where
-        alters : (b : Builtin) → AltersStack b → changing_kind roots P (kind_by (Some b)) ≡ true
+        alters : (b : Builtin) → TakesEntries b → changing_kind roots P (kind_by (Some b)) ≡ true
         alters Pop h = refl
         alters Drop h = refl
         alters PopAll h = refl
@@ -232,7 +232,7 @@ module _ (rules : List ParserRule) (ns : List Node) (roots : List ℕ) (tabled :
         go o l (absent f) = ap (λ q. changing_kind roots P (name_kind n q)) l ∙ (ap (changing_kind roots P) (builtin_does n ∙ ap kind_by is) ∙ alters b a)
         go o l (named rule at f) = let z = sym e ∙ f in cc
 
-    changes_so : {e : Expression} → ChangesStack G e → may_change changes e ≡ true
+    changes_so : {e : Expression} → AltersStack G e → may_change changes e ≡ true
     changes_so by_push = refl
     changes_so (by_builtin {n = n} {b = b} e is a) = changes_builtin n b e is a
     changes_so (by_rule {n = n} {r = r} e d) = changes_rule n r e ∙ changes_so d
@@ -253,11 +253,11 @@ module _ (rules : List ParserRule) (ns : List Node) (roots : List ℕ) (tabled :
     plain_name n h None = ap (changing_kind roots P) h
     plain_name n h (Some r) = refl
 
-    calm_name : (n : Text) → builtin_kind n ≡ is.Leaf → flag n ≡ false → ChangesStack G (Ident n) → ⊥
+    calm_name : (n : Text) → builtin_kind n ≡ is.Leaf → flag n ≡ false → AltersStack G (Ident n) → ⊥
     calm_name n h f d = clash (changes n) (changes_so d) (plain_name n h (last_place G n) ∙ f)
 
     -- what is skipped leaves the stack alone, where the flags say so
-    pub calm : flag whitespace ≡ false → flag comment ≡ false → SkippingChangesStack G → ⊥
+    pub calm : flag whitespace ≡ false → flag comment ≡ false → SkippingAltersStack G → ⊥
     unfolding whitespace comment
     calm f h (inl d) = calm_name whitespace refl f d
     calm f h (inr d) = calm_name comment refl h d

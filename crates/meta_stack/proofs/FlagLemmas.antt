@@ -21,7 +21,7 @@ unset_fewer (false ∷ bs) (suc i) h e = ap suc (unset_fewer bs i (omega arith) 
 unset_fewer (true ∷ bs) (suc i) h e = unset_fewer bs i (omega arith) e
 
 -- what is set after one more is set
-set_or_one : (bs : List Bool) (i j : ℕ) → is_set_at (set bs i true) j ≡ true → (j ≡ i) ⊎ (is_set_at bs j ≡ true)
+pub set_or_one : (bs : List Bool) (i j : ℕ) → is_set_at (set bs i true) j ≡ true → (j ≡ i) ⊎ (is_set_at bs j ≡ true)
 set_or_one [] i j h = inr h
 set_or_one (b ∷ bs) zero zero h = inl refl
 set_or_one (b ∷ bs) zero (suc j) h = inr h
@@ -97,7 +97,7 @@ module _ (roots : List ℕ) (p r : ℕ → Bool) (f : (j : ℕ) → p j ≡ true
   -- more flags give more answers
   pub answer_more : (q : Question) (n : Node) → answer q roots p n ≡ true → answer q roots r n ≡ true
   answer_more asks.TakesNothing n h = or_more n.free (null_kind roots p n.kind) n.free (null_kind roots r n.kind) (λ e. e) (null_more n.kind) h
-  answer_more asks.ChangesStack n h = changing_more n.kind h
+  answer_more asks.AltersStack n h = changing_more n.kind h
   answer_more (asks.LeadsTo s) n h = leading_more s (called_by n.kind) (parts_of n.kind) h
 
 -- what holds is marked, where the flags are closed

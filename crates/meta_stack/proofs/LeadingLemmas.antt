@@ -4,7 +4,7 @@ use Rattle.std.specs.Cmp.{unsigned_Decides}
 use Rattle.meta_nodes.specs.Spanned.{Unary, PosPred, NegPred, Opt, Rep, RepOnce, RepExact, RepMin, RepMax, RepMinMax, Push, Binary, Seq, Choice}
 use Rattle.meta_stack.specs.Answers.{answer, at_place, leading, some_part, Holds, holds, AreSound, AreClosed}
 use Rattle.meta_stack.specs.Flags.{is_set_at}
-use Rattle.meta_stack.specs.Leading.{IsOperand, Leads, to_call, by_body, by_operand, LeadsBack}
+use Rattle.meta_stack.specs.Leading.{IsOperand, LeadsToCall, to_call, by_body, by_operand, LeadsBack}
 use Rattle.meta_stack.specs.Numbering.{wrap_of, wrap_kind, both_kind, choice_of}
 use Rattle.meta_stack.specs.Table.{called_by, parts_of}
 use Rattle.meta_stack.specs.declared.facts.Question.TheVariants as asks
@@ -94,8 +94,8 @@ both_operands j k Seq = (inl refl, inr refl)
 both_operands j k Choice = (inl refl, inr refl)
 
 module _ (ns : List Node) (roots : List ℕ) (r : ℕ) where
-  lead_on : (p : ℕ → Bool) (i : ℕ) (n : Node) → slice_get ns i ≡ Some n → ((j : ℕ) → p j ≡ true → Leads ns roots j r) → (o : Option ℕ) → called_by n.kind ≡ o
-      → leading roots p r o (parts_of n.kind) ≡ true → Leads ns roots i r
+  lead_on : (p : ℕ → Bool) (i : ℕ) (n : Node) → slice_get ns i ≡ Some n → ((j : ℕ) → p j ≡ true → LeadsToCall ns roots j r) → (o : Option ℕ) → called_by n.kind ≡ o
+      → leading roots p r o (parts_of n.kind) ≡ true → LeadsToCall ns roots i r
   lead_on p i n at g None e h = let (j, o, f) = set_part p (parts_of n.kind) h in by_operand at o (g j f)
   lead_on p i n at g (Some s) e h = elim (either (nat_eq s r) (at_place p (slice_get roots s)) h) [
     | inl f ↦ to_call at (call_kind n.kind s e ∙ ap is.Call ((unsigned_Decides s r).0 f))
@@ -103,7 +103,7 @@ module _ (ns : List Node) (roots : List ℕ) (r : ℕ) where
   ]
 
   -- what the least answer says
-  pub holds_leads : {i : ℕ} → Holds (asks.LeadsTo r) ns roots i → Leads ns roots i r
+  pub holds_leads : {i : ℕ} → Holds (asks.LeadsTo r) ns roots i → LeadsToCall ns roots i r
   holds_leads (holds {i = i} {n = n} p at f g) = lead_on p i n at (λ j h. holds_leads (g j h)) (called_by n.kind) refl f
 
   module _ (flags : List Bool) (closed : AreClosed (asks.LeadsTo r) ns roots flags) where
@@ -111,7 +111,7 @@ module _ (ns : List Node) (roots : List ℕ) (r : ℕ) where
     by_calling n o e h = ap (λ q. leading roots (is_set_at flags) r q (parts_of n.kind)) e ∙ h
 
     -- all that lead there are told, where the flags are closed
-    pub leads_set : {i s : ℕ} → Leads ns roots i s → s ≡ r → is_set_at flags i ≡ true
+    pub leads_set : {i s : ℕ} → LeadsToCall ns roots i s → s ≡ r → is_set_at flags i ≡ true
     leads_set (to_call {i = i} {r = s} {n = n} at k) e =
         closed i n at (by_calling n (Some s) (ap called_by k) (first_on (nat_eq s r) (at_place (is_set_at flags) (slice_get roots s)) ((unsigned_Decides s r).1 e)))
     leads_set (by_body {i = i} {j = j} {r = q} {n = n} at k root l) e =

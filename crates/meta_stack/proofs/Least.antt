@@ -12,7 +12,7 @@ use Rattle.meta_nodes.specs.Nodes.{view}
 use Rattle.meta_nodes.specs.Spanned as spanned
 use Rattle.meta_nodes.specs.Spanned.{Spanned, Leaf, Unary, PosPred, NegPred, Opt, Rep, RepOnce, RepExact, RepMin, RepMax, RepMinMax, Push, Binary, Seq, Choice}
 use Rattle.meta_nodes.specs.declared.node.ParserRule.{ParserRule}
-use Rattle.meta_stacks.specs.Reports.{ChangesStack, by_push, by_builtin, by_rule, in_left, in_right, in_first, in_second, in_opt, in_rep, in_rep_once, in_rep_exact, in_rep_min, in_rep_max, in_rep_min_max}
+use Rattle.meta_stacks.specs.Reports.{AltersStack, by_push, by_builtin, by_rule, in_left, in_right, in_first, in_second, in_opt, in_rep, in_rep_once, in_rep_exact, in_rep_min, in_rep_max, in_rep_min_max}
 use Rattle.meta_stack.specs.Answers.{answer, at_place, null_kind, changing_kind, Holds, holds, Asked, AreSound}
 use Rattle.meta_stack.specs.Expressions.{body_flag, name_flag, may_stay}
 use Rattle.meta_stack.specs.Flags.{is_set_at}
@@ -133,7 +133,7 @@ module _ (rules : List ParserRule) (ns : List Node) (roots : List ℕ) (tabled :
       binary_null p f (without_spans x) (without_spans y) fit.fits.0 fit.fits.1 (λ w. k fit.fits.0 w x fit.fits.4) (λ w. k fit.fits.1 w y fit.fits.5) (sym (ap₂ (λ y z. y || null_kind roots p z) fit.free fit.fits.6) ∙ h)
 
   -- what changes the stack
-  builtin_changes : (p : ℕ → Bool) (n : Text) (o : Option Builtin) → rule_of G n ≡ None → builtin_of n ≡ o → changing_kind roots p (kind_by o) ≡ true → ChangesStack G (Ident n)
+  builtin_changes : (p : ℕ → Bool) (n : Text) (o : Option Builtin) → rule_of G n ≡ None → builtin_of n ≡ o → changing_kind roots p (kind_by o) ≡ true → AltersStack G (Ident n)
   builtin_changes p n (Some Pop) e b h = by_builtin e b tt
   builtin_changes p n (Some Drop) e b h = by_builtin e b tt
   builtin_changes p n (Some PopAll) e b h = by_builtin e b tt
@@ -146,12 +146,12 @@ module _ (rules : List ParserRule) (ns : List Node) (roots : List ℕ) (tabled :
   builtin_changes p n (Some Eoi) e b h = cc
   builtin_changes p n None e b h = cc
 
-  name_changes : (p : ℕ → Bool) → Right asks.ChangesStack p → (n : Text) → changing_kind roots p (kind_in G n) ≡ true → ChangesStack G (Ident n)
+  name_changes : (p : ℕ → Bool) → Right asks.AltersStack p → (n : Text) → changing_kind roots p (kind_in G n) ≡ true → AltersStack G (Ident n)
   name_changes p k n h = go (last_place G n) refl (resolved rules n)
     where
-      go : (o : Option ℕ) → last_place G n ≡ o → Named rules n o → ChangesStack G (Ident n)
+      go : (o : Option ℕ) → last_place G n ≡ o → Named rules n o → AltersStack G (Ident n)
       go o l (absent e) = builtin_changes p n (builtin_of n) e refl (sym (ap (λ q. changing_kind roots p (name_kind n q)) l ∙ ap (changing_kind roots p) (builtin_does n)) ∙ h)
-      go o l (named {r = r} rule at e) = by_rule e (body_asked asks.ChangesStack p k r rule at (sym (ap (λ q. changing_kind roots p (name_kind n q)) l) ∙ h))
+      go o l (named {r = r} rule at e) = by_rule e (body_asked asks.AltersStack p k r rule at (sym (ap (λ q. changing_kind roots p (name_kind n q)) l) ∙ h))
 
   text_changing : (p : ℕ → Bool) (t : Text) → changing_kind roots p (text_kind t) ≡ false
   text_changing p [] = refl
@@ -165,7 +165,7 @@ module _ (rules : List ParserRule) (ns : List Node) (roots : List ℕ) (tabled :
   slice_changing p (pos (suc k)) j = refl
   slice_changing p (negsuc k) j = refl
 
-  leaf_changes : (p : ℕ → Bool) → Right asks.ChangesStack p → (e : Expression) → IsSimple e → changing_kind roots p (leaf_kind (kind_in G) e) ≡ true → ChangesStack G e
+  leaf_changes : (p : ℕ → Bool) → Right asks.AltersStack p → (e : Expression) → IsSimple e → changing_kind roots p (leaf_kind (kind_in G) e) ≡ true → AltersStack G e
   leaf_changes p k (plain.Str t) s h = absurd (clash (changing_kind roots p (text_kind t)) h (text_changing p t))
   leaf_changes p k (plain.Insens t) s h = absurd (clash (changing_kind roots p (text_kind t)) h (text_changing p t))
   leaf_changes p k (plain.Ident n) s h = name_changes p k n h
@@ -173,7 +173,7 @@ module _ (rules : List ParserRule) (ns : List Node) (roots : List ℕ) (tabled :
   leaf_changes p k (plain.Range a b) s h = cc
   leaf_changes p k _ s h = absurd s
 
-  unary_changes : (p : ℕ → Bool) (f : Unary) (e : Expression) (j : ℕ) → (p j ≡ true → ChangesStack G e) → changing_kind roots p (wrap_kind (wrap_of f) j) ≡ true → ChangesStack G (round f e)
+  unary_changes : (p : ℕ → Bool) (f : Unary) (e : Expression) (j : ℕ) → (p j ≡ true → AltersStack G e) → changing_kind roots p (wrap_kind (wrap_of f) j) ≡ true → AltersStack G (round f e)
   unary_changes p PosPred e j k h = cc
   unary_changes p NegPred e j k h = cc
   unary_changes p Opt e j k h = in_opt (k h)
@@ -185,11 +185,11 @@ module _ (rules : List ParserRule) (ns : List Node) (roots : List ℕ) (tabled :
   unary_changes p (RepMax n) e j k h = in_rep_max (k h)
   unary_changes p (RepMinMax m n) e j k h = in_rep_min_max (k h)
 
-  binary_changes : (p : ℕ → Bool) (f : Binary) (d e : Expression) (i j : ℕ) → (p i ≡ true → ChangesStack G d) → (p j ≡ true → ChangesStack G e) → changing_kind roots p (both_kind (choice_of f) i j) ≡ true → ChangesStack G (between f d e)
+  binary_changes : (p : ℕ → Bool) (f : Binary) (d e : Expression) (i j : ℕ) → (p i ≡ true → AltersStack G d) → (p j ≡ true → AltersStack G e) → changing_kind roots p (both_kind (choice_of f) i j) ≡ true → AltersStack G (between f d e)
   binary_changes p Seq d e i j k l h = elim (either (p i) (p j) h) [ inl a ↦ in_left (k a) | inr b ↦ in_right (l b) ]
   binary_changes p Choice d e i j k l h = elim (either (p i) (p j) h) [ inl a ↦ in_first (k a) | inr b ↦ in_second (l b) ]
 
-  node_changes : (p : ℕ → Bool) → Right asks.ChangesStack p → (i : ℕ) (n : Node) (x : Spanned) → IsNode (kind_in G) all i n x → changing_kind roots p n.kind ≡ true → ChangesStack G (without_spans x)
+  node_changes : (p : ℕ → Bool) → Right asks.AltersStack p → (i : ℕ) (n : Node) (x : Spanned) → IsNode (kind_in G) all i n x → changing_kind roots p n.kind ≡ true → AltersStack G (without_spans x)
   node_changes p k i n (Leaf s e) fit h = leaf_changes p k e fit.fits.0 (sym (ap (changing_kind roots p) fit.fits.1) ∙ h)
   node_changes p k i n (spanned.One s f x) fit h = unary_changes p f (without_spans x) fit.fits.0 (λ w. k fit.fits.0 w x fit.fits.2) (sym (ap (changing_kind roots p) fit.fits.3) ∙ h)
   node_changes p k i n (spanned.Two s f x y) fit h =
@@ -197,7 +197,7 @@ module _ (rules : List ParserRule) (ns : List Node) (roots : List ℕ) (tabled :
 
   node_asked : (q : Question) (p : ℕ → Bool) → Right q p → (i : ℕ) (n : Node) (x : Spanned) → IsNode (kind_in G) all i n x → answer q roots p n ≡ true → Asked q G (without_spans x)
   node_asked asks.TakesNothing p k i n x fit h = node_null p k i n x fit h
-  node_asked asks.ChangesStack p k i n x fit h = node_changes p k i n x fit h
+  node_asked asks.AltersStack p k i n x fit h = node_changes p k i n x fit h
   node_asked (asks.LeadsTo r) p k i n x fit h = tt
 
   -- what holds of a node is what is asked of its expression
@@ -221,8 +221,8 @@ module _ (rules : List ParserRule) (ns : List Node) (roots : List ℕ) (tabled :
     abbrev flag : Text → Bool
     flag n = name_flag G roots flags n
 
-    pub changes_name : AreSound asks.ChangesStack ns roots flags → (n : Text) → flag n ≡ true → ChangesStack G (Ident n)
-    changes_name sound n h = let (r, e, d) = flag_asked asks.ChangesStack sound n h in by_rule e d
+    pub changes_name : AreSound asks.AltersStack ns roots flags → (n : Text) → flag n ≡ true → AltersStack G (Ident n)
+    changes_name sound n h = let (r, e, d) = flag_asked asks.AltersStack sound n h in by_rule e d
 
     module _ (sound : AreSound asks.TakesNothing ns roots flags) where
       pub may_stay_null : (e : Expression) → may_stay flag e ≡ true → IsNullable G e

@@ -19,9 +19,11 @@ pub mod FlagLemmas
 pub mod Least
 pub mod LeadingLemmas
 pub mod RankLemmas
+pub mod GroupLemmas
 pub mod Ordered
 pub mod Reached
 pub mod Tabled
 pub mod LastNames
 pub mod Telling
-pub mod ReachingLemmas
+pub mod Awaiting
+pub mod Left

@@ -2,7 +2,7 @@
 use Rattle.std.proofs.Common.{◌≡◌, ◌↔◌, ℕ, zero, suc, ◌+◌, ◌<◌, ◌≤◌, ◌⊎◌, inl, inr, List, [], ◌∷◌, ◌++◌, Option, Some, None, Bool, true, false, slice_get, length, unwrap_or, replicate, refl, sym, ◌∙◌, ap, subst, arith}
 use Rattle.std.proofs.lemmas.Option.{slice_get_within, slice_get_past}
 use Rattle.meta_stack.specs.Flags.{is_set_at}
-use Rattle.meta_stack.specs.Leading.{IsOperand, Leads, to_call, by_body, by_operand, LeadsBack, rank_in, PartsFall, BodyFalls, CallFalls, AreRanked, AreCalls, AreRaised, bit}
+use Rattle.meta_stack.specs.Leading.{IsOperand, LeadsToCall, to_call, by_body, by_operand, LeadsBack, rank_in, PartsFall, BodyFalls, CallFalls, AreRanked, AreCalls, AreRaised, bit}
 use Rattle.meta_stack.specs.Table.{called_by, parts_of}
 use Rattle.meta_stack.specs.declared.table.Node.{Node}
 use Rattle.meta_stack.specs.declared.table.Parts.{Parts}
@@ -25,7 +25,7 @@ module _ (ns : List Node) (roots : List ℕ) (recursive : List Bool) (ranks : Li
   body_falls i n r j at k root = subst (CallFalls roots recursive ranks i) (ap called_by k) (ranked i n at).call j root
 
   -- where calls of a rule are followed, its body has a lower rank than what leads to it
-  falls : {i r : ℕ} → Leads ns roots i r → is_set_at recursive r ≡ false → (j : ℕ) → slice_get roots r ≡ Some j → rank_in ranks j < rank_in ranks i
+  falls : {i r : ℕ} → LeadsToCall ns roots i r → is_set_at recursive r ≡ false → (j : ℕ) → slice_get roots r ≡ Some j → rank_in ranks j < rank_in ranks i
   falls (to_call {i = i} {r = r} {n = n} at k) off j root = (body_falls i n r j at k root).below off
   falls (by_body {i = i} {j = m} {r = q} {n = n} at k body l) off j root =
       let a = (body_falls i n q m at k body).never_above in
@@ -55,7 +55,7 @@ less_or_not (suc m) (suc n) = elim (less_or_not m n) [ inl a ↦ inl (omega arit
 
 -- whatever rule one node leads to, the other one leads to
 abbrev Below : List Node → List ℕ → ℕ → ℕ → Type 0
-Below ns roots j i = (s : ℕ) → Leads ns roots j s → Leads ns roots i s
+Below ns roots j i = (s : ℕ) → LeadsToCall ns roots j s → LeadsToCall ns roots i s
 
 -- some rules have been sought
 pub record AreSought (ns : List Node) (roots : List ℕ) (count : ℕ) (recursive : List Bool) (ranks : List ℕ) : Type 0 where
@@ -64,7 +64,7 @@ pub record AreSought (ns : List Node) (roots : List ℕ) (count : ℕ) (recursiv
   pub alike : length ranks ≡ length ns
   pub low : (i : ℕ) → rank_in ranks i ≤ count
   pub never_above : (i j : ℕ) → Below ns roots j i → rank_in ranks j ≤ rank_in ranks i
-  pub below : (i j r : ℕ) → Below ns roots j i → r < count → Leads ns roots i r → (Leads ns roots j r → ⊥) → rank_in ranks j < rank_in ranks i
+  pub below : (i j r : ℕ) → Below ns roots j i → r < count → LeadsToCall ns roots i r → (LeadsToCall ns roots j r → ⊥) → rank_in ranks j < rank_in ranks i
 
 rank_zero : (n i : ℕ) → rank_in (replicate n 0) i ≡ 0
 rank_zero zero i = refl
@@ -113,7 +113,7 @@ set_last (c ∷ bs) b = set_last bs b
 -- one rule more was sought
 pub one_sought : (ns : List Node) (roots : List ℕ) (count : ℕ) (recursive more : List Bool) (ranks raised : List ℕ) (flags : List Bool) (b : Bool) → AreSought ns roots count recursive ranks
     → more ≡ recursive ++ b ∷ [] → length more ≡ count + 1 → (b ≡ true) ↔ LeadsBack ns roots count → AreRaised ranks flags raised → length flags ≡ length ns
-    → ((i : ℕ) → is_set_at flags i ≡ true → Leads ns roots i count) → ((i : ℕ) → Leads ns roots i count → is_set_at flags i ≡ true) → AreSought ns roots (count + 1) more raised
+    → ((i : ℕ) → is_set_at flags i ≡ true → LeadsToCall ns roots i count) → ((i : ℕ) → LeadsToCall ns roots i count → is_set_at flags i ≡ true) → AreSought ns roots (count + 1) more raised
 one_sought ns roots count recursive more ranks raised flags b s e len exact up l sound complete = record {
   told = len;
   right = λ r h. elim (last_or_before r count h) [
@@ -126,7 +126,7 @@ one_sought ns roots count recursive more ranks raised flags b s e len exact up l
   below = λ i j r h k x y. elim (last_or_before r count k) [
     | inl z ↦ let a = up.each i in let c = up.each j in let d = s.below i j r h z x y in let f = more_bits i j h in omega arith
     | inr z ↦ let a = up.each i in let c = up.each j in let d = s.never_above i j h in
-        let f = bit_less (is_set_at flags j) (is_set_at flags i) (λ g. y (subst (Leads ns roots j) (sym z) (sound j g))) (complete i (subst (Leads ns roots i) z x)) in omega arith
+        let f = bit_less (is_set_at flags j) (is_set_at flags i) (λ g. y (subst (LeadsToCall ns roots j) (sym z) (sound j g))) (complete i (subst (LeadsToCall ns roots i) z x)) in omega arith
   ];
 }
   where

@@ -10,11 +10,11 @@ use Rattle.meta_nodes.specs.Nodes.{view}
 use Rattle.meta_nodes.specs.Spanned as spanned
 use Rattle.meta_nodes.specs.Spanned.{Spanned, Leaf, Unary, PosPred, NegPred, Opt, Rep, RepOnce, RepExact, RepMin, RepMax, RepMinMax, Push, Binary, Seq, Choice}
 use Rattle.meta_nodes.specs.declared.node.ParserRule.{ParserRule}
-use Rattle.meta_stacks.specs.Recursion.{Reaches, by_call, by_calls}
+use Rattle.meta_stacks.specs.Recursion.{ReachesByCalls, by_call, by_calls}
 use Rattle.meta_stack.specs.Answers.{at_place}
 use Rattle.meta_stack.specs.Certain.{IsTableOf}
 use Rattle.meta_stack.specs.Flags.{is_set_at}
-use Rattle.meta_stack.specs.Leading.{IsOperand, Leads, to_call, by_body, by_operand, LeadsBack}
+use Rattle.meta_stack.specs.Leading.{IsOperand, LeadsToCall, to_call, by_body, by_operand, LeadsBack}
 use Rattle.meta_stack.specs.Names.{grammar_of, rule_said, last_place, kind_in, name_kind}
 use Rattle.meta_stack.specs.Numbering.{AreTabled, Fits, IsSimple, all_nodes, leaf_kind, text_kind, slice_kind, wrap_of, wrap_kind, both_kind, choice_of}
 use Rattle.meta_stack.specs.Table.{called_by, nodes_of, parts_of}
@@ -148,7 +148,7 @@ module _ (rules : List ParserRule) (ns : List Node) (roots : List ℕ) (tabled :
 
   -- the rule of that place, or one that reaches it
   abbrev Ends : Text → ℕ → Type 0
-  Ends c s = (last_place G c ≡ Some s) ⊎ ((d : Text) × Reaches G c d × (last_place G d ≡ Some s))
+  Ends c s = (last_place G c ≡ Some s) ⊎ ((d : Text) × ReachesByCalls G c d × (last_place G d ≡ Some s))
 
   -- some name is called whose rule is the one of that place, or reaches it
   abbrev Found : Expression → ℕ → Type 0
@@ -183,7 +183,7 @@ module _ (rules : List ParserRule) (ns : List Node) (roots : List ℕ) (tabled :
   ends_on c d q s e p (inr (b, r, l)) = inr (b, by_calls e p r, l)
 
   -- where a node leads to a call of a rule, its expression does
-  found : {i s : ℕ} → Leads ns roots i s → (x : Spanned) → slice_get all i ≡ Some x → Found (without_spans x) s
+  found : {i s : ℕ} → LeadsToCall ns roots i s → (x : Spanned) → slice_get all i ≡ Some x → Found (without_spans x) s
   found (to_call {i = i} {r = r} {n = n} at k) x here =
       let (c, e, l) = node_call i r n x at k here in (c, by_name x c e, inl l)
   found (by_body {i = i} {j = j} {r = r} {s = s} {n = n} at k root more) x here =
@@ -211,7 +211,7 @@ module _ (rules : List ParserRule) (ns : List Node) (roots : List ℕ) (tabled :
 
   -- what leads on from the name that is called in an expression leads on from its node
   reach : (x : Spanned) (i : ℕ) → slice_get all i ≡ Some x → (c : Text) → Part (without_spans x) (Ident c) → (s : ℕ)
-      → ((k : ℕ) (n : Node) → slice_get ns k ≡ Some n → n.kind ≡ name_kind c (last_place G c) → Leads ns roots k s) → Leads ns roots i s
+      → ((k : ℕ) (n : Node) → slice_get ns k ≡ Some n → n.kind ≡ name_kind c (last_place G c) → LeadsToCall ns roots k s) → LeadsToCall ns roots i s
   reach (Leaf t e) i here c p s f =
       let (n, at, fit) = tabled.nodes.fit i (Leaf t e) here in
       f i n at (fit.fits.1 ∙ ap (leaf_kind (kind_in G)) (simple_part e c fit.fits.0 p))
@@ -229,7 +229,7 @@ module _ (rules : List ParserRule) (ns : List Node) (roots : List ℕ) (tabled :
         | inr q ↦ by_operand at (subst (λ z. IsOperand k (parts_of z)) (sym fit.fits.6) both.1) (reach y k fit.fits.5 c q s f)
       ]
 
-  starts : {n d : Text} → Reaches G n d → (q : Rule) × (rule_of G n ≡ Some q)
+  starts : {n d : Text} → ReachesByCalls G n d → (q : Rule) × (rule_of G n ≡ Some q)
   starts (by_call {r = q} e p) = (q, e)
   starts (by_calls {r = q} e p more) = (q, e)
 
@@ -241,10 +241,10 @@ module _ (rules : List ParserRule) (ns : List Node) (roots : List ℕ) (tabled :
       go o l (named {r = r} rule at f) = (r, l)
 
   abbrev LeadsFrom : ℕ → ℕ → Type 0
-  LeadsFrom r s = (j : ℕ) × (slice_get roots r ≡ Some j) × Leads ns roots j s
+  LeadsFrom r s = (j : ℕ) × (slice_get roots r ≡ Some j) × LeadsToCall ns roots j s
 
   from_body : (n c : Text) (q : Rule) (r s : ℕ) → rule_of G n ≡ Some q → last_place G n ≡ Some r → Part q.body (Ident c)
-      → ((k : ℕ) (m : Node) → slice_get ns k ≡ Some m → m.kind ≡ name_kind c (last_place G c) → Leads ns roots k s) → LeadsFrom r s
+      → ((k : ℕ) (m : Node) → slice_get ns k ≡ Some m → m.kind ≡ name_kind c (last_place G c) → LeadsToCall ns roots k s) → LeadsFrom r s
   from_body n c q r s e l p f = go (subst (Named rules n) l (resolved rules n))
     where
       go : Named rules n (Some r) → LeadsFrom r s
@@ -254,7 +254,7 @@ module _ (rules : List ParserRule) (ns : List Node) (roots : List ℕ) (tabled :
           (j, root, reach (view rule.node) j (tabled.roots.lie r j rule at root) c (subst (λ z. Part z.body (Ident c)) same p) s f)
 
   -- where a rule reaches another, its body leads to a call of that
-  leads : {n d : Text} → Reaches G n d → (r s : ℕ) → last_place G n ≡ Some r → last_place G d ≡ Some s → LeadsFrom r s
+  leads : {n d : Text} → ReachesByCalls G n d → (r s : ℕ) → last_place G n ≡ Some r → last_place G d ≡ Some s → LeadsFrom r s
   leads (by_call {n = n} {c = c} {r = q} e p) r s l m = from_body n c q r s e l p (λ k x at kind. to_call at (kind ∙ ap (name_kind c) m))
   leads (by_calls {n = n} {c = c} {r = q} e p more) r s l m =
       let (o, f) = starts more in
@@ -263,25 +263,25 @@ module _ (rules : List ParserRule) (ns : List Node) (roots : List ℕ) (tabled :
       from_body n c q r s e l p (λ k x at kind. by_body at (kind ∙ ap (name_kind c) h) root inner)
 
   -- by names and by numbers the same rules reach themselves
-  pub back : (n : Text) (r : ℕ) → last_place G n ≡ Some r → LeadsBack ns roots r → Reaches G n n
+  pub back : (n : Text) (r : ℕ) → last_place G n ≡ Some r → LeadsBack ns roots r → ReachesByCalls G n n
   back n r l (j, root, more) = go (subst (Named rules n) l (resolved rules n))
     where
-      go : Named rules n (Some r) → Reaches G n n
+      go : Named rules n (Some r) → ReachesByCalls G n n
       go (named rule at e) =
           let (c, p, ends) = found more (view rule.node) (tabled.roots.lie r j rule at root) in
           elim ends [
             | inl m ↦ by_call e (subst (λ z. Part (rule_said rule).body (Ident z)) (one_name G n c r l m) p)
-            | inr (d, reaches, m) ↦ by_calls e p (subst (λ z. Reaches G c z) (one_name G n d r l m) reaches)
+            | inr (d, reaches, m) ↦ by_calls e p (subst (λ z. ReachesByCalls G c z) (one_name G n d r l m) reaches)
           ]
 
-  pub leads_back : (n : Text) → Reaches G n n → (r : ℕ) × (last_place G n ≡ Some r) × LeadsBack ns roots r
+  pub leads_back : (n : Text) → ReachesByCalls G n n → (r : ℕ) × (last_place G n ≡ Some r) × LeadsBack ns roots r
   leads_back n h =
       let (q, e) = starts h in
       let (r, l) = place_of n q e in
       (r, l, leads h r r l l)
 
 -- the flags of the table are set just at the names that reach themselves
-pub flagged_reaches : (rules : List ParserRule) (t : Table) → IsTableOf rules t → (n : Text) → (is_flagged (grammar_of rules) t.recursive.items n ≡ true) ↔ Reaches (grammar_of rules) n n
+pub flagged_reaches : (rules : List ParserRule) (t : Table) → IsTableOf rules t → (n : Text) → (is_flagged (grammar_of rules) t.recursive.items n ≡ true) ↔ ReachesByCalls (grammar_of rules) n n
 flagged_reaches rules t h n = (
   (λ f. let (r, l, on) = set_place (is_set_at t.recursive.items) (last_place (grammar_of rules) n) f in back rules (nodes_of t) t.roots.items h.tabled n r l ((h.exact r).0 on)),
   (λ k. let (r, l, b) = leads_back rules (nodes_of t) t.roots.items h.tabled n k in ap (at_place (is_set_at t.recursive.items)) l ∙ (h.exact r).1 b),

@@ -2,7 +2,7 @@
 use Rattle.std.proofs.Common.{◌≡◌, ℕ, List, Bool, true, false, ◌&&◌, not, ◌⊎◌, inl, inr, refl}
 use Rattle.meta_base.specs.Language.Expression.{whitespace, comment}
 use Rattle.meta_nodes.specs.declared.node.ParserRule.{ParserRule}
-use Rattle.meta_stacks.specs.Reports.{SkippingChangesStack, skips_in}
+use Rattle.meta_stacks.specs.Reports.{SkippingAltersStack, skips_in}
 use Rattle.meta_stack.specs.Answers.{AreSound, AreClosed}
 use Rattle.meta_stack.specs.Certain.{IsTableOf}
 use Rattle.meta_stack.specs.Expressions.{name_flag}
@@ -25,7 +25,7 @@ pub record IsFound (rules : List ParserRule) (t : Table) : Type 0 where
   pub sound : AreSound asks.TakesNothing (nodes_of t) t.roots.items t.nullable.items
   pub closed : AreClosed asks.TakesNothing (nodes_of t) t.roots.items t.nullable.items
   pub calls : AreCalls (nodes_of t) t.roots.items t.recursive.items t.ranks.items
-  pub calm : SkippingChangesStack (grammar_of rules) → ⊥
+  pub calm : SkippingAltersStack (grammar_of rules) → ⊥
   pub limit : t.limit ≡ 3067
   pub turns : t.turns ≡ 64
 
@@ -54,17 +54,17 @@ one_on false true h = inr refl
 one_on false false h = cc
 
 module _ (rules : List ParserRule) (ns : List Node) (roots : List ℕ) (tabled : AreTabled rules (kind_in (grammar_of rules)) ns roots) (flags : List Bool)
-    (sound : AreSound asks.ChangesStack ns roots flags) (closed : AreClosed asks.ChangesStack ns roots flags) where
+    (sound : AreSound asks.AltersStack ns roots flags) (closed : AreClosed asks.AltersStack ns roots flags) where
   abbrev off : Bool
   off = not (name_flag (grammar_of rules) roots flags whitespace) && not (name_flag (grammar_of rules) roots flags comment)
 
   -- what is skipped leaves the stack alone, or changes it, as the flags say
-  pub is_calm : off ≡ true → SkippingChangesStack (grammar_of rules) → ⊥
+  pub is_calm : off ≡ true → SkippingAltersStack (grammar_of rules) → ⊥
   is_calm h =
       let (a, b) = both_off (name_flag (grammar_of rules) roots flags whitespace) (name_flag (grammar_of rules) roots flags comment) h in
-      answering.calm rules ns roots tabled flags (sound_answers asks.ChangesStack ns roots flags sound closed) a b
+      answering.calm rules ns roots tabled flags (sound_answers asks.AltersStack ns roots flags sound closed) a b
 
-  pub is_changed : off ≡ false → SkippingChangesStack (grammar_of rules)
+  pub is_changed : off ≡ false → SkippingAltersStack (grammar_of rules)
   is_changed h = elim (one_on (name_flag (grammar_of rules) roots flags whitespace) (name_flag (grammar_of rules) roots flags comment) h) [
     | inl a ↦ inl (least.changes_name rules ns roots tabled flags sound whitespace a)
     | inr b ↦ inr (least.changes_name rules ns roots tabled flags sound comment b)

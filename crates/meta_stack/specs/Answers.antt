@@ -2,7 +2,7 @@
 use Rattle.std.specs.Prelude.{◌≡◌, ℕ, List, Option, Some, None, Bool, true, false, ◌&&◌, ◌||◌, slice_get, length, nat_eq, ⊤}
 use Rattle.meta_base.specs.Language.Expression.{Expression, Grammar}
 use Rattle.meta_base.specs.Language.WellFormed.{IsNullable}
-use Rattle.meta_stacks.specs.Reports.{ChangesStack}
+use Rattle.meta_stacks.specs.Reports.{AltersStack}
 use Rattle.meta_stack.specs.Flags.{is_set_at}
 use Rattle.meta_stack.specs.Table.{called_by, parts_of}
 use Rattle.meta_stack.specs.declared.table.Kind.{Kind}
@@ -67,7 +67,7 @@ leading roots p r None ps = some_part p ps
 -- the answer for a node
 abbrev pub answer : Question → List ℕ → (ℕ → Bool) → Node → Bool
 answer asks.TakesNothing roots p n = n.free || null_kind roots p n.kind
-answer asks.ChangesStack roots p n = changing_kind roots p n.kind
+answer asks.AltersStack roots p n = changing_kind roots p n.kind
 answer (asks.LeadsTo r) roots p n = leading roots p r (called_by n.kind) (parts_of n.kind)
 
 -- each flag is the answer for its node, by the flags of others
@@ -96,5 +96,5 @@ AreClosed q ns roots flags = (i : ℕ) → IsClosedAt q ns roots flags i
 -- what a question asks of an expression; where nodes lead is said of numbers alone
 abbrev pub Asked : Question → Grammar → Expression → Type 0
 Asked asks.TakesNothing g e = IsNullable g e
-Asked asks.ChangesStack g e = ChangesStack g e
+Asked asks.AltersStack g e = AltersStack g e
 Asked (asks.LeadsTo r) g e = ⊤

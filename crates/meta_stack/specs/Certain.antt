@@ -9,9 +9,9 @@ use Rattle.meta_base.specs.Language.WellFormed.{IsNullable}
 use Rattle.meta_nodes.specs.Erasure.{rules_without_spans, without_spans}
 use Rattle.meta_nodes.specs.Spanned.{Span, Spanned, SpannedRule}
 use Rattle.meta_nodes.specs.declared.node.ParserRule.{ParserRule}
-use Rattle.meta_stacks.specs.Recursion.{Reaches}
+use Rattle.meta_stacks.specs.Recursion.{ReachesByCalls}
 use Rattle.meta_stacks.specs.Reported.{IsCertainAt, ReportedFrom}
-use Rattle.meta_stacks.specs.Reports.{SkippingChangesStack, skips_in}
+use Rattle.meta_stacks.specs.Reports.{SkippingAltersStack, skips_in}
 use Rattle.meta_stacks.specs.Stack.{In}
 use Rattle.meta_stack.specs.Answers.{AreAnswers, AreSound}
 use Rattle.meta_stack.specs.Flags.{is_set_at}
@@ -54,7 +54,7 @@ pub record IsSorted (found sorted : List Span) : Type 0 where
 -- themselves are not followed
 pub record AreRead (rules : List SpannedRule) (spans : List Span) : Type 0 where
   pub recursive : Text → Bool
-  pub reaches_itself : (n : Text) → (recursive n ≡ true) ↔ Reaches (rules_without_spans rules) n n
+  pub reaches_itself : (n : Text) → (recursive n ≡ true) ↔ ReachesByCalls (rules_without_spans rules) n n
   pub nullable : Spanned → Bool
   pub knows : (x : Spanned) → (nullable x ≡ true) ↔ IsNullable (rules_without_spans rules) (without_spans x)
   pub limit : ℕ
@@ -66,8 +66,8 @@ pub record AreRead (rules : List SpannedRule) (spans : List Span) : Type 0 where
 
 -- these are the reports: none where what is skipped changes the stack, else what the plain reading reports
 pub record ArePlain (rules : List SpannedRule) (spans : List Span) : Type 0 where
-  pub silent : SkippingChangesStack (rules_without_spans rules) → spans ≡ []
-  pub plain : (SkippingChangesStack (rules_without_spans rules) → ⊥) → AreRead rules spans
+  pub silent : SkippingAltersStack (rules_without_spans rules) → spans ≡ []
+  pub plain : (SkippingAltersStack (rules_without_spans rules) → ⊥) → AreRead rules spans
 
 -- these are the reports in the order of their places; each of them is certain
 pub record AreReports (rules : List SpannedRule) (spans : List Span) : Type 0 where
@@ -91,6 +91,6 @@ pub record IsTableOf (rules : List ParserRule) (t : Table) : Type 0 where
   pub skips : t.skips ≡ skips_in (grammar_of rules)
   pub sound : AreSound asks.TakesNothing (nodes_of t) t.roots.items t.nullable.items
   pub nullable : AreAnswers asks.TakesNothing (nodes_of t) t.roots.items t.nullable.items
-  pub calm : SkippingChangesStack (grammar_of rules) → ⊥
+  pub calm : SkippingAltersStack (grammar_of rules) → ⊥
   pub limit : t.limit ≡ 3067
   pub turns : t.turns ≡ 64

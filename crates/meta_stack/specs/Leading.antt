@@ -2,6 +2,7 @@
 use Rattle.std.specs.Prelude.{◌≡◌, ◌↔◌, ◌⊎◌, ℕ, ◌+◌, ◌<◌, ◌≤◌, List, Option, Some, None, Bool, true, false, slice_get, length, unwrap_or, ⊤}
 use Rattle.meta_stack.specs.Flags.{is_set_at}
 use Rattle.meta_stack.specs.Table.{called_by, parts_of}
+use Rattle.meta_stack.specs.declared.calls.Link.{Link}
 use Rattle.meta_stack.specs.declared.table.Kind.TheVariants as is
 use Rattle.meta_stack.specs.declared.table.Node.{Node}
 use Rattle.meta_stack.specs.declared.table.Parts.{Parts}
@@ -14,16 +15,24 @@ IsOperand j (parts.Both k l choice) = (j ≡ k) ⊎ (j ≡ l)
 
 module _ (ns : List Node) (roots : List ℕ) where
   -- a rule is called in a node, or in a body that is called there
-  pub data Leads : ℕ → ℕ → Type 0 where
-    to_call : {i r : ℕ} {n : Node} → slice_get ns i ≡ Some n → n.kind ≡ is.Call r → Leads i r
+  pub data LeadsToCall : ℕ → ℕ → Type 0 where
+    to_call : {i r : ℕ} {n : Node} → slice_get ns i ≡ Some n → n.kind ≡ is.Call r → LeadsToCall i r
     by_body : {i j r s : ℕ} {n : Node} → slice_get ns i ≡ Some n → n.kind ≡ is.Call r
-        → slice_get roots r ≡ Some j → Leads j s → Leads i s
+        → slice_get roots r ≡ Some j → LeadsToCall j s → LeadsToCall i s
     by_operand : {i j s : ℕ} {n : Node} → slice_get ns i ≡ Some n → IsOperand j (parts_of n.kind)
-        → Leads j s → Leads i s
+        → LeadsToCall j s → LeadsToCall i s
+
+  -- the body of one rule leads to a call of another
+  abbrev pub LeadsFrom : ℕ → ℕ → Type 0
+  LeadsFrom r s = (j : ℕ) × (slice_get roots r ≡ Some j) × LeadsToCall j s
 
   -- the body of a rule leads to a call of the rule
   abbrev pub LeadsBack : ℕ → Type 0
-  LeadsBack r = (j : ℕ) × (slice_get roots r ≡ Some j) × Leads j r
+  LeadsBack r = LeadsFrom r r
+
+  -- the body of a rule leads to whatever a node leads to
+  abbrev pub Owns : ℕ → ℕ → Type 0
+  Owns r i = (s : ℕ) → LeadsToCall i s → LeadsFrom r s
 
 abbrev pub rank_in : List ℕ → ℕ → ℕ
 rank_in ranks i = unwrap_or (slice_get ranks i) 0
@@ -66,3 +75,32 @@ bit false = 0
 pub record AreRaised (ranks : List ℕ) (flags : List Bool) (raised : List ℕ) : Type 0 where
   pub alike : length raised ≡ length flags
   pub each : (i : ℕ) → rank_in raised i ≡ rank_in ranks i + bit (is_set_at flags i)
+
+-- the rule that is noted for a node
+abbrev pub owner_in : List (Option ℕ) → ℕ → Option ℕ
+owner_in owners i = unwrap_or (slice_get owners i) None
+
+-- the rule that is noted for a rule
+abbrev pub leader_in : List ℕ → ℕ → ℕ
+leader_in leaders r = unwrap_or (slice_get leaders r) 0
+
+module _ (ns : List Node) (roots : List ℕ) where
+  abbrev pub AreOwned : List (Option ℕ) → Type 0
+  AreOwned owners = (i r : ℕ) → owner_in owners i ≡ Some r → Owns ns roots r i
+
+  abbrev pub AreLinks : List Link → Type 0
+  AreLinks links = (k : ℕ) (l : Link) → slice_get links k ≡ Some l → LeadsFrom ns roots l.source l.target
+
+  -- where a flag is set the leader of a rule leads to it
+  abbrev pub AreReached : List ℕ → List Bool → Type 0
+  AreReached leaders flags = (r : ℕ) → is_set_at flags r ≡ true → LeadsFrom ns roots (leader_in leaders r) r
+
+  -- where a flag is set a rule leads to its leader
+  abbrev pub AreReturning : List ℕ → List Bool → Type 0
+  AreReturning leaders flags =
+      (r : ℕ) → is_set_at flags r ≡ true → LeadsFrom ns roots r (leader_in leaders r)
+
+-- two rules have one leader, and the first one is that or has its flag set
+pub record IsOnward (leaders : List ℕ) (flags : List Bool) (q r : ℕ) : Type 0 where
+  pub same : leader_in leaders q ≡ leader_in leaders r
+  pub known : (q ≡ leader_in leaders r) ⊎ (is_set_at flags q ≡ true)

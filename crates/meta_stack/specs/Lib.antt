@@ -15,3 +15,4 @@ pub mod Expressions
 pub mod Certain
 pub mod NamedPlaces
 pub mod Leading
+pub mod Waiting

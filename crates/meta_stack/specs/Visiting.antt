@@ -1,14 +1,15 @@
 -- From which stacks the code visits nodes, and what it reports.
-use Rattle.std.specs.Prelude.{◌≡◌, ℕ, List, [], ◌∷◌, ◌++◌, Some, Bool, true, false, ◌⊎◌, slice_get, map, ⊤}
+use Rattle.std.specs.Prelude.{◌≡◌, ℕ, ◌+◌, ◌<◌, List, [], ◌∷◌, ◌++◌, Some, Bool, true, false, ◌⊎◌, slice_get, map, ⊤}
 use Rattle.meta_nodes.specs.Nodes.{piece_of}
 use Rattle.meta_nodes.specs.Spanned.{Span, Spanned, Leaf, One, Two}
 use Rattle.meta_stacks.specs.Stack.{AbstractStack, In, entry}
 use Rattle.meta_stacks.specs.Reading as says
 use Rattle.meta_stacks.specs.Reading.{loops, Copy}
 use Rattle.meta_stack.specs.Flags.{is_set_at}
-use Rattle.meta_stack.specs.Table.{IsMeaning, copies, nodes_of, parts_of}
+use Rattle.meta_stack.specs.Table.{IsMeaning, copies, level, nodes_of, parts_of}
 use Rattle.meta_stack.specs.Memory.{Meaning, IsRight}
 use Rattle.meta_stack.specs.Following.{seen_stacks}
+use Rattle.meta_stack.specs.Waiting.{IsLow, effort}
 use Rattle.meta_stacks.specs.Walks.{next_after}
 use Rattle.meta_stacks.specs.Reported.{starts, copies_of, is_endless, is_choice, ReportedIn}
 use Rattle.meta_stacks.specs.Views.{possible}
@@ -18,6 +19,7 @@ use Rattle.meta_stack.specs.declared.table.Node.{Node}
 use Rattle.meta_stack.specs.declared.table.Parts.TheVariants as parts
 use Rattle.meta_stack.specs.declared.table.Table.{Table}
 use Rattle.meta_stack.specs.declared.memory.Memory.{Memory}
+use Rattle.meta_stack.specs.declared.visits.Pending.{Pending}
 use Rattle.meta_base.specs.declared.runtime.places.Span as code_span
 
 -- a stack is added to others
@@ -141,3 +143,49 @@ pub record FindsAll (t : Table) (is : List ℕ) (found : List code_span.Span) : 
       → (read : Spanned → AbstractStack → says.Reading) (nullable : Spanned → Bool) (xs : List Spanned)
       → RootsStand t meaning read nullable is xs
       → AllReported (ReportedIn t.limit t.turns read nullable (λ a. a ≡ entry)) xs (map piece_of found)
+
+module _ (t : Table) (meaning : Meaning) (read : Spanned → AbstractStack → says.Reading)
+    (nullable : Spanned → Bool) where
+  -- nodes that are still to be visited, the next one last, stand for these nodes of expressions
+  abbrev pub LeftStand : List Pending → List Spanned → Type 0
+  LeftStand [] [] = ⊤
+  LeftStand (v ∷ vs) (x ∷ xs) = StandsFor t meaning read nullable v.node x × LeftStand vs xs
+  LeftStand [] (x ∷ xs) = ⊥
+  LeftStand (v ∷ vs) [] = ⊥
+
+  -- these are the reports in them, those in the next one first
+  abbrev pub ReportedLeft : List Pending → List Spanned → List Span → Type 0
+  ReportedLeft [] [] us = us ≡ []
+  ReportedLeft (v ∷ vs) (x ∷ xs) us = (ts : List Span) × (rest : List Span)
+      × ReportedIn t.limit t.turns read nullable (λ a. In a (seen_stacks v.stacks.items)) x ts
+      × ReportedLeft vs xs rest × (us ≡ rest ++ ts)
+  ReportedLeft [] (x ∷ xs) us = ⊥
+  ReportedLeft (v ∷ vs) [] us = ⊥
+
+abbrev pub effort_left : Table → List Pending → ℕ
+effort_left t [] = 0
+effort_left t (v ∷ vs) = effort (level t v.node) + effort_left t vs
+
+abbrev pub AreLeftLow : Table → ℕ → List Pending → Type 0
+AreLeftLow t l [] = ⊤
+AreLeftLow t l (v ∷ vs) = IsLow t l v.node × AreLeftLow t l vs
+
+-- nodes were visited: the reports in what is left now follow those that were found, and with these they are the
+-- reports in what was left before
+pub record Visits (t : Table) (old new : Memory) (ws : List Pending) (before : List code_span.Span)
+    (vs : List Pending) (after : List code_span.Span) : Type 0 where
+  pub kept : (meaning : Meaning) → IsMeaning t meaning → IsRight meaning old → IsRight meaning new
+  pub value : (meaning : Meaning) → IsMeaning t meaning → IsRight meaning old
+      → (read : Spanned → AbstractStack → says.Reading) (nullable : Spanned → Bool) (xs : List Spanned)
+      → LeftStand t meaning read nullable ws xs
+      → (ys : List Spanned) × LeftStand t meaning read nullable vs ys
+      × ((us : List Span) → ReportedLeft t meaning read nullable vs ys us
+      → (ts : List Span) × ReportedLeft t meaning read nullable ws xs ts
+      × (map piece_of before ++ ts ≡ map piece_of after ++ us))
+
+-- one of them was
+pub record VisitsOn (t : Table) (old new : Memory) (ws : List Pending) (before : List code_span.Span)
+    (vs : List Pending) (after : List code_span.Span) : Type 0 where
+  pub visits : Visits t old new ws before vs after
+  pub less : effort_left t vs < effort_left t ws
+  pub low : (l : ℕ) → AreLeftLow t l ws → AreLeftLow t l vs

@@ -1,208 +1,216 @@
-//! A guess which rules reach themselves, and ranks: what is promised of both is found out behind it.
-ghost use Rattle.std.specs.Prelude.{◌≤◌, ◌+◌, ◌*◌, ◌≡◌, OnOk, length};
-ghost use Rattle.meta_stack.specs.Reaching.{unset};
-
-use crate::recursion::Calls;
-use crate::table::{Kind, Node, is_set};
+//! A guess how rules hang together by calls: what is promised of them is found out behind it.
 use std::alloc::{AllocError, Global};
 
-/// So many lists of rules.
-fn no_rules(alloc: Global, count: usize) -> Result<Vec<Vec<usize>>, AllocError> {
-    let mut lists = Vec::new(alloc);
-    for _ in 0..count {
-        lists.push(Vec::new(alloc))?;
-    }
-    Ok(lists)
+/// Of one rule to another: its body leads to a call of that one.
+#[derive(Clone, Copy)]
+pub struct Link {
+    pub source: usize,
+    pub target: usize,
 }
 
-/// Puts a rule on the list of another.
-fn put(lists: &mut Vec<Vec<usize>>, of: usize, rule: usize) -> Result<(), AllocError> {
-    if let Some(list) = lists.get_mut(of) {
-        list.push(rule)?;
+/// For each rule the links that begin there, as a chain: the first one, and behind each link the next.
+#[derive(Drop)]
+struct Chains {
+    heads: Vec<Option<usize>>,
+    nexts: Vec<Option<usize>>,
+}
+
+/// What a search along links has found.
+#[derive(Drop)]
+struct Search {
+    /// For each rule the one from which it was found first, none before.
+    origins: Vec<Option<usize>>,
+    /// The links by which rules were found, in that order.
+    steps: Vec<usize>,
+    /// The rules by which a search is at hand, each found from the one before.
+    waiting: Vec<usize>,
+    /// The rules from which nothing more is found, in that order.
+    finished: Vec<usize>,
+}
+
+/// How rules hang together.
+#[derive(Drop)]
+pub struct Groups {
+    /// For each rule one that stands for all that reach it, and are reached by it.
+    pub leaders: Vec<usize>,
+    /// For each rule a number: where it calls a rule of another group, that one's is lower.
+    pub ranks: Vec<usize>,
+    /// Links, by their places, that lead from the leaders to the others, each behind what leads to it.
+    pub down: Vec<usize>,
+    /// Links that lead from the others to the leaders, each behind what leads on.
+    pub up: Vec<usize>,
+}
+
+/// Puts a link at the head of a chain.
+fn put(chains: &mut Chains, place: usize, link: Link) -> Result<(), AllocError> {
+    let mut next = None;
+    if let Some(head) = chains.heads.get_mut(link.source) {
+        next = *head;
+        *head = Some(place);
     }
+    chains.nexts.push(next)?;
     Ok(())
 }
 
-/// Notes what a node calls: for its own rule the rule that is called, for the called one its own.
-fn note<'i>(
-    callees: &mut Vec<Vec<usize>>,
-    callers: &mut Vec<Vec<usize>>,
-    node: Node<'i>,
-) -> Result<(), AllocError> {
-    if let Kind::Call(callee) = node.kind {
-        put(callees, node.rule, callee)?;
-        put(callers, callee, node.rule)?;
+/// The links of each rule.
+fn chains_of(alloc: Global, links: &[Link], count: usize) -> Result<Chains, AllocError> {
+    let mut chains = Chains {
+        heads: vec![in alloc; None; count]?,
+        nexts: Vec::with_capacity(alloc, links.len())?,
+    };
+    for (place, link) in links.iter().enumerate() {
+        put(&mut chains, place, *link)?;
     }
-    Ok(())
+    Ok(chains)
 }
 
-/// One call of a rule leads to a rule that has a rank: where it was the last one, the rule has one too.
-fn settle(left: &mut Vec<usize>, order: &mut Vec<usize>, rule: usize) -> Result<(), AllocError> {
-    if rule >= left.len() {
-        return Ok(());
-    }
-    let calls = left[rule];
-    if calls == 1 {
-        order.push(rule)?;
-    }
-    left[rule] = calls.saturating_sub(1);
-    Ok(())
+/// The next link of a rule, which is taken off its chain.
+fn next_link(chains: &mut Chains, rule: usize) -> Option<usize> {
+    let head = chains.heads.get_mut(rule)?;
+    let link = (*head)?;
+    *head = match chains.nexts.get(link) {
+        Some(next) => *next,
+        None => None,
+    };
+    Some(link)
 }
 
-/// The rules whose calls never lead back, each behind those that it calls.
-fn in_order(
-    alloc: Global,
-    callees: &Vec<Vec<usize>>,
-    callers: &Vec<Vec<usize>>,
-) -> Result<Vec<usize>, AllocError> {
-    let mut order = Vec::new(alloc);
-    let mut left = Vec::new(alloc);
-    for rule in 0..callees.len() {
-        left.push(callees[rule].len())?;
-        if callees[rule].is_empty() {
-            order.push(rule)?;
-        }
+/// Notes from where a rule was found, and goes on from there, if it was not found before.
+fn find(search: &mut Search, rule: usize, origin: usize) -> Result<bool, AllocError> {
+    let Some(known) = search.origins.get_mut(rule) else {
+        return Ok(false);
+    };
+    if known.is_some() {
+        return Ok(false);
     }
-    for next in 0..callees.len() {
-        let Some(rule) = order.get(next).copied() else {
-            break;
-        };
-        settle_callers(callers, &mut left, &mut order, rule)?;
-    }
-    Ok(order)
+    *known = Some(origin);
+    search.waiting.push(rule)?;
+    Ok(true)
 }
 
-/// The rules that call a rule have one call less to wait for.
-fn settle_callers(
-    callers: &Vec<Vec<usize>>,
-    left: &mut Vec<usize>,
-    order: &mut Vec<usize>,
+/// One step of a search: along the next link of the rule at hand, or back, if there is none.
+fn step(
+    links: &[Link],
+    chains: &mut Chains,
+    search: &mut Search,
     rule: usize,
+    origin: usize,
 ) -> Result<(), AllocError> {
-    if let Some(list) = callers.get(rule) {
-        for caller in list {
-            settle(left, order, *caller)?;
+    let Some(place) = next_link(chains, rule) else {
+        search.waiting.pop();
+        search.finished.push(rule)?;
+        return Ok(());
+    };
+    if let Some(link) = links.get(place) {
+        if find(search, link.target, origin)? {
+            search.steps.push(place)?;
         }
     }
     Ok(())
 }
 
-/// Marks a rule as seen, and puts it on the list of those that wait, if it was not seen before.
-fn mark(seen: &mut Vec<bool>, waiting: &mut Vec<usize>, rule: usize) -> Result<(), AllocError>
-    ensures same { OnOk result (length seen.new.items ≡ length seen.old.items) }
-    ensures fewer { OnOk result (2 * unset seen.new.items + length waiting.new.items
-        ≤ 2 * unset seen.old.items + length waiting.old.items) }
-{
-    if rule >= seen.len() {
-        return Ok(());
+/// All that is found from a rule, and was not found before.
+fn search_from(
+    links: &[Link],
+    chains: &mut Chains,
+    search: &mut Search,
+    origin: usize,
+) -> Result<(), AllocError> {
+    find(search, origin, origin)?;
+    let most = links.len().saturating_add(search.origins.len());
+    for _ in 0..most {
+        let Some(rule) = search.waiting.last().copied() else {
+            return Ok(());
+        };
+        step(links, chains, search, rule, origin)?;
     }
-    if seen[rule] {
-        return Ok(());
-    }
-    waiting.push(rule)?;
-    seen[rule] = true;
     Ok(())
 }
 
-/// Which rules a rule reaches by one or more calls.
-fn reached(alloc: Global, callees: &Vec<Vec<usize>>, rule: usize) -> Result<Vec<bool>, AllocError> {
-    let mut seen = vec![in alloc; false; callees.len()]?;
-    let mut waiting = Vec::new(alloc);
-    waiting.push(rule)?;
-    while let Some(next) = waiting.pop() {
-        if let Some(called) = callees.get(next) {
-            for callee in called {
-                mark(&mut seen, &mut waiting, *callee)?;
-            }
-        }
-    }
-    Ok(seen)
-}
-
-/// The ranks of rules that stand in order, and none for the others.
-fn places_in(
+/// All rules, found along links from one after another, the last of these first.
+fn searched(
     alloc: Global,
-    order: &[usize],
+    links: &[Link],
     count: usize,
-) -> Result<Vec<Option<usize>>, AllocError> {
-    let mut places = vec![in alloc; None; count]?;
+    order: &[usize],
+) -> Result<Search, AllocError> {
+    let mut chains = chains_of(alloc, links, count)?;
+    let mut search = Search {
+        origins: vec![in alloc; None; count]?,
+        steps: Vec::new(alloc),
+        waiting: Vec::new(alloc),
+        finished: Vec::with_capacity(alloc, count)?,
+    };
+    for origin in order.iter().rev() {
+        search_from(links, &mut chains, &mut search, *origin)?;
+    }
+    Ok(search)
+}
+
+/// The same links, the other way.
+fn turned(alloc: Global, links: &[Link]) -> Result<Vec<Link>, AllocError> {
+    let mut found = Vec::with_capacity(alloc, links.len())?;
+    for link in links {
+        found.push(Link {
+            source: link.target,
+            target: link.source,
+        })?;
+    }
+    Ok(found)
+}
+
+/// So many numbers, from zero on.
+fn numbers(alloc: Global, count: usize) -> Result<Vec<usize>, AllocError> {
+    let mut found = Vec::with_capacity(alloc, count)?;
+    for number in 0..count {
+        found.push(number)?;
+    }
+    Ok(found)
+}
+
+/// For each rule its place in an order.
+fn places_in(alloc: Global, order: &[usize], count: usize) -> Result<Vec<usize>, AllocError> {
+    let mut places = vec![in alloc; 0; count]?;
     for (place, rule) in order.iter().enumerate() {
-        if *rule < places.len() {
-            places[*rule] = Some(place);
+        if let Some(own) = places.get_mut(*rule) {
+            *own = place;
         }
     }
     Ok(places)
 }
 
-/// How many of the rules that are seen have no place.
-fn unplaced(seen: &[bool], places: &[Option<usize>]) -> usize {
-    seen.iter()
-        .zip(places.iter())
-        .filter(|(flag, place)| **flag && place.is_none())
-        .count()
+/// For each rule its leader, by from where it was found.
+fn leaders_of(alloc: Global, origins: &[Option<usize>]) -> Result<Vec<usize>, AllocError> {
+    let mut leaders = Vec::with_capacity(alloc, origins.len())?;
+    for (rule, origin) in origins.iter().enumerate() {
+        leaders.push(origin.unwrap_or(rule))?;
+    }
+    Ok(leaders)
 }
 
-/// For each rule a guess whether it reaches itself, and for each node the rank of its rule. Rules whose calls
-/// never lead back come first, each behind those that it calls; behind them the others, by how many of these
-/// others they reach: a rule that doesn't reach itself reaches fewer than one that calls it.
-pub(crate) fn guessed<'i>(
-    alloc: Global,
-    nodes: &[Node<'i>],
-    count: usize,
-) -> Result<Calls, AllocError> {
-    let mut callees = no_rules(alloc, count)?;
-    let mut callers = no_rules(alloc, count)?;
-    for node in nodes {
-        note(&mut callees, &mut callers, *node)?;
+/// For each rule the number of its leader.
+fn ranks_of(alloc: Global, leaders: &[usize], places: &[usize]) -> Result<Vec<usize>, AllocError> {
+    let mut ranks = Vec::with_capacity(alloc, leaders.len())?;
+    for leader in leaders {
+        ranks.push(places.get(*leader).copied().unwrap_or(0))?;
     }
-    let order = in_order(alloc, &callees, &callers)?;
-    let places = places_in(alloc, order.as_slice(), count)?;
-    let found = numbered(alloc, &callees, order.len(), places.as_slice())?;
-    let ranks = of_nodes(alloc, nodes, found.ranks.as_slice())?;
-    Ok(Calls {
-        recursive: found.recursive,
+    Ok(ranks)
+}
+
+/// How so many rules hang together by these links. All rules are searched in depth; then against the links,
+/// those first from which most was found: what is found together then is a group.
+pub(crate) fn groups_of(alloc: Global, links: &[Link], count: usize) -> Result<Groups, AllocError> {
+    let first = searched(alloc, links, count, numbers(alloc, count)?.as_slice())?;
+    let against = turned(alloc, links)?;
+    let order = first.finished.as_slice();
+    let second = searched(alloc, against.as_slice(), count, order)?;
+    let leaders = leaders_of(alloc, second.origins.as_slice())?;
+    let places = places_in(alloc, order, count)?;
+    let ranks = ranks_of(alloc, leaders.as_slice(), places.as_slice())?;
+    Ok(Groups {
+        leaders,
         ranks,
+        down: first.steps,
+        up: second.steps,
     })
-}
-
-/// For each node the number of its rule among these.
-fn of_nodes<'i>(
-    alloc: Global,
-    nodes: &[Node<'i>],
-    numbers: &[usize],
-) -> Result<Vec<usize>, AllocError> {
-    let mut found = Vec::new(alloc);
-    for node in nodes {
-        found.push(numbers.get(node.rule).copied().unwrap_or(0))?;
-    }
-    Ok(found)
-}
-
-/// Of rules: whether each reaches itself, and its rank.
-#[derive(Drop)]
-struct Ranked {
-    recursive: Vec<bool>,
-    ranks: Vec<usize>,
-}
-
-/// For each rule whether it reaches itself, and its rank: its place, or a number behind all places.
-fn numbered(
-    alloc: Global,
-    callees: &Vec<Vec<usize>>,
-    placed: usize,
-    places: &[Option<usize>],
-) -> Result<Ranked, AllocError> {
-    let mut recursive = Vec::new(alloc);
-    let mut ranks = Vec::new(alloc);
-    for (rule, place) in places.iter().enumerate() {
-        if let Some(place) = place {
-            recursive.push(false)?;
-            ranks.push(*place)?;
-        } else {
-            let seen = reached(alloc, callees, rule)?;
-            recursive.push(is_set(seen.as_slice(), rule))?;
-            ranks.push(placed.saturating_add(unplaced(seen.as_slice(), places)))?;
-        }
-    }
-    Ok(Ranked { recursive, ranks })
 }

@@ -16,7 +16,7 @@ pub enum Question {
     /// Whether it may succeed without taking anything.
     TakesNothing,
     /// Whether it changes the stack, outside predicates.
-    ChangesStack,
+    AltersStack,
     /// Whether it leads to a call of the rule of that number.
     LeadsTo(usize),
 }
@@ -104,7 +104,7 @@ fn answer<'i>(question: Question, roots: &[usize], flags: &[bool], node: Node<'i
 {
     match question {
         Question::TakesNothing => node.free || takes_nothing(roots, flags, node.kind),
-        Question::ChangesStack => changes_stack(roots, flags, node.kind),
+        Question::AltersStack => changes_stack(roots, flags, node.kind),
         Question::LeadsTo(rule) => leads_to(roots, flags, rule, node.kind),
     }
 }

@@ -4,14 +4,17 @@
 pub mod ast;
 mod calls;
 mod facts;
+mod groups;
 mod loops;
 mod memory;
 mod names;
 mod numbering;
+mod owners;
 mod reader;
 mod recursion;
 mod table;
 mod validate;
 mod visits;
+mod waiting;
 
 pub use crate::validate::{sorted_reports, validate_stack_repetition};

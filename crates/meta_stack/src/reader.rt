@@ -5,11 +5,13 @@ ghost use Rattle.meta_stacks.specs.Reading as says;
 ghost use Rattle.meta_stack.specs.Table.{IsOrdered, copies};
 ghost use Rattle.meta_stack.specs.Memory.{Gives, Reads, Steps};
 ghost use Rattle.meta_stack.specs.Following.{Comes, Follows, Turned, seen_stacks};
-ghost use Rattle.meta_stacks.specs.Views.{reading_of, stack_of, walk_of, possible};
+ghost use Rattle.meta_stack.specs.Waiting.{GoesOn};
+ghost use Rattle.meta_stacks.specs.Views.{reading_of, stack_of, walk_of};
 
 use crate::memory::Memory;
 use crate::table::{Kind, Table};
-use meta_stacks::{Reading, Stack, Walk, failed};
+use crate::waiting::{Awaited, How, Next, Waiting, go_on, wait};
+use meta_stacks::{Reading, Stack, Walk};
 use std::alloc::{AllocError, Global};
 
 /// Whether a stack is among others.
@@ -43,7 +45,8 @@ fn stands_alone(skips: bool, required: u32, optional: u32, endless: bool) -> boo
     !skips || (!endless && required as u64 + optional as u64 <= 1)
 }
 
-/// The reading of a node from a stack.
+/// The reading of a node from a stack. What waits for the reading of an operand lies on a list, so that no
+/// depth of an expression or of calls takes the machine's stack, but repetitions in one another.
 #[cycle(reader)]
 pub fn read(
     alloc: Global,
@@ -56,78 +59,68 @@ pub fn read(
     requires ordered { IsOrdered table.now }
     ensures { IfOk result (Reads table.now memory.old memory.new node (stack_of stack)) }
 {
-    if let Some(reading) = memory.recalled(node, stack) {
-        return Ok(reading);
+    let mut waiting = Vec::new(alloc);
+    let mut next = Next::Read(node, stack);
+    'steps: loop {
+        match next {
+            Next::Read(node, stack) => {
+                next = begin(alloc, table, memory, node, stack, &mut waiting)?;
+            }
+            Next::Done(reading) => match waiting.pop() {
+                Some(last) => next = go_on(table, memory, &mut waiting, last, reading)?,
+                None => return Ok(reading),
+            },
+        }
     }
-    let reading = work_out(alloc, table, memory, node, stack)?;
-    memory.remember(node, stack, reading)?;
-    Ok(reading)
 }
 
-/// The same, from the readings of other nodes.
+/// What is done to read a node: it waits for the reading of an operand, or its reading is there.
 #[cycle(reader)]
-fn work_out(
+fn begin(
     alloc: Global,
     table: &Table,
     memory: &mut Memory,
     node: usize,
     stack: Stack,
-) -> Result<Reading, AllocError>
+    waiting: &mut Vec<Waiting>,
+) -> Result<Next, AllocError>
     requires inside { node < table.now.nodes.len }
     requires ordered { IsOrdered table.now }
-    ensures { IfOk result (Reads table.now memory.old memory.new node (stack_of stack)) }
+    ensures { IfOk result (GoesOn table.now memory.old memory.new (Next.Read node stack)
+        waiting.old.items waiting.new.items) }
 {
+    if let Some(reading) = memory.recalled(node, stack) {
+        return Ok(Next::Done(reading));
+    }
     match table.kind_at(node) {
-        Kind::Still => Ok(Reading::surely(stack)),
-        Kind::Leaf => Ok(Reading::maybe(stack)),
-        Kind::Peek => Ok(Reading::top(stack, stack)),
-        Kind::Pop => Ok(Reading::top(stack, stack.popped())),
-        Kind::Drop => Ok(Reading::dropped(stack)),
-        Kind::PeekAll => Ok(Reading::peek_all(stack)),
-        Kind::PopAll => Ok(Reading::pop_all(stack)),
+        Kind::Still => Ok(Next::Done(Reading::surely(stack))),
+        Kind::Leaf => Ok(Next::Done(Reading::maybe(stack))),
+        Kind::Peek => Ok(Next::Done(Reading::top(stack, stack))),
+        Kind::Pop => Ok(Next::Done(Reading::top(stack, stack.popped()))),
+        Kind::Drop => Ok(Next::Done(Reading::dropped(stack))),
+        Kind::PeekAll => Ok(Next::Done(Reading::peek_all(stack))),
+        Kind::PopAll => Ok(Next::Done(Reading::pop_all(stack))),
         Kind::Call(rule) => match table.followed(rule) {
-            None => Ok(Reading::anything()),
-            Some(body) => read(alloc, table, memory, body, stack),
+            None => Ok(Next::Done(Reading::anything())),
+            Some(body) => wait(waiting, node, stack, Awaited::Last(How::Same), body),
         },
-        Kind::PosPred(body) => Ok(read(alloc, table, memory, body, stack)?.ahead(stack)),
-        Kind::NegPred(body) => Ok(read(alloc, table, memory, body, stack)?.not_ahead(stack)),
-        Kind::Opt(body) => Ok(read(alloc, table, memory, body, stack)?.optional(stack)),
-        Kind::Push(body) => Ok(read(alloc, table, memory, body, stack)?.pushed()),
+        Kind::PosPred(body) => wait(waiting, node, stack, Awaited::Last(How::Ahead), body),
+        Kind::NegPred(body) => wait(waiting, node, stack, Awaited::Last(How::NotAhead), body),
+        Kind::Opt(body) => wait(waiting, node, stack, Awaited::Last(How::Optional), body),
+        Kind::Push(body) => wait(waiting, node, stack, Awaited::Last(How::Pushed), body),
         Kind::Seq(first, second) => {
-            let before = read(alloc, table, memory, first, stack)?;
-            let after = read_from(alloc, table, memory, second, before.ok)?;
-            Ok(before.then(after, stack, table.skips))
+            wait(waiting, node, stack, Awaited::First(second, false), first)
         }
         Kind::Choice(first, second) => {
-            let before = read(alloc, table, memory, first, stack)?;
-            let after = read_from(alloc, table, memory, second, failed(before.err, stack))?;
-            Ok(before.or(after, stack))
+            wait(waiting, node, stack, Awaited::First(second, true), first)
         }
         Kind::Repeat(body, required, optional, endless) => {
-            repeat(
+            let reading = repeat(
                 alloc, table, memory, body, stack, required, optional, endless,
-            )
+            )?;
+            memory.remember(node, stack, reading)?;
+            Ok(Next::Done(reading))
         }
-    }
-}
-
-/// The reading of a node from a stack that may be impossible.
-#[cycle(reader)]
-fn read_from(
-    alloc: Global,
-    table: &Table,
-    memory: &mut Memory,
-    node: usize,
-    stack: Option<Stack>,
-) -> Result<Reading, AllocError>
-    requires inside { node < table.now.nodes.len }
-    requires ordered { IsOrdered table.now }
-    ensures { IfOk result (Gives reading_of (λ meaning. says.from (possible stack)
-        (meaning node)) table.now memory.old memory.new) }
-{
-    match stack {
-        None => Ok(Reading::impossible()),
-        Some(stack) => read(alloc, table, memory, node, stack),
     }
 }
 

@@ -3,8 +3,10 @@ ghost use Rattle.std.specs.Prelude.{◌≡◌, ◌↔◌, ◌<◌, ◌≤◌, �
 ghost use Rattle.meta_stack.specs.Leading.{AreCalls, AreRaised, AreRanked, CallFalls, IsRanked, LeadsBack, PartsFall, bit, rank_in};
 ghost use Rattle.meta_stack.specs.Table.{called_by, parts_of};
 
-use crate::calls::guessed;
+use crate::calls::groups_of;
 use crate::facts::{Question, answers, is_root_set};
+use crate::groups::recursive_by;
+use crate::owners::links_of;
 use crate::table::{Node, Parts, is_set};
 use std::alloc::{AllocError, Global};
 
@@ -91,70 +93,6 @@ fn are_ranked<'i>(roots: &[usize], nodes: &[Node<'i>], recursive: &[bool], ranks
     true
 }
 
-/// Whether a rule reaches itself.
-fn leads_back<'i>(
-    alloc: Global,
-    roots: &[usize],
-    nodes: &[Node<'i>],
-    rule: usize,
-) -> Result<bool, AllocError>
-    ensures { IfOk result (λ found. (found ≡ true) ↔ LeadsBack nodes.now roots.now rule) }
-{
-    let flags = answers(alloc, Question::LeadsTo(rule), roots, nodes)?;
-    Ok(is_root_set(roots, flags.as_slice(), rule))
-}
-
-/// Whether a rule reaches itself, if it is taken for one that does.
-fn is_told<'i>(
-    alloc: Global,
-    roots: &[usize],
-    nodes: &[Node<'i>],
-    rule: usize,
-    recursive: bool,
-) -> Result<bool, AllocError>
-    ensures { IfOk result (λ sure. sure ≡ true → recursive ≡ true → LeadsBack nodes.now roots.now rule) }
-{
-    if !recursive {
-        return Ok(true);
-    }
-    leads_back(alloc, roots, nodes, rule)
-}
-
-/// Whether each rule that is taken for one which reaches itself does.
-fn lead_back<'i>(
-    alloc: Global,
-    roots: &[usize],
-    nodes: &[Node<'i>],
-    recursive: &[bool],
-) -> Result<bool, AllocError>
-    ensures { IfOk result (λ sure. sure ≡ true → (r : ℕ) → slice_get recursive.now r ≡ Some true
-        → LeadsBack nodes.now roots.now r) }
-{
-    for rule in 0..recursive.len() {
-        if !is_told(alloc, roots, nodes, rule, recursive[rule])? {
-            return Ok(false);
-        }
-    }
-    Ok(true)
-}
-
-/// Whether a guess is right.
-fn is_right<'i>(
-    alloc: Global,
-    roots: &[usize],
-    nodes: &[Node<'i>],
-    calls: &Calls,
-) -> Result<bool, AllocError>
-    ensures { IfOk result (λ sure. sure ≡ true
-        → AreCalls nodes.now roots.now calls.now.recursive.items calls.now.ranks.items) }
-{
-    let recursive = calls.recursive.as_slice();
-    if !are_ranked(roots, nodes, recursive, calls.ranks.as_slice()) {
-        return Ok(false);
-    }
-    lead_back(alloc, roots, nodes, recursive)
-}
-
 fn bit(flag: bool) -> usize
     ensures value { result ≡ bit flag }
     ensures small { result ≤ 1 }
@@ -198,8 +136,22 @@ fn sought<'i>(alloc: Global, roots: &[usize], nodes: &[Node<'i>]) -> Result<Call
     Ok(Calls { recursive, ranks })
 }
 
-/// Which rules reach themselves, and the ranks of nodes. A guess is made first, and looked over; were it
-/// wrong, each rule would be sought by itself, which takes far longer.
+/// For each node the rank of its rule.
+fn of_nodes<'i>(
+    alloc: Global,
+    nodes: &[Node<'i>],
+    ranks: &[usize],
+) -> Result<Vec<usize>, AllocError> {
+    let mut found = Vec::with_capacity(alloc, nodes.len())?;
+    for node in nodes {
+        found.push(ranks.get(node.rule).copied().unwrap_or(0))?;
+    }
+    Ok(found)
+}
+
+/// Which rules reach themselves, and the ranks of nodes. Those that certainly do are looked for by a guess;
+/// that no other does is seen by the ranks. Were that not seen, each rule would be sought by itself, which
+/// takes far longer.
 pub(crate) fn calls_of<'i>(
     alloc: Global,
     roots: &[usize],
@@ -207,9 +159,12 @@ pub(crate) fn calls_of<'i>(
 ) -> Result<Calls, AllocError>
     ensures { IfOk result (λ calls. AreCalls nodes.now roots.now calls.recursive.items calls.ranks.items) }
 {
-    let guess = guessed(alloc, nodes, roots.len())?;
-    if is_right(alloc, roots, nodes, &guess)? {
-        return Ok(guess);
+    let links = links_of(alloc, roots, nodes)?;
+    let groups = groups_of(alloc, links.as_slice(), roots.len())?;
+    let recursive = recursive_by(alloc, roots, nodes, links.as_slice(), &groups)?;
+    let ranks = of_nodes(alloc, nodes, groups.ranks.as_slice())?;
+    if are_ranked(roots, nodes, recursive.as_slice(), ranks.as_slice()) {
+        return Ok(Calls { recursive, ranks });
     }
     sought(alloc, roots, nodes)
 }

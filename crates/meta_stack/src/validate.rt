@@ -4,7 +4,7 @@ ghost use Rattle.std.specs.Str.{IsAscii};
 ghost use Rattle.meta_base.specs.Language.Expression.{whitespace, comment};
 ghost use Rattle.meta_base.specs.Pieces.Saying.{Tell};
 ghost use Rattle.meta_nodes.specs.Nodes.{rule_views, piece_of};
-ghost use Rattle.meta_stacks.specs.Reports.{SkippingChangesStack, skips_in};
+ghost use Rattle.meta_stacks.specs.Reports.{SkippingAltersStack, skips_in};
 ghost use Rattle.meta_stack.specs.Certain.{AreCertain, ArePlain, AreReports, IsSorted, IsTableOf, TellReports, complaint_at};
 ghost use Rattle.meta_stack.specs.Expressions.{body_flag, name_flag};
 ghost use Rattle.meta_stack.specs.NameMaps.{KnowsRules};
@@ -19,7 +19,7 @@ use crate::numbering::number_all;
 use crate::reader::read;
 use crate::recursion::{Calls, calls_of};
 use crate::table::Table;
-use crate::visits::visit;
+use crate::visits::{Pending, visit};
 use meta_base::grammar::Rule;
 use meta_base::runtime::{Error, ErrorVariant, Fault, Span};
 use meta_nodes::ParserRule;
@@ -84,7 +84,7 @@ fn leaves_stack<'i>(
 
 /// The table of rules, where what is skipped leaves the stack alone.
 fn table_of<'i>(alloc: Global, rules: &[ParserRule<'i>]) -> Result<Option<Table<'i>>, AllocError>
-    ensures { IfOk result (λ found. MatchOption found (SkippingChangesStack (grammar_of rules.now))
+    ensures { IfOk result (λ found. MatchOption found (SkippingAltersStack (grammar_of rules.now))
         (λ table. IsTableOf rules.now table)) }
 {
     let names = names_of(alloc, rules)?;
@@ -92,7 +92,7 @@ fn table_of<'i>(alloc: Global, rules: &[ParserRule<'i>]) -> Result<Option<Table<
     let roots = number_all(alloc, rules, &names, &mut nodes)?;
     let changing = answers(
         alloc,
-        Question::ChangesStack,
+        Question::AltersStack,
         roots.as_slice(),
         nodes.as_slice(),
     )?;
@@ -167,19 +167,15 @@ fn visit_all<'i>(alloc: Global, table: &Table<'i>) -> Result<Vec<Span<'i>>, Allo
     requires inside { AreInside table.now }
     ensures { IfOk result (λ found. FindsAll table.now table.now.roots.items found.items) }
 {
-    let start = [Stack::entry()];
     let mut memory = Memory::new(alloc);
     read_all(alloc, table, &mut memory)?;
     let mut found = Vec::new(alloc);
     for rule in 0..table.roots.len() {
-        visit(
-            alloc,
-            table,
-            &mut memory,
-            table.roots[rule],
-            &start,
-            &mut found,
-        )?;
+        let start = Pending {
+            node: table.roots[rule],
+            stacks: vec![in alloc; Stack::entry(); 1]?,
+        };
+        visit(alloc, table, &mut memory, start, &mut found)?;
     }
     Ok(found)
 }

@@ -1,7 +1,7 @@
 //! The stacks from which the nodes of a rule's body are visited, and what is reported.
-ghost use Rattle.std.specs.Prelude.{◌≡◌, ◌<◌, IfOk, OnOk};
+ghost use Rattle.std.specs.Prelude.{◌≡◌, ◌<◌, [], ◌∷◌, ◌++◌, IfOk, OnOk};
 ghost use Rattle.meta_stack.specs.Table.{IsOrdered, copies};
-ghost use Rattle.meta_stack.specs.Visiting.{Adds, AddsAll, AddsEach, AddsWhere, Collects, IsAfter, IsReport, IsStartOf, Tells, FindsIn};
+ghost use Rattle.meta_stack.specs.Visiting.{Adds, AddsAll, AddsEach, AddsWhere, Collects, IsAfter, IsReport, IsStartOf, Tells, FindsIn, VisitsOn};
 ghost use Rattle.meta_stacks.specs.Views.{stack_of};
 
 use crate::loops::loops;
@@ -207,33 +207,86 @@ fn report<'i>(
     Ok(())
 }
 
+/// A node that is still to be visited, and the stacks from which it is.
+#[derive(Drop)]
+pub struct Pending {
+    pub node: usize,
+    pub stacks: Vec<Stack>,
+}
+
+/// Visits a node: what is reported there is appended, and its operands are still to be visited, the first one
+/// next.
+fn visit_one<'i>(
+    alloc: Global,
+    table: &Table<'i>,
+    memory: &mut Memory,
+    next: Pending,
+    left: &mut Vec<Pending>,
+    found: &mut Vec<Span<'i>>,
+) -> Result<(), AllocError>
+    requires inside { next.node < table.now.nodes.len }
+    requires ordered { IsOrdered table.now }
+    ensures { OnOk result (VisitsOn table.now memory.old memory.new (left.old.items ++ next ∷ [])
+        found.old.items left.new.items found.new.items) }
+{
+    match table.parts_at(next.node) {
+        Parts::Nothing => Ok(()),
+        Parts::Both(first, second, choice) => {
+            let behind = after(alloc, table, memory, first, choice, &next.stacks)?;
+            left.push(Pending {
+                node: second,
+                stacks: behind,
+            })?;
+            left.push(Pending {
+                node: first,
+                stacks: next.stacks,
+            })?;
+            Ok(())
+        }
+        Parts::Inside(body, required, optional, endless) => {
+            report(
+                alloc,
+                table,
+                memory,
+                next.node,
+                body,
+                endless,
+                &next.stacks,
+                found,
+            )?;
+            let stacks = starts(
+                alloc,
+                table,
+                memory,
+                body,
+                required,
+                optional,
+                endless,
+                &next.stacks,
+            )?;
+            left.push(Pending { node: body, stacks })?;
+            Ok(())
+        }
+    }
+}
+
 /// Visits a node from some stacks, and all that is inside it, and appends what is reported.
 pub fn visit<'i>(
     alloc: Global,
     table: &Table<'i>,
     memory: &mut Memory,
-    node: usize,
-    stacks: &[Stack],
+    start: Pending,
     found: &mut Vec<Span<'i>>,
 ) -> Result<(), AllocError>
-    requires inside { node < table.now.nodes.len }
+    requires inside { start.node < table.now.nodes.len }
     requires ordered { IsOrdered table.now }
-    ensures { OnOk result
-        (FindsIn table.now memory.old memory.new node stacks.now found.old.items found.new.items) }
+    ensures { OnOk result (FindsIn table.now memory.old memory.new start.node start.stacks.items
+        found.old.items found.new.items) }
 {
-    match table.parts_at(node) {
-        Parts::Nothing => Ok(()),
-        Parts::Both(first, second, choice) => {
-            visit(alloc, table, memory, first, stacks, found)?;
-            let next = after(alloc, table, memory, first, choice, stacks)?;
-            visit(alloc, table, memory, second, &next, found)
-        }
-        Parts::Inside(body, required, optional, endless) => {
-            report(alloc, table, memory, node, body, endless, stacks, found)?;
-            let next = starts(
-                alloc, table, memory, body, required, optional, endless, stacks,
-            )?;
-            visit(alloc, table, memory, body, &next, found)
-        }
+    let mut left = Vec::new(alloc);
+    left.push(start)?;
+    while let Some(next) = left.pop() {
+        visit_one(alloc, table, memory, next, &mut left, found)?;
     }
+    Ok(())
 }

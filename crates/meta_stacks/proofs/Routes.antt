@@ -7,7 +7,7 @@ use Rattle.meta_nodes.specs.Erasure.{without_spans}
 use Rattle.meta_nodes.specs.Spanned.{span_of, Span, Spanned, Leaf, One, Two, Unary, PosPred, NegPred, Opt, Rep, RepOnce, RepExact, RepMin, RepMax, RepMinMax, Push, Binary, Seq, Choice}
 use Rattle.meta_stacks.specs.Stack.{AbstractStack, In, entry, is_among}
 use Rattle.meta_stacks.specs.Reading.{Reading, loops, tried, Copy, Required, Optional, Endless}
-use Rattle.meta_stacks.specs.Reports.{Route, Here, First, Second, Inner, Turn, Leads, to_itself, to_seq_first, to_seq_second, to_choice_first, to_choice_second, to_opt, to_push, to_pos_pred, to_neg_pred, to_turn, repetition, Repeats, any_times, once_or_more, at_least, next, turn_start, Visits, visit, visit_seq_first, visit_seq_second, visit_choice_first, visit_choice_second, visit_opt, visit_push, visit_pos_pred, visit_neg_pred, visit_turn, IsReport, SkippingChangesStack, reading_in}
+use Rattle.meta_stacks.specs.Reports.{Route, Here, First, Second, Inner, Turn, StandsAt, to_itself, to_seq_first, to_seq_second, to_choice_first, to_choice_second, to_opt, to_push, to_pos_pred, to_neg_pred, to_turn, repetition, Repeats, any_times, once_or_more, at_least, next, turn_start, Visits, visit, visit_seq_first, visit_seq_second, visit_choice_first, visit_choice_second, visit_opt, visit_push, visit_pos_pred, visit_neg_pred, visit_turn, IsReport, SkippingAltersStack, reading_in}
 use Rattle.meta_stacks.specs.Reported.{turn_starts, starts, copies_of, is_endless, is_choice, SomeLoop, Own, ReportedIn, ReportedFrom, node_at, KnowsNullable, IsCertainAt}
 use Rattle.meta_stacks.specs.Walks.{next_after}
 use Rattle.meta_stacks.proofs.Certain.{certain}
@@ -75,7 +75,7 @@ module _ (limit turns : ℕ) (step : Expression → AbstractStack → Reading) (
     here : AbstractStack
     at : node_at x route ≡ Some node
     place : span_of node ≡ t
-    leads : Leads (without_spans x) route (without_spans node)
+    leads : StandsAt (without_spans x) route (without_spans node)
     visits : Visits step (without_spans x) route a here
     repeats : Repeats (without_spans node) (without_spans body)
     takes : nullable body ≡ false
@@ -132,7 +132,7 @@ module _ (limit turns : ℕ) (step : Expression → AbstractStack → Reading) (
       go None h = cc
       go (Some z) h = cc
 
-  inner : (s : Span) (f : Unary) (x : Spanned) (t : Span) (a b : AbstractStack) → a ≡ b → ((r : Route) (p : Expression) → Leads (without_spans x) r p → Leads (without_spans (One s f x)) (Inner r) p)
+  inner : (s : Span) (f : Unary) (x : Spanned) (t : Span) (a b : AbstractStack) → a ≡ b → ((r : Route) (p : Expression) → StandsAt (without_spans x) r p → StandsAt (without_spans (One s f x)) (Inner r) p)
       → ((r : Route) (c : AbstractStack) → Visits step (without_spans x) r a c → Visits step (without_spans (One s f x)) (Inner r) a c) → Found x t b → Found (One s f x) t a
   inner s f x t a b e l v d = record {
     route = Inner d.route;
@@ -249,7 +249,7 @@ module _ (limit turns : ℕ) (step : Expression → AbstractStack → Reading) (
       in_second r = (r.1.0.0, (r.1.0.1, second s f x y t r.1.0.0 r.0 r.1.0.2 r.1.1))
 
 -- each span that is reported is that of a repetition that certainly has no outcome
-pub reported_is_certain : (limit turns : ℕ) (recursive : Text → Bool) (g : Grammar) (nullable : Spanned → Bool) → KnowsNullable g nullable → (SkippingChangesStack g → ⊥)
+pub reported_is_certain : (limit turns : ℕ) (recursive : Text → Bool) (g : Grammar) (nullable : Spanned → Bool) → KnowsNullable g nullable → (SkippingAltersStack g → ⊥)
     → (x : Spanned) (ts : List Span) → ReportedFrom limit turns recursive g nullable x ts → (t : Span) → In t ts → IsCertainAt g x t
 reported_is_certain limit turns recursive g nullable null calm x ts h t i =
     let step : Expression → AbstractStack → Reading = reading_in limit recursive g in

@@ -8,7 +8,7 @@ use Rattle.meta_base.specs.Language.Text.{Text}
 use Rattle.meta_base.specs.Language.Matching.{begins, text_outcome, character_outcome, starts_in, newline_outcome, end_outcome, slice_at, slice_outcome, place, end_place, builtin_outcome, other_outcome, named_outcome, peek_outcome, range_set}
 use Rattle.meta_base.specs.Language.Builtins.{Builtin, One, Property, Newline, Soi, Eoi, Peek, Pop, Drop, PeekAll, PopAll, builtin_of}
 use Rattle.meta_base.specs.Language.Meaning.{Does, Task, Run, Turns, Skipping, str, insens, range, slice, skip, call, other, pos_pred, neg_pred, push, restore, seq, seq_first, seq_second, left, right, opt, opt_none, rep, rep_none, turn, turn_none, rep_once, rep_exact, rep_min, rep_max, rep_min_max, skips, atomic, compound_atomic, between, ahead, not_ahead, with_token, in_sequence, exactly, at_least, at_most, from_to, skipped}
-use Rattle.meta_stacks.specs.Reports.{ChangesStack, by_push, by_builtin, by_rule, in_left, in_right, in_first, in_second, in_opt, in_rep, in_rep_once, in_rep_exact, in_rep_min, in_rep_max, in_rep_min_max, in_restore, AltersStack, SkippingChangesStack, skips_in}
+use Rattle.meta_stacks.specs.Reports.{AltersStack, by_push, by_builtin, by_rule, in_left, in_right, in_first, in_second, in_opt, in_rep, in_rep_once, in_rep_exact, in_rep_min, in_rep_max, in_rep_min_max, in_restore, TakesEntries, SkippingAltersStack, skips_in}
 use Rattle.meta_stacks.proofs.Walking.{Kept}
 
 abbrev pub Keeps : State → Outcome → Type 0
@@ -64,7 +64,7 @@ peek_keeps : (ts : List Text) (s : State) (o : Outcome) → peek_outcome ts s �
 peek_keeps [] s o h = cc
 peek_keeps (t ∷ ts) s o h = subst (Keeps s) (outcome_same h) (text_keeps nat_eq t s)
 
-pub builtin_keeps : (classes : Classes) (m : Mode) (b : Builtin) (s : State) (o : Outcome) → (AltersStack b → ⊥) → builtin_outcome classes m b s ≡ Some o → Keeps s o
+pub builtin_keeps : (classes : Classes) (m : Mode) (b : Builtin) (s : State) (o : Outcome) → (TakesEntries b → ⊥) → builtin_outcome classes m b s ≡ Some o → Keeps s o
 builtin_keeps classes m (One set) s o n h = subst (Keeps s) (outcome_same h) (one_keeps set s)
 builtin_keeps classes m (Property k) s o n h = subst (Keeps s) (outcome_same h) (one_keeps (classes k) s)
 builtin_keeps classes m Newline s o n h = subst (Keeps s) (outcome_same h) (newline_keeps s)
@@ -76,11 +76,11 @@ builtin_keeps classes m Drop s o n h = absurd (n tt)
 builtin_keeps classes m PeekAll s o n h = subst (Keeps s) (outcome_same h) (text_keeps nat_eq _ s)
 builtin_keeps classes m PopAll s o n h = absurd (n tt)
 
-named_keeps : (classes : Classes) (m : Mode) (q : Option Builtin) (s : State) (o : Outcome) → ((b : Builtin) → q ≡ Some b → AltersStack b → ⊥) → named_outcome classes m q s ≡ Some o → Keeps s o
+named_keeps : (classes : Classes) (m : Mode) (q : Option Builtin) (s : State) (o : Outcome) → ((b : Builtin) → q ≡ Some b → TakesEntries b → ⊥) → named_outcome classes m q s ≡ Some o → Keeps s o
 named_keeps classes m None s o n h = cc
 named_keeps classes m (Some b) s o n h = builtin_keeps classes m b s o (n b refl) h
 
-other_keeps : (classes : Classes) (m : Mode) (n : Text) (s : State) (o : Outcome) → ((b : Builtin) → builtin_of n ≡ Some b → AltersStack b → ⊥) → other_outcome classes m n s ≡ Some o → Keeps s o
+other_keeps : (classes : Classes) (m : Mode) (n : Text) (s : State) (o : Outcome) → ((b : Builtin) → builtin_of n ≡ Some b → TakesEntries b → ⊥) → other_outcome classes m n s ≡ Some o → Keeps s o
 other_keeps classes Between n s o c h = subst (Keeps s) (outcome_same h) tt
 other_keeps classes NonAtomicMode n s o c h = named_keeps classes NonAtomicMode (builtin_of n) s o c h
 other_keeps classes AtomicMode n s o c h = named_keeps classes AtomicMode (builtin_of n) s o c h
@@ -89,15 +89,15 @@ other_keeps classes CompoundAtomicMode n s o c h = named_keeps classes CompoundA
 module _ (g : Grammar) where
   abbrev SomeChange : List Expression → Type 0
   SomeChange [] = ⊥
-  SomeChange (e ∷ es) = ChangesStack g e ⊎ SomeChange es
+  SomeChange (e ∷ es) = AltersStack g e ⊎ SomeChange es
 
-  some_change : (es : List Expression) → ChangesStack g (in_sequence es) → SomeChange es
+  some_change : (es : List Expression) → AltersStack g (in_sequence es) → SomeChange es
   some_change [] c = elim c [ ]
   some_change (e ∷ []) c = inl c
   some_change (e ∷ f ∷ es) (in_left c) = inl c
   some_change (e ∷ f ∷ es) (in_right c) = inr (some_change (f ∷ es) c)
 
-  of_copies : (n : ℕ) (e : Expression) → SomeChange (replicate n e) → ChangesStack g e
+  of_copies : (n : ℕ) (e : Expression) → SomeChange (replicate n e) → AltersStack g e
   of_copies zero e c = absurd c
   of_copies (suc n) e (inl c) = c
   of_copies (suc n) e (inr c) = of_copies n e c
@@ -107,39 +107,39 @@ module _ (g : Grammar) where
   of_both (e ∷ es) fs (inl c) = inl (inl c)
   of_both (e ∷ es) fs (inr c) = elim (of_both es fs c) [ inl d ↦ inl (inr d) | inr d ↦ inr d ]
 
-  of_opt : {e : Expression} → ChangesStack g (Opt e) → ChangesStack g e
+  of_opt : {e : Expression} → AltersStack g (Opt e) → AltersStack g e
   of_opt (in_opt c) = c
 
-  of_rep : {e : Expression} → ChangesStack g (Rep e) → ChangesStack g e
+  of_rep : {e : Expression} → AltersStack g (Rep e) → AltersStack g e
   of_rep (in_rep c) = c
 
-  of_once : {e : Expression} → ChangesStack g (Seq e (Rep e)) → ChangesStack g e
+  of_once : {e : Expression} → AltersStack g (Seq e (Rep e)) → AltersStack g e
   of_once (in_left c) = c
   of_once (in_right c) = of_rep c
 
-  of_exactly : (e : Expression) (n : ℕ) → ChangesStack g (exactly e n) → ChangesStack g e
+  of_exactly : (e : Expression) (n : ℕ) → AltersStack g (exactly e n) → AltersStack g e
   of_exactly e n c = of_copies n e (some_change _ c)
 
-  of_at_least : (e : Expression) (n : ℕ) → ChangesStack g (at_least e n) → ChangesStack g e
+  of_at_least : (e : Expression) (n : ℕ) → AltersStack g (at_least e n) → AltersStack g e
   of_at_least e n c = elim (of_both (replicate n e) (Rep e ∷ []) (some_change _ c)) [ inl d ↦ of_copies n e d | inr d ↦ elim d [ inl f ↦ of_rep f | inr f ↦ absurd f ] ]
 
-  of_at_most : (e : Expression) (n : ℕ) → ChangesStack g (at_most e n) → ChangesStack g e
+  of_at_most : (e : Expression) (n : ℕ) → AltersStack g (at_most e n) → AltersStack g e
   of_at_most e n c = of_opt (of_copies n (Opt e) (some_change _ c))
 
-  of_from_to : (e : Expression) (i j : ℕ) → ChangesStack g (from_to e i j) → ChangesStack g e
+  of_from_to : (e : Expression) (i j : ℕ) → AltersStack g (from_to e i j) → AltersStack g e
   of_from_to e i j c = elim (of_both (replicate (min i j) e) (replicate (j - i) (Opt e)) (some_change _ c)) [ inl d ↦ of_copies (min i j) e d | inr d ↦ of_opt (of_copies (j - i) (Opt e) d) ]
 
   abbrev TaskChanges : Task → Type 0
-  TaskChanges (Run m e) = ChangesStack g e
-  TaskChanges (Turns m e) = ChangesStack g e
-  TaskChanges (Skipping m) = ChangesStack g skipped
+  TaskChanges (Run m e) = AltersStack g e
+  TaskChanges (Turns m e) = AltersStack g e
+  TaskChanges (Skipping m) = AltersStack g skipped
 
-  of_skipped : ChangesStack g skipped → SkippingChangesStack g
+  of_skipped : AltersStack g skipped → SkippingAltersStack g
   of_skipped (in_left (in_rep c)) = inl c
   of_skipped (in_right (in_rep (in_left c))) = inr c
   of_skipped (in_right (in_rep (in_right (in_rep c)))) = inl c
 
-  module _ (classes : Classes) (calm : ChangesStack g skipped → ⊥) where
+  module _ (classes : Classes) (calm : AltersStack g skipped → ⊥) where
     unchanged : {k : Task} {s : State} {o : Outcome} → Does g classes k s o → (TaskChanges k → ⊥) → Keeps s o
     unchanged (str {t = t} {s = s}) c = text_keeps nat_eq t s
     unchanged (insens {t = t} {s = s}) c = text_keeps eq_ignore_ascii_case t s
@@ -215,7 +215,7 @@ module _ (g : Grammar) where
     quiet compound_atomic = (refl, λ q. refl)
     quiet between = (refl, λ q. refl)
 
-  module _ (classes : Classes) (calm : SkippingChangesStack g → ⊥) where
+  module _ (classes : Classes) (calm : SkippingAltersStack g → ⊥) where
     unseen : {m : Mode} {s : State} {o : Outcome} → Does g classes (Skipping m) s o → (b : Bool) → skips_in g ≡ b → Kept b s o
     unseen {m} {s} {o} d true e = go o (unchanged classes (λ c. calm (of_skipped c)) d (λ c. calm (of_skipped c)))
       where

@@ -6,7 +6,7 @@ use Rattle.meta_base.specs.Language.Expression.{Ident, Part, Rule, Grammar, rule
 module _ (g : Grammar) where
   -- the body of the rule that a name means calls another name, wherever in the body (in predicates and `PUSH`
   -- too), or calls one that reaches it
-  pub data Reaches : Text → Text → Type 0 where
-    by_call : {n c : Text} {r : Rule} → rule_of g n ≡ Some r → Part r.body (Ident c) → Reaches n c
-    by_calls : {n c d : Text} {r : Rule} → rule_of g n ≡ Some r → Part r.body (Ident c) → Reaches c d
-        → Reaches n d
+  pub data ReachesByCalls : Text → Text → Type 0 where
+    by_call : {n c : Text} {r : Rule} → rule_of g n ≡ Some r → Part r.body (Ident c) → ReachesByCalls n c
+    by_calls : {n c d : Text} {r : Rule} → rule_of g n ≡ Some r → Part r.body (Ident c) → ReachesByCalls c d
+        → ReachesByCalls n d

@@ -14,41 +14,41 @@ abbrev pub skips_in : Grammar → Bool
 skips_in g = is_some (rule_of g whitespace) || is_some (rule_of g comment)
 
 -- it takes entries off the stack
-abbrev pub AltersStack : Builtin → Type 0
-AltersStack (One set) = ⊥
-AltersStack (Property n) = ⊥
-AltersStack Newline = ⊥
-AltersStack Soi = ⊥
-AltersStack Eoi = ⊥
-AltersStack Peek = ⊥
-AltersStack Pop = ⊤
-AltersStack Drop = ⊤
-AltersStack PeekAll = ⊥
-AltersStack PopAll = ⊤
+abbrev pub TakesEntries : Builtin → Type 0
+TakesEntries (One set) = ⊥
+TakesEntries (Property n) = ⊥
+TakesEntries Newline = ⊥
+TakesEntries Soi = ⊥
+TakesEntries Eoi = ⊥
+TakesEntries Peek = ⊥
+TakesEntries Pop = ⊤
+TakesEntries Drop = ⊤
+TakesEntries PeekAll = ⊥
+TakesEntries PopAll = ⊤
 
 module _ (g : Grammar) where
   -- outside predicates it has a `PUSH`, `POP`, `DROP` or `POP_ALL`, itself or by way of rules
-  pub data ChangesStack : Expression → Type 0 where
-    by_push : {e : Expression} → ChangesStack (Push e)
-    by_builtin : {n : Text} {b : Builtin} → rule_of g n ≡ None → builtin_of n ≡ Some b → AltersStack b
-        → ChangesStack (Ident n)
-    by_rule : {n : Text} {r : Rule} → rule_of g n ≡ Some r → ChangesStack r.body → ChangesStack (Ident n)
-    in_left : {a b : Expression} → ChangesStack a → ChangesStack (Seq a b)
-    in_right : {a b : Expression} → ChangesStack b → ChangesStack (Seq a b)
-    in_first : {a b : Expression} → ChangesStack a → ChangesStack (Choice a b)
-    in_second : {a b : Expression} → ChangesStack b → ChangesStack (Choice a b)
-    in_opt : {e : Expression} → ChangesStack e → ChangesStack (Opt e)
-    in_rep : {e : Expression} → ChangesStack e → ChangesStack (Rep e)
-    in_rep_once : {e : Expression} → ChangesStack e → ChangesStack (RepOnce e)
-    in_rep_exact : {e : Expression} {i : ℕ} → ChangesStack e → ChangesStack (RepExact e i)
-    in_rep_min : {e : Expression} {i : ℕ} → ChangesStack e → ChangesStack (RepMin e i)
-    in_rep_max : {e : Expression} {i : ℕ} → ChangesStack e → ChangesStack (RepMax e i)
-    in_rep_min_max : {e : Expression} {i j : ℕ} → ChangesStack e → ChangesStack (RepMinMax e i j)
-    in_restore : {e : Expression} → ChangesStack e → ChangesStack (RestoreOnErr e)
+  pub data AltersStack : Expression → Type 0 where
+    by_push : {e : Expression} → AltersStack (Push e)
+    by_builtin : {n : Text} {b : Builtin} → rule_of g n ≡ None → builtin_of n ≡ Some b → TakesEntries b
+        → AltersStack (Ident n)
+    by_rule : {n : Text} {r : Rule} → rule_of g n ≡ Some r → AltersStack r.body → AltersStack (Ident n)
+    in_left : {a b : Expression} → AltersStack a → AltersStack (Seq a b)
+    in_right : {a b : Expression} → AltersStack b → AltersStack (Seq a b)
+    in_first : {a b : Expression} → AltersStack a → AltersStack (Choice a b)
+    in_second : {a b : Expression} → AltersStack b → AltersStack (Choice a b)
+    in_opt : {e : Expression} → AltersStack e → AltersStack (Opt e)
+    in_rep : {e : Expression} → AltersStack e → AltersStack (Rep e)
+    in_rep_once : {e : Expression} → AltersStack e → AltersStack (RepOnce e)
+    in_rep_exact : {e : Expression} {i : ℕ} → AltersStack e → AltersStack (RepExact e i)
+    in_rep_min : {e : Expression} {i : ℕ} → AltersStack e → AltersStack (RepMin e i)
+    in_rep_max : {e : Expression} {i : ℕ} → AltersStack e → AltersStack (RepMax e i)
+    in_rep_min_max : {e : Expression} {i j : ℕ} → AltersStack e → AltersStack (RepMinMax e i j)
+    in_restore : {e : Expression} → AltersStack e → AltersStack (RestoreOnErr e)
 
   -- what is skipped changes the stack
-  abbrev pub SkippingChangesStack : Type 0
-  SkippingChangesStack = ChangesStack (Ident whitespace) ⊎ ChangesStack (Ident comment)
+  abbrev pub SkippingAltersStack : Type 0
+  SkippingAltersStack = AltersStack (Ident whitespace) ⊎ AltersStack (Ident comment)
 
 -- repetitions: what is repeated, and the copies that stand for it
 pub record Repetition : Type 0 where
@@ -79,18 +79,18 @@ pub data Route : Type 0 where
   Turn : ℕ → Route → Route
 
 -- the part at a route
-pub data Leads : Expression → Route → Expression → Type 0 where
-  to_itself : {e : Expression} → Leads e Here e
-  to_seq_first : {a b p : Expression} {r : Route} → Leads a r p → Leads (Seq a b) (First r) p
-  to_seq_second : {a b p : Expression} {r : Route} → Leads b r p → Leads (Seq a b) (Second r) p
-  to_choice_first : {a b p : Expression} {r : Route} → Leads a r p → Leads (Choice a b) (First r) p
-  to_choice_second : {a b p : Expression} {r : Route} → Leads b r p → Leads (Choice a b) (Second r) p
-  to_opt : {e p : Expression} {r : Route} → Leads e r p → Leads (Opt e) (Inner r) p
-  to_push : {e p : Expression} {r : Route} → Leads e r p → Leads (Push e) (Inner r) p
-  to_pos_pred : {e p : Expression} {r : Route} → Leads e r p → Leads (PosPred e) (Inner r) p
-  to_neg_pred : {e p : Expression} {r : Route} → Leads e r p → Leads (NegPred e) (Inner r) p
+pub data StandsAt : Expression → Route → Expression → Type 0 where
+  to_itself : {e : Expression} → StandsAt e Here e
+  to_seq_first : {a b p : Expression} {r : Route} → StandsAt a r p → StandsAt (Seq a b) (First r) p
+  to_seq_second : {a b p : Expression} {r : Route} → StandsAt b r p → StandsAt (Seq a b) (Second r) p
+  to_choice_first : {a b p : Expression} {r : Route} → StandsAt a r p → StandsAt (Choice a b) (First r) p
+  to_choice_second : {a b p : Expression} {r : Route} → StandsAt b r p → StandsAt (Choice a b) (Second r) p
+  to_opt : {e p : Expression} {r : Route} → StandsAt e r p → StandsAt (Opt e) (Inner r) p
+  to_push : {e p : Expression} {r : Route} → StandsAt e r p → StandsAt (Push e) (Inner r) p
+  to_pos_pred : {e p : Expression} {r : Route} → StandsAt e r p → StandsAt (PosPred e) (Inner r) p
+  to_neg_pred : {e p : Expression} {r : Route} → StandsAt e r p → StandsAt (NegPred e) (Inner r) p
   to_turn : {e p : Expression} {q : Repetition} {i : ℕ} {r : Route} → repetition e ≡ Some q
-      → Leads q.body r p → Leads e (Turn i r) p
+      → StandsAt q.body r p → StandsAt e (Turn i r) p
 
 -- where the reading goes on from a stack that may be impossible
 abbrev pub next : Option AbstractStack → (AbstractStack → Option AbstractStack) → Option AbstractStack
@@ -170,7 +170,7 @@ module _ (g : Grammar) (classes : Classes) (m : Mode) where
 
 -- a report of p at a route in the rule's body e is certain: no start that reaches the route has an outcome
 pub record IsCertain (g : Grammar) (e p : Expression) (r : Route) (a : AbstractStack) : Type 0 where
-  pub leads : Leads e r p
+  pub leads : StandsAt e r p
   -- from no stack that is described p has an outcome, at any position of any text
   pub no_outcome : (classes : Classes) (m : Mode) (s : State) (o : Outcome) → IsRuleMode m
       → Describes a s.stack → Matches g classes p m s o → ⊥
@@ -190,7 +190,7 @@ pub record IsReport (limit turns : ℕ) (recursive : Text → Bool) (g : Grammar
   pub repeats : Repeats p body
   pub not_null : IsNullable g body → ⊥
   pub not_sure : CannotFail g body → ⊥
-  pub calm : SkippingChangesStack g → ⊥
-  pub leads : Leads e r p
+  pub calm : SkippingAltersStack g → ⊥
+  pub leads : StandsAt e r p
   pub visits : Visits (reading_in limit recursive g) e r entry a
   pub loops_there : loops turns (reading_in limit recursive g body) a ≡ true

@@ -5,7 +5,7 @@ ghost use Rattle.meta_base.specs.Language.Expression.{Grammar, Expression};
 ghost use Rattle.meta_nodes.specs.Spanned.{Spanned, Span};
 ghost use Rattle.meta_stacks.specs.Stack.{AbstractStack, In};
 ghost use Rattle.meta_stacks.specs.Reported.{KnowsNullable, ReportedFrom, IsCertainAt};
-ghost use Rattle.meta_stacks.specs.Reports.{Route, IsReport, IsCertain, SkippingChangesStack};
+ghost use Rattle.meta_stacks.specs.Reports.{Route, IsReport, IsCertain, SkippingAltersStack};
 
 /// Each report is certain: no start of the rule that reaches the repetition has an outcome. That holds
 /// however many turns are followed, and whichever rules are taken for recursive.
@@ -18,7 +18,7 @@ pub fn certain()
 /// has no outcome, where what is skipped leaves the stack alone.
 pub fn reported_is_certain()
     ensures { (limit turns : ℕ) (recursive : Text → Bool) (g : Grammar) (nullable : Spanned → Bool)
-        → KnowsNullable g nullable → (SkippingChangesStack g → ⊥)
+        → KnowsNullable g nullable → (SkippingAltersStack g → ⊥)
         → (x : Spanned) (ts : List Span) → ReportedFrom limit turns recursive g nullable x ts
         → (t : Span) → In t ts → IsCertainAt g x t }
 {}

@@ -1,5 +1,5 @@
 -- What fails where the next character cannot begin it, and what is noted then.
-use Rattle.std.proofs.Common.{◌≡◌, refl, sym, ◌∙◌, subst, ℕ, zero, suc, max, List, [], ◌∷◌, Bool, true, false, not, ◌&&◌, ◌||◌, Option, Some, None, arith, if◌then◌else◌, nat_eq, eqb-true, codes, ◌⊎◌, inl, inr}
+use Rattle.std.proofs.Common.{◌≡◌, refl, subst, ℕ, zero, suc, max, List, [], ◌∷◌, Bool, true, false, not, ◌&&◌, ◌||◌, Option, Some, None, arith, if◌then◌else◌, nat_eq, eqb-true, codes, ◌⊎◌, inl, inr}
 use Rattle.std.specs.Str.{chars}
 use Rattle.meta_base.specs.Language.Text.{Text}
 use Rattle.meta_base.specs.Language.Expression.{Expression, Str, Ident, NegPred, Seq, Choice, rule_of, whitespace, comment}
@@ -182,14 +182,9 @@ fails_at_once r m c classes s u p q h e k = either (name_or_listed r c h)
     either (inl (i, b)) = rw i (name_fails m c classes s u p q b e (rw i at k))
     either (inr b) = go (firsts r) b (all_right r m)
 
-not_true : (b : Bool) → not b ≡ true → b ≡ false
-not_true true h = cc
-not_true false h = refl
-
 -- nothing is skipped where the next character begins neither white space nor a comment
-pub nothing_skipped : (c : ℕ) (text bs more : List ℕ) (b : Bool) → may_begin is.WHITESPACE c ≡ false → b ≡ may_begin is.COMMENT c → not b ≡ true → chars bs ≡ c ∷ chars more → (classes : Classes) (p : ℕ) → Ran meta_grammar classes (Skipping NonAtomicMode) (at text bs) (Success (at text bs) None') p p
-nothing_skipped c text bs more b h i t e classes p =
-    let k = sym i ∙ not_true b t in
-    let blank = fails_at_once is.WHITESPACE in_mode.NonAtomic c classes (at text bs) (chars more) p p h e (omega arith) in
+pub nothing_skipped : (c : ℕ) (text bs more : List ℕ) → may_begin is.WHITESPACE c ≡ false → may_begin is.COMMENT c ≡ false → chars bs ≡ c ∷ chars more → (classes : Classes) (p : ℕ) → Ran meta_grammar classes (Skipping NonAtomicMode) (at text bs) (Success (at text bs) None') p p
+nothing_skipped c text bs more b k e classes p =
+    let blank = fails_at_once is.WHITESPACE in_mode.NonAtomic c classes (at text bs) (chars more) p p b e (omega arith) in
     let remark = fails_at_once is.COMMENT in_mode.NonAtomic c classes (at text bs) (chars more) p p k e (omega arith) in
     ran_skips (ran_seq (ran_rep_none (ran_whitespace blank)) ran_between (ran_rep_none (ran_seq_fails (ran_comment remark))))

@@ -36,7 +36,7 @@ begins_step : (x y : ℕ) (a b : Text) → (begins nat_eq a b ≡ true → b ≡
 begins_step x y a b ih true e i = let j = ih i in let k = eqb-true x y e in cc
 begins_step x y a b ih false e i = cc
 
-begins-gives : (a b : Text) → begins nat_eq a b ≡ true → b ≡ a ++ drop (length a) b
+pub begins-gives : (a b : Text) → begins nat_eq a b ≡ true → b ≡ a ++ drop (length a) b
 begins-gives [] b h = refl
 begins-gives (x ∷ a) [] h = cc
 begins-gives (x ∷ a) (y ∷ b) h = begins_step x y a b (begins-gives a b) (nat_eq x y) refl h
@@ -117,7 +117,7 @@ pub one_at_end : (text : List ℕ) (f : ℕ → Bool) (bs given : List ℕ) → 
 one_at_end text f bs given g h = rw (← g, chars_empty given h) refl
 
 -- past one character
-pub past_one : (text bs given r left : List ℕ) (c : ℕ) → IsLeft text bs → given ≡ bs → given ≡ encode_utf8 c ++ r → left ≡ r → GoesOn text bs false left
+pub past_one : {empty : Bool} (text bs given r left : List ℕ) (c : ℕ) → IsLeft text bs → given ≡ bs → given ≡ encode_utf8 c ++ r → left ≡ r → GoesOn text bs empty left
 past_one text bs given r left c h g e l =
     let f : bs ≡ encode_utf8 c ++ r = sym g ∙ e in
     let k = shorter_after bs (encode_utf8 c) r f in

@@ -1,4 +1,5 @@
 pub mod Choices
+pub mod Comments
 pub mod EntryLists
 pub mod FirstCharacters
 pub mod LeafLemmas

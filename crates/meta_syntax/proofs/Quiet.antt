@@ -189,7 +189,7 @@ mode_stays Atomic b h = refl
 mode_stays CompoundAtomic b h = cc
 mode_stays NonAtomic b h = cc
 
-body_stays : (r : spec.Rule) (m : Mode) → m ≡ AtomicMode → stays_atomic r.type_of ≡ true → body_mode r m ≡ AtomicMode
+pub body_stays : (r : spec.Rule) (m : Mode) → m ≡ AtomicMode → stays_atomic r.type_of ≡ true → body_mode r m ≡ AtomicMode
 body_stays r m h k = rw h (mode_stays r.type_of _ k)
 
 no_token : (ty : RuleType) → stays_atomic ty ≡ true → gives_token ty AtomicMode ≡ false

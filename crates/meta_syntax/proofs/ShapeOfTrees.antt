@@ -10,7 +10,7 @@ use Rattle.meta_base.proofs.RewritingsKeepOutcomes.{joined-assoc}
 use Rattle.meta_syntax.specs.MetaGrammar.{type_of_rule}
 use Rattle.meta_syntax.specs.Rows.{is_defined}
 use Rattle.meta_syntax.specs.Shape as shape
-use Rattle.meta_syntax.specs.Shape.{IsPrefix, IsInfix, IsPostfix, ArePostfixes, IsExpression, IsChain, IsMore, IsTerm, IsNode, IsRule, IsGrammar}
+use Rattle.meta_syntax.specs.Shape.{IsPrefix, IsInfix, IsPostfix, ArePostfixes, IsExpression, IsChain, IsMore, IsTerm, IsNode, IsRule, AreGrammarTrees}
 use Rattle.meta_syntax.proofs.Naming.{rule_named}
 use Rattle.meta_syntax.proofs.Yields.{IsNone, none, Both, both, Many, no_more, also, IsMark, mark, IsPlaced, placed, IsMarkOf, mark_of, IsTree, tree, IsTreeOf, tree_of, is_dark, Holds, Inside, Stretches}
 
@@ -54,16 +54,16 @@ module _ (text : List ℕ) where
   untagged : (us vs ws : Trees) → Many (IsMarkOf IsPrefix) us → Holds text is.node vs → Many (IsTreeOf (IsPostfix text)) ws → IsTerm text (joined (joined us vs) ws)
   untagged us vs ws a b c = rw (joined-assoc us vs ws) (prefixed a (operand b c))
 
-  docs_before : {us vs : Trees} → Many (IsTree (codes "grammar_doc") (IsMark (codes "inner_doc"))) us → IsGrammar text vs → IsGrammar text (joined us vs)
+  docs_before : {us vs : Trees} → Many (IsTree (codes "grammar_doc") (IsMark (codes "inner_doc"))) us → AreGrammarTrees text vs → AreGrammarTrees text (joined us vs)
   docs_before no_more g = g
   docs_before (also (tree mark) m) g = shape.grammar_doc (docs_before m g)
 
-  rules_before : {us vs : Trees} → Many (IsTree (codes "grammar_rule") (IsRule text)) us → IsGrammar text vs → IsGrammar text (joined us vs)
+  rules_before : {us vs : Trees} → Many (IsTree (codes "grammar_rule") (IsRule text)) us → AreGrammarTrees text vs → AreGrammarTrees text (joined us vs)
   rules_before no_more g = g
   rules_before (also (tree r) m) g = shape.grammar_rule r (rules_before m g)
 
   grammar_of : (us vs ws xs : Trees) → IsNone us → Many (IsTree (codes "grammar_doc") (IsMark (codes "inner_doc"))) vs → Many (IsTree (codes "grammar_rule") (IsRule text)) ws
-      → IsMark (codes "EOI") xs → IsGrammar text (joined (joined (joined us vs) ws) xs)
+      → IsMark (codes "EOI") xs → AreGrammarTrees text (joined (joined (joined us vs) ws) xs)
   grammar_of us vs ws xs none docs rules mark = rw (joined-assoc vs ws _) (docs_before docs (rules_before rules shape.end_of_input))
 
   pub closed : (r : Rule) (i j : ℕ) (us : Trees) → is_defined r ≡ true → Stretches text r i j → Inside text (is_dark r) r us

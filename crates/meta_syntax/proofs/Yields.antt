@@ -8,7 +8,7 @@ use Rattle.meta_base.specs.declared.grammar.Rule.{Rule}
 use Rattle.meta_base.specs.declared.grammar.Rule.TheVariants as is
 use Rattle.meta_syntax.specs.MetaGrammar.{type_of_rule, body_of}
 use Rattle.meta_syntax.specs.Runs.{is_blank}
-use Rattle.meta_syntax.specs.Shape.{Mark, IsNumber, IsInteger, IsPrefix, IsInfix, IsModifier, IsQuoted, IsCounted, IsPostfix, IsSlice, IsTerminal, IsExpression, IsTerm, IsNode, IsRule, IsGrammar}
+use Rattle.meta_syntax.specs.Shape.{Mark, IsNumber, IsInteger, IsPrefix, IsInfix, IsModifier, IsQuoted, IsCounted, IsPostfix, IsSlice, IsTerminal, IsExpression, IsTerm, IsNode, IsRule, AreGrammarTrees}
 use Rattle.meta_syntax.proofs.Naming.{rule_named}
 
 -- no trees; some and then others; any number
@@ -50,7 +50,7 @@ is_dark r = is_blank r || is_atomic (type_of_rule r)
 module _ (text : List ℕ) where
   -- what a call of a rule yields
   abbrev pub Holds : Rule → Trees → Type 0
-  Holds is.grammar_rules us = IsGrammar text us
+  Holds is.grammar_rules us = AreGrammarTrees text us
   Holds is.grammar_rule us = IsTree (codes "grammar_rule") (IsRule text) us
   Holds is.modifier us = IsMarkOf IsModifier us
   Holds is.node_tag us = Both (IsMark (codes "tag_id")) (IsMark (codes "assignment_operator")) us

@@ -1,9 +1,11 @@
 -- With which characters the rules begin.
-use Rattle.std.specs.Prelude.{ℕ, List, [], ◌∷◌, Bool, true, false, ◌||◌, Option, Some, None, nat_eq, codes}
+use Rattle.std.specs.Prelude.{◌≡◌, ℕ, List, [], ◌∷◌, Bool, true, false, ◌||◌, Option, Some, None, nat_eq, codes}
 use Rattle.meta_base.specs.Language.Builtins.{is_between, is_lower, is_upper}
 use Rattle.meta_base.specs.Language.Meaning.{seen_from}
 use Rattle.meta_base.specs.declared.grammar.Rule.{Rule}
 use Rattle.meta_base.specs.declared.grammar.Rule.TheVariants as is
+use Rattle.meta_syntax.specs.declared.firsts.Lookahead.{Lookahead}
+use Rattle.meta_syntax.specs.declared.firsts.Lookahead.TheVariants as ahead
 use Rattle.meta_syntax.specs.declared.modes.Mode as mode
 use Rattle.meta_syntax.specs.MetaGrammar.{double_quote, backslash, line_feed}
 use Rattle.meta_syntax.specs.Runs.{mode_of}
@@ -81,3 +83,9 @@ takes_one is.space c = is_among (32 ∷ 9 ∷ []) c
 takes_one is.alpha c = is_lower c || is_upper c
 takes_one is.alpha_num c = (is_lower c || is_upper c) || is_between 48 57 c
 takes_one _ c = false
+
+-- what a look at the next character tells of a call is so
+abbrev pub Tells : Rule → ℕ → Lookahead → Type 0
+Tells r c ahead.Fails = may_begin r c ≡ false
+Tells r c ahead.TakesOne = takes_one r c ≡ true
+Tells r c ahead.MustRun = (may_begin r c ≡ true) × (takes_one r c ≡ false)

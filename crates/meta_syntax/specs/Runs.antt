@@ -73,8 +73,8 @@ abbrev pub Runs : Task → List ℕ → List ℕ → Recognizer → Recognizer �
 Runs k text rest old new o = Gives k text rest old.entries.items new.entries.items old.furthest new.furthest o
 
 -- the same of a run that cannot fail
-abbrev pub Reaches : Task → List ℕ → List ℕ → Recognizer → Recognizer → List ℕ → Type 0
-Reaches k text rest old new after =
+abbrev pub RunsTo : Task → List ℕ → List ℕ → Recognizer → Recognizer → List ℕ → Type 0
+RunsTo k text rest old new after =
     Finds k text rest old.entries.items new.entries.items old.furthest new.furthest after
 
 -- a call fails, whatever the classes are, and nothing in it fails further than at a place

@@ -7,13 +7,14 @@ use Rattle.meta_base.specs.Language.State.{Trees, None', Tree}
 
 -- a tree that holds none, before others
 abbrev pub Mark : Text → ℕ → ℕ → Trees → Trees
-Mark r i j us = Tree r i j None' us
+Mark r mark_at mark_to us = Tree r mark_at mark_to None' us
 
 -- a rule's body, behind its modifier
 abbrev pub Braced : ℕ → ℕ → ℕ → ℕ → ℕ → ℕ → Trees → Trees
-Braced a b c d e f body =
-    Mark (codes "opening_brace") a b
-    (Tree (codes "expression") c d body (Mark (codes "closing_brace") e f None'))
+Braced open_at open_to body_at body_to close_at close_to body =
+    Mark (codes "opening_brace") open_at open_to
+    (Tree (codes "expression") body_at body_to body
+    (Mark (codes "closing_brace") close_at close_to None'))
 
 -- the signs of predicates
 pub data IsPrefix : Text → Type 0 where
@@ -32,43 +33,51 @@ pub data IsModifier : Text → Type 0 where
   compound_atomic : IsModifier (codes "compound_atomic_modifier")
   non_atomic : IsModifier (codes "non_atomic_modifier")
 
--- from i to j there are digits
-pub record IsNumber (text : List ℕ) (i j : ℕ) : Type 0 where
-  pub digits : IsNumeral 10 (slice_range text i j)
-  pub unsigned : without_leading_plus (slice_range text i j) ≡ slice_range text i j
+-- between two places there are digits
+pub record IsNumber (text : List ℕ) (number_at number_to : ℕ) : Type 0 where
+  pub digits : IsNumeral 10 (slice_range text number_at number_to)
+  pub unsigned : without_leading_plus (slice_range text number_at number_to)
+      ≡ slice_range text number_at number_to
 
--- from i to j there are digits, or a sign and digits
+-- between two places there are digits, or a sign and digits
 abbrev pub IsInteger : List ℕ → ℕ → ℕ → Type 0
-IsInteger text i j = IsNumeral 10 (without_leading_sign (slice_range text i j))
+IsInteger text number_at number_to =
+    IsNumeral 10 (without_leading_sign (slice_range text number_at number_to))
 
 -- a literal's trees: a quote, what is quoted, a quote
 pub data IsQuoted : Trees → Type 0 where
-  in_quotes : {a b i j c d : ℕ}
-      → IsQuoted (Mark (codes "quote") a b (Mark (codes "inner_str") i j (Mark (codes "quote") c d None')))
-  in_single_quotes : {a b i j c d : ℕ}
-      → IsQuoted (Mark (codes "single_quote") a b
-      (Mark (codes "inner_chr") i j (Mark (codes "single_quote") c d None')))
+  in_quotes : {open_at open_to inner_at inner_to close_at close_to : ℕ}
+      → IsQuoted (Mark (codes "quote") open_at open_to
+      (Mark (codes "inner_str") inner_at inner_to (Mark (codes "quote") close_at close_to None')))
+  in_single_quotes : {open_at open_to inner_at inner_to close_at close_to : ℕ}
+      → IsQuoted (Mark (codes "single_quote") open_at open_to
+      (Mark (codes "inner_chr") inner_at inner_to (Mark (codes "single_quote") close_at close_to None')))
 
 module _ (text : List ℕ) where
   -- an operator that counts, and what it holds
   pub data IsCounted : Text → Trees → Type 0 where
-    exact : {a b i j c d : ℕ} → IsNumber text i j
+    exact : {open_at open_to number_at number_to close_at close_to : ℕ} → IsNumber text number_at number_to
         → IsCounted (codes "repeat_exact")
-        (Mark (codes "opening_brace") a b
-        (Mark (codes "number") i j (Mark (codes "closing_brace") c d None')))
-    min : {a b i j c d e f : ℕ} → IsNumber text i j
+        (Mark (codes "opening_brace") open_at open_to
+        (Mark (codes "number") number_at number_to (Mark (codes "closing_brace") close_at close_to None')))
+    min : {open_at open_to least_at least_to comma_at comma_to close_at close_to : ℕ}
+        → IsNumber text least_at least_to
         → IsCounted (codes "repeat_min")
-        (Mark (codes "opening_brace") a b
-        (Mark (codes "number") i j (Mark (codes "comma") c d (Mark (codes "closing_brace") e f None'))))
-    max : {a b i j c d e f : ℕ} → IsNumber text i j
+        (Mark (codes "opening_brace") open_at open_to
+        (Mark (codes "number") least_at least_to
+        (Mark (codes "comma") comma_at comma_to (Mark (codes "closing_brace") close_at close_to None'))))
+    max : {open_at open_to most_at most_to comma_at comma_to close_at close_to : ℕ}
+        → IsNumber text most_at most_to
         → IsCounted (codes "repeat_max")
-        (Mark (codes "opening_brace") a b
-        (Mark (codes "comma") c d (Mark (codes "number") i j (Mark (codes "closing_brace") e f None'))))
-    min_max : {a b i j c d k l e f : ℕ} → IsNumber text i j → IsNumber text k l
+        (Mark (codes "opening_brace") open_at open_to
+        (Mark (codes "comma") comma_at comma_to
+        (Mark (codes "number") most_at most_to (Mark (codes "closing_brace") close_at close_to None'))))
+    min_max : {open_at open_to least_at least_to comma_at comma_to most_at most_to close_at close_to : ℕ}
+        → IsNumber text least_at least_to → IsNumber text most_at most_to
         → IsCounted (codes "repeat_min_max")
-        (Mark (codes "opening_brace") a b
-        (Mark (codes "number") i j (Mark (codes "comma") c d
-        (Mark (codes "number") k l (Mark (codes "closing_brace") e f None')))))
+        (Mark (codes "opening_brace") open_at open_to
+        (Mark (codes "number") least_at least_to (Mark (codes "comma") comma_at comma_to
+        (Mark (codes "number") most_at most_to (Mark (codes "closing_brace") close_at close_to None')))))
 
   -- a postfix operator, and what it holds
   pub data IsPostfix : Text → Trees → Type 0 where
@@ -80,91 +89,114 @@ module _ (text : List ℕ) where
   -- postfix operators, one behind another
   pub data ArePostfixes : Trees → Type 0 where
     done : ArePostfixes None'
-    more : {r : Text} {i j : ℕ} {inner us : Trees} → IsPostfix r inner → ArePostfixes us
-        → ArePostfixes (Tree r i j inner us)
+    more : {r : Text} {postfix_at postfix_to : ℕ} {inner us : Trees} → IsPostfix r inner → ArePostfixes us
+        → ArePostfixes (Tree r postfix_at postfix_to inner us)
 
   -- where a number of a slice may stand: it does, or the dots or the closing bracket follow at once
   pub data MayBeNumber : Trees → Type 0 where
-    a_number : {i j : ℕ} {us : Trees} → IsInteger text i j → MayBeNumber (Mark (codes "integer") i j us)
-    the_dots : {i j : ℕ} {us : Trees} → MayBeNumber (Mark (codes "range_operator") i j us)
-    the_end : {i j : ℕ} → MayBeNumber (Mark (codes "closing_brack") i j None')
+    a_number : {number_at number_to : ℕ} {us : Trees} → IsInteger text number_at number_to
+        → MayBeNumber (Mark (codes "integer") number_at number_to us)
+    the_dots : {dots_at dots_to : ℕ} {us : Trees}
+        → MayBeNumber (Mark (codes "range_operator") dots_at dots_to us)
+    the_end : {close_at close_to : ℕ} → MayBeNumber (Mark (codes "closing_brack") close_at close_to None')
 
   -- the trees of a slice behind its dots
   pub data IsSliceEnd : Trees → Type 0 where
-    open_end : {a b : ℕ} → IsSliceEnd (Mark (codes "closing_brack") a b None')
-    up_to : {i j a b : ℕ} → IsInteger text i j
-        → IsSliceEnd (Mark (codes "integer") i j (Mark (codes "closing_brack") a b None'))
+    open_end : {close_at close_to : ℕ} → IsSliceEnd (Mark (codes "closing_brack") close_at close_to None')
+    up_to : {number_at number_to close_at close_to : ℕ} → IsInteger text number_at number_to
+        → IsSliceEnd (Mark (codes "integer") number_at number_to
+        (Mark (codes "closing_brack") close_at close_to None'))
 
   -- the trees of a slice behind its opening bracket
   pub data IsSliceStart : Trees → Type 0 where
-    open_start : {a b : ℕ} {us : Trees} → IsSliceEnd us → IsSliceStart (Mark (codes "range_operator") a b us)
-    from : {i j a b : ℕ} {us : Trees} → IsInteger text i j → IsSliceEnd us
-        → IsSliceStart (Mark (codes "integer") i j (Mark (codes "range_operator") a b us))
+    open_start : {dots_at dots_to : ℕ} {us : Trees} → IsSliceEnd us
+        → IsSliceStart (Mark (codes "range_operator") dots_at dots_to us)
+    from : {number_at number_to dots_at dots_to : ℕ} {us : Trees} → IsInteger text number_at number_to
+        → IsSliceEnd us → IsSliceStart (Mark (codes "integer") number_at number_to
+        (Mark (codes "range_operator") dots_at dots_to us))
 
   -- all trees of a slice
   pub data IsSlice : Trees → Type 0 where
-    in_brackets : {a b : ℕ} {us : Trees} → IsSliceStart us → IsSlice (Mark (codes "opening_brack") a b us)
+    in_brackets : {open_at open_to : ℕ} {us : Trees} → IsSliceStart us
+        → IsSlice (Mark (codes "opening_brack") open_at open_to us)
 
   -- a tree that holds no expression, and what it holds
   pub data IsTerminal : Text → Trees → Type 0 where
     identifier : IsTerminal (codes "identifier") None'
     string : {us : Trees} → IsQuoted us → IsTerminal (codes "string") us
-    insensitive : {i j : ℕ} {us : Trees} → IsQuoted us
-        → IsTerminal (codes "insensitive_string") (Tree (codes "string") i j us None')
-    range : {a b c d e f : ℕ} {us vs : Trees} → IsQuoted us → IsQuoted vs
-        → IsTerminal (codes "range") (Tree (codes "character") a b us
-        (Mark (codes "range_operator") c d (Tree (codes "character") e f vs None')))
+    insensitive : {string_at string_to : ℕ} {us : Trees} → IsQuoted us
+        → IsTerminal (codes "insensitive_string") (Tree (codes "string") string_at string_to us None')
+    range : {low_at low_to dots_at dots_to high_at high_to : ℕ} {low high : Trees}
+        → IsQuoted low → IsQuoted high
+        → IsTerminal (codes "range") (Tree (codes "character") low_at low_to low
+        (Mark (codes "range_operator") dots_at dots_to
+        (Tree (codes "character") high_at high_to high None')))
     slice : {us : Trees} → IsSlice us → IsTerminal (codes "peek_slice") us
     push_literal : {us : Trees} → IsTerminal (codes "_push_literal") us
 
   mutual
     -- a chain, and a bar before it that says nothing
     pub data IsExpression : Trees → Type 0 where
-      barred : {i j : ℕ} {us : Trees} → IsChain us → IsExpression (Mark (codes "choice_operator") i j us)
+      barred : {bar_at bar_to : ℕ} {us : Trees} → IsChain us
+          → IsExpression (Mark (codes "choice_operator") bar_at bar_to us)
       unbarred : {us : Trees} → IsChain us → IsExpression us
 
     -- a term, and more behind it
     pub data IsChain : Trees → Type 0 where
-      chain : {i j : ℕ} {inner us : Trees} → IsTerm inner → IsMore us
-          → IsChain (Tree (codes "term") i j inner us)
+      chain : {term_at term_to : ℕ} {inner us : Trees} → IsTerm inner → IsMore us
+          → IsChain (Tree (codes "term") term_at term_to inner us)
 
     -- nothing, or an operator and a chain
     pub data IsMore : Trees → Type 0 where
       no_more : IsMore None'
-      infix_operator : {r : Text} {i j : ℕ} {us : Trees} → IsInfix r → IsChain us → IsMore (Mark r i j us)
+      infix_operator : {r : Text} {infix_at infix_to : ℕ} {us : Trees} → IsInfix r → IsChain us
+          → IsMore (Mark r infix_at infix_to us)
 
     -- a tag, predicates, a node or an expression in parentheses, and postfix operators
     pub data IsTerm : Trees → Type 0 where
-      tagged : {i j k l : ℕ} {us : Trees} → IsTerm us
-          → IsTerm (Mark (codes "tag_id") i j (Mark (codes "assignment_operator") k l us))
-      predicate : {r : Text} {i j : ℕ} {us : Trees} → IsPrefix r → IsTerm us → IsTerm (Mark r i j us)
-      grouped : {i j k l m n : ℕ} {inner us : Trees} → IsExpression inner → ArePostfixes us
-          → IsTerm (Mark (codes "opening_paren") i j
-          (Tree (codes "expression") k l inner (Mark (codes "closing_paren") m n us)))
-      bare : {r : Text} {i j : ℕ} {inner us : Trees} → IsNode r inner → ArePostfixes us
-          → IsTerm (Tree r i j inner us)
+      tagged : {tag_at tag_to equals_at equals_to : ℕ} {us : Trees} → IsTerm us
+          → IsTerm (Mark (codes "tag_id") tag_at tag_to
+          (Mark (codes "assignment_operator") equals_at equals_to us))
+      predicate : {r : Text} {sign_at sign_to : ℕ} {us : Trees} → IsPrefix r → IsTerm us
+          → IsTerm (Mark r sign_at sign_to us)
+      grouped : {open_at open_to body_at body_to close_at close_to : ℕ} {inner us : Trees}
+          → IsExpression inner → ArePostfixes us
+          → IsTerm (Mark (codes "opening_paren") open_at open_to
+          (Tree (codes "expression") body_at body_to inner
+          (Mark (codes "closing_paren") close_at close_to us)))
+      bare : {r : Text} {node_at node_to : ℕ} {inner us : Trees} → IsNode r inner → ArePostfixes us
+          → IsTerm (Tree r node_at node_to inner us)
 
     -- a node's rule, and what it holds
     pub data IsNode : Text → Trees → Type 0 where
       terminal : {r : Text} {us : Trees} → IsTerminal r us → IsNode r us
-      pushed : {i j k l m n : ℕ} {inner : Trees} → IsExpression inner
-          → IsNode (codes "_push") (Mark (codes "opening_paren") i j
-          (Tree (codes "expression") k l inner (Mark (codes "closing_paren") m n None')))
+      pushed : {open_at open_to body_at body_to close_at close_to : ℕ} {inner : Trees} → IsExpression inner
+          → IsNode (codes "_push") (Mark (codes "opening_paren") open_at open_to
+          (Tree (codes "expression") body_at body_to inner
+          (Mark (codes "closing_paren") close_at close_to None')))
 
   -- a rule's trees
   pub data IsRule : Trees → Type 0 where
-    line_doc : {i j k l : ℕ} → IsRule (Tree (codes "line_doc") i j (Mark (codes "inner_doc") k l None') None')
-    normal : {i j a b c d e f g h : ℕ} {body : Trees} → IsExpression body
-        → IsRule (Mark (codes "identifier") i j
-        (Mark (codes "assignment_operator") a b (Braced c d e f g h body)))
-    modified : {i j a b c d e f g h k l : ℕ} {r : Text} {body : Trees} → IsModifier r → IsExpression body
-        → IsRule (Mark (codes "identifier") i j
-        (Mark (codes "assignment_operator") a b (Mark r k l (Braced c d e f g h body))))
+    line_doc : {doc_at doc_to inner_at inner_to : ℕ}
+        → IsRule (Tree (codes "line_doc") doc_at doc_to
+        (Mark (codes "inner_doc") inner_at inner_to None') None')
+    normal : {name_at name_to equals_at equals_to open_at open_to body_at body_to close_at close_to : ℕ}
+        {body : Trees} → IsExpression body
+        → IsRule (Mark (codes "identifier") name_at name_to
+        (Mark (codes "assignment_operator") equals_at equals_to
+        (Braced open_at open_to body_at body_to close_at close_to body)))
+    modified : {name_at name_to equals_at equals_to open_at open_to body_at body_to close_at close_to : ℕ}
+        {modifier_at modifier_to : ℕ} {r : Text} {body : Trees} → IsModifier r → IsExpression body
+        → IsRule (Mark (codes "identifier") name_at name_to
+        (Mark (codes "assignment_operator") equals_at equals_to
+        (Mark r modifier_at modifier_to
+        (Braced open_at open_to body_at body_to close_at close_to body))))
 
   -- the trees of a whole text
-  pub data IsGrammar : Trees → Type 0 where
-    end_of_input : {i j : ℕ} → IsGrammar (Mark (codes "EOI") i j None')
-    grammar_doc : {i j k l : ℕ} {us : Trees} → IsGrammar us
-        → IsGrammar (Tree (codes "grammar_doc") i j (Mark (codes "inner_doc") k l None') us)
-    grammar_rule : {i j : ℕ} {inner us : Trees} → IsRule inner → IsGrammar us
-        → IsGrammar (Tree (codes "grammar_rule") i j inner us)
+  pub data AreGrammarTrees : Trees → Type 0 where
+    end_of_input : {end_at end_to : ℕ} → AreGrammarTrees (Mark (codes "EOI") end_at end_to None')
+    grammar_doc : {doc_at doc_to inner_at inner_to : ℕ} {us : Trees} → AreGrammarTrees us
+        → AreGrammarTrees (Tree (codes "grammar_doc") doc_at doc_to
+        (Mark (codes "inner_doc") inner_at inner_to None') us)
+    grammar_rule : {rule_at rule_to : ℕ} {inner us : Trees} → IsRule inner → AreGrammarTrees us
+        → AreGrammarTrees (Tree (codes "grammar_rule") rule_at rule_to inner us)

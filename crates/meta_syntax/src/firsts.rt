@@ -1,20 +1,29 @@
 //! With which characters the rules begin. What looks at a character is built into the call that asks.
-ghost use Rattle.std.specs.Prelude.{◌≡◌, ℕ, List, IfSome, true, false};
+ghost use Rattle.std.specs.Prelude.{◌≡◌, ℕ, List, true};
 ghost use Rattle.meta_base.specs.Language.State.{Classes, None', NonAtomicMode, Success};
-ghost use Rattle.meta_base.specs.Language.Expression.{Ident};
-ghost use Rattle.meta_base.specs.Language.Meaning.{Run, Skipping};
-ghost use Rattle.meta_base.specs.Pieces.MetaRules.{name_of};
+ghost use Rattle.meta_base.specs.Language.Meaning.{Skipping};
 ghost use Rattle.meta_base.specs.Language.Ran.{Ran};
-ghost use Rattle.meta_syntax.specs.Firsts.{is_noted_at_once, may_begin, takes_one};
+ghost use Rattle.meta_syntax.specs.Firsts.{Tells, is_noted_at_once, may_begin, takes_one};
 ghost use Rattle.meta_syntax.specs.MetaGrammar.{meta_grammar};
-ghost use Rattle.meta_syntax.specs.Runs.{GoesOn, IsLeft, at, mode_of};
+ghost use Rattle.meta_syntax.specs.Runs.{at};
 
 use crate::modes::{Mode, is_seen_from};
 use meta_base::grammar::Rule;
 
+/// What the next character tells of a call.
+#[derive(Clone, Copy, Debug, PartialEq, Eq)]
+pub enum Lookahead {
+    /// It fails.
+    Fails,
+    /// It takes that character, and nothing more.
+    TakesOne,
+    /// It has to be run.
+    MustRun,
+}
+
 /// Whether what a rule matches may begin with a character: `false` only where it cannot.
 #[inline(always)]
-pub fn may_begin(rule: Rule, first: char) -> bool
+fn may_begin(rule: Rule, first: char) -> bool
     ensures { result ≡ may_begin rule first }
 {
     match rule {
@@ -79,22 +88,18 @@ fn takes_one(rule: Rule, first: char) -> bool
     }
 }
 
-/// What is left after the next character, where a silent rule matches just that one.
+/// What the next character tells of a call of a rule. It is built into each place that asks: most
+/// calls fail, and of a rule that is known there only the comparisons are left.
 #[inline(always)]
-pub fn one<'i>(rule: Rule, rest: &'i str) -> Option<&'i str>
-    ensures goes_on { IfSome result (λ after. (whole : List ℕ) → IsLeft whole rest.entry.now
-        → GoesOn whole rest.entry.now false after.now) }
-    ensures means { IfSome result (λ after. (whole : List ℕ) → IsLeft whole rest.entry.now
-        → (classes : Classes) (mode : Mode) (furthest : ℕ)
-        → Ran meta_grammar classes (Run (mode_of mode) (Ident (name_of rule))) (at whole rest.entry.now)
-        (Success (at whole after.now) None') furthest furthest) }
+pub fn look(rule: Rule, first: char) -> Lookahead
+    ensures { Tells rule first result }
 {
-    let mut characters = rest.chars();
-    let first = characters.next()?;
-    if takes_one(rule, first) {
-        Some(characters.as_str())
+    if !may_begin(rule, first) {
+        Lookahead::Fails
+    } else if takes_one(rule, first) {
+        Lookahead::TakesOne
     } else {
-        None
+        Lookahead::MustRun
     }
 }
 
@@ -106,7 +111,10 @@ pub fn is_left_alone(rest: &str) -> bool
         (Success (at whole rest.now) None') furthest furthest }
 {
     match rest.chars().next() {
-        Some(first) => !may_begin(Rule::WHITESPACE, first) && !may_begin(Rule::COMMENT, first),
+        Some(first) => {
+            look(Rule::WHITESPACE, first) == Lookahead::Fails
+                && look(Rule::COMMENT, first) == Lookahead::Fails
+        }
         None => false,
     }
 }

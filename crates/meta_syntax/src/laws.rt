@@ -10,7 +10,7 @@ ghost use Rattle.meta_base.specs.declared.grammar.Rule.{Rule};
 ghost use Rattle.meta_base.specs.declared.grammar.Rule.TheVariants.{grammar_rules};
 ghost use Rattle.meta_syntax.specs.MetaGrammar.{meta_grammar};
 ghost use Rattle.meta_syntax.specs.Parses.{Spells};
-ghost use Rattle.meta_syntax.specs.Shape.{IsGrammar};
+ghost use Rattle.meta_syntax.specs.Shape.{AreGrammarTrees};
 
 use meta_base::laws::{one_outcome, terminates};
 
@@ -41,5 +41,5 @@ pub fn each_rule_has_one_outcome()
 /// The trees of a text that is a grammar have their shape: which trees stand where, one behind
 /// another and inside one another, and digits where there are numbers.
 pub fn trees_of_a_grammar_have_their_shape()
-    ensures { (text : List ℕ) (us : Trees) → IsUtf8 text → Spells grammar_rules text us → IsGrammar text us }
+    ensures { (text : List ℕ) (us : Trees) → IsUtf8 text → Spells grammar_rules text us → AreGrammarTrees text us }
 {}

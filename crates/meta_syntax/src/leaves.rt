@@ -1,8 +1,9 @@
 //! What is matched without the table: a text, a character.
-ghost use Rattle.std.specs.Prelude.{◌≡◌, ℕ, [], ◌∷◌, List, length, true, false, nat_eq};
+ghost use Rattle.std.specs.Prelude.{◌≡◌, ℕ, [], ◌∷◌, IfSome, List, length, true, false, nat_eq};
 ghost use Rattle.meta_base.specs.Language.Matching.{character_outcome, range_set, text_outcome};
 ghost use Rattle.meta_syntax.specs.Forms.{decoded};
 ghost use Rattle.meta_syntax.specs.Runs.{IsLeft, Progress, at, leaving};
+ghost use Rattle.meta_syntax.specs.Sets.{Opens};
 
 /// Matches the text itself.
 #[inline(always)]
@@ -49,5 +50,18 @@ pub fn any<'i>(rest: &'i str) -> Option<&'i str>
     match characters.next() {
         Some(_) => Some(characters.as_str()),
         None => None,
+    }
+}
+
+/// Matches the two characters that begin a comment, unless a slash follows: where such a comment is left
+/// open, that slash closes the one around it.
+#[inline(always)]
+pub fn opened<'i>(rest: &'i str) -> Option<&'i str>
+    ensures { (whole : List ℕ) → IsLeft whole rest.entry.now
+        → IfSome result (λ after. Opens whole rest.entry.now after.now) }
+{
+    match literal("/*/", rest) {
+        Some(_) => None,
+        None => literal("/*", rest),
     }
 }

@@ -1,21 +1,20 @@
 //! The recognizer: an interpreter of the table.
-ghost use Rattle.std.specs.Prelude.{◌≡◌, ◌<◌, ◌≤◌, ◌&&◌, ◌||◌, ℕ, List, IfOk, IfSome, OnOk, Some, [], true, false, codes};
-ghost use Rattle.meta_base.specs.Language.State.{Between, Classes, Failure};
+ghost use Rattle.std.specs.Prelude.{◌≡◌, ◌<◌, ◌&&◌, ◌||◌, ℕ, List, IfOk, IfSome, MatchOption, OnOk, Some, [], true, false, codes};
+ghost use Rattle.meta_base.specs.Language.State.{Between};
 ghost use Rattle.meta_base.specs.Language.Expression.{Choice, Ident, NegPred, Opt, Rep, RepOnce, Seq, comment, whitespace};
 ghost use Rattle.meta_base.specs.Language.Meaning.{Run, Skipping, Turns};
-ghost use Rattle.meta_base.specs.Language.Ran.{Ran};
 ghost use Rattle.meta_base.specs.Pieces.MetaRules.{name_of};
 ghost use Rattle.meta_base.specs.declared.grammar.Rule.TheVariants.{block_comment, inner_str};
 ghost use Rattle.meta_syntax.specs.Entries.{named_entries};
 ghost use Rattle.meta_syntax.specs.Forms.{IsGood, IsSpelled, all_take, choice_among, cost, expression_of, followed, null, nullable};
-ghost use Rattle.meta_syntax.specs.MetaGrammar.{body_of, meta_grammar};
+ghost use Rattle.meta_syntax.specs.MetaGrammar.{body_of};
 ghost use Rattle.meta_syntax.specs.Sets.{spelled_by};
 ghost use Rattle.meta_syntax.specs.declared.sets.Set.{Set};
-ghost use Rattle.meta_syntax.specs.Runs.{at, FailsWithin, GoesOn, IsLeft, IsSound, Progress, Reaches, Runs, mode_of};
+ghost use Rattle.meta_syntax.specs.Runs.{FailsWithin, GoesOn, IsLeft, IsSound, Progress, RunsTo, Runs, mode_of};
 
 use crate::entries::{Entry, close, count_of_entries, cut, open};
-use crate::firsts::{is_left_alone, is_noted_at_once, may_begin, one};
-use crate::leaves::{any, character, literal};
+use crate::firsts::{Lookahead, is_left_alone, is_noted_at_once, look};
+use crate::leaves::{any, character, literal, opened};
 use crate::modes::{
     Mode, body_mode, call_counts, furthest_with, gives_token, is_seen_from, is_tight,
 };
@@ -72,22 +71,36 @@ impl Recognizer {
         entries
     }
 
-    /// The furthest failure after a call that fails by the next character alone, or `None` where
-    /// that character does not tell, or there is none.
+    /// What a call answers where the next character decides it, or `None` where the call has to be run.
+    ///
+    /// It is built into `call`, which asks it first.
     #[inline(always)]
-    fn rejection(&self, text: &str, rule: Rule, mode: Mode, rest: &str) -> Option<usize>
+    fn decided<'i>(
+        &mut self,
+        text: &str,
+        rule: Rule,
+        mode: Mode,
+        rest: &'i str,
+    ) -> Option<Option<&'i str>>
         requires left { IsLeft text.now rest.now }
-        ensures further { IfSome result (λ furthest. self.now.furthest ≤ furthest) }
-        ensures fails { IfSome result (λ furthest. (classes : Classes)
-            → Ran meta_grammar classes (Run (mode_of mode) (Ident (name_of rule)))
-            (at text.now rest.now) Failure self.now.furthest furthest) }
+        requires sound { IsSound text.now self.old }
+        ensures goes_on { IfSome result (Progress text.now rest.entry.now (nullable rule)) }
+        ensures sound { IsSound text.now self.new }
+        ensures means { MatchOption result (self.new ≡ self.old)
+            (Runs (Run (mode_of mode) (Ident (name_of rule)))
+            text.now rest.entry.now self.old self.new) }
     {
-        let first = rest.chars().next()?;
-        if may_begin(rule, first) {
-            return None;
+        let mut characters = rest.chars();
+        let first = characters.next()?;
+        match look(rule, first) {
+            Lookahead::Fails => {
+                let place = text.len() - rest.len();
+                self.furthest = furthest_with(is_noted_at_once(rule, mode), place, self.furthest);
+                Some(None)
+            }
+            Lookahead::TakesOne => Some(Some(characters.as_str())),
+            Lookahead::MustRun => None,
         }
-        let place = text.len() - rest.len();
-        Some(furthest_with(is_noted_at_once(rule, mode), place, self.furthest))
     }
 
     /// Whether it is remembered that a call fails here. Nothing is then noted that was not noted
@@ -207,6 +220,7 @@ impl Recognizer {
                 Ok(Some(after))
             }
             Form::Quoted(body, spelled) => self.quoted(text, body, spelled, mode, rest),
+            Form::Comment(body, spelled) => self.comment(text, body, spelled, mode, rest),
             Form::RepOnce(body) => self.once_or_more(text, body, mode, rest),
             Form::NegPred(body) => self.negation(text, body, mode, rest),
             Form::RepMinMax(_, _, _, spelled) => self.copies(text, spelled, mode, rest),
@@ -450,7 +464,7 @@ impl Recognizer {
         ensures goes_on { IfOk result (λ after. GoesOn text.now rest.entry.now true after.now) }
         ensures sound { OnOk result (IsSound text.now self.new) }
         ensures means { IfOk result
-            (λ after. Reaches (Run (mode_of mode) (Rep (expression_of body.now)))
+            (λ after. RunsTo (Run (mode_of mode) (Rep (expression_of body.now)))
             text.now rest.entry.now self.old self.new after.now) }
     {
         match self.run(text, body, mode, rest)? {
@@ -481,7 +495,7 @@ impl Recognizer {
         ensures goes_on { IfOk result (λ after. GoesOn text.now from.entry.now true after.now) }
         ensures sound { OnOk result (IsSound text.now self.new) }
         ensures means { IfOk result
-            (λ after. Reaches (Turns (mode_of mode) (expression_of body.now))
+            (λ after. RunsTo (Turns (mode_of mode) (expression_of body.now))
             text.now from.entry.now self.old self.new after.now) }
     {
         let mut rest = from;
@@ -519,7 +533,7 @@ impl Recognizer {
         ensures goes_on { IfOk result (λ after. GoesOn text.now from.entry.now true after.now) }
         ensures sound { OnOk result (IsSound text.now self.new) }
         ensures means { IfOk result
-            (λ after. Reaches (Run (mode_of mode) (Rep (expression_of body.now)))
+            (λ after. RunsTo (Run (mode_of mode) (Rep (expression_of body.now)))
             text.now from.entry.now self.old self.new after.now) }
     {
         if !is_tight(mode) {
@@ -579,9 +593,63 @@ impl Recognizer {
         }
     }
 
-    /// A call of a rule, or of `EOI`, which the next character may decide. What it calls is built into
-    /// it, and it is built into nothing: each form within a form keeps as little as it can on the stack.
+    /// What `block_comment` matches. The rule calls itself where a comment begins within it; here that is
+    /// one more to be closed. Where no turn is left all that are open fail, the first too.
     #[inline(never)]
+    #[cycle(recognize)]
+    fn comment<'i>(
+        &mut self,
+        text: &str,
+        body: &'static Form,
+        spelled: &'static Form,
+        mode: Mode,
+        from: &'i str,
+    ) -> Result<Option<&'i str>, AllocError>
+        requires good { IsGood body.now }
+        requires body_spelled { IsSpelled body.now }
+        requires of_set { expression_of body.now ≡ spelled_by Set.Comment }
+        requires consumes { null body.now ≡ false }
+        requires below { cost body.now < 999 }
+        requires whole_good { IsGood spelled.now }
+        requires whole_spelled { IsSpelled spelled.now }
+        requires whole { expression_of spelled.now ≡ body_of block_comment }
+        requires left { IsLeft text.now from.now }
+        requires sound { IsSound text.now self.old }
+        ensures goes_on { IfOk result (Progress text.now from.entry.now (null spelled.now)) }
+        ensures sound { OnOk result (IsSound text.now self.new) }
+        ensures means { IfOk result
+            (Runs (Run (mode_of mode) (body_of block_comment))
+            text.now from.entry.now self.old self.new) }
+    {
+        if is_seen_from(mode) {
+            return self.copies(text, spelled, mode, from);
+        }
+        let Some(mut rest) = literal("/*", from) else {
+            return Ok(None);
+        };
+        let mut inner: usize = 0;
+        loop {
+            let next = past(Set::Comment, rest);
+            if let Some(after) = literal("*/", next) {
+                if inner == 0 {
+                    return Ok(Some(after));
+                }
+                inner -= 1;
+                rest = after;
+            } else if let Some(after) = opened(next) {
+                inner += 1;
+                rest = after;
+            } else if let Some(after) = self.run(text, body, Mode::Atomic, next)? {
+                rest = after;
+            } else {
+                return Ok(None);
+            }
+        }
+    }
+
+    /// A call of a rule, or of `EOI`, which the next character may decide. It is built into each place that
+    /// calls: most calls are decided there, and cost no call of a function.
+    #[inline(always)]
     #[cycle(recognize)]
     pub fn call<'i>(
         &mut self,
@@ -598,18 +666,15 @@ impl Recognizer {
             (Runs (Run (mode_of mode) (Ident (name_of rule)))
             text.now rest.entry.now self.old self.new) }
     {
-        if let Some(after) = one(rule, rest) {
-            return Ok(Some(after));
+        match self.decided(text, rule, mode, rest) {
+            Some(answer) => Ok(answer),
+            None => self.called(text, rule, mode, rest),
         }
-        if let Some(furthest) = self.rejection(text, rule, mode, rest) {
-            self.furthest = furthest;
-            return Ok(None);
-        }
-        self.called(text, rule, mode, rest)
     }
 
-    /// The same, where the character does not decide it.
-    #[inline(always)]
+    /// The same, where the character does not decide it. What runs the form is built into it: each form
+    /// within a form keeps as little as it can on the stack.
+    #[inline(never)]
     #[cycle(recognize)]
     fn called<'i>(
         &mut self,
@@ -661,7 +726,7 @@ impl Recognizer {
         ensures goes_on { IfOk result (λ after. GoesOn text.now from.entry.now true after.now) }
         ensures sound { OnOk result (IsSound text.now self.new) }
         ensures means { IfOk result
-            (λ after. Reaches (Skipping (mode_of mode))
+            (λ after. RunsTo (Skipping (mode_of mode))
             text.now from.entry.now self.old self.new after.now) }
     {
         match mode {
@@ -686,7 +751,7 @@ impl Recognizer {
         ensures goes_on { IfOk result (λ after. GoesOn text.now from.entry.now true after.now) }
         ensures sound { OnOk result (IsSound text.now self.new) }
         ensures means { IfOk result
-            (λ after. Reaches (Run Between (Rep (Ident whitespace)))
+            (λ after. RunsTo (Run Between (Rep (Ident whitespace)))
             text.now from.entry.now self.old self.new after.now) }
     {
         let mut rest = from;
@@ -707,7 +772,7 @@ impl Recognizer {
         ensures goes_on { IfOk result (λ after. GoesOn text.now from.entry.now true after.now) }
         ensures sound { OnOk result (IsSound text.now self.new) }
         ensures means { IfOk result
-            (λ after. Reaches (Run Between (Rep (Seq (Ident comment) (Rep (Ident whitespace)))))
+            (λ after. RunsTo (Run Between (Rep (Seq (Ident comment) (Rep (Ident whitespace)))))
             text.now from.entry.now self.old self.new after.now) }
     {
         let mut rest = from;

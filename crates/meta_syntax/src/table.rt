@@ -45,6 +45,8 @@ pub enum Form {
     Characters(Set, &'static Form),
     /// What `inner_str` matches: the form of one of its characters, and all of it spelled out.
     Quoted(&'static Form, &'static Form),
+    /// What `block_comment` matches: the form of one turn within it, and all of it spelled out.
+    Comment(&'static Form, &'static Form),
     /// As many turns as there are, and one at least.
     RepOnce(&'static Form),
     /// Nothing, where it fails.
@@ -430,16 +432,18 @@ static LINE_COMMENT: Form = sequence!(
     characters!(Line, sequence!(not!(call!(newline)), Form::Any))
 );
 
-static BLOCK_COMMENT: Form = sequence!(
-    Form::Str("/*"),
-    characters!(
-        Comment,
+macro_rules! commented {
+    () => {
         choice!(
             call!(block_comment),
             sequence!(not!(Form::Str("*/")), Form::Any)
         )
-    ),
-    Form::Str("*/")
+    };
+}
+
+static BLOCK_COMMENT: Form = Form::Comment(
+    &commented!(),
+    &sequence!(Form::Str("/*"), repeated!(commented!()), Form::Str("*/")),
 );
 
 static COMMENT: Form = first_of!(block_comment, line_comment);

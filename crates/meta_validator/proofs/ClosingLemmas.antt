@@ -43,19 +43,19 @@ module _ (rules : List ParserRule) (start : ℕ) where
           f ∙ ap (λ z. Some (rule_without_spans z)) (ap rule_view one ∙ view)
 
   -- the walk over an expression in the body of v comes to a call of the start, at once or by way of others
-  data Reaches (v : Text) (e : Expression) : Type 0 where
-    at_once_to : (n : Text) → Walked G v e n → Means V n start → Reaches v e
-    by_way_of : (n m : Text) → Walked G v e n → WalkLeads G n m → Means V m start → Reaches v e
+  data ReachesName (v : Text) (e : Expression) : Type 0 where
+    at_once_to : (n : Text) → Walked G v e n → Means V n start → ReachesName v e
+    by_way_of : (n m : Text) → Walked G v e n → WalkLeads G n m → Means V m start → ReachesName v e
 
-  further : {v : Text} {a b : Expression} → ((n : Text) → Walked G v a n → Walked G v b n) → Reaches v a → Reaches v b
+  further : {v : Text} {a b : Expression} → ((n : Text) → Walked G v a n → Walked G v b n) → ReachesName v a → ReachesName v b
   further f (at_once_to n w m) = at_once_to n (f n w) m
   further f (by_way_of n k w l m) = by_way_of n k (f n w) l m
 
-  through : (v n : Text) (r : SpannedRule) → rule_of G n ≡ Some (rule_without_spans r) → r.name ≡ n → Reaches r.name (without_spans r.body) → Reaches v (Ident n)
+  through : (v n : Text) (r : SpannedRule) → rule_of G n ≡ Some (rule_without_spans r) → r.name ≡ n → ReachesName r.name (without_spans r.body) → ReachesName v (Ident n)
   through v n r e same (at_once_to k w m) = by_way_of n k w_name (w_at_once e (subst (λ z. Walked G z (without_spans r.body) k) same w)) m
   through v n r e same (by_way_of k j w l m) = by_way_of n j w_name (w_by_way (w_at_once e (subst (λ z. Walked G z (without_spans r.body) k) same w)) l) m
 
-  reaches : {c : List ℕ} {v : Text} {x : Spanned} {o : Option Closed} → Walks V start c v x o → (z : Closed) → o ≡ Some z → Reaches v (without_spans x)
+  reaches : {c : List ℕ} {v : Text} {x : Spanned} {o : Option Closed} → Walks V start c v x o → (z : Closed) → o ≡ Some z → ReachesName v (without_spans x)
   reaches (walks_over h) z e = cc
   reaches (walks_closing {n = n} m) z e = at_once_to n w_name m
   reaches (walks_outside h) z e = cc
@@ -80,7 +80,7 @@ module _ (rules : List ParserRule) (start : ℕ) where
       e : rule_of G r.name ≡ Some (rule_without_spans r)
       e = rule_meant r.name start r means at
 
-      go : Reaches r.name (without_spans r.body) → WalkLeads G r.name r.name
+      go : ReachesName r.name (without_spans r.body) → WalkLeads G r.name r.name
       go (at_once_to n d m) = subst (λ y. WalkLeads G r.name y) (its_name r at n m) (w_at_once e d)
       go (by_way_of n k d l m) = subst (λ y. WalkLeads G r.name y) (its_name r at k m) (w_by_way (w_at_once e d) l)
 

@@ -83,27 +83,52 @@ fn enter(
     Ok(())
 }
 
-/// A number for each node: a node that was left later has a greater one.
-fn ordered(alloc: Global, facts: &Facts) -> Result<Vec<usize>, AllocError> {
-    let mut order = vec![in alloc; 0; facts.table.kinds.len()]?;
-    let mut seen = vec![in alloc; false; facts.table.kinds.len()]?;
-    let mut steps = Vec::new(alloc);
-    for node in 0..facts.table.kinds.len() {
-        steps.push(Step::Enter(node))?;
+/// A search in depth, under way.
+#[derive(Drop)]
+struct Search {
+    /// A number for each node that was left: one that was left later has a greater one.
+    order: Vec<usize>,
+    seen: Vec<bool>,
+    steps: Vec<Step>,
+    /// The number of the node that is left next.
+    clock: usize,
+}
+
+/// Leaves a node.
+fn leave(search: &mut Search, node: usize)
+    ensures seen { search.new.seen ≡ search.old.seen }
+    ensures steps { search.new.steps ≡ search.old.steps }
+{
+    if let Some(number) = search.order.get_mut(node) {
+        *number = search.clock;
+        search.clock = search.clock.saturating_add(1);
     }
-    let mut clock: usize = 1;
-    while let Some(step) = steps.pop() {
+}
+
+/// Searches from a node.
+fn search_from(facts: &Facts, search: &mut Search, node: usize) -> Result<(), AllocError> {
+    search.steps.push(Step::Enter(node))?;
+    while let Some(step) = search.steps.pop() {
         match step {
-            Step::Enter(node) => enter(facts, &mut seen, &mut steps, node)?,
-            Step::Leave(node) => {
-                if let Some(place) = order.get_mut(node) {
-                    *place = clock;
-                    clock = clock.saturating_add(1);
-                }
-            }
+            Step::Enter(node) => enter(facts, &mut search.seen, &mut search.steps, node)?,
+            Step::Leave(node) => leave(search, node),
         }
     }
-    Ok(order)
+    Ok(())
+}
+
+/// A number for each node: a node that was left later has a greater one.
+fn ordered(alloc: Global, facts: &Facts) -> Result<Vec<usize>, AllocError> {
+    let mut search = Search {
+        order: vec![in alloc; 0; facts.table.kinds.len()]?,
+        seen: vec![in alloc; false; facts.table.kinds.len()]?,
+        steps: Vec::new(alloc),
+        clock: 1,
+    };
+    for node in 0..facts.table.kinds.len() {
+        search_from(facts, &mut search, node)?;
+    }
+    Ok(search.order)
 }
 
 /// The number of a node.

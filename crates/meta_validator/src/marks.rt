@@ -7,60 +7,98 @@ ghost use Rattle.meta_validator.specs.Marks.{unset, AreSound, AreClosed, IsClose
 use crate::table::{Kind, Question, Table, is_set};
 use std::alloc::{AllocError, Global};
 
-/// For each node those whose answers depend on its own.
+/// For each node those whose answers depend on its own, all in one list.
 #[derive(Drop)]
 pub struct Listeners {
-    pub of: Vec<Vec<usize>>,
+    /// Where the listeners of each node start; they end where those of the next one start.
+    starts: Vec<usize>,
+    all: Vec<usize>,
 }
 
-fn add_listener(listeners: &mut Listeners, node: usize, listener: usize) -> Result<(), AllocError> {
-    if let Some(list) = listeners.of.get_mut(node) {
-        list.push(listener)?;
+impl Listeners {
+    /// The listeners of a node.
+    fn of(&self, node: usize) -> &[usize] {
+        let start = place_at(&self.starts, node);
+        let end = place_at(&self.starts, node.saturating_add(1));
+        self.all.get(start..end).unwrap_or(&[])
     }
-    Ok(())
 }
 
-fn add_listeners(
-    table: &Table,
-    listeners: &mut Listeners,
-    listener: usize,
-    kind: Kind,
-) -> Result<(), AllocError> {
+fn place_at(places: &[usize], node: usize) -> usize {
+    match places.get(node) {
+        Some(place) => *place,
+        None => 0,
+    }
+}
+
+/// The nodes on which the answer for a node depends, two at most.
+fn listened_to(table: &Table, kind: Kind) -> (Option<usize>, Option<usize>) {
     match kind {
-        Kind::Taking | Kind::Still | Kind::End => {}
-        Kind::Call(rule) | Kind::EndCall(rule) => {
-            if let Some(root) = table.roots.get(rule) {
-                add_listener(listeners, *root, listener)?;
-            }
-        }
+        Kind::Taking | Kind::Still | Kind::End => (None, None),
+        Kind::Call(rule) | Kind::EndCall(rule) => (table.roots.get(rule).copied(), None),
         Kind::Ahead(body)
         | Kind::NotAhead(body)
         | Kind::Free(body)
         | Kind::Inside(body)
         | Kind::Again(body)
-        | Kind::OnceAgain(body) => {
-            add_listener(listeners, body, listener)?;
-        }
-        Kind::Seq(first, second) | Kind::Choice(first, second) => {
-            add_listener(listeners, first, listener)?;
-            add_listener(listeners, second, listener)?;
+        | Kind::OnceAgain(body) => (Some(body), None),
+        Kind::Seq(first, second) | Kind::Choice(first, second) => (Some(first), Some(second)),
+    }
+}
+
+fn count(counts: &mut [usize], node: Option<usize>) {
+    if let Some(node) = node {
+        if let Some(count) = counts.get_mut(node) {
+            *count = count.saturating_add(1);
         }
     }
-    Ok(())
+}
+
+/// How many listen to each node; and one number more.
+fn counts_of(alloc: Global, table: &Table) -> Result<Vec<usize>, AllocError> {
+    let mut counts = vec![in alloc; 0; table.kinds.len()]?;
+    for kind in &table.kinds {
+        let (first, second) = listened_to(table, *kind);
+        count(&mut counts, first);
+        count(&mut counts, second);
+    }
+    counts.push(0)?;
+    Ok(counts)
+}
+
+/// Each number becomes its sum with those in front of it; and the sum of all.
+fn add_up(counts: &mut [usize]) -> usize {
+    let mut sum: usize = 0;
+    for count in counts.iter_mut() {
+        sum = sum.saturating_add(*count);
+        *count = sum;
+    }
+    sum
+}
+
+/// Puts a listener of a node in front of those of that node that were put.
+fn put(starts: &mut [usize], all: &mut [usize], node: Option<usize>, listener: usize) {
+    if let Some(node) = node {
+        if let Some(start) = starts.get_mut(node) {
+            *start = start.saturating_sub(1);
+            if let Some(place) = all.get_mut(*start) {
+                *place = listener;
+            }
+        }
+    }
 }
 
 /// Who listens to whom.
 pub(crate) fn who_listens(alloc: Global, table: &Table) -> Result<Listeners, AllocError> {
-    let mut listeners = Listeners {
-        of: Vec::new(alloc),
-    };
-    for _ in 0..table.kinds.len() {
-        listeners.of.push(Vec::new(alloc))?;
-    }
+    let mut starts = counts_of(alloc, table)?;
+    let sum = add_up(&mut starts);
+    let mut all = vec![in alloc; 0; sum]?;
     for (node, kind) in table.kinds.iter().enumerate() {
-        add_listeners(table, &mut listeners, node, *kind)?;
+        let (first, second) = listened_to(table, *kind);
+        put(&mut starts, &mut all, first, node);
+        put(&mut starts, &mut all, second, node);
     }
-    Ok(listeners)
+    Ok(Listeners { starts, all })
 }
 
 /// Marks a node where its answer is yes by the marks; it then waits to tell its listeners. Whether it was
@@ -107,10 +145,8 @@ fn spread(
     ensures fewer { OnOk result (unset marks.new.items ≤ unset marks.old.items) }
 {
     while let Some(node) = waiting.pop() {
-        if let Some(told) = listeners.of.get(node) {
-            for listener in told {
-                mark(table, question, marks, waiting, *listener)?;
-            }
+        for listener in listeners.of(node) {
+            mark(table, question, marks, waiting, *listener)?;
         }
     }
     Ok(())

@@ -1,5 +1,5 @@
 -- What is read without a flaw fits its types: texts are texts, and numbers lie within their types.
-use Rattle.std.proofs.Common.{◌≡◌, ℕ, ℤ, pos, negsuc, ◌<◌, ◌≤◌, ◌^◌, ◌⊎◌, inl, inr, List, [], ◌∷◌, Option, Some, None, Bool, true, false, not, ◌&&◌, if◌then◌else◌, refl, sym, ap, chars, codes, arith}
+use Rattle.std.proofs.Common.{◌≡◌, ℕ, ℤ, pos, negsuc, ◌<◌, ◌≤◌, ◌^◌, ◌⊎◌, inl, inr, List, [], ◌∷◌, None, Bool, true, false, not, ◌&&◌, if◌then◌else◌, refl, chars, codes, arith}
 use Rattle.std.proofs.lemmas.Bool.{ltb-true}
 use Rattle.std.proofs.lemmas.List.Elements.{All-nil, All-cons}
 use Rattle.std.proofs.lemmas.Str.{scalars-chars}
@@ -13,7 +13,7 @@ use Rattle.meta_base.specs.Language.Grammar.{FitsItsTypes, FitsSigned32, FitsUns
 use Rattle.meta_base.specs.Language.State.{Trees, None', Tree, joined}
 use Rattle.meta_nodes.specs.Erasure.{round, between}
 use Rattle.meta_nodes.specs.Spanned.{Unary, Binary, Seq, Choice}
-use Rattle.meta_reader.specs.Flaws.{Cause, or_else, own_flaw, closes, flaw_if, fits_i32, past_u32, past_i32, wrong_literal, zero_times, number_flaw, first_flaw}
+use Rattle.meta_reader.specs.Flaws.{Cause, or_else, own_flaw, closes, flaw_if, fits_i32, past_u32, past_i32, wrong_literal, zero_times, first_flaw}
 use Rattle.meta_reader.specs.Reading as reading
 use Rattle.meta_reader.specs.Reading.{Postfix, Terminal, number, integer, literal}
 use Rattle.meta_reader.proofs.Flawless.{none_left, own_none, inner_none, behind_none, front_none}

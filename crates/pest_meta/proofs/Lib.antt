@@ -1,4 +1,7 @@
+pub mod Builtins
+pub mod Called
 pub mod Fitting
+pub mod NothingNew
 pub mod Promised
 pub mod Reporting
 pub mod ReportsAgree

@@ -1,34 +1,34 @@
 -- What is so of the grammar that an accepted text spells.
 use Rattle.std.proofs.Common.{◌≡◌, ℕ, List, [], subst, sym}
 use Rattle.std.specs.Borrow.{Bor}
-use Rattle.std.specs.List.{All}
 use Rattle.std.specs.Str.{IsUtf8}
 use Rattle.meta_ast.specs.Optimized.{optimized_rules_of}
 use Rattle.meta_ast.specs.declared.optimized.OptimizedRule.{OptimizedRule}
 use Rattle.meta_base.specs.Language.Expression.{Expression, Grammar}
 use Rattle.meta_base.specs.Language.Grammar.{FitsItsTypes, IsGrammar}
-use Rattle.meta_base.specs.Rewritings.Rewriting.{KeepsAny}
 use Rattle.meta_base.specs.Language.State.{Trees}
-use Rattle.meta_base.specs.Language.Text.{IsText}
-use Rattle.meta_base.specs.Language.WellFormed.{InSomeRule, IsPlain, IsWellFormed}
+use Rattle.meta_base.specs.Language.WellFormed.{InSomeRule, IsPlain}
 use Rattle.meta_base.proofs.OneOutcome.{same}
 use Rattle.meta_base.proofs.Termination.{ends}
 use Rattle.meta_base.proofs.ListingKeepsGrammars.{Finished, finished_grammar, finished_plain, finished_well_formed, wrapped_listing_finishes}
 use Rattle.meta_base.proofs.SomeRule.{names_readable}
 use Rattle.meta_base.proofs.StepsKeepGrammars.{grammar_along, plain_along, well_formed_along}
-use Rattle.meta_names.specs.GrammarNames.{calls, definitions}
+use Rattle.meta_names.specs.GrammarNames.{calls}
 use Rattle.meta_nodes.specs.Erasure.{rules_without_spans}
 use Rattle.meta_nodes.specs.Spanned.{SpannedRule}
 use Rattle.meta_reader.proofs.ReadableCounts.{counts_readable}
 use Rattle.meta_reader.proofs.ReadParts.{parts_so}
-use Rattle.meta_reader.specs.Flaws.{first_flaw}
 use Rattle.meta_reader.specs.Reading.{ReadsRules}
+use Rattle.meta_restorer.specs.Agreeing.{WrappersSuffice}
+use Rattle.pest_meta.proofs.Builtins.{builtins_outside}
+use Rattle.pest_meta.proofs.Called.{each_is_called}
 use Rattle.pest_meta.proofs.Fitting.{IsSound as AreSound, fits_given, handed_down}
+use Rattle.pest_meta.proofs.NothingNew.{finished_suffice, steps_suffice}
 use Rattle.pest_meta.proofs.Spelled.{spells_once}
 use Rattle.pest_meta.proofs.WellNamed.{defined_texts, distinct_read, keeps_any, names_are_texts, no_keyword_read}
 use Rattle.pest_meta.proofs.WholeCharacters.{trees_on_characters}
-use Rattle.pest_meta.specs.Promises.{Ends, HasOutcomesOf, IsSound, OfSpelled}
-use Rattle.pest_meta.specs.Spelling.{Give, IsAnswer, Spells, complaints_in}
+use Rattle.pest_meta.specs.Promises.{AreBuiltinsOf, Ends, HasOutcomesOf, IsSound, OfSpelled}
+use Rattle.pest_meta.specs.Spelling.{IsAnswer, SpellsGrammar, complaints_in}
 
 module _ (text : List ℕ) (utf8 : IsUtf8 text) (us : Trees) (sound : AreSound text us) (h : complaints_in text us ≡ []) (rs : List SpannedRule) (d : ReadsRules text us rs) where
   fits : (p : Expression) → InSomeRule (rules_without_spans rs) p → FitsItsTypes p
@@ -46,7 +46,7 @@ module _ (text : List ℕ) (utf8 : IsUtf8 text) (us : Trees) (sound : AreSound t
 
 module _ (text : List ℕ) (utf8 : IsUtf8 text) (builtins : List (Bor (List ℕ))) (answer : List OptimizedRule) (a : IsAnswer text builtins answer) where
   -- a grammar that the text spells is the one that was accepted
-  the_same : (g : Grammar) → Spells text g → a.spelled ≡ g
+  the_same : (g : Grammar) → SpellsGrammar text g → a.spelled ≡ g
   the_same g s = spells_once text a.spelled g (record { trees = a.trees; of_text = a.of_text; give = a.accepted.give }) s
 
   accepted_is_grammar : IsGrammar a.spelled
@@ -54,6 +54,19 @@ module _ (text : List ℕ) (utf8 : IsUtf8 text) (builtins : List (Bor (List ℕ)
       let give = a.accepted.give in
       let sound : AreSound text a.trees = (give.flawless, trees_on_characters text utf8 a.trees a.of_text) in
       subst IsGrammar (sym give.same) (is_grammar text utf8 a.trees sound a.well_named give.read give.reads)
+
+  -- the names that are answered are its builtins
+  accepted_builtins : AreBuiltinsOf a.spelled builtins
+  accepted_builtins =
+      let give = a.accepted.give in
+      let on = trees_on_characters text utf8 a.trees a.of_text in
+      subst (λ g. AreBuiltinsOf g builtins) (sym give.same) (record {
+        outside = builtins_outside give.reads on a.well_named builtins a.uses;
+        complete = each_is_called give.reads builtins a.uses;
+      })
+
+  pub answers_builtins : OfSpelled text (λ g. AreBuiltinsOf g builtins)
+  answers_builtins g s = subst (λ h. AreBuiltinsOf h builtins) (the_same g s) accepted_builtins
 
   pub spells_grammar : OfSpelled text IsSound
   spells_grammar g s = subst IsSound (the_same g s) (accepted_is_grammar, a.accepted.well_formed)
@@ -89,3 +102,8 @@ pub answer_ends : (g answer : Grammar) → HasOutcomesOf g answer → IsPlain g 
 answer_ends g answer o plain =
     let finished = wrapped_listing_finishes o.reached answer o.listing in
     sound_ends answer (finished_sound o.reached answer finished o.grammar) (finished_plain o.reached answer finished (plain_along g o.reached o.chain plain))
+
+-- where wrappers suffice in the spelled rules they suffice in those that are answered
+pub answer_suffices : (g answer : Grammar) → HasOutcomesOf g answer → WrappersSuffice g → WrappersSuffice answer
+answer_suffices g answer o w =
+    finished_suffice o.reached answer (wrapped_listing_finishes o.reached answer o.listing) (steps_suffice g o.reached o.chain w)

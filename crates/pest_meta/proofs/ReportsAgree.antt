@@ -4,14 +4,13 @@ use Rattle.std.proofs.Math.Path.{fun_ext}
 use Rattle.std.proofs.lemmas.List.{nil_from_length}
 use Rattle.std.proofs.lemmas.List.Sorted.{length_permutation}
 use Rattle.meta_base.specs.Language.Text.{Text}
-use Rattle.meta_base.specs.Language.Expression.{Grammar}
 use Rattle.meta_nodes.specs.Erasure.{rules_without_spans}
 use Rattle.meta_nodes.specs.Spanned.{Span, Spanned, Leaf, One, Two, Unary, SpannedRule}
 use Rattle.meta_stack.specs.Certain.{ArePlain, AreRead, AreReports}
 use Rattle.meta_stack.specs.Visiting.{AllReported}
 use Rattle.meta_stacks.specs.Reading as says
 use Rattle.meta_stacks.specs.Reported.{Own, ReportedFrom, ReportedIn}
-use Rattle.meta_stacks.specs.Reports.{SkippingChangesStack}
+use Rattle.meta_stacks.specs.Reports.{SkippingAltersStack}
 use Rattle.meta_stacks.specs.Stack.{AbstractStack}
 
 module _ (limit turns : ℕ) (read : Spanned → AbstractStack → says.Reading) (nullable : Spanned → Bool) where
@@ -79,7 +78,7 @@ plain_empty rules xs ys a b none = go ys refl
     go : (zs : List Span) → ys ≡ zs → zs ≡ []
     go [] e = refl
     go (z ∷ zs) e =
-        let calm : SkippingChangesStack (rules_without_spans rules) → ⊥ = λ s. let f = sym e ∙ b.silent s in cc in
+        let calm : SkippingAltersStack (rules_without_spans rules) → ⊥ = λ s. let f = sym e ∙ b.silent s in cc in
         let same = read_alike rules xs ys (a.plain calm) (b.plain calm) in
         cc
 

@@ -20,18 +20,18 @@ use Rattle.meta_nodes.specs.Erasure.{rules_without_spans}
 use Rattle.meta_nodes.specs.Spanned.{SpannedRule}
 use Rattle.meta_reader.specs.Flaws.{Flaw, first_flaw}
 use Rattle.meta_reader.specs.Reading.{ReadsRules}
-use Rattle.meta_reader.specs.Refusals.{AreReadAs, first_flaw_of, IsRefusal as IsReadRefusal, TellsOf}
+use Rattle.meta_reader.specs.Refusals.{AreReadAs, first_flaw_of, IsReadRefusal, TellsOf}
 use Rattle.meta_reader.proofs.Uniqueness.{rules_once}
 use Rattle.meta_syntax.specs.MetaGrammar.{meta_grammar}
 use Rattle.meta_syntax.specs.Parses.{AreOfAGrammar, FailsAt, ParseRefuses}
-use Rattle.meta_names.specs.GrammarNames.{AreWrittenAt, complaints_of, first_calls_of, IsRefusal as IsNameRefusal}
+use Rattle.meta_names.specs.GrammarNames.{AreWrittenAt, complaints_of, first_calls_of, IsNameRefusal}
 use Rattle.meta_stack.specs.Certain.{AreReports}
 use Rattle.meta_validator.specs.Reported.{AreReported}
 use Rattle.meta_validator.proofs.NothingElse.{nothing_else}
 use Rattle.pest_meta.specs.Findings.{TellFindings}
 use Rattle.pest_meta.proofs.ReportsAgree.{reports_agree}
 use Rattle.pest_meta.specs.Promises.{OfRead}
-use Rattle.pest_meta.specs.Spelling.{AreAccepted, AreFlawed, AreRejected, Give, HasAnswer, HasRefusal, HasTrees, HaveFindings, IsAnswer, complaints_in, IsMisnamed, IsNoGrammar, IsRefusal, IsRefusedGrammar, Spells}
+use Rattle.pest_meta.specs.Spelling.{AreAccepted, AreFlawed, AreRejected, Give, HasAnswer, HasRefusal, HasTrees, HaveFindings, IsAnswer, complaints_in, IsMisnamed, IsNoGrammar, IsRefusal, IsRefusedGrammar, SpellsGrammar}
 
 -- no property name stands for anything
 abbrev empty_classes : Classes
@@ -57,7 +57,7 @@ some_is_none f h = cc
 pub flawed_give_none : (text : List ℕ) (trees : Trees) (errors : List (Error Rule)) (rules : Grammar) → AreFlawed text trees errors → Give text trees rules → ⊥
 flawed_give_none text trees errors rules f g = some_is_none f.flaw (sym f.first ∙ g.flawless)
 
-pub spells_once : (text : List ℕ) (rules others : Grammar) → Spells text rules → Spells text others → rules ≡ others
+pub spells_once : (text : List ℕ) (rules others : Grammar) → SpellsGrammar text rules → SpellsGrammar text others → rules ≡ others
 spells_once text rules others s t =
     let trees = trees_once text s.trees t.trees s.of_text t.of_text in
     let read = rules_once (subst (λ us. ReadsRules text us s.give.read) trees s.give.reads) t.give.reads in

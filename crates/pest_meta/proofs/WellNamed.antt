@@ -1,6 +1,5 @@
 -- Rules whose names are in order: distinct names, none a keyword.
-use Rattle.std.proofs.Common.{◌≡◌, ◌≢◌, ℕ, List, [], ◌∷◌, ◌++◌, Option, Some, None, Bool, true, false, if◌then◌else◌, ◌||◌, map, refl, sym, ap, subst, ◌∙◌, bytes_eq, codes, chars}
-use Rattle.std.proofs.lemmas.List.{append-nil}
+use Rattle.std.proofs.Common.{◌≡◌, ℕ, List, [], ◌∷◌, ◌++◌, None, Bool, true, false, if◌then◌else◌, ◌||◌, map, refl, sym, ap, subst, ◌∙◌, bytes_eq, codes, chars}
 use Rattle.std.proofs.lemmas.List.Elements.{All-from_recursion, recursion_from_All}
 use Rattle.std.proofs.lemmas.Slice.Eq.{bytes_eq-Decides}
 use Rattle.std.proofs.lemmas.Str.{encodes-chars}
@@ -9,10 +8,10 @@ use Rattle.std.specs.List.{All, AllByRecursion}
 use Rattle.std.specs.Prelude.{filter}
 use Rattle.std.specs.Str.{IsUtf8}
 use Rattle.meta_base.specs.Language.Builtins.{is_one_of}
-use Rattle.meta_base.specs.Language.Expression.{Rule, Grammar, rule_of}
+use Rattle.meta_base.specs.Language.Expression.{Grammar, rule_of}
 use Rattle.meta_base.specs.Language.Grammar.{HasDistinctNames, keywords}
 use Rattle.meta_base.specs.Rewritings.Rewriting.{KeepsAny}
-use Rattle.meta_base.specs.Pieces.Saying.{Span, Complaint, piece, written}
+use Rattle.meta_base.specs.Pieces.Saying.{Span, piece, written}
 use Rattle.meta_base.specs.Language.State.{Trees, None', Tree}
 use Rattle.meta_names.specs.GrammarNames.{defined_by, definitions, name_complaints}
 use Rattle.meta_names.specs.Names.{later_places, places_of, pest_keyword_complaints, duplicate_complaints, undefined_complaints, said}
@@ -21,7 +20,7 @@ use Rattle.meta_nodes.specs.Spanned.{SpannedRule}
 use Rattle.meta_base.specs.Language.Text.{IsText}
 use Rattle.pest_meta.proofs.Fitting.{characters_are_text}
 use Rattle.pest_meta.proofs.WholeCharacters.{OnCharacters}
-use Rattle.meta_reader.specs.Reading.{ReadsRule, line_doc, normal, modified, ReadsRules, end_of_input, grammar_doc, documented, defined}
+use Rattle.meta_reader.specs.Reading.{line_doc, normal, modified, ReadsRules, end_of_input, grammar_doc, documented, defined}
 
 -- the names that are written at some places
 abbrev pub names_at : List Span → List (List ℕ)
@@ -48,18 +47,18 @@ names_read (defined {r = r} (modified m b) d) = ap (λ ns. r.name ∷ ns) (names
 same_bytes : (b c : List ℕ) → IsUtf8 b → IsUtf8 c → chars b ≡ chars c → b ≡ c
 same_bytes b c u v e = sym (encodes-chars b u) ∙ ap encodes e ∙ encodes-chars c v
 
-true_or_false : (b : Bool) → (b ≡ true → ⊥) → b ≡ false
+pub true_or_false : (b : Bool) → (b ≡ true → ⊥) → b ≡ false
 true_or_false true h = absurd (h refl)
 true_or_false false h = refl
 
-true_is_false : true ≡ false → ⊥
+pub true_is_false : true ≡ false → ⊥
 true_is_false h = cc
 
-or_left : (a b : Bool) → (a || b) ≡ false → a ≡ false
+pub or_left : (a b : Bool) → (a || b) ≡ false → a ≡ false
 or_left true b h = cc
 or_left false b h = refl
 
-or_right : (a b : Bool) → (a || b) ≡ false → b ≡ false
+pub or_right : (a b : Bool) → (a || b) ≡ false → b ≡ false
 or_right true b h = cc
 or_right false b h = h
 
@@ -82,13 +81,13 @@ unfolding keywords lib.Utf8.encode
 keywords_are_ascii =
     (refl, (refl, (refl, (refl, (refl, (refl, (refl, (refl, (refl, (refl, tt))))))))))
 
-heads : {x y : List ℕ} {xs ys : List (List ℕ)} → x ∷ xs ≡ y ∷ ys → x ≡ y
+pub heads : {x y : List ℕ} {xs ys : List (List ℕ)} → x ∷ xs ≡ y ∷ ys → x ≡ y
 heads h = cc
 
-tails : {x y : List ℕ} {xs ys : List (List ℕ)} → x ∷ xs ≡ y ∷ ys → xs ≡ ys
+pub tails : {x y : List ℕ} {xs ys : List (List ℕ)} → x ∷ xs ≡ y ∷ ys → xs ≡ ys
 tails h = cc
 
-none_taken : (p : Span → Bool) (x : Span) (xs : List Span) → filter p (x ∷ xs) ≡ [] → (p x ≡ false) × (filter p xs ≡ [])
+pub none_taken : (p : Span → Bool) (x : Span) (xs : List Span) → filter p (x ∷ xs) ≡ [] → (p x ≡ false) × (filter p xs ≡ [])
 none_taken p x xs h = go (p x) refl
   where
     go : (b : Bool) → p x ≡ b → (p x ≡ false) × (filter p xs ≡ [])
@@ -135,7 +134,7 @@ module _ where
       others (p ∷ ps) a = (or_right (bytes_eq (written place) (written p)) _ a.0, others ps a.1)
 
 -- a name that stands at none of the places is no rule's
-no_rule : (before : List (List ℕ)) (name : List ℕ) (places : List Span) (rules : Grammar) → IsUtf8 name → names_of rules ≡ names_at places → AreTexts places
+pub no_rule : (before : List (List ℕ)) (name : List ℕ) (places : List Span) (rules : Grammar) → IsUtf8 name → names_of rules ≡ names_at places → AreTexts places
     → AllByRecursion (λ p. is_one_of (name ∷ before) (written p) ≡ false) places → rule_of rules (chars name) ≡ None
 no_rule before name places [] v e u h = refl
 no_rule before name [] (r ∷ rules) v e u h = absurd (some_is_none e)
@@ -171,11 +170,11 @@ front_none : {X : Type 0} (xs ys : List X) → xs ++ ys ≡ [] → xs ≡ []
 front_none [] ys h = refl
 front_none (x ∷ xs) ys h = cc
 
-back_none : {X : Type 0} (xs ys : List X) → xs ++ ys ≡ [] → ys ≡ []
+pub back_none : {X : Type 0} (xs ys : List X) → xs ++ ys ≡ [] → ys ≡ []
 back_none [] ys h = h
 back_none (x ∷ xs) ys h = cc
 
-nothing_said : (before after : List ℕ) (places : List Span) → said before after places ≡ [] → places ≡ []
+pub nothing_said : (before after : List ℕ) (places : List Span) → said before after places ≡ [] → places ≡ []
 nothing_said before after [] h = refl
 nothing_said before after (place ∷ places) h = cc
 
@@ -215,11 +214,11 @@ any_is_no_rule (r ∷ rules) h = rw (any_is_no_rule rules h.1, other) refl
     other = true_or_false (bytes_eq r.name (codes "ANY")) same
 
 -- the names that trees define are texts, if the trees stand on characters
-texts_if : (b : Bool) (places : List Span) → AreTexts places → AreTexts (if b then places else [])
+pub texts_if : (b : Bool) (places : List Span) → AreTexts places → AreTexts (if b then places else [])
 texts_if true places h = h
 texts_if false places h = tt
 
-texts_append : (places others : List Span) → AreTexts places → AreTexts others → AreTexts (places ++ others)
+pub texts_append : (places others : List Span) → AreTexts places → AreTexts others → AreTexts (places ++ others)
 texts_append [] others h k = k
 texts_append (place ∷ places) others h k = (h.0, texts_append places others h.1 k)
 

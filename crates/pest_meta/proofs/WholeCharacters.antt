@@ -1,5 +1,5 @@
 -- The trees of a text stand on its characters.
-use Rattle.std.proofs.Common.{◌≡◌, ℕ, ◌≤◌, List, [], false, chars, arith, refl}
+use Rattle.std.proofs.Common.{ℕ, ◌≤◌, List, [], false, chars, arith, refl}
 use Rattle.std.proofs.lemmas.Str.{IsUtf8-between}
 use Rattle.std.specs.Bool.{⊤}
 use Rattle.std.specs.List.{slice_range}

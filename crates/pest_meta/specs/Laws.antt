@@ -4,7 +4,7 @@ use Rattle.meta_base.specs.Language.Expression.{Grammar}
 use Rattle.meta_base.specs.Language.State.{Trees}
 use Rattle.meta_base.specs.declared.grammar.Rule.{Rule}
 use Rattle.meta_base.specs.declared.runtime.errors.Error.{Error}
-use Rattle.pest_meta.specs.Spelling.{AreFlawed, Give, HasAnswer, HasRefusal, HasTrees, IsNoGrammar, Spells}
+use Rattle.pest_meta.specs.Spelling.{AreFlawed, Give, HasAnswer, HasRefusal, HasTrees, IsNoGrammar, SpellsGrammar}
 
 -- a text has one list of trees at most
 abbrev pub HasOneListOfTrees : Type 0
@@ -23,8 +23,8 @@ FlawedGiveNothing = (text : List ℕ) (trees : Trees) (errors : List (Error Rule
 
 -- a text spells one list of rules at most
 abbrev pub SpellsOneGrammar : Type 0
-SpellsOneGrammar = (text : List ℕ) (rules others : Grammar) → Spells text rules → Spells text others
-    → rules ≡ others
+SpellsOneGrammar = (text : List ℕ) (rules others : Grammar) → SpellsGrammar text rules
+    → SpellsGrammar text others → rules ≡ others
 
 -- a text is not both answered and refused
 abbrev pub IsNotBoth : Type 0

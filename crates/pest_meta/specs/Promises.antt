@@ -1,23 +1,34 @@
 -- What is promised of the grammar that an accepted text spells, and of the rules that are answered for it.
-use Rattle.std.specs.Prelude.{ℕ, List}
-use Rattle.meta_base.specs.Language.Expression.{Grammar}
+use Rattle.std.specs.Prelude.{◌≡◌, ℕ, List, None, true, All, chars, map}
+use Rattle.std.specs.Borrow.{Bor}
+use Rattle.meta_base.specs.Language.Builtins.{is_one_of}
+use Rattle.meta_base.specs.Language.Expression.{Grammar, Ident, rule_of}
 use Rattle.meta_base.specs.Language.Grammar.{IsGrammar}
 use Rattle.meta_base.specs.Rewritings.Rewriting.{Chain, EachBody, SameOutcomes}
 use Rattle.meta_base.specs.Language.State.{Classes, Trees}
-use Rattle.meta_base.specs.Language.WellFormed.{EndsFrom, IsPlain, IsWellFormed, Start}
+use Rattle.meta_base.specs.Language.Text.{Text}
+use Rattle.meta_base.specs.Language.WellFormed.{EndsFrom, InSomeRule, IsWellFormed, Start}
+use Rattle.meta_names.specs.Names.{is_builtin}
 use Rattle.meta_optimizer.specs.Passes.{IsListing}
 use Rattle.meta_nodes.specs.Spanned.{SpannedRule}
 use Rattle.meta_reader.specs.Reading.{ReadsRules}
-use Rattle.pest_meta.specs.Spelling.{HasTrees, Spells}
+use Rattle.pest_meta.specs.Spelling.{HasTrees, SpellsGrammar}
 
 -- this holds of the grammar that the text spells
 abbrev pub OfSpelled : List ℕ → (Grammar → Type 0) → Type 0
-OfSpelled text P = (g : Grammar) → Spells text g → P g
+OfSpelled text P = (g : Grammar) → SpellsGrammar text g → P g
 
 -- this holds of the rules that the text's trees are read as, each node at its place
 abbrev pub OfRead : List ℕ → (List SpannedRule → Type 0) → Type 0
 OfRead text P =
     (trees : Trees) (rules : List SpannedRule) → HasTrees text trees → ReadsRules text trees rules → P rules
+
+-- the builtins of a grammar: each of these names is a builtin, and no rule has it; and each name that stands
+-- in a body and that no rule has is among them
+pub record AreBuiltinsOf (g : Grammar) (names : List (Bor (List ℕ))) : Type 0 where
+  pub outside : All (λ name. (is_builtin name.now ≡ true) × (rule_of g (chars name.now) ≡ None)) names
+  pub complete : (n : Text) → InSomeRule g (Ident n) → rule_of g n ≡ None
+      → is_one_of (map (λ name. chars name.now) names) n ≡ true
 
 -- it is a grammar, and well-formed
 abbrev pub IsSound : Grammar → Type 0

@@ -37,14 +37,14 @@ pub record Give (text : List ℕ) (trees : Trees) (rules : Grammar) : Type 0 whe
   pub same : rules ≡ rules_without_spans read
 
 -- the text spells these rules: its trees give them
-pub record Spells (text : List ℕ) (rules : Grammar) : Type 0 where
+pub record SpellsGrammar (text : List ℕ) (rules : Grammar) : Type 0 where
   pub trees : Trees
   pub of_text : HasTrees text trees
   pub give : Give text trees rules
 
 -- the text spells no rules
 abbrev pub SpellsNone : List ℕ → Type 0
-SpellsNone text = (rules : Grammar) → Spells text rules → ⊥
+SpellsNone text = (rules : Grammar) → SpellsGrammar text rules → ⊥
 
 -- trees of a text give these rules, the stack pass reports nothing of them, nothing else is found in them,
 -- and they are well-formed

@@ -1,4 +1,9 @@
 //! Laws over the definitions alone.
+ghost use Rattle.meta_base.specs.Language.Expression.{Grammar};
+ghost use Rattle.meta_base.specs.Rewritings.Listing.{EachListed};
+ghost use Rattle.meta_base.specs.Rewritings.Rewriting.{Chain};
+ghost use Rattle.meta_base.specs.Rewritings.Wrapping.{EachRestored};
+ghost use Rattle.meta_restorer.specs.Agreeing.{WrappersSuffice};
 ghost use Rattle.pest_meta.specs.Laws.{FlawedGiveNothing, HasOneListOfTrees, HasTreesOrFails, IsNotBoth, SpellsOneGrammar};
 
 /// A text spells one list of rules at most.
@@ -13,4 +18,12 @@ pub fn one_kind_of_answer()
     ensures syntax { HasTreesOrFails }
     ensures flaws { FlawedGiveNothing }
     ensures exclusive { IsNotBoth }
+{}
+
+/// Steps, the listing of every body and the wrappers bring in no `POP_ALL`, and no way from `WHITESPACE` or
+/// `COMMENT` to `POP`.
+pub fn wrappers_still_suffice()
+    ensures steps { (g h : Grammar) → Chain g h → WrappersSuffice g → WrappersSuffice h }
+    ensures listing { (g h : Grammar) → EachListed g h → WrappersSuffice g → WrappersSuffice h }
+    ensures wrappers { (g h : Grammar) → EachRestored g h → WrappersSuffice g → WrappersSuffice h }
 {}

@@ -11,7 +11,8 @@ ghost use Rattle.std.specs.Prelude.{[], IfErr, IfOk};
 ghost use Rattle.meta_ast.specs.Optimized.{optimized_rules_of};
 ghost use Rattle.meta_base.specs.Language.WellFormed.{IsPlain};
 ghost use Rattle.meta_stack.specs.Certain.{AreReports};
-ghost use Rattle.pest_meta.specs.Promises.{Ends, HasOutcomesOf, IsSound, OfRead, OfSpelled};
+ghost use Rattle.pest_meta.specs.Promises.{AreBuiltinsOf, Ends, HasOutcomesOf, IsSound};
+ghost use Rattle.pest_meta.specs.Promises.{OfRead, OfSpelled};
 ghost use Rattle.meta_restorer.specs.Agreeing.{AgreesLoosely, WrappersSuffice};
 ghost use Rattle.pest_meta.specs.Spelling.{HasRefusal, IsAnswer, IsRefusal};
 
@@ -29,19 +30,25 @@ use validator::validate_pairs;
 /// The builtins that a grammar uses, and its optimized rules.
 ///
 /// The builtins are the names that it calls and doesn't define, each once, in the order of their first calls,
-/// each as it is written there. The rules are those that the text spells, in order, with their names and
-/// types. Where `POP_ALL` is named nowhere and `WHITESPACE` and `COMMENT` reach no `POP`, it does not matter
+/// each as it is written there; each is one of pest's own, or the name of a Unicode property. The rules are
+/// those that the text spells, in order, with their names and types. Their bodies are rewritten, by steps
+/// that keep what they do from every start, then listed, which may change what some of them match, and then
+/// given wrappers. If the text's grammar is plain, each rule has exactly one outcome from every start. Where
+/// no rule of the text names `POP_ALL`, and its `WHITESPACE` and `COMMENT` reach no `POP`, it does not matter
 /// for them what a failed `POP` leaves of the stack. Of an accepted text the stack pass reports nothing.
 ///
 /// Refused for want of memory; where the text is no grammar, with one syntax error; where its names are not
 /// in order, with the errors of `validator::validate_pairs`; and where its rules are not, with those of
-/// `parser::consume_rules`, reports of the stack pass among them. An answer is given only where there is no
+/// `parser::consume_rules`, reports of the stack pass among them: the first of these that has something to
+/// say. Places in errors count bytes, lines and columns from 1. An answer is given only where there is no
 /// such reason.
 pub fn parse_and_optimize<'i>(
     alloc: Global,
     grammar: &'i str,
 ) -> Result<(Vec<&'i str>, Vec<OptimizedRule>), Fault>
     ensures answer { IfOk result (λ answer. IsAnswer grammar.entry.now answer.0.items answer.1.items) }
+    ensures builtins { IfOk result (λ answer. OfSpelled grammar.entry.now
+        (λ rules. AreBuiltinsOf rules answer.0.items)) }
     ensures sound { IfOk result (λ answer. OfSpelled grammar.entry.now IsSound) }
     ensures outcomes { IfOk result (λ answer. OfSpelled grammar.entry.now
         (λ rules. HasOutcomesOf rules (optimized_rules_of answer.1.items))) }
@@ -49,10 +56,10 @@ pub fn parse_and_optimize<'i>(
     ensures answer_ends { IfOk result (λ answer. OfSpelled grammar.entry.now
         (λ rules. IsPlain rules → Ends (optimized_rules_of answer.1.items))) }
     ensures no_reports { IfOk result (λ answer. OfRead grammar.entry.now (λ rules. AreReports rules [])) }
-    ensures agrees { IfOk result (λ answer. WrappersSuffice (optimized_rules_of answer.1.items)
-        → AgreesLoosely (optimized_rules_of answer.1.items)) }
+    ensures agrees { IfOk result (λ answer. OfSpelled grammar.entry.now
+        (λ rules. WrappersSuffice rules → AgreesLoosely (optimized_rules_of answer.1.items))) }
     ensures refused { IfErr result (IsRefusal grammar.entry.now) }
-    ensures faultless { IfOk result (λ answer. HasRefusal grammar.entry.now → ⊥) }
+    ensures no_refusal { IfOk result (λ answer. HasRefusal grammar.entry.now → ⊥) }
 {
     let pairs = PestParser::parse(alloc, Rule::grammar_rules, grammar)?;
     let copy = match pairs.clone() {

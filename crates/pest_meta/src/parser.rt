@@ -10,7 +10,7 @@ ghost use Rattle.pest_meta.specs.Spelling.{AreAccepted, AreRejected};
 use crate::validator::validate_ast;
 use meta_ast::ast;
 use meta_base::runtime::{Fault, Pairs};
-use meta_nodes::erase_spans;
+use meta_nodes::{erase_spans, release};
 pub use meta_reader::parser::{
     ParserExpr, ParserNode, ParserRule, PestParser, Rule, consume_rules_with_spans,
     filter_internal, parse, rename_meta_rule,
@@ -33,6 +33,7 @@ pub fn consume_rules(alloc: Global, pairs: Pairs<'_, Rule>) -> Result<Vec<ast::R
     let rules = consume_rules_with_spans(alloc, pairs)?;
     let errors = validate_ast(alloc, &rules)?;
     if !errors.is_empty() {
+        release(rules);
         return Err(Fault::Grammar(errors));
     }
     match erase_spans(alloc, rules) {

@@ -19,14 +19,23 @@ use meta_validator::validator::validate_rules;
 pub use meta_validator::validator::{is_non_failing, is_non_progressing};
 use std::alloc::Global;
 
-/// What is wrong with rules, in the order of their places (at one place repetitions, then those that never
-/// end by what is known of the stack, then choices, then skipped rules, then left recursion).
+/// What is wrong with rules, by the start of each place and then by its end, in bytes (at one place
+/// repetitions, then those that never end by what is known of the stack, then choices, then skipped rules,
+/// then left recursion):
+/// - `expression inside repetition cannot fail and will repeat infinitely` or, where that is not so,
+///   `expression inside repetition is non-progressing and will repeat infinitely`, at a repetition `e*`, `e+`
+///   or `e{n,}` whose body cannot fail, or may take nothing;
+/// - the second of these messages at one that certainly never ends by what is known of the stack
+///   (`validate_stack_repetition`);
+/// - `expression cannot fail; following choices cannot be reached`, at an alternative that cannot fail and
+///   has others behind it;
+/// - `WHITESPACE cannot fail and will repeat infinitely` or, where that is not so,
+///   `WHITESPACE is non-progressing and will repeat infinitely`, at the body of the rule `WHITESPACE`; and the
+///   same of `COMMENT`;
+/// - `rule a is left-recursive (a -> b -> a); pest::pratt_parser might be useful in this case`, at the call
+///   that closes the chain, at most once for a name.
 ///
-/// A repetition `e*`, `e+` or `e{n,}` is wrong where its body cannot fail or may take nothing, or where it
-/// certainly never ends by what is known of the stack (`validate_stack_repetition`); an alternative with
-/// others behind it where it cannot fail; a rule named `WHITESPACE` or `COMMENT` where it cannot fail or may
-/// take nothing; a rule where it is left-recursive, at most once for a name. Each error stands where the
-/// fault does. The only fault is a want of memory.
+/// The only fault is a want of memory.
 pub fn validate_ast<'i>(
     alloc: Global,
     rules: &Vec<ParserRule<'i>>,

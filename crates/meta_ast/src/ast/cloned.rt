@@ -46,8 +46,8 @@ enum Around<'a> {
     // A `~` or a `|` whose left side is copied, with the right one; and with the copy of the left one.
     FirstOfSeq(&'a Expr),
     FirstOfChoice(&'a Expr),
-    SecondOfSeq(Expr),
-    SecondOfChoice(Expr),
+    SecondOfSeq(Box<Expr>),
+    SecondOfChoice(Box<Expr>),
 }
 
 impl<'a> Rebuild for Around<'a> {
@@ -79,33 +79,21 @@ impl<'a> Rebuild for Around<'a> {
             Expr::Ident(name) => Ok(Step::Made(Expr::Ident(name.clone()?))),
             Expr::PeekSlice(start, end) => Ok(Step::Made(Expr::PeekSlice(*start, *end))),
             Expr::Skip(texts) => Ok(Step::Made(Expr::Skip(copy_texts(texts)?))),
-            Expr::PosPred(inner) => Ok(Step::Inside(Around::PosPred, inner.as_ref())),
-            Expr::NegPred(inner) => Ok(Step::Inside(Around::NegPred, inner.as_ref())),
-            Expr::Opt(inner) => Ok(Step::Inside(Around::Opt, inner.as_ref())),
-            Expr::Rep(inner) => Ok(Step::Inside(Around::Rep, inner.as_ref())),
-            Expr::RepOnce(inner) => Ok(Step::Inside(Around::RepOnce, inner.as_ref())),
-            Expr::RepExact(inner, count) => Ok(Step::Inside(
-                Around::RepExact(*count),
-                inner.as_ref(),
-            )),
-            Expr::RepMin(inner, least) => Ok(Step::Inside(Around::RepMin(*least), inner.as_ref())),
-            Expr::RepMax(inner, greatest) => Ok(Step::Inside(
-                Around::RepMax(*greatest),
-                inner.as_ref(),
-            )),
+            Expr::PosPred(inner) => Ok(Step::Inside(Around::PosPred, inner)),
+            Expr::NegPred(inner) => Ok(Step::Inside(Around::NegPred, inner)),
+            Expr::Opt(inner) => Ok(Step::Inside(Around::Opt, inner)),
+            Expr::Rep(inner) => Ok(Step::Inside(Around::Rep, inner)),
+            Expr::RepOnce(inner) => Ok(Step::Inside(Around::RepOnce, inner)),
+            Expr::RepExact(inner, count) => Ok(Step::Inside(Around::RepExact(*count), inner)),
+            Expr::RepMin(inner, least) => Ok(Step::Inside(Around::RepMin(*least), inner)),
+            Expr::RepMax(inner, greatest) => Ok(Step::Inside(Around::RepMax(*greatest), inner)),
             Expr::RepMinMax(inner, least, greatest) => Ok(Step::Inside(
                 Around::RepMinMax(*least, *greatest),
-                inner.as_ref(),
+                inner,
             )),
-            Expr::Push(inner) => Ok(Step::Inside(Around::Push, inner.as_ref())),
-            Expr::Seq(left, right) => Ok(Step::Inside(
-                Around::FirstOfSeq(right.as_ref()),
-                left.as_ref(),
-            )),
-            Expr::Choice(left, right) => Ok(Step::Inside(
-                Around::FirstOfChoice(right.as_ref()),
-                left.as_ref(),
-            )),
+            Expr::Push(inner) => Ok(Step::Inside(Around::Push, inner)),
+            Expr::Seq(left, right) => Ok(Step::Inside(Around::FirstOfSeq(right), left)),
+            Expr::Choice(left, right) => Ok(Step::Inside(Around::FirstOfChoice(right), left)),
         }
     }
 
@@ -114,40 +102,27 @@ impl<'a> Rebuild for Around<'a> {
         alloc: Global,
         operand: Expr,
     ) -> Result<Step<&'a Expr, Around<'a>, Expr>, AllocError> {
+        let operand = Box::new(alloc, operand)?;
         match self {
             Around::FirstOfSeq(right) => Ok(Step::Inside(Around::SecondOfSeq(operand), right)),
             Around::FirstOfChoice(right) => Ok(Step::Inside(
                 Around::SecondOfChoice(operand),
                 right,
             )),
-            Around::PosPred => Ok(Step::Made(Expr::PosPred(Box::new(alloc, operand)?))),
-            Around::NegPred => Ok(Step::Made(Expr::NegPred(Box::new(alloc, operand)?))),
-            Around::Opt => Ok(Step::Made(Expr::Opt(Box::new(alloc, operand)?))),
-            Around::Rep => Ok(Step::Made(Expr::Rep(Box::new(alloc, operand)?))),
-            Around::RepOnce => Ok(Step::Made(Expr::RepOnce(Box::new(alloc, operand)?))),
-            Around::RepExact(count) => Ok(Step::Made(Expr::RepExact(
-                Box::new(alloc, operand)?,
-                count,
-            ))),
-            Around::RepMin(least) => Ok(Step::Made(Expr::RepMin(Box::new(alloc, operand)?, least))),
-            Around::RepMax(greatest) => Ok(Step::Made(Expr::RepMax(
-                Box::new(alloc, operand)?,
-                greatest,
-            ))),
-            Around::RepMinMax(least, greatest) => Ok(Step::Made(Expr::RepMinMax(
-                Box::new(alloc, operand)?,
-                least,
-                greatest,
-            ))),
-            Around::Push => Ok(Step::Made(Expr::Push(Box::new(alloc, operand)?))),
-            Around::SecondOfSeq(left) => Ok(Step::Made(Expr::Seq(
-                Box::new(alloc, left)?,
-                Box::new(alloc, operand)?,
-            ))),
-            Around::SecondOfChoice(left) => Ok(Step::Made(Expr::Choice(
-                Box::new(alloc, left)?,
-                Box::new(alloc, operand)?,
-            ))),
+            Around::PosPred => Ok(Step::Made(Expr::PosPred(operand))),
+            Around::NegPred => Ok(Step::Made(Expr::NegPred(operand))),
+            Around::Opt => Ok(Step::Made(Expr::Opt(operand))),
+            Around::Rep => Ok(Step::Made(Expr::Rep(operand))),
+            Around::RepOnce => Ok(Step::Made(Expr::RepOnce(operand))),
+            Around::RepExact(count) => Ok(Step::Made(Expr::RepExact(operand, count))),
+            Around::RepMin(least) => Ok(Step::Made(Expr::RepMin(operand, least))),
+            Around::RepMax(greatest) => Ok(Step::Made(Expr::RepMax(operand, greatest))),
+            Around::RepMinMax(least, greatest) => {
+                Ok(Step::Made(Expr::RepMinMax(operand, least, greatest)))
+            }
+            Around::Push => Ok(Step::Made(Expr::Push(operand))),
+            Around::SecondOfSeq(left) => Ok(Step::Made(Expr::Seq(left, operand))),
+            Around::SecondOfChoice(left) => Ok(Step::Made(Expr::Choice(left, operand))),
         }
     }
 }
@@ -157,24 +132,22 @@ fn copy(expr: &Expr) -> Result<Expr, AllocError>
     ensures { IfOk result (λ copy. expression_of copy ≡ expression_of expr.now) }
 {
     match expr {
-        Expr::Str(text) => Ok(Expr::Str(text.clone()?)),
-        Expr::Insens(text) => Ok(Expr::Insens(text.clone()?)),
-        Expr::Range(first, last) => Ok(Expr::Range(first.clone()?, last.clone()?)),
-        Expr::Ident(name) => Ok(Expr::Ident(name.clone()?)),
         Expr::PeekSlice(start, end) => Ok(Expr::PeekSlice(*start, *end)),
-        Expr::Skip(texts) => Ok(Expr::Skip(copy_texts(texts)?)),
+        Expr::Str(text) | Expr::Insens(text) | Expr::Range(text, _) | Expr::Ident(text) => {
+            rebuilt::<Around<'_>>(*text.allocator(), expr)
+        }
+        Expr::Skip(texts) => rebuilt::<Around<'_>>(*texts.allocator(), expr),
         Expr::PosPred(inner)
         | Expr::NegPred(inner)
         | Expr::Opt(inner)
         | Expr::Rep(inner)
         | Expr::RepOnce(inner)
-        | Expr::Push(inner) => { rebuilt::<Around<'_>>(*Box::allocator(inner), expr) }
-        Expr::RepExact(inner, _)
+        | Expr::RepExact(inner, _)
         | Expr::RepMin(inner, _)
         | Expr::RepMax(inner, _)
-        | Expr::RepMinMax(inner, _, _) => { rebuilt::<Around<'_>>(*Box::allocator(inner), expr) }
-        Expr::Seq(left, _) | Expr::Choice(left, _) => {
-            rebuilt::<Around<'_>>(*Box::allocator(left), expr)
-        }
+        | Expr::RepMinMax(inner, _, _)
+        | Expr::Push(inner)
+        | Expr::Seq(inner, _)
+        | Expr::Choice(inner, _) => rebuilt::<Around<'_>>(*Box::allocator(inner), expr),
     }
 }

@@ -143,24 +143,25 @@ fn same(a: &Expr, b: &Expr) -> bool
     ensures { result ≡ expression_eq (expression_of a.now) (expression_of b.now) }
 {
     match (a, b) {
-        (Expr::Str(s), Expr::Str(t)) => same_text(s, t),
-        (Expr::Insens(s), Expr::Insens(t)) => same_text(s, t),
+        (Expr::Str(s), Expr::Str(t))
+        | (Expr::Insens(s), Expr::Insens(t))
+        | (Expr::Ident(s), Expr::Ident(t)) => same_text(s, t),
         (Expr::Range(s, u), Expr::Range(t, v)) => same_text(s, t) && same_text(u, v),
-        (Expr::Ident(s), Expr::Ident(t)) => same_text(s, t),
         (Expr::PeekSlice(i, j), Expr::PeekSlice(k, l)) => i == k && j == l,
-        (Expr::PosPred(x), Expr::PosPred(y)) => same(x, y),
-        (Expr::NegPred(x), Expr::NegPred(y)) => same(x, y),
-        (Expr::Seq(x, y), Expr::Seq(z, w)) => same(x, z) && same(y, w),
-        (Expr::Choice(x, y), Expr::Choice(z, w)) => same(x, z) && same(y, w),
-        (Expr::Opt(x), Expr::Opt(y)) => same(x, y),
-        (Expr::Rep(x), Expr::Rep(y)) => same(x, y),
-        (Expr::RepOnce(x), Expr::RepOnce(y)) => same(x, y),
-        (Expr::RepExact(x, m), Expr::RepExact(y, n)) => same(x, y) && m == n,
-        (Expr::RepMin(x, m), Expr::RepMin(y, n)) => same(x, y) && m == n,
-        (Expr::RepMax(x, m), Expr::RepMax(y, n)) => same(x, y) && m == n,
+        (Expr::PosPred(x), Expr::PosPred(y))
+        | (Expr::NegPred(x), Expr::NegPred(y))
+        | (Expr::Opt(x), Expr::Opt(y))
+        | (Expr::Rep(x), Expr::Rep(y))
+        | (Expr::RepOnce(x), Expr::RepOnce(y))
+        | (Expr::Push(x), Expr::Push(y)) => same(x, y),
+        (Expr::Seq(x, y), Expr::Seq(z, w)) | (Expr::Choice(x, y), Expr::Choice(z, w)) => {
+            same(x, z) && same(y, w)
+        }
+        (Expr::RepExact(x, m), Expr::RepExact(y, n))
+        | (Expr::RepMin(x, m), Expr::RepMin(y, n))
+        | (Expr::RepMax(x, m), Expr::RepMax(y, n)) => same(x, y) && m == n,
         (Expr::RepMinMax(x, k, m), Expr::RepMinMax(y, l, n)) => same(x, y) && k == l && m == n,
         (Expr::Skip(ss), Expr::Skip(ts)) => same_texts(ss, ts),
-        (Expr::Push(x), Expr::Push(y)) => same(x, y),
         _ => false,
     }
 }

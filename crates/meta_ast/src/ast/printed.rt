@@ -1,14 +1,16 @@
 //! Expressions as text.
-ghost use Rattle.std.specs.Prelude.{◌≡◌, ◌≤◌, ◌+◌, ◌++◌, ◌∷◌, [], Some, IfOk, encode_utf8_all};
+ghost use Rattle.std.specs.Prelude.{◌≡◌, ◌≤◌, ◌+◌, ◌++◌, ◌∷◌, [], Some, IfOk, codes, encode_utf8_all};
 ghost use Rattle.std.specs.Fmt.{WritesOnOk};
 ghost use Rattle.meta_ast.specs.Ast.{expression_of};
 ghost use Rattle.meta_ast.specs.Printing.{printed};
-ghost use Rattle.meta_ast.specs.PrintedBytes.{written_bytes, choice_bytes, predicate_bytes, sequence_bytes};
+ghost use Rattle.meta_ast.specs.PrintedBytes.{written_bytes, counts_bytes, predicate_bytes};
 ghost use Rattle.meta_ast.specs.Sides.{side_bytes, weight_aside, with_side, with_sides};
 ghost use Rattle.meta_ast.specs.Weight.{weight};
 
 use super::Expr;
-use crate::printing::{fmt_literal, fmt_openings, fmt_range, fmt_skip, fmt_slice};
+use crate::printing::{
+    Counts, fmt_counts, fmt_insensitive, fmt_literal, fmt_openings, fmt_range, fmt_skip, fmt_slice,
+};
 use std::alloc::{AllocError, Global};
 use std::fmt;
 
@@ -33,10 +35,7 @@ fn fmt_alone<W: fmt::Write>(f: &mut fmt::Formatter<W>, expr: &Expr) -> fmt::Resu
 {
     match expr {
         Expr::Str(text) => fmt_literal(f, text.as_str(), '"'),
-        Expr::Insens(text) => {
-            f.write_str("^")?;
-            fmt_literal(f, text.as_str(), '"')
-        }
+        Expr::Insens(text) => fmt_insensitive(f, text.as_str()),
         Expr::Range(low, high) => fmt_range(f, low.as_str(), high.as_str()),
         Expr::Ident(name) => f.write_str(name.as_str()),
         Expr::PeekSlice(start, end) => fmt_slice(f, *start, *end),
@@ -47,28 +46,14 @@ fn fmt_alone<W: fmt::Write>(f: &mut fmt::Formatter<W>, expr: &Expr) -> fmt::Resu
         Expr::Opt(inner) => fmt_postfix(f, inner, "?"),
         Expr::Rep(inner) => fmt_postfix(f, inner, "*"),
         Expr::RepOnce(inner) => fmt_postfix(f, inner, "+"),
-        Expr::RepExact(inner, count) => {
-            fmt_before_postfix(f, inner)?;
-            write!(f, "{{{count}}}")
-        }
-        Expr::RepMin(inner, least) => {
-            fmt_before_postfix(f, inner)?;
-            write!(f, "{{{least},}}")
-        }
-        Expr::RepMax(inner, greatest) => {
-            fmt_before_postfix(f, inner)?;
-            write!(f, "{{,{greatest}}}")
-        }
+        Expr::RepExact(inner, count) => fmt_counted(f, inner, Counts::Exactly(*count)),
+        Expr::RepMin(inner, least) => fmt_counted(f, inner, Counts::AtLeast(*least)),
+        Expr::RepMax(inner, greatest) => fmt_counted(f, inner, Counts::AtMost(*greatest)),
         Expr::RepMinMax(inner, least, greatest) => {
-            fmt_before_postfix(f, inner)?;
-            write!(f, "{{{least}, {greatest}}}")
+            fmt_counted(f, inner, Counts::Between(*least, *greatest))
         }
         Expr::Skip(texts) => fmt_skip(f, texts.as_slice()),
-        Expr::Push(inner) => {
-            f.write_str("PUSH(")?;
-            fmt_alone(f, inner)?;
-            f.write_str(")")
-        }
+        Expr::Push(inner) => fmt_within(f, "PUSH(", inner),
     }
 }
 
@@ -101,10 +86,7 @@ fn fmt_pair<W: fmt::Write>(
 {
     match left_end(*Box::allocator(left), left, side) {
         Ok((end, sides)) => fmt_sides(f, end, sides),
-        Err(_) => match side {
-            Side::Sequence(right) => fmt_sequence(f, left, right),
-            Side::Choice(right) => fmt_choice(f, left, right),
-        },
+        Err(_) => fmt_two(f, left, side),
     }
 }
 
@@ -175,29 +157,25 @@ fn fmt_side<W: fmt::Write>(f: &mut fmt::Formatter<W>, side: Side<'_>) -> fmt::Re
     f.write_str(")")
 }
 
-// Writes `(left ~ right)`.
+// Writes a left side and a right one, in parentheses.
 #[cycle(printing)]
-fn fmt_sequence<W: fmt::Write>(f: &mut fmt::Formatter<W>, left: &Expr, right: &Expr) -> fmt::Result
+fn fmt_two<W: fmt::Write>(f: &mut fmt::Formatter<W>, left: &Expr, side: Side<'_>) -> fmt::Result
     ensures { WritesOnOk W.write_str_gives f.old result
-        (sequence_bytes (written_bytes left.now) (written_bytes right.now)).alone f.new }
+        (with_side side.entry (written_bytes left.now).alone) f.new }
 {
     f.write_str("(")?;
     fmt_alone(f, left)?;
-    f.write_str(" ~ ")?;
-    fmt_after_tilde(f, right)?;
-    f.write_str(")")
+    fmt_side(f, side)
 }
 
-// Writes `(left | right)`.
+// Writes an expression that stands by itself between an opening and a closing parenthesis.
 #[cycle(printing)]
-fn fmt_choice<W: fmt::Write>(f: &mut fmt::Formatter<W>, left: &Expr, right: &Expr) -> fmt::Result
+fn fmt_within<W: fmt::Write>(f: &mut fmt::Formatter<W>, opening: &str, inner: &Expr) -> fmt::Result
     ensures { WritesOnOk W.write_str_gives f.old result
-        (choice_bytes (written_bytes left.now) (written_bytes right.now)).alone f.new }
+        (opening.now ++ (written_bytes inner.now).alone ++ codes ")") f.new }
 {
-    f.write_str("(")?;
-    fmt_alone(f, left)?;
-    f.write_str(" | ")?;
-    fmt_after_bar(f, right)?;
+    f.write_str(opening)?;
+    fmt_alone(f, inner)?;
     f.write_str(")")
 }
 
@@ -209,6 +187,20 @@ fn fmt_postfix<W: fmt::Write>(f: &mut fmt::Formatter<W>, inner: &Expr, sign: &st
 {
     fmt_before_postfix(f, inner)?;
     f.write_str(sign)
+}
+
+// Writes an operand and how often it is taken.
+#[cycle(printing)]
+fn fmt_counted<W: fmt::Write>(
+    f: &mut fmt::Formatter<W>,
+    inner: &Expr,
+    counts: Counts,
+) -> fmt::Result
+    ensures { WritesOnOk W.write_str_gives f.old result
+        ((written_bytes inner.now).before_postfix ++ counts_bytes counts) f.new }
+{
+    fmt_before_postfix(f, inner)?;
+    fmt_counts(f, counts)
 }
 
 // Writes what stands on the right of a `~`.
@@ -245,16 +237,8 @@ fn fmt_before_postfix<W: fmt::Write>(f: &mut fmt::Formatter<W>, expr: &Expr) -> 
     ensures { WritesOnOk W.write_str_gives f.old result (written_bytes expr.now).before_postfix f.new }
 {
     match expr {
-        Expr::PosPred(inner) => {
-            f.write_str("(&")?;
-            fmt_alone(f, inner)?;
-            f.write_str(")")
-        }
-        Expr::NegPred(inner) => {
-            f.write_str("(!")?;
-            fmt_alone(f, inner)?;
-            f.write_str(")")
-        }
+        Expr::PosPred(inner) => fmt_within(f, "(&", inner),
+        Expr::NegPred(inner) => fmt_within(f, "(!", inner),
         other => fmt_alone(f, other),
     }
 }

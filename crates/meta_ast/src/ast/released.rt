@@ -49,13 +49,16 @@ fn leaned(mut left: Box<Expr>, right: Box<Expr>) -> Expr
             let _ = Box::replace(&mut left, Expr::Seq(second, right));
             Expr::Seq(first, left)
         }
-        Expr::PosPred(inner) | Expr::NegPred(inner) | Expr::Opt(inner) => Expr::Seq(inner, right),
-        Expr::Rep(inner) | Expr::RepOnce(inner) | Expr::Push(inner) => Expr::Seq(inner, right),
-        Expr::RepExact(inner, _) | Expr::RepMin(inner, _) | Expr::RepMax(inner, _) => {
-            Expr::Seq(inner, right)
-        }
-        Expr::RepMinMax(inner, _, _) => Expr::Seq(inner, right),
-        Expr::Str(_) | Expr::Insens(_) | Expr::Ident(_) => Box::into_inner(right),
-        Expr::Range(_, _) | Expr::PeekSlice(_, _) | Expr::Skip(_) => Box::into_inner(right),
+        Expr::PosPred(inner)
+        | Expr::NegPred(inner)
+        | Expr::Opt(inner)
+        | Expr::Rep(inner)
+        | Expr::RepOnce(inner)
+        | Expr::RepExact(inner, _)
+        | Expr::RepMin(inner, _)
+        | Expr::RepMax(inner, _)
+        | Expr::RepMinMax(inner, _, _)
+        | Expr::Push(inner) => Expr::Seq(inner, right),
+        _ => Box::into_inner(right),
     }
 }

@@ -42,8 +42,8 @@ enum Around<'a> {
     // A `~` or a `|` whose left side is copied, with the right one; and with the copy of the left one.
     FirstOfSeq(&'a OptimizedExpr),
     FirstOfChoice(&'a OptimizedExpr),
-    SecondOfSeq(OptimizedExpr),
-    SecondOfChoice(OptimizedExpr),
+    SecondOfSeq(Box<OptimizedExpr>),
+    SecondOfChoice(Box<OptimizedExpr>),
 }
 
 impl<'a> Rebuild for Around<'a> {
@@ -78,20 +78,14 @@ impl<'a> Rebuild for Around<'a> {
             E::Ident(name) => Ok(Step::Made(E::Ident(name.clone()?))),
             E::PeekSlice(start, end) => Ok(Step::Made(E::PeekSlice(*start, *end))),
             E::Skip(texts) => Ok(Step::Made(E::Skip(copy_texts(texts)?))),
-            E::PosPred(inner) => Ok(Step::Inside(Around::PosPred, inner.as_ref())),
-            E::NegPred(inner) => Ok(Step::Inside(Around::NegPred, inner.as_ref())),
-            E::Opt(inner) => Ok(Step::Inside(Around::Opt, inner.as_ref())),
-            E::Rep(inner) => Ok(Step::Inside(Around::Rep, inner.as_ref())),
-            E::Push(inner) => Ok(Step::Inside(Around::Push, inner.as_ref())),
-            E::RestoreOnErr(inner) => Ok(Step::Inside(Around::RestoreOnErr, inner.as_ref())),
-            E::Seq(left, right) => Ok(Step::Inside(
-                Around::FirstOfSeq(right.as_ref()),
-                left.as_ref(),
-            )),
-            E::Choice(left, right) => Ok(Step::Inside(
-                Around::FirstOfChoice(right.as_ref()),
-                left.as_ref(),
-            )),
+            E::PosPred(inner) => Ok(Step::Inside(Around::PosPred, inner)),
+            E::NegPred(inner) => Ok(Step::Inside(Around::NegPred, inner)),
+            E::Opt(inner) => Ok(Step::Inside(Around::Opt, inner)),
+            E::Rep(inner) => Ok(Step::Inside(Around::Rep, inner)),
+            E::Push(inner) => Ok(Step::Inside(Around::Push, inner)),
+            E::RestoreOnErr(inner) => Ok(Step::Inside(Around::RestoreOnErr, inner)),
+            E::Seq(left, right) => Ok(Step::Inside(Around::FirstOfSeq(right), left)),
+            E::Choice(left, right) => Ok(Step::Inside(Around::FirstOfChoice(right), left)),
         }
     }
 
@@ -101,26 +95,21 @@ impl<'a> Rebuild for Around<'a> {
         operand: OptimizedExpr,
     ) -> Result<Step<&'a OptimizedExpr, Around<'a>, OptimizedExpr>, AllocError> {
         use OptimizedExpr as E;
+        let operand = Box::new(alloc, operand)?;
         match self {
             Around::FirstOfSeq(right) => Ok(Step::Inside(Around::SecondOfSeq(operand), right)),
             Around::FirstOfChoice(right) => Ok(Step::Inside(
                 Around::SecondOfChoice(operand),
                 right,
             )),
-            Around::PosPred => Ok(Step::Made(E::PosPred(Box::new(alloc, operand)?))),
-            Around::NegPred => Ok(Step::Made(E::NegPred(Box::new(alloc, operand)?))),
-            Around::Opt => Ok(Step::Made(E::Opt(Box::new(alloc, operand)?))),
-            Around::Rep => Ok(Step::Made(E::Rep(Box::new(alloc, operand)?))),
-            Around::Push => Ok(Step::Made(E::Push(Box::new(alloc, operand)?))),
-            Around::RestoreOnErr => Ok(Step::Made(E::RestoreOnErr(Box::new(alloc, operand)?))),
-            Around::SecondOfSeq(left) => Ok(Step::Made(E::Seq(
-                Box::new(alloc, left)?,
-                Box::new(alloc, operand)?,
-            ))),
-            Around::SecondOfChoice(left) => Ok(Step::Made(E::Choice(
-                Box::new(alloc, left)?,
-                Box::new(alloc, operand)?,
-            ))),
+            Around::PosPred => Ok(Step::Made(E::PosPred(operand))),
+            Around::NegPred => Ok(Step::Made(E::NegPred(operand))),
+            Around::Opt => Ok(Step::Made(E::Opt(operand))),
+            Around::Rep => Ok(Step::Made(E::Rep(operand))),
+            Around::Push => Ok(Step::Made(E::Push(operand))),
+            Around::RestoreOnErr => Ok(Step::Made(E::RestoreOnErr(operand))),
+            Around::SecondOfSeq(left) => Ok(Step::Made(E::Seq(left, operand))),
+            Around::SecondOfChoice(left) => Ok(Step::Made(E::Choice(left, operand))),
         }
     }
 }
@@ -131,20 +120,18 @@ fn copy(expr: &OptimizedExpr) -> Result<OptimizedExpr, AllocError>
 {
     use OptimizedExpr as E;
     match expr {
-        E::Str(text) => Ok(E::Str(text.clone()?)),
-        E::Insens(text) => Ok(E::Insens(text.clone()?)),
-        E::Range(first, last) => Ok(E::Range(first.clone()?, last.clone()?)),
-        E::Ident(name) => Ok(E::Ident(name.clone()?)),
         E::PeekSlice(start, end) => Ok(E::PeekSlice(*start, *end)),
-        E::Skip(texts) => Ok(E::Skip(copy_texts(texts)?)),
+        E::Str(text) | E::Insens(text) | E::Range(text, _) | E::Ident(text) => {
+            rebuilt::<Around<'_>>(*text.allocator(), expr)
+        }
+        E::Skip(texts) => rebuilt::<Around<'_>>(*texts.allocator(), expr),
         E::PosPred(inner)
         | E::NegPred(inner)
         | E::Opt(inner)
         | E::Rep(inner)
         | E::Push(inner)
-        | E::RestoreOnErr(inner) => { rebuilt::<Around<'_>>(*Box::allocator(inner), expr) }
-        E::Seq(left, _) | E::Choice(left, _) => {
-            rebuilt::<Around<'_>>(*Box::allocator(left), expr)
-        }
+        | E::RestoreOnErr(inner)
+        | E::Seq(inner, _)
+        | E::Choice(inner, _) => rebuilt::<Around<'_>>(*Box::allocator(inner), expr),
     }
 }

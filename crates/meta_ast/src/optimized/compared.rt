@@ -143,20 +143,21 @@ fn same(a: &OptimizedExpr, b: &OptimizedExpr) -> bool
 {
     use OptimizedExpr as E;
     match (a, b) {
-        (E::Str(s), E::Str(t)) => same_text(s, t),
-        (E::Insens(s), E::Insens(t)) => same_text(s, t),
+        (E::Str(s), E::Str(t)) | (E::Insens(s), E::Insens(t)) | (E::Ident(s), E::Ident(t)) => {
+            same_text(s, t)
+        }
         (E::Range(s, u), E::Range(t, v)) => same_text(s, t) && same_text(u, v),
-        (E::Ident(s), E::Ident(t)) => same_text(s, t),
         (E::PeekSlice(i, j), E::PeekSlice(k, l)) => i == k && j == l,
-        (E::PosPred(x), E::PosPred(y)) => same(x, y),
-        (E::NegPred(x), E::NegPred(y)) => same(x, y),
-        (E::Seq(x, y), E::Seq(z, w)) => same(x, z) && same(y, w),
-        (E::Choice(x, y), E::Choice(z, w)) => same(x, z) && same(y, w),
-        (E::Opt(x), E::Opt(y)) => same(x, y),
-        (E::Rep(x), E::Rep(y)) => same(x, y),
+        (E::PosPred(x), E::PosPred(y))
+        | (E::NegPred(x), E::NegPred(y))
+        | (E::Opt(x), E::Opt(y))
+        | (E::Rep(x), E::Rep(y))
+        | (E::Push(x), E::Push(y))
+        | (E::RestoreOnErr(x), E::RestoreOnErr(y)) => same(x, y),
+        (E::Seq(x, y), E::Seq(z, w)) | (E::Choice(x, y), E::Choice(z, w)) => {
+            same(x, z) && same(y, w)
+        }
         (E::Skip(ss), E::Skip(ts)) => same_texts(ss, ts),
-        (E::Push(x), E::Push(y)) => same(x, y),
-        (E::RestoreOnErr(x), E::RestoreOnErr(y)) => same(x, y),
         _ => false,
     }
 }

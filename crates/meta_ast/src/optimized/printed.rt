@@ -1,14 +1,14 @@
 //! Optimized expressions as text.
-ghost use Rattle.std.specs.Prelude.{◌≡◌, ◌≤◌, ◌+◌, ◌++◌, ◌∷◌, [], Some, IfOk, encode_utf8_all};
+ghost use Rattle.std.specs.Prelude.{◌≡◌, ◌≤◌, ◌+◌, ◌++◌, ◌∷◌, [], Some, IfOk, codes, encode_utf8_all};
 ghost use Rattle.std.specs.Fmt.{WritesOnOk};
 ghost use Rattle.meta_ast.specs.Optimized.{optimized_expression_of};
 ghost use Rattle.meta_ast.specs.Printing.{printed};
-ghost use Rattle.meta_ast.specs.PrintedBytes.{optimized_bytes, choice_bytes, predicate_bytes, sequence_bytes};
+ghost use Rattle.meta_ast.specs.PrintedBytes.{optimized_bytes, predicate_bytes};
 ghost use Rattle.meta_ast.specs.OptimizedSides.{side_bytes, weight_aside, with_side, with_sides};
 ghost use Rattle.meta_ast.specs.Weight.{weight};
 
 use super::OptimizedExpr;
-use crate::printing::{fmt_literal, fmt_openings, fmt_range, fmt_skip, fmt_slice};
+use crate::printing::{fmt_insensitive, fmt_literal, fmt_openings, fmt_range, fmt_skip, fmt_slice};
 use std::alloc::{AllocError, Global};
 use std::fmt;
 
@@ -31,10 +31,7 @@ fn fmt_alone<W: fmt::Write>(f: &mut fmt::Formatter<W>, expr: &OptimizedExpr) -> 
 {
     match expr {
         OptimizedExpr::Str(text) => fmt_literal(f, text.as_str(), '"'),
-        OptimizedExpr::Insens(text) => {
-            f.write_str("^")?;
-            fmt_literal(f, text.as_str(), '"')
-        }
+        OptimizedExpr::Insens(text) => fmt_insensitive(f, text.as_str()),
         OptimizedExpr::Range(low, high) => fmt_range(f, low.as_str(), high.as_str()),
         OptimizedExpr::Ident(name) => f.write_str(name.as_str()),
         OptimizedExpr::PeekSlice(start, end) => fmt_slice(f, *start, *end),
@@ -45,11 +42,7 @@ fn fmt_alone<W: fmt::Write>(f: &mut fmt::Formatter<W>, expr: &OptimizedExpr) -> 
         OptimizedExpr::Opt(inner) => fmt_postfix(f, inner, "?"),
         OptimizedExpr::Rep(inner) => fmt_postfix(f, inner, "*"),
         OptimizedExpr::Skip(texts) => fmt_skip(f, texts.as_slice()),
-        OptimizedExpr::Push(inner) => {
-            f.write_str("PUSH(")?;
-            fmt_alone(f, inner)?;
-            f.write_str(")")
-        }
+        OptimizedExpr::Push(inner) => fmt_within(f, "PUSH(", inner),
         OptimizedExpr::RestoreOnErr(inner) => fmt_alone(f, inner),
     }
 }
@@ -87,10 +80,7 @@ fn fmt_pair<W: fmt::Write>(
 {
     match left_end(*Box::allocator(left), left, side) {
         Ok((end, sides)) => fmt_sides(f, end, sides),
-        Err(_) => match side {
-            Side::Sequence(right) => fmt_sequence(f, left, right),
-            Side::Choice(right) => fmt_choice(f, left, right),
-        },
+        Err(_) => fmt_two(f, left, side),
     }
 }
 
@@ -161,37 +151,33 @@ fn fmt_side<W: fmt::Write>(f: &mut fmt::Formatter<W>, side: Side<'_>) -> fmt::Re
     f.write_str(")")
 }
 
-// Writes `(left ~ right)`.
+// Writes a left side and a right one, in parentheses.
 #[cycle(printing)]
-fn fmt_sequence<W: fmt::Write>(
+fn fmt_two<W: fmt::Write>(
     f: &mut fmt::Formatter<W>,
     left: &OptimizedExpr,
-    right: &OptimizedExpr,
+    side: Side<'_>,
 ) -> fmt::Result
     ensures { WritesOnOk W.write_str_gives f.old result
-        (sequence_bytes (optimized_bytes left.now) (optimized_bytes right.now)).alone f.new }
+        (with_side side.entry (optimized_bytes left.now).alone) f.new }
 {
     f.write_str("(")?;
     fmt_alone(f, left)?;
-    f.write_str(" ~ ")?;
-    fmt_after_tilde(f, right)?;
-    f.write_str(")")
+    fmt_side(f, side)
 }
 
-// Writes `(left | right)`.
+// Writes an expression that stands by itself between an opening and a closing parenthesis.
 #[cycle(printing)]
-fn fmt_choice<W: fmt::Write>(
+fn fmt_within<W: fmt::Write>(
     f: &mut fmt::Formatter<W>,
-    left: &OptimizedExpr,
-    right: &OptimizedExpr,
+    opening: &str,
+    inner: &OptimizedExpr,
 ) -> fmt::Result
     ensures { WritesOnOk W.write_str_gives f.old result
-        (choice_bytes (optimized_bytes left.now) (optimized_bytes right.now)).alone f.new }
+        (opening.now ++ (optimized_bytes inner.now).alone ++ codes ")") f.new }
 {
-    f.write_str("(")?;
-    fmt_alone(f, left)?;
-    f.write_str(" | ")?;
-    fmt_after_bar(f, right)?;
+    f.write_str(opening)?;
+    fmt_alone(f, inner)?;
     f.write_str(")")
 }
 
@@ -243,16 +229,8 @@ fn fmt_before_postfix<W: fmt::Write>(f: &mut fmt::Formatter<W>, expr: &Optimized
     ensures { WritesOnOk W.write_str_gives f.old result (optimized_bytes expr.now).before_postfix f.new }
 {
     match expr {
-        OptimizedExpr::PosPred(inner) => {
-            f.write_str("(&")?;
-            fmt_alone(f, inner)?;
-            f.write_str(")")
-        }
-        OptimizedExpr::NegPred(inner) => {
-            f.write_str("(!")?;
-            fmt_alone(f, inner)?;
-            f.write_str(")")
-        }
+        OptimizedExpr::PosPred(inner) => fmt_within(f, "(&", inner),
+        OptimizedExpr::NegPred(inner) => fmt_within(f, "(!", inner),
         OptimizedExpr::RestoreOnErr(inner) => fmt_before_postfix(f, inner),
         other => fmt_alone(f, other),
     }

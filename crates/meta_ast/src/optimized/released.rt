@@ -45,9 +45,12 @@ fn leaned(mut left: Box<OptimizedExpr>, right: Box<OptimizedExpr>) -> OptimizedE
             let _ = Box::replace(&mut left, E::Seq(second, right));
             E::Seq(first, left)
         }
-        E::PosPred(inner) | E::NegPred(inner) | E::Opt(inner) => E::Seq(inner, right),
-        E::Rep(inner) | E::Push(inner) | E::RestoreOnErr(inner) => E::Seq(inner, right),
-        E::Str(_) | E::Insens(_) | E::Ident(_) => Box::into_inner(right),
-        E::Range(_, _) | E::PeekSlice(_, _) | E::Skip(_) => Box::into_inner(right),
+        E::PosPred(inner)
+        | E::NegPred(inner)
+        | E::Opt(inner)
+        | E::Rep(inner)
+        | E::Push(inner)
+        | E::RestoreOnErr(inner) => E::Seq(inner, right),
+        _ => Box::into_inner(right),
     }
 }

@@ -1,9 +1,9 @@
 //! Maps that meet a node after its operands.
-ghost use Rattle.std.specs.Prelude.{◌<◌, IfErr, IfOk};
+ghost use Rattle.std.specs.Prelude.{IfErr, IfOk};
 ghost use Rattle.meta_ast.specs.Maps.{MapsBottomUp, RefusesBottomUp};
-ghost use Rattle.meta_ast.specs.Frames.{LeadsBottomUp, StopsBottomUp, nodes_to_meet};
 
-use super::{Frame, Node, Onward, Tree, keep};
+use super::frames::{closed, opened};
+use super::{Onward, Tree};
 use meta_base::runtime::Fault;
 use std::alloc::Global;
 
@@ -19,59 +19,17 @@ pub(crate) fn map_bottom_up<E: Tree, F: FnMut(E) -> Result<E, Fault> + Drop>(
 {
     let mut f = f;
     let mut frames = Vec::new(alloc);
-    let mut next = expr;
+    let mut next = Onward::Next(expr);
     'along: loop {
-        match onward(alloc, &mut f, &mut frames, next)? {
-            Onward::Next(other) => next = other,
-            Onward::Whole(whole) => return Ok(whole),
-        }
-    }
-}
-
-// Opens an expression, and goes on to what is to be met next, with a call of `f` at each node whose operands
-// are done.
-fn onward<E: Tree, F: FnMut(E) -> Result<E, Fault>>(
-    alloc: Global,
-    f: &mut F,
-    frames: &mut Vec<Frame<E, E::Sign>>,
-    expr: E,
-) -> Result<Onward<E>, Fault>
-    requires { F.IsAlwaysCallable f.old }
-    ensures leads { IfOk result (λ next. LeadsBottomUp E.says E.stands_for F.step
-        (Onward.Next expr) frames.old.items f.old next frames.new.items f.new) }
-    ensures less { IfOk result (λ next.
-        nodes_to_meet E.says next frames.new.items
-        < nodes_to_meet E.says (Onward.Next expr) frames.old.items) }
-    ensures refused { IfErr result
-        (StopsBottomUp E.says E.stands_for F.step (Onward.Next expr) frames.old.items f.old) }
-    ensures callable { F.IsAlwaysCallable f.new }
-{
-    match expr.open() {
-        Node::One(sign, operand) => {
-            keep(frames, Frame::Around(sign))?;
-            Ok(Onward::Next(operand))
-        }
-        Node::Two(joint, left, right) => {
-            keep(frames, Frame::Before(joint, right))?;
-            Ok(Onward::Next(left))
-        }
-        Node::Leaf(leaf) => {
-            let mut done = f(leaf)?;
-            while let Some(frame) = frames.pop() {
-                match frame {
-                    Frame::Around(sign) => {
-                        done = f(E::enclose(alloc, sign, done)?)?;
-                    }
-                    Frame::After(joint, left) => {
-                        done = f(E::join(alloc, joint, left, done)?)?;
-                    }
-                    Frame::Before(joint, right) => {
-                        keep(frames, Frame::After(joint, done))?;
-                        return Ok(Onward::Next(right));
-                    }
+        match next {
+            Onward::Next(expr) => next = opened(&mut frames, expr)?,
+            Onward::Done(whole) => {
+                let done = f(whole)?;
+                match frames.pop() {
+                    Some(frame) => next = closed(alloc, &mut frames, frame, done)?,
+                    None => return Ok(done),
                 }
             }
-            Ok(Onward::Whole(done))
         }
     }
 }

@@ -1,6 +1,6 @@
 -- The token trees that pairs stand for.
-use Rattle.std.specs.Prelude.{List, map, fold}
-use Rattle.meta_base.specs.Pieces.TokenTrees.{TokenTrees, NoTokens, Token, followed_by}
+use Rattle.std.specs.Prelude.{ℕ, List, map, fold, length}
+use Rattle.meta_base.specs.Pieces.TokenTrees.{TokenTrees, NoTokens, Token, followed_by, AreNested, AreNested-prop}
 use Rattle.meta_base.specs.declared.runtime.trees.TokenTree.{TokenTree, fold-TokenTree}
 use Rattle.meta_base.specs.declared.runtime.trees.TokenTree.TheOpen.{TokenTree-F}
 
@@ -19,3 +19,12 @@ tree_of {R} = fold-TokenTree R (TokenTrees R) tree_step
 -- the token trees of the code, kept with the last one first
 abbrev pub trees_of : {R : Type 0} → List (TokenTree R) → TokenTrees R
 trees_of trees = in_order (map tree_of trees)
+
+-- the trees of the code are nested within the whole of a text
+abbrev pub AreNestedIn : {R : Type 0} → List ℕ → List (TokenTree R) → Type 0
+AreNestedIn text trees = AreNested text (trees_of trees) 0 (length text)
+
+-- there is one proof of it at most
+pub AreNestedIn-prop : {R : Type 0} (text : List ℕ) (trees : List (TokenTree R))
+    → IsProp (AreNestedIn text trees)
+AreNestedIn-prop text trees = AreNested-prop text (trees_of trees) 0 (length text)

@@ -8,9 +8,10 @@ use super::lines::last_line;
 /// A part of a text: the bytes from `start` up to `end`.
 #[derive(Clone, Copy, Debug, PartialEq, Eq)]
 pub struct Span<'i> {
-    text: &'i str,
+    // The derived `==` looks at the fields in this order: at the places before the text.
     start: usize,
     end: usize,
+    text: &'i str,
     pub ghost ordered: { start ≤ end },
     pub ghost starts_at_character: { IsCharBoundary text.now start },
     pub ghost ends_at_character: { IsCharBoundary text.now end },

@@ -2,7 +2,7 @@
 ghost use Rattle.std.specs.Prelude.{◌≤◌, length};
 ghost use Rattle.std.specs.Str.{IsCharBoundary};
 ghost use Rattle.meta_base.specs.Pieces.TokenTrees.{AreNested, AreNested-prop};
-ghost use Rattle.meta_base.specs.Pieces.TreeViews.{trees_of};
+ghost use Rattle.meta_base.specs.Pieces.TreeViews.{trees_of, AreNestedIn, AreNestedIn-prop};
 
 use super::faults::Fault;
 use super::places::Span;
@@ -21,7 +21,7 @@ pub struct Pair<'i, R> {
     pub ghost ordered: { start ≤ end },
     pub ghost starts_at_character: { IsCharBoundary text.now start },
     pub ghost ends_at_character: { IsCharBoundary text.now end },
-    pub ghost nested: { AreNested text.now (trees_of inner.items) start end } by { AreNested-prop text.now (trees_of inner.items) start end },
+    pub ghost nested: { AreNested text.now (trees_of inner.items) start end } by { AreNested-prop _ _ _ _ },
 }
 
 /// Pairs of one text, one after another.
@@ -30,7 +30,7 @@ pub struct Pairs<'i, R> {
     text: &'i str,
     /// The last tree comes first.
     rest: Vec<TokenTree<R>>,
-    pub ghost nested: { AreNested text.now (trees_of rest.items) 0 (length text.now) } by { AreNested-prop text.now (trees_of rest.items) 0 (length text.now) },
+    pub ghost nested: { AreNestedIn text.now rest.items } by { AreNestedIn-prop text.now rest.items },
 }
 
 impl<'i, R: Copy> Pair<'i, R> {
@@ -166,7 +166,7 @@ pub struct FlatPairs<'i, R> {
     /// Those still to come. The last tree comes first.
     rest: Vec<TokenTree<R>>,
     alloc: Global,
-    pub ghost nested: { AreNested text.now (trees_of rest.items) 0 (length text.now) } by { AreNested-prop text.now (trees_of rest.items) 0 (length text.now) },
+    pub ghost nested: { AreNestedIn text.now rest.items } by { AreNestedIn-prop text.now rest.items },
 }
 
 impl<'i, R: Copy> FlatPairs<'i, R> {

@@ -1,7 +1,7 @@
 //! The flaws of a grammar's text, and the errors that tell of them.
 ghost use Rattle.std.specs.Prelude.{◌≡◌, alloc_error, IfErr, IfOk, Option};
 ghost use Rattle.meta_reader.specs.Flaws as spec;
-ghost use Rattle.meta_reader.specs.Refusals.{IsRefusal, TellsOf, message_of};
+ghost use Rattle.meta_reader.specs.Refusals.{IsReadRefusal, TellsOf, cause_message};
 ghost use Rattle.meta_reader.specs.Views.{IsFirst, cause_of, flaw_of};
 ghost use Rattle.meta_reader.specs.declared.parser.flaws.ReadError.TheVariants.{Memory};
 
@@ -56,7 +56,7 @@ impl<T: Drop> From<AllocFailed<T>> for ReadError<'_> {
 
 /// What the error of a flaw says.
 fn message(cause: Cause) -> &'static str
-    ensures { result.now ≡ message_of (cause_of cause) }
+    ensures { result.now ≡ cause_message (cause_of cause) }
 {
     match cause {
         Cause::PushLiteralCalled => "PUSH_LITERAL requires feature grammar-extras",
@@ -84,7 +84,7 @@ fn errors(alloc: Global, flaw: Flaw<'_>) -> Result<Vec<Error<Rule>>, Fault>
 /// The fault that says why a grammar is not read: one error that tells of the flaw in its text,
 /// unless memory is wanting.
 pub fn refusal(alloc: Global, error: ReadError<'_>) -> Fault
-    ensures { (first : Option spec.Flaw) → IsFirst first error.entry → IsRefusal first result }
+    ensures { (first : Option spec.Flaw) → IsFirst first error.entry → IsReadRefusal first result }
 {
     let flaw = match error {
         ReadError::Memory(error) => return Fault::Memory(error),

@@ -1,12 +1,14 @@
 //! Postfix operators.
-ghost use Rattle.std.specs.Prelude.{codes};
+ghost use Rattle.std.specs.Prelude.{◌≡◌, codes};
 ghost use Rattle.meta_base.specs.Pieces.NamedTrees.{named_trees_of};
 ghost use Rattle.meta_base.specs.Pieces.Span.{span_text};
 ghost use Rattle.meta_reader.specs.Pieces.{StandIn};
 ghost use Rattle.meta_base.specs.Pieces.MetaRules.{name_of};
 ghost use Rattle.meta_syntax.specs.Shape.{ArePostfixes, IsCounted, IsPostfix};
-ghost use Rattle.meta_nodes.specs.Spanned.{RepExact, RepMax, RepMin, RepMinMax};
-ghost use Rattle.meta_reader.specs.Views.{AnswersCount, AnswersPostfix, AnswersPostfixes, StandsBefore};
+ghost use Rattle.meta_nodes.specs.Nodes.{view, view_at};
+ghost use Rattle.meta_nodes.specs.Spanned as spanned;
+ghost use Rattle.meta_nodes.specs.Spanned.{One, RepExact, RepMax, RepMin, RepMinMax};
+ghost use Rattle.meta_reader.specs.Views.{AnswersCount, AnswersPostfix, AnswersPostfixes, StandsBefore, operator_of};
 
 use crate::parser::flaws::ReadError;
 use crate::parser::pieces::{count, number, span_at};
@@ -67,6 +69,64 @@ fn between<'i>(text: &'i str, inner: &[TokenTree<Rule>]) -> Result<(u32, u32), R
     Ok((least, most))
 }
 
+/// How often what stands before a postfix operator may come.
+#[derive(Clone, Copy)]
+pub enum Times {
+    /// `?`: once or not at all.
+    AtMostOnce,
+    /// `*`: any number of times.
+    AnyTimes,
+    /// `+`: once at least.
+    OnceOrMore,
+    /// `{n}`.
+    Exactly(u32),
+    /// `{n,}`.
+    AtLeast(u32),
+    /// `{,n}`.
+    AtMost(u32),
+    /// `{m,n}`.
+    Between(u32, u32),
+}
+
+/// What a postfix operator says, or the first flaw of the numbers in it.
+fn times_of<'i>(text: &'i str, operator: FirstTree<'_, Rule>) -> Result<Times, ReadError<'i>>
+    requires shape { IsPostfix text.now (name_of operator.rule) (named_trees_of operator.inner.now) }
+    requires nested { StandIn text.now (named_trees_of operator.inner.now) }
+    ensures { AnswersCount text.entry.now (name_of operator.entry.rule)
+        (named_trees_of operator.entry.inner.now) operator_of result }
+{
+    let inner = operator.inner;
+    match operator.rule {
+        Rule::optional_operator => Ok(Times::AtMostOnce),
+        Rule::repeat_operator => Ok(Times::AnyTimes),
+        Rule::repeat_once_operator => Ok(Times::OnceOrMore),
+        Rule::repeat_exact => Ok(Times::Exactly(exact(text, inner)?)),
+        Rule::repeat_min => Ok(Times::AtLeast(at_least(text, inner)?)),
+        Rule::repeat_max => Ok(Times::AtMost(at_most(text, inner)?)),
+        Rule::repeat_min_max => {
+            let (least, most) = between(text, inner)?;
+            Ok(Times::Between(least, most))
+        }
+        _ => unreachable!(),
+    }
+}
+
+/// A node that may come so often.
+fn repeated<'i>(times: Times, node: Box<ParserNode<'i>>) -> ParserExpr<'i>
+    ensures { (place : spanned.Span) → view_at place result
+        ≡ One place (operator_of times) (view node.entry.value) }
+{
+    match times {
+        Times::AtMostOnce => ParserExpr::Opt(node),
+        Times::AnyTimes => ParserExpr::Rep(node),
+        Times::OnceOrMore => ParserExpr::RepOnce(node),
+        Times::Exactly(n) => ParserExpr::RepExact(node, n),
+        Times::AtLeast(n) => ParserExpr::RepMin(node, n),
+        Times::AtMost(n) => ParserExpr::RepMax(node, n),
+        Times::Between(least, most) => ParserExpr::RepMinMax(node, least, most),
+    }
+}
+
 /// What a postfix operator makes of a node: `span` is where it stands with the node.
 fn postfix<'i>(
     alloc: Global,
@@ -78,50 +138,12 @@ fn postfix<'i>(
     requires nested { StandIn (span_text span) (named_trees_of operator.inner.now) }
     ensures { AnswersPostfix span.entry operator.entry node.entry result }
 {
-    let inner = operator.inner;
-    match operator.rule {
-        Rule::optional_operator => Ok(ParserNode {
-            expr: ParserExpr::Opt(Box::new(alloc, node)?),
-            span,
-        }),
-        Rule::repeat_operator => Ok(ParserNode {
-            expr: ParserExpr::Rep(Box::new(alloc, node)?),
-            span,
-        }),
-        Rule::repeat_once_operator => Ok(ParserNode {
-            expr: ParserExpr::RepOnce(Box::new(alloc, node)?),
-            span,
-        }),
-        Rule::repeat_exact => {
-            let n = exact(span.get_input(), inner)?;
-            Ok(ParserNode {
-                expr: ParserExpr::RepExact(Box::new(alloc, node)?, n),
-                span,
-            })
-        }
-        Rule::repeat_min => {
-            let n = at_least(span.get_input(), inner)?;
-            Ok(ParserNode {
-                expr: ParserExpr::RepMin(Box::new(alloc, node)?, n),
-                span,
-            })
-        }
-        Rule::repeat_max => {
-            let n = at_most(span.get_input(), inner)?;
-            Ok(ParserNode {
-                expr: ParserExpr::RepMax(Box::new(alloc, node)?, n),
-                span,
-            })
-        }
-        Rule::repeat_min_max => {
-            let (least, most) = between(span.get_input(), inner)?;
-            Ok(ParserNode {
-                expr: ParserExpr::RepMinMax(Box::new(alloc, node)?, least, most),
-                span,
-            })
-        }
-        _ => unreachable!(),
-    }
+    let times = times_of(span.get_input(), operator)?;
+    let node = Box::new(alloc, node)?;
+    Ok(ParserNode {
+        expr: repeated(times, node),
+        span,
+    })
 }
 
 /// What the postfix operators behind a node make of it, or their first flaw.

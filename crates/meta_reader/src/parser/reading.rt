@@ -7,9 +7,9 @@ ghost use Rattle.meta_reader.specs.Reading.{ANode, ATerm, AnExpression, both};
 ghost use Rattle.meta_base.specs.Pieces.MetaRules.{name_of};
 ghost use Rattle.meta_reader.specs.Signs.{IsOperand};
 ghost use Rattle.meta_syntax.specs.Shape.{IsChain, IsExpression, IsMore, IsNode, IsTerm};
-ghost use Rattle.meta_nodes.specs.Spanned.{Choice, Seq};
-ghost use Rattle.meta_reader.specs.Views.{AnswersFront, TakesTerm, IsBehindBar, IsRest, ReadsAs, alone, alone_as, group_from};
-ghost use Rattle.meta_nodes.specs.Nodes.{view};
+ghost use Rattle.meta_nodes.specs.Spanned.{Span, Two};
+ghost use Rattle.meta_reader.specs.Views.{AnswersFront, TakesTerm, IsBehindBar, IsRest, ReadsAs, alone, alone_as, binary_of, group_from};
+ghost use Rattle.meta_nodes.specs.Nodes.{view, view_at};
 
 use crate::parser::flaws::ReadError;
 use crate::parser::operators::postfixed;
@@ -22,36 +22,47 @@ use meta_nodes::{ParserExpr, ParserNode};
 use meta_syntax::trees::{first_tree, leading_tree};
 use std::alloc::{AllocError, Global};
 
-/// The choice between two nodes, from the start of the left to the end of the right.
-fn choice<'i>(
-    alloc: Global,
-    text: &'i str,
-    left: ParserNode<'i>,
-    right: ParserNode<'i>,
-) -> Result<ParserNode<'i>, AllocError>
-    requires { IsPiece text.now (span_start left.span) (span_end right.span) }
-    ensures { IfOk result (λ n. view n ≡ both text.entry.now Choice (view left.entry) (view right.entry)) }
-{
-    let span = span_at(text, left.span.start(), right.span.end());
-    Ok(ParserNode {
-        expr: ParserExpr::Choice(Box::new(alloc, left)?, Box::new(alloc, right)?),
-        span,
-    })
+/// The operators between two nodes.
+#[derive(Clone, Copy)]
+pub enum Infix {
+    /// `~`
+    Sequence,
+    /// `|`
+    Choice,
 }
 
-/// Two nodes in sequence, from the start of the left to the end of the right.
-fn in_sequence<'i>(
+/// What an operator makes of two nodes, wherever they stand.
+fn operation<'i>(
+    operator: Infix,
+    left: Box<ParserNode<'i>>,
+    right: Box<ParserNode<'i>>,
+) -> ParserExpr<'i>
+    ensures { (place : Span) → view_at place result
+        ≡ Two place (binary_of operator) (view left.entry.value) (view right.entry.value) }
+{
+    match operator {
+        Infix::Sequence => ParserExpr::Seq(left, right),
+        Infix::Choice => ParserExpr::Choice(left, right),
+    }
+}
+
+/// Two nodes with an operator between them, from the start of the left to the end of the right.
+fn combined<'i>(
     alloc: Global,
     text: &'i str,
+    operator: Infix,
     left: ParserNode<'i>,
     right: ParserNode<'i>,
 ) -> Result<ParserNode<'i>, AllocError>
     requires { IsPiece text.now (span_start left.span) (span_end right.span) }
-    ensures { IfOk result (λ n. view n ≡ both text.entry.now Seq (view left.entry) (view right.entry)) }
+    ensures { IfOk result
+        (λ n. view n ≡ both text.entry.now (binary_of operator) (view left.entry) (view right.entry)) }
 {
     let span = span_at(text, left.span.start(), right.span.end());
+    let left = Box::new(alloc, left)?;
+    let right = Box::new(alloc, right)?;
     Ok(ParserNode {
-        expr: ParserExpr::Seq(Box::new(alloc, left)?, Box::new(alloc, right)?),
+        expr: operation(operator, left, right),
         span,
     })
 }
@@ -103,7 +114,7 @@ pub fn expression<'i>(
     let (mut left, mut rest) = sequence(alloc, text, behind_bar(trees))?;
     while let Some(bar) = first_tree(rest) {
         let (right, after) = sequence(alloc, text, bar.others)?;
-        left = choice(alloc, text, left, right)?;
+        left = combined(alloc, text, Infix::Choice, left, right)?;
         rest = after;
     }
     Ok(left)
@@ -125,7 +136,7 @@ fn sequence<'i, 't>(
     let mut rest: &'t [TokenTree<Rule>] = first.others;
     while let Some((inner, after)) = next_term(rest) {
         let right = term(alloc, text, inner)?;
-        left = in_sequence(alloc, text, left, right)?;
+        left = combined(alloc, text, Infix::Sequence, left, right)?;
         rest = after;
     }
     Ok((left, rest))

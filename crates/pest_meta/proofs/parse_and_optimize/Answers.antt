@@ -1,7 +1,7 @@
 use Rattle.std.proofs.lemmas.Result.{err_from_is_err_and}
 use Rattle.meta_ast.specs.Ast.{rules_of}
 use Rattle.pest_meta.proofs.Spelled.{answered, answered_without_reports, misnamed, no_grammar, not_both, rejected}
-use Rattle.pest_meta.proofs.Promised.{answer_ends, answers_outcomes, spelled_ends, spells_grammar}
+use Rattle.pest_meta.proofs.Promised.{answer_ends, answer_suffices, answers_builtins, answers_outcomes, spelled_ends, spells_grammar}
 use Rattle.pest_meta.proofs.parse_and_optimize.Goals as goal
 
 pub returns-in_err-pairs-clause-refused : goal.returns-in_err-pairs-clause-refused
@@ -29,6 +29,9 @@ returns-clause-answer c =
     answered c.args.grammar.now c.in_ok-pairs.pairs c.in-Ok.copy c.in_ok-builtins.builtins.items (rules_of c.in_ok-rules.rules.items) c.in_ok-optimize.field-0.items
     parsed.text parsed.spelled c.in-Ok.ensures.cases named.no_complaints named.builtins c.in_ok-rules.ensures.rules c.in_ok-optimize.ensures.rules
 
+pub returns-clause-builtins : goal.returns-clause-builtins
+returns-clause-builtins c = answers_builtins c.args.grammar.now c.utf8.grammar _ _ (returns-clause-answer c)
+
 pub returns-clause-sound : goal.returns-clause-sound
 returns-clause-sound c = spells_grammar c.args.grammar.now c.utf8.grammar _ _ (returns-clause-answer c)
 
@@ -45,9 +48,11 @@ returns-clause-answer_ends c =
 pub returns-clause-no_reports : goal.returns-clause-no_reports
 returns-clause-no_reports c = answered_without_reports c.args.grammar.now _ _ (returns-clause-answer c)
 
-pub returns-clause-faultless : goal.returns-clause-faultless
-returns-clause-faultless c = λ refused.
+pub returns-clause-no_refusal : goal.returns-clause-no_refusal
+returns-clause-no_refusal c = λ refused.
     not_both c.args.grammar.now (c.in_ok-builtins.builtins.items, c.in_ok-optimize.field-0.items, returns-clause-answer c) refused
 
 pub returns-clause-agrees : goal.returns-clause-agrees
-returns-clause-agrees c = c.in_ok-optimize.ensures.agrees
+returns-clause-agrees c = λ g s suffice.
+    c.in_ok-optimize.ensures.agrees
+    (answer_suffices g _ (answers_outcomes c.args.grammar.now c.utf8.grammar _ _ (returns-clause-answer c) g s) suffice)

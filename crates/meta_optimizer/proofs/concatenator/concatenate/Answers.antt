@@ -1,13 +1,27 @@
-use Rattle.meta_ast.specs.Ast.{rule_of_code}
+use Rattle.meta_base.specs.Rewritings.Rewriting.{Many, Joins}
 use Rattle.meta_base.proofs.Replacing.{joinings_chained, joinings_keep}
-use Rattle.meta_optimizer.proofs.Joining as joining
+use Rattle.meta_ast.specs.Ast.{expression_of, rule_of_code, rule_type_of}
+use Rattle.meta_optimizer.proofs.Joining.{all_joined, nothing_joined, reached}
 use Rattle.meta_optimizer.proofs.concatenator.concatenate.Goals as goal
 
 pub returns-in-Ok-clause-done : goal.returns-in-Ok-clause-done
-returns-in-Ok-clause-done c = record { reached = joining.reached _ c.in-Ok.ensures; nowhere = joining.nowhere _ c.in-Ok.ensures }
+returns-in-Ok-clause-done c = rw c.in-Atomic.is (all_joined c.in-Ok.ensures)
 
 pub returns-in-Ok-clause-chain : goal.returns-in-Ok-clause-chain
-returns-in-Ok-clause-chain c = joinings_chained (rule_of_code c.args.rule) _ (joining.reached _ c.in-Ok.ensures)
+returns-in-Ok-clause-chain c =
+    let steps : Many (Joins (rule_type_of c.args.rule.ty)) (expression_of c.args.rule.expr) (expression_of c.in-Ok.expr) = rw c.in-Atomic.is (reached c.in-Ok.ensures) in
+    joinings_chained (rule_of_code c.args.rule) _ steps
 
 pub returns-in-Ok-clause-outcomes : goal.returns-in-Ok-clause-outcomes
-returns-in-Ok-clause-outcomes c = joinings_keep (rule_of_code c.args.rule) _ (joining.reached _ c.in-Ok.ensures)
+returns-in-Ok-clause-outcomes c =
+    let steps : Many (Joins (rule_type_of c.args.rule.ty)) (expression_of c.args.rule.expr) (expression_of c.in-Ok.expr) = rw c.in-Atomic.is (reached c.in-Ok.ensures) in
+    joinings_keep (rule_of_code c.args.rule) _ steps
+
+pub returns-in_default-clause-done : goal.returns-in_default-clause-done
+returns-in_default-clause-done c = nothing_joined c.args.rule.ty (expression_of c.args.rule.expr) c.in_default.not-Atomic
+
+pub returns-in_default-clause-chain : goal.returns-in_default-clause-chain
+returns-in_default-clause-chain c = joinings_chained (rule_of_code c.args.rule) _ (nothing_joined c.args.rule.ty (expression_of c.args.rule.expr) c.in_default.not-Atomic).reached
+
+pub returns-in_default-clause-outcomes : goal.returns-in_default-clause-outcomes
+returns-in_default-clause-outcomes c = joinings_keep (rule_of_code c.args.rule) _ (nothing_joined c.args.rule.ty (expression_of c.args.rule.expr) c.in_default.not-Atomic).reached

@@ -1,4 +1,3 @@
-use Rattle.std.proofs.Common.{IfOk}
 use Rattle.meta_ast.specs.Ast.{rules_of}
 use Rattle.meta_ast.specs.Optimized.{optimized_rules_of}
 use Rattle.meta_restorer.proofs.Safe.{agree}

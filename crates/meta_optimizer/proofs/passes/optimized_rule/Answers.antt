@@ -1,8 +1,10 @@
-use Rattle.std.proofs.Common.{◌≡◌, ◌∙◌, ap, sym, subst}
+use Rattle.std.proofs.Common.{◌≡◌, ◌∙◌, inl, inr, [], ap, sym, subst}
 use Rattle.meta_base.specs.Language.Expression.{Rule}
-use Rattle.meta_ast.specs.Ast.{expression_of}
+use Rattle.meta_base.specs.Rewritings.Rewriting.{IsDone, SkipsUntil}
+use Rattle.meta_ast.specs.Ast.{expression_of, rule_type_of}
 use Rattle.meta_ast.specs.Optimized.{optimized_expression_of}
 use Rattle.meta_restorer.specs.Changing.{HasNoWrappers}
+use Rattle.meta_optimizer.proofs.Turning.{by_rotations, over_any}
 use Rattle.meta_optimizer.proofs.Wrapped.{bare}
 use Rattle.meta_optimizer.proofs.Unrolled.{by_joins, by_factors, by_listing}
 use Rattle.meta_optimizer.proofs.passes.optimized_rule.Goals as goal
@@ -24,7 +26,10 @@ returns-in-Ok-clause-body c = λ g h.
       joined = expression_of c.in_ok-rule-4.rule.expr;
       factored = expression_of c.in_ok-rule-5.rule.expr;
       rotates = c.in_ok-rule.ensures.done;
-      skips = rw c.in_ok-rule.ensures.ty at c.in_ok-rule-2.ensures.done g h;
+      skips = elim h as (λ k. IsDone (SkipsUntil g (rule_type_of c.args.rule.ty)) (expression_of c.in_ok-rule.rule.expr) (expression_of c.in_ok-rule-2.rule.expr)) [
+        | inl k ↦ rw c.in_ok-rule.ensures.ty at c.in_ok-rule-2.ensures.done g k
+        | inr k ↦ over_any g [] c.args.rule.ty c.in_ok-rule.rule.expr _ (λ e. by_rotations c.in_ok-rule.ensures.done.reached (k.1.0 e)) (rw c.in_ok-rule.ensures.ty at c.in_ok-rule-2.ensures.done [] k.0)
+      ];
       unrolls = record { steps = c.in_ok-rule-3.ensures.steps; unrolled = c.in_ok-rule-3.ensures.unrolled };
       joins = rw of_unrolled at c.in_ok-rule-4.ensures.done;
       factors = record { steps = rw of_joined at c.in_ok-rule-5.ensures.steps; each_once = rw of_joined at c.in_ok-rule-5.ensures.factored };

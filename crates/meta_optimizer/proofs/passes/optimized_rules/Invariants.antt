@@ -3,7 +3,7 @@ use Rattle.std.specs.Vec.Iter.{into_iter_items, into_iter_len}
 use Rattle.meta_ast.specs.Ast.{rules_of}
 use Rattle.meta_ast.specs.Optimized.{optimized_rules_of}
 use Rattle.meta_base.specs.Language.Expression.{Grammar}
-use Rattle.meta_optimizer.specs.Bodies.{HoldsBodies}
+use Rattle.meta_optimizer.specs.Bodies.{SufficeFor}
 use Rattle.meta_optimizer.specs.Passes.{IsOptimizedBody}
 use Rattle.meta_optimizer.proofs.RuleByRule.{SoFar}
 use Rattle.meta_optimizer.proofs.passes.optimized_rules.Given as goal
@@ -12,5 +12,6 @@ abbrev pub invariant-loop-rule : goal.invariant-loop-rule
 invariant-loop-rule l =
     (goal.iterator-loop-rule).can_next l.rule-iterator
     × (goal.iterator-loop-rule).is_finite l.rule-iterator
-    × ((g : Grammar) → HoldsBodies l.bodies g → SoFar (IsOptimizedBody g) (rules_of l.fn.rules.items) (optimized_rules_of l.answer.items) (rules_of (into_iter_items l.rule-iterator)))
+    × ((g : Grammar) → SufficeFor l.bodies g (rules_of l.fn.rules.items)
+    → SoFar (IsOptimizedBody g) (rules_of l.fn.rules.items) (optimized_rules_of l.answer.items) (rules_of (into_iter_items l.rule-iterator)) × SufficeFor l.bodies g (rules_of (into_iter_items l.rule-iterator)))
     × (into_iter_len l.rule-iterator ≡ length (into_iter_items l.rule-iterator))

@@ -1,4 +1,4 @@
-use Rattle.std.proofs.Common.{◌≡◌, ◌∙◌, sym, ap, codes, string_bytes, subst}
+use Rattle.std.proofs.Common.{◌∙◌, sym, subst}
 use Rattle.meta_base.specs.Language.Expression as e
 use Rattle.meta_base.specs.Rewritings.Rewriting.{SkipsUntil}
 use Rattle.meta_ast.specs.Ast.{expression_of, text_of}

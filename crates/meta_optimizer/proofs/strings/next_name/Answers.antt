@@ -1,4 +1,4 @@
-use Rattle.std.proofs.Common.{◌≡◌, ◌∙◌, sym, ap, Some, None, true, false, string_bytes, rules}
+use Rattle.std.proofs.Common.{◌≡◌, Some, None, true, false, string_bytes}
 use Rattle.meta_base.specs.Rewritings.Rewriting.{literal, name}
 use Rattle.meta_ast.specs.Ast.{expression_of}
 use Rattle.meta_optimizer.specs.Bodies.{the_name, met_at, HasStrings}

@@ -1,4 +1,4 @@
-use Rattle.std.proofs.Common.{◌≡◌, ◌∙◌, ◌-◌, refl, sym, ap, [], ◌∷◌, arith}
+use Rattle.std.proofs.Common.{◌≡◌, ◌∙◌, ◌-◌, refl, ap, [], ◌∷◌, arith}
 use Rattle.std.proofs.lemmas.List.{append-nil, map-append}
 use Rattle.meta_base.specs.Language.Expression as e
 use Rattle.meta_ast.specs.Ast.{expression_of, text_of}

@@ -29,7 +29,7 @@ returns-in_err-node c =
     let h = rw (c.leading_tree-first.ensures, c.in-identifier.is, c.leading_tree-assignment.ensures) at c.requires.shape in
     let m = rw (c.leading_tree-brace.ensures, c.leading_tree-body.ensures) at c.modifier-ty.ensures in
     let b = rule_body h m in
-    let p = err_from_is_err_and c.from_residual.result c.from_residual.ensures.1 in
+    let p = err_from_is_err_and c.from_residual-in_err-node.result c.from_residual-in_err-node.ensures.1 in
     rw (p.1, p.2, c.leading_tree-first.ensures, c.in-identifier.is, c.leading_tree-assignment.ensures, b.flaw) (c.in_err-node.ensures)
 
 pub returns : goal.returns

@@ -1,4 +1,4 @@
-use Rattle.std.proofs.Common.{◌≡◌, ◌∙◌, [], map, sym, subst, ap, ◌++◌, rules}
+use Rattle.std.proofs.Common.{◌≡◌, ◌∙◌, [], map, sym, subst, ap, ◌++◌}
 use Rattle.std.proofs.lemmas.List.{append-nil}
 use Rattle.std.proofs.lemmas.Map.Iter.{rest_all}
 use Rattle.std.specs.Map.Iter.{deref_pair}

@@ -1,10 +1,6 @@
-use Rattle.std.proofs.Common.{◌≡◌, ◌||◌, ◌+◌, ◌∙◌, ◌++◌, ◌∷◌, [], ap, sym, map, take, get_or}
+use Rattle.std.proofs.Common.{◌≡◌, ◌+◌, ◌∙◌, ◌++◌, ◌∷◌, [], ap, sym, map, take, get_or}
 use Rattle.std.proofs.lemmas.List.{map-append, take_more}
-use Rattle.std.specs.List.{list_any}
-use Rattle.meta_ast.specs.Optimized.{optimized_expression_of}
-use Rattle.meta_restorer.specs.Calls.{is_set_at, name_changes}
-use Rattle.meta_restorer.specs.Changing.{changes_by}
-use Rattle.meta_restorer.specs.Bodies.{said_by, NamedBody}
+use Rattle.meta_restorer.specs.Bodies.{said_by}
 use Rattle.meta_restorer.proofs.Looking.{one_more}
 use Rattle.meta_restorer.proofs.changes.calls_of.Goals as goal
 
@@ -15,5 +11,4 @@ loop-body-preserved c =
     let d = c.body-item.result in
     let more : map said_by (take (i + 1) bs) ≡ map said_by (take i bs) ++ said_by d ∷ []
     = ap (map said_by) (take_more bs i d c.loop-body-test.true) ∙ (map-append said_by (take i bs) (get_or bs i d ∷ []) ∙ ap (λ b. map said_by (take i bs) ++ said_by b ∷ []) (sym c.body-item.is)) in
-    rw more (one_more c.args.names.now (map said_by (take i bs)) c.loop-body.all.items c.push.new.self.items (said_by d) c.look.new.calls c.loop-body.invariant c.in_ok-push.ensures.items
-    (λ marks. c.in_ok-look.ensures marks ∙ ap (λ xs. list_any (is_set_at marks) xs || changes_by (name_changes c.args.names.now marks) (optimized_expression_of d.expr.now)) c.new.ensures.items))
+    rw more (one_more c.args.names.now (map said_by (take i bs)) c.loop-body.all.items c.push.new.self.items (said_by d) c.in_ok-calls.calls c.loop-body.invariant c.in_ok-push.ensures.items c.in_ok-calls.ensures)

@@ -8,7 +8,7 @@ pub returns-clause-sound : goal.returns-clause-sound
 returns-clause-sound c =
     let ms = c.args.marks.now.items in
     let at : slice_get c.args.calls.now c.args.rule ≡ Some c.index-calls-rule.result = got c.args.calls.now c.args.rule c.index-calls-rule.result c.if-rule-calls.false c.index-calls-rule.is in
-    let f : shows (is_set_at ms) c.index-calls-rule.result ≡ true = search rules in
+    let f : shows ms c.index-calls-rule.result ≡ true = search rules in
     sound_one c.args.calls.now ms c.args.rule c.index-calls-rule.result at f (length-set ms c.args.rule true) c.requires
 
 pub returns-clause-fewer : goal.returns-clause-fewer

@@ -1,4 +1,4 @@
-use Rattle.std.proofs.Common.{◌≡◌, ◌⊎◌, ◌<◌, ◌≤◌, ◌∙◌, inl, inr, subst, sym, arith, length, ℕ, Some}
+use Rattle.std.proofs.Common.{◌<◌, subst, sym, arith, length}
 use Rattle.std.proofs.lemmas.Option.{slice_get_within}
 use Rattle.meta_restorer.specs.Calls.{IsClosedAt}
 use Rattle.meta_restorer.proofs.marks.round.Goals as goal

@@ -1,4 +1,4 @@
-use Rattle.std.proofs.Common.{◌≡◌, ◌∙◌, ap, sym, subst, get_or, bytes_eq, string_bytes, rules, cond, Some}
+use Rattle.std.proofs.Common.{◌≡◌, ◌∙◌, ap, sym, get_or, bytes_eq, string_bytes, rules}
 use Rattle.std.specs.HashMap.{get_by_text}
 use Rattle.std.proofs.lemmas.Map.Text.{hash_map_updates_text}
 use Rattle.std.proofs.lemmas.Str.{IsUtf8-string_bytes}

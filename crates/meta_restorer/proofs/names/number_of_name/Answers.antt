@@ -1,4 +1,4 @@
-use Rattle.std.proofs.Common.{◌≡◌, ◌∙◌, ap, sym, rules, string_bytes, Option, ℕ}
+use Rattle.std.proofs.Common.{◌≡◌, ◌∙◌, ap, sym, rules, string_bytes}
 use Rattle.std.specs.HashMap.{get_by_text}
 use Rattle.meta_restorer.proofs.Naming.{encodes-text_of}
 use Rattle.meta_restorer.proofs.names.number_of_name.Goals as goal

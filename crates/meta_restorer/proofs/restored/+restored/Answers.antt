@@ -1,8 +1,6 @@
-use Rattle.std.proofs.Common.{◌≡◌, ◌≤◌, ◌∙◌, arith, ap, sym}
-use Rattle.meta_ast.specs.Optimized.{optimized_expression_of}
-use Rattle.meta_restorer.specs.Changing.{restored_by, wrapped_by}
-use Rattle.meta_restorer.specs.Sides.{put_behind}
+use Rattle.std.proofs.Common.{arith}
 use Rattle.meta_restorer.specs.Telling.{told}
+use Rattle.meta_restorer.proofs.Noting.{counted}
 use Rattle.meta_restorer.proofs.Behind.{put_behind-last, told_last}
 use Rattle.meta_restorer.proofs.restored.+restored.Goals as goal
 
@@ -11,9 +9,14 @@ restored-along-preserved-in-Seq t c =
     let p = told c.args.changes.now in
     let made = rw c.into_inner.ensures at c.in_ok-left-in-Seq.ensures.made in
     let all = rw c.in-Seq.is at c.along.invariant.made in
+    let place = rw c.into_inner.ensures at c.in_ok-left-in-Seq.ensures.place in
+    let noted = rw c.in-Seq.is at c.along.invariant.noted in
+    let count = rw c.in-Seq.is at c.along.invariant.count in
     record {
       left = rw c.in_ok-push-in-Seq.ensures.items (told_last p c.along.sides.items _ c.along.invariant.left c.in_ok-left-in-Seq.ensures.told);
       made = rw (c.in_ok-push-in-Seq.ensures.items, put_behind-last, made, c.into_inner-rest.ensures) all;
+      noted = rw (c.into_inner-rest.ensures, place) noted.1;
+      count = rw c.into_inner-rest.ensures (counted _ _ _ _ _ place count);
       smaller = rw c.into_inner-rest.ensures (omega (arith, rw c.in-Seq.is at c.along.invariant.smaller));
     }
 
@@ -22,8 +25,13 @@ restored-along-preserved t c =
     let p = told c.args.changes.now in
     let made = rw c.into_inner-in-Choice.ensures at c.in_ok-left-in-Choice.ensures.made in
     let all = rw c.in-Choice.is at c.along.invariant.made in
+    let place = rw c.into_inner-in-Choice.ensures at c.in_ok-left-in-Choice.ensures.place in
+    let noted = rw c.in-Choice.is at c.along.invariant.noted in
+    let count = rw c.in-Choice.is at c.along.invariant.count in
     record {
       left = rw c.in_ok-push-in-Choice.ensures.items (told_last p c.along.sides.items _ c.along.invariant.left c.in_ok-left-in-Choice.ensures.told);
       made = rw (c.in_ok-push-in-Choice.ensures.items, put_behind-last, made, c.into_inner-rest-in-Choice.ensures) all;
+      noted = rw (c.into_inner-rest-in-Choice.ensures, place) noted.1;
+      count = rw c.into_inner-rest-in-Choice.ensures (counted _ _ _ _ _ place count);
       smaller = rw c.into_inner-rest-in-Choice.ensures (omega (arith, rw c.in-Choice.is at c.along.invariant.smaller));
     }

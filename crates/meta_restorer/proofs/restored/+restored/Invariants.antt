@@ -1,5 +1,6 @@
-use Rattle.std.proofs.Common.{◌≡◌, ◌≤◌, ◌+◌, ◌*◌}
+use Rattle.std.proofs.Common.{◌≡◌, ◌≤◌, ◌+◌, ◌*◌, length}
 use Rattle.meta_ast.specs.Optimized.{optimized_expression_of}
+use Rattle.meta_restorer.specs.Calls.{AreNoted, names_in}
 use Rattle.meta_restorer.specs.Changing.{restored_by}
 use Rattle.meta_restorer.specs.Sides.{put_behind, AreTold}
 use Rattle.meta_restorer.specs.Size.{size}
@@ -10,6 +11,8 @@ abbrev pub invariant-restored-along : goal.invariant-restored-along
 invariant-restored-along l = record {
   left : AreTold (told l.changes) l.sides.items;
   made : put_behind (told l.changes) l.sides.items (restored_by (told l.changes) (optimized_expression_of l.rest)) ≡ restored_by (told l.changes) (optimized_expression_of l.fn.expr);
+  noted : AreNoted l.changes.names l.rules (optimized_expression_of l.rest) l.place;
+  count : l.place + length (names_in (optimized_expression_of l.rest)) ≡ l.fn.place + length (names_in (optimized_expression_of l.fn.expr));
   smaller : size (optimized_expression_of l.rest) ≤ size (optimized_expression_of l.fn.expr);
 }
 

@@ -1,5 +1,5 @@
 use Rattle.std.proofs.Common.{map, subst}
-use Rattle.meta_restorer.specs.Bodies.{said_by, grammar_with, SameBodies}
+use Rattle.meta_restorer.specs.Bodies.{said_by, grammar_with}
 use Rattle.meta_restorer.specs.Telling.{Tells}
 use Rattle.meta_restorer.proofs.Holding.{answered, tells_moved}
 use Rattle.meta_restorer.proofs.restorer.changes_in_map.Goals as goal
@@ -8,4 +8,4 @@ pub returns : goal.returns
 returns c =
     let bs = map said_by c.in_ok-bodies.bodies.items in
     answered c.changes_of.result
-    (λ changes t g h. tells_moved changes bs g (c.in_ok-bodies.ensures g h) (subst (λ ds. Tells changes (grammar_with (map said_by ds))) c.deref.ensures.value t)) c.changes_of.ensures
+    (λ changes t g h. tells_moved changes bs g (c.in_ok-bodies.ensures g h) (subst (λ ds. Tells changes (grammar_with (map said_by ds))) c.deref.ensures.value t)) c.changes_of.ensures.tells

@@ -1,7 +1,5 @@
-use Rattle.std.proofs.Common.{◌≡◌, ◌∙◌, [], refl, sym, subst, ap}
-use Rattle.std.proofs.lemmas.List.{append-nil}
-use Rattle.meta_ast.specs.Optimized.{optimized_expression_of}
-use Rattle.meta_restorer.specs.Sides.{left_of, AreTold, IsTold, put_behind}
+use Rattle.std.proofs.Common.{◌∙◌, ap}
+use Rattle.meta_restorer.specs.Sides.{put_behind}
 use Rattle.meta_restorer.specs.Telling.{told}
 use Rattle.meta_restorer.proofs.Behind.{put_behind-last, told_front}
 use Rattle.meta_restorer.proofs.sides.behind.Goals as goal

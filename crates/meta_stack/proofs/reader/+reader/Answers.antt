@@ -1,25 +1,38 @@
-use Rattle.std.proofs.Common.{◌≡◌, ◌∙◌, sym, ap, subst, refl, arith, ℕ, suc, ◌-◌, ◌+◌, ◌%◌, ◌<◌, slice_get, [], ◌∷◌, ◌++◌, reverse, length, None, Some, true, false, if◌then◌else◌, append-nil}
+use Rattle.std.proofs.Common.{◌≡◌, ◌∙◌, sym, ap, subst, refl, arith, rules, ℕ, suc, ◌-◌, ◌+◌, ◌%◌, ◌<◌, slice_get, [], ◌∷◌, ◌++◌, reverse, length, None, Some, true, false, if◌then◌else◌, append-nil}
 use Rattle.std.proofs.lemmas.Option.{slice_get_within, slice_get_read}
 use Rattle.std.proofs.lemmas.List.{length_push, map_push}
 use Rattle.meta_stacks.specs.Stack.{is_among}
 use Rattle.meta_stacks.specs.Reading as says
-use Rattle.meta_stacks.specs.Reading.{top_reading, from, onward, turns, Endless}
-use Rattle.meta_stack.specs.Table.{IsMeaning, copies, followed_at}
+use Rattle.meta_stacks.specs.Reading.{top_reading, onward, turns, Endless}
+use Rattle.meta_stack.specs.Table.{IsMeaning, Inside, Called, LeadsTo, Lies, call_reading, copies, followed_at, node_reading, nodes_of}
 use Rattle.meta_stack.specs.Memory.{Meaning, IsRight}
 use Rattle.meta_stack.specs.Following.{times, copy_step, seen_stacks, Comes}
 use Rattle.meta_stacks.specs.Reported.{turn_starts}
 use Rattle.meta_stacks.specs.Views.{reading_of, stack_of, walk_of, possible}
 use Rattle.meta_stack.proofs.Counts.{times_more}
 use Rattle.meta_stack.proofs.Follow.{Each, step_value, all_copies, turns_none, starts_none, turns_again, starts_again, turn_on, start_on, over_value, starts_over, among_reverse, seen_more, traced_all, traced_back, place_back, each_more}
-use Rattle.meta_stack.proofs.Work.{at_once, not_followed, called, by_others, where_ok, seq_value, choice_value, ended_value}
+use Rattle.meta_stack.specs.declared.waiting.How.TheVariants as how
+use Rattle.meta_stack.specs.declared.waiting.Next.TheVariants as next
+use Rattle.meta_stack.proofs.Awaiting.{ReadSoFar, done_at_once, leaf_done, level_called, level_inside, read_begun, read_done, read_on, wait_first, wait_last}
+use Rattle.meta_stack.proofs.Work.{not_followed, where_ok, ended_value}
 use Rattle.meta_stack.proofs.reader.+reader.Goals as goal
 use Rattle.meta_stack.proofs.reader.+reader.Goals.{repeat-then-endless+in_ok-last, repeat-else-endless}
 
-pub read-returns : goal.read-returns
-read-returns t c = record {
-  value = c.in_ok-reading.ensures.value;
-  kept = λ meaning h i. c.in_ok-remember.ensures meaning (c.in_ok-reading.ensures.kept meaning h i) (c.in_ok-reading.ensures.value meaning h i);
-}
+pub read-steps-init : goal.read-steps-init
+read-steps-init t c =
+    let w : c.args.node < length (nodes_of c.args.table.now) = search rules in read_begun c.args.table.now _ c.args.node c.args.stack _ c.new-waiting.ensures.items w
+
+pub read-returns-in-None : goal.read-returns-in-None
+read-returns-in-None t c =
+    let none_left : c.pop.new.self.items ≡ [] = c.in-None.ensures.rest ∙ rw c.in-None.ensures.cases.0 refl in
+    read_done c.args.table.now _ _ c.args.node c.args.stack _ _ c.in-Done.reading c.steps.invariant c.in-Done.is (c.in-None.ensures.items ∙ (append-nil c.pop.new.self.items ∙ none_left))
+
+pub read-steps-preserved-in-Read : goal.read-steps-preserved-in-Read
+read-steps-preserved-in-Read t c = read_on c.args.table.now _ _ _ c.args.node c.args.stack _ _ _ _ (subst (λ p. ReadSoFar c.args.table.now c.args.memory.now c.steps.memory c.args.node c.args.stack p c.steps.waiting.items) c.in-Read.is c.steps.invariant) c.in_ok-next-in-Read.ensures
+
+pub read-steps-preserved : goal.read-steps-preserved
+read-steps-preserved t c = read_on c.args.table.now _ _ _ c.args.node c.args.stack _ _ _ _ (subst (λ ws. ReadSoFar c.args.table.now c.args.memory.now c.steps.memory c.args.node c.args.stack (next.Done c.in-Done.reading) ws) c.in-Some.ensures.items
+    (subst (λ p. ReadSoFar c.args.table.now c.args.memory.now c.steps.memory c.args.node c.args.stack p c.steps.waiting.items) c.in-Done.is c.steps.invariant)) c.in_ok-next-in-Some.ensures
 
 pub step-returns : goal.step-returns
 step-returns t c = record {
@@ -27,55 +40,85 @@ step-returns t c = record {
   kept = c.in_ok-reading.ensures.kept;
 }
 
-pub work_out-returns-in-Still : goal.work_out-returns-in-Still
-work_out-returns-in-Still t c = at_once c.args.table.now c.args.node (stack_of c.args.stack) _ _ c.kind_at.ensures.means c.in-Still.is _ _ (λ meaning. c.surely.ensures)
+pub begin-returns-in-Still : goal.begin-returns-in-Still
+begin-returns-in-Still t c = leaf_done c.args.table.now _ c.args.node c.args.stack _ _ _ c.kind_at.ensures.means c.in-Still.is _ (λ meaning. c.surely.ensures)
 
-pub work_out-returns-in-Leaf : goal.work_out-returns-in-Leaf
-work_out-returns-in-Leaf t c = at_once c.args.table.now c.args.node (stack_of c.args.stack) _ _ c.kind_at.ensures.means c.in-Leaf.is _ _ (λ meaning. c.maybe.ensures)
+pub begin-returns-in-Leaf : goal.begin-returns-in-Leaf
+begin-returns-in-Leaf t c = leaf_done c.args.table.now _ c.args.node c.args.stack _ _ _ c.kind_at.ensures.means c.in-Leaf.is _ (λ meaning. c.maybe.ensures)
 
-pub work_out-returns-in-Peek : goal.work_out-returns-in-Peek
-work_out-returns-in-Peek t c = at_once c.args.table.now c.args.node (stack_of c.args.stack) _ _ c.kind_at.ensures.means c.in-Peek.is _ _ (λ meaning. c.top.ensures)
+pub begin-returns-in-Peek : goal.begin-returns-in-Peek
+begin-returns-in-Peek t c = leaf_done c.args.table.now _ c.args.node c.args.stack _ _ _ c.kind_at.ensures.means c.in-Peek.is _ (λ meaning. c.top.ensures)
 
-pub work_out-returns-in-Pop : goal.work_out-returns-in-Pop
-work_out-returns-in-Pop t c = at_once c.args.table.now c.args.node (stack_of c.args.stack) _ _ c.kind_at.ensures.means c.in-Pop.is _ _ (λ meaning. c.top-in-Pop.ensures ∙ ap (top_reading (stack_of c.args.stack).marks (stack_of c.args.stack).base) c.popped.ensures)
+pub begin-returns-in-Pop : goal.begin-returns-in-Pop
+begin-returns-in-Pop t c = leaf_done c.args.table.now _ c.args.node c.args.stack _ _ _ c.kind_at.ensures.means c.in-Pop.is _ (λ meaning. c.top-in-Pop.ensures ∙ ap (top_reading (stack_of c.args.stack).marks (stack_of c.args.stack).base) c.popped.ensures)
 
-pub work_out-returns-in-Drop : goal.work_out-returns-in-Drop
-work_out-returns-in-Drop t c = at_once c.args.table.now c.args.node (stack_of c.args.stack) _ _ c.kind_at.ensures.means c.in-Drop.is _ _ (λ meaning. c.dropped.ensures)
+pub begin-returns-in-Drop : goal.begin-returns-in-Drop
+begin-returns-in-Drop t c = leaf_done c.args.table.now _ c.args.node c.args.stack _ _ _ c.kind_at.ensures.means c.in-Drop.is _ (λ meaning. c.dropped.ensures)
 
-pub work_out-returns-in-PeekAll : goal.work_out-returns-in-PeekAll
-work_out-returns-in-PeekAll t c = at_once c.args.table.now c.args.node (stack_of c.args.stack) _ _ c.kind_at.ensures.means c.in-PeekAll.is _ _ (λ meaning. c.peek_all.ensures)
+pub begin-returns-in-PeekAll : goal.begin-returns-in-PeekAll
+begin-returns-in-PeekAll t c = leaf_done c.args.table.now _ c.args.node c.args.stack _ _ _ c.kind_at.ensures.means c.in-PeekAll.is _ (λ meaning. c.peek_all.ensures)
 
-pub work_out-returns-in-PopAll : goal.work_out-returns-in-PopAll
-work_out-returns-in-PopAll t c = at_once c.args.table.now c.args.node (stack_of c.args.stack) _ _ c.kind_at.ensures.means c.in-PopAll.is _ _ (λ meaning. c.pop_all.ensures)
+pub begin-returns-in-PopAll : goal.begin-returns-in-PopAll
+begin-returns-in-PopAll t c = leaf_done c.args.table.now _ c.args.node c.args.stack _ _ _ c.kind_at.ensures.means c.in-PopAll.is _ (λ meaning. c.pop_all.ensures)
 
-pub work_out-returns-in-None : goal.work_out-returns-in-None
-work_out-returns-in-None t c = at_once c.args.table.now c.args.node (stack_of c.args.stack) _ _ c.kind_at.ensures.means c.in-Call.is _ _
+pub begin-returns-in-Some : goal.begin-returns-in-Some
+begin-returns-in-Some t c = done_at_once c.args.table.now _ _ c.args.node c.args.stack _ _ (λ meaning h i. (i, c.in-Some.ensures meaning i))
+
+pub begin-returns-in-None : goal.begin-returns-in-None
+begin-returns-in-None t c = leaf_done c.args.table.now _ c.args.node c.args.stack _ _ _ c.kind_at.ensures.means c.in-Call.is _
     (λ meaning. c.anything.ensures ∙ not_followed meaning (stack_of c.args.stack) (followed_at c.args.table.now c.in-Call.rule) c.followed.result c.followed.ensures c.in-None.is)
 
-pub work_out-returns-in-Some : goal.work_out-returns-in-Some
-work_out-returns-in-Some t c = where_ok c.read.result (λ r g. by_others c.args.table.now c.args.node (stack_of c.args.stack) _ _ c.kind_at.ensures.means c.in-Call.is _ _ r
-    (called c.args.table.now c.args.memory.now c.read.new.memory (stack_of c.args.stack) (followed_at c.args.table.now c.in-Call.rule) c.followed.result c.in-Some.body r c.followed.ensures c.in-Some.is g)) c.read.ensures
+pub begin-returns-in-Some-followed : goal.begin-returns-in-Some-followed
+begin-returns-in-Some-followed t c =
+    let tab = c.args.table.now in
+    let to : followed_at tab c.in-Call.rule ≡ Some c.in-Some-followed.body = sym c.followed.ensures ∙ c.in-Some-followed.is in
+    let lies : Called tab c.args.node c.in-Some-followed.body = subst (LeadsTo tab c.args.node) to (subst (Lies tab c.args.node) c.in-Call.is (c.kind_at.ensures.ordered c.requires.ordered)) in
+    where_ok c.wait.result (λ q g. wait_last tab _ c.args.node c.args.stack _ _ c.kind_at.ensures.means c.in-Call.is how.Same c.in-Some-followed.body _ _ q
+    (λ meaning. sym (ap (λ o. call_reading meaning o (stack_of c.args.stack)) to)) lies.within (level_called tab c.args.node c.in-Some-followed.body lies) g) c.wait.ensures
 
-pub work_out-returns-in_ok-after-in-Seq : goal.work_out-returns-in_ok-after-in-Seq
-work_out-returns-in_ok-after-in-Seq t c =
-    let first = c.in_ok-before-in-Seq.ensures in
-    let second = c.in_ok-after-in-Seq.ensures in
-    by_others c.args.table.now c.args.node (stack_of c.args.stack) _ _ c.kind_at.ensures.means c.in-Seq.is _ _ _ (record {
-      value = λ meaning h i. c.then.ensures ∙ seq_value c.args.table.now.skips (stack_of c.args.stack) _ _ (meaning c.in-Seq.first) (meaning c.in-Seq.second) (first.value meaning h i) (second.value meaning h (first.kept meaning h i));
-      kept = λ meaning h i. second.kept meaning h (first.kept meaning h i);
-    })
+pub begin-returns-in-PosPred : goal.begin-returns-in-PosPred
+begin-returns-in-PosPred t c =
+    let tab = c.args.table.now in
+    let lies : Inside tab c.args.node c.in-PosPred.body = subst (Lies tab c.args.node) c.in-PosPred.is (c.kind_at.ensures.ordered c.requires.ordered) in
+    where_ok c.wait-in-PosPred.result (λ q g. wait_last tab _ c.args.node c.args.stack _ _ c.kind_at.ensures.means c.in-PosPred.is how.Ahead c.in-PosPred.body _ _ q (λ meaning. refl) lies.within (level_inside tab c.args.node c.in-PosPred.body lies) g) c.wait-in-PosPred.ensures
 
-pub work_out-returns-in_ok-after-in-Choice : goal.work_out-returns-in_ok-after-in-Choice
-work_out-returns-in_ok-after-in-Choice t c =
-    let first = c.in_ok-before-in-Choice.ensures in
-    let second = c.in_ok-after-in-Choice.ensures in
-    by_others c.args.table.now c.args.node (stack_of c.args.stack) _ _ c.kind_at.ensures.means c.in-Choice.is _ _ _ (record {
-      value = λ meaning h i. c.or.ensures ∙ choice_value (stack_of c.args.stack) _ _ (meaning c.in-Choice.first) (meaning c.in-Choice.second) (first.value meaning h i) (second.value meaning h (first.kept meaning h i) ∙ ap (λ q. from q (meaning c.in-Choice.second)) c.failed.ensures);
-      kept = λ meaning h i. second.kept meaning h (first.kept meaning h i);
-    })
+pub begin-returns-in-NegPred : goal.begin-returns-in-NegPred
+begin-returns-in-NegPred t c =
+    let tab = c.args.table.now in
+    let lies : Inside tab c.args.node c.in-NegPred.body = subst (Lies tab c.args.node) c.in-NegPred.is (c.kind_at.ensures.ordered c.requires.ordered) in
+    where_ok c.wait-in-NegPred.result (λ q g. wait_last tab _ c.args.node c.args.stack _ _ c.kind_at.ensures.means c.in-NegPred.is how.NotAhead c.in-NegPred.body _ _ q (λ meaning. refl) lies.within (level_inside tab c.args.node c.in-NegPred.body lies) g) c.wait-in-NegPred.ensures
 
-pub work_out-returns-in-Repeat : goal.work_out-returns-in-Repeat
-work_out-returns-in-Repeat t c = where_ok c.repeat.result (λ r g. by_others c.args.table.now c.args.node (stack_of c.args.stack) _ _ c.kind_at.ensures.means c.in-Repeat.is _ _ r g) c.repeat.ensures
+pub begin-returns-in-Opt : goal.begin-returns-in-Opt
+begin-returns-in-Opt t c =
+    let tab = c.args.table.now in
+    let lies : Inside tab c.args.node c.in-Opt.body = subst (Lies tab c.args.node) c.in-Opt.is (c.kind_at.ensures.ordered c.requires.ordered) in
+    where_ok c.wait-in-Opt.result (λ q g. wait_last tab _ c.args.node c.args.stack _ _ c.kind_at.ensures.means c.in-Opt.is how.Optional c.in-Opt.body _ _ q (λ meaning. refl) lies.within (level_inside tab c.args.node c.in-Opt.body lies) g) c.wait-in-Opt.ensures
+
+pub begin-returns-in-Push : goal.begin-returns-in-Push
+begin-returns-in-Push t c =
+    let tab = c.args.table.now in
+    let lies : Inside tab c.args.node c.in-Push.body = subst (Lies tab c.args.node) c.in-Push.is (c.kind_at.ensures.ordered c.requires.ordered) in
+    where_ok c.wait-in-Push.result (λ q g. wait_last tab _ c.args.node c.args.stack _ _ c.kind_at.ensures.means c.in-Push.is how.Pushed c.in-Push.body _ _ q (λ meaning. refl) lies.within (level_inside tab c.args.node c.in-Push.body lies) g) c.wait-in-Push.ensures
+
+pub begin-returns-in-Seq : goal.begin-returns-in-Seq
+begin-returns-in-Seq t c =
+    let tab = c.args.table.now in
+    where_ok c.wait-in-Seq.result (λ q g. wait_first tab _ c.args.node c.args.stack _ _ c.kind_at.ensures.means c.in-Seq.is c.in-Seq.first c.in-Seq.second false _ _ q (λ meaning. refl)
+    (subst (Lies tab c.args.node) c.in-Seq.is (c.kind_at.ensures.ordered c.requires.ordered)) g) c.wait-in-Seq.ensures
+
+pub begin-returns-in-Choice : goal.begin-returns-in-Choice
+begin-returns-in-Choice t c =
+    let tab = c.args.table.now in
+    where_ok c.wait-in-Choice.result (λ q g. wait_first tab _ c.args.node c.args.stack _ _ c.kind_at.ensures.means c.in-Choice.is c.in-Choice.first c.in-Choice.second true _ _ q (λ meaning. refl)
+    (subst (Lies tab c.args.node) c.in-Choice.is (c.kind_at.ensures.ordered c.requires.ordered)) g) c.wait-in-Choice.ensures
+
+pub begin-returns-in_ok-remember-in-Repeat : goal.begin-returns-in_ok-remember-in-Repeat
+begin-returns-in_ok-remember-in-Repeat t c =
+    let tab = c.args.table.now in
+    let r = c.in_ok-reading-in-Repeat.ensures in
+    let same : (meaning : Meaning) → IsMeaning tab meaning → IsRight meaning c.args.memory.now → reading_of c.in_ok-reading-in-Repeat.reading ≡ meaning c.args.node (stack_of c.args.stack) = λ meaning h i.
+    r.value meaning h i ∙ sym (c.kind_at.ensures.means meaning h (stack_of c.args.stack) ∙ ap (λ k. node_reading tab meaning k (stack_of c.args.stack)) c.in-Repeat.is) in
+    done_at_once tab _ _ c.args.node c.args.stack _ _ (λ meaning h i. (c.in_ok-remember-in-Repeat.ensures meaning (r.kept meaning h i) (same meaning h i), same meaning h i))
 
 pub repeat-returns : goal.repeat-returns
 repeat-returns t c =

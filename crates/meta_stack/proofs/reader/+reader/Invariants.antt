@@ -1,17 +1,22 @@
 use Rattle.std.proofs.Common.{◌+◌, ◌*◌}
 use Rattle.meta_stack.specs.Table.{level}
 use Rattle.meta_stacks.specs.Views.{walk_of}
+use Rattle.meta_stack.specs.Waiting.{effort_next, effort_waiting}
+use Rattle.meta_stack.proofs.Awaiting.{ReadSoFar}
 use Rattle.meta_stack.proofs.Follow.{FollowedSoFar, TurnedSoFar}
 use Rattle.meta_stack.proofs.reader.+reader.Given as goal
 
 abbrev pub decreases-read : goal.decreases-read
 decreases-read l = level l.table.now l.node * 8 + 1
 
-abbrev pub decreases-work_out : goal.decreases-work_out
-decreases-work_out l = level l.table.now l.node * 8
+abbrev pub decreases-begin : goal.decreases-begin
+decreases-begin l = level l.table.now l.node * 8
 
-abbrev pub decreases-read_from : goal.decreases-read_from
-decreases-read_from l = level l.table.now l.node * 8 + 2
+abbrev pub invariant-read-steps : goal.invariant-read-steps
+invariant-read-steps l = ReadSoFar l.table l.fn.memory l.memory l.fn.node l.fn.stack l.next l.waiting.items
+
+abbrev pub decreases-read-steps : goal.decreases-read-steps
+decreases-read-steps l = effort_next l.table l.next + effort_waiting l.table l.waiting.items
 
 abbrev pub decreases-repeat : goal.decreases-repeat
 decreases-repeat l = level l.table.now l.body * 8 + 4

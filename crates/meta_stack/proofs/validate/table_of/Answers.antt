@@ -1,6 +1,6 @@
 use Rattle.std.proofs.Common.{◌≡◌, ◌∙◌, ◌&&◌, List, ℕ, Bool, not, sym, ap₂, subst, refl}
 use Rattle.meta_base.specs.Language.Expression.{whitespace, comment}
-use Rattle.meta_stacks.specs.Reports.{SkippingChangesStack}
+use Rattle.meta_stacks.specs.Reports.{SkippingAltersStack}
 use Rattle.meta_stack.specs.Answers.{AreSound, AreClosed}
 use Rattle.meta_stack.specs.Expressions.{name_flag}
 use Rattle.meta_stack.specs.Leading.{AreCalls}
@@ -26,8 +26,8 @@ returns-then-not-leaves_stack c =
     let flags = c.in_ok-changing.changing.items in
     let leaves = λ (r : List ℕ) (f : List Bool). not (name_flag g r f whitespace) && not (name_flag g r f comment) in
     is_changed c.args.rules.now c.number_all.new.nodes.items c.in_ok-roots.roots.items c.in_ok-roots.ensures flags
-    (sound_at asks.ChangesStack _ _ _ _ flags c.as_slice-2.ensures.value c.as_slice.ensures.value c.in_ok-changing.ensures.sound)
-    (closed_at asks.ChangesStack _ _ _ _ flags c.as_slice-2.ensures.value c.as_slice.ensures.value c.in_ok-changing.ensures.closed)
+    (sound_at asks.AltersStack _ _ _ _ flags c.as_slice-2.ensures.value c.as_slice.ensures.value c.in_ok-changing.ensures.sound)
+    (closed_at asks.AltersStack _ _ _ _ flags c.as_slice-2.ensures.value c.as_slice.ensures.value c.in_ok-changing.ensures.closed)
     (ap₂ leaves (sym c.as_slice-3.ensures.value) (sym c.as_slice-4.ensures.value) ∙ (sym c.leaves_stack.ensures ∙ c.if-not-leaves_stack.true))
 
 pub returns : goal.returns
@@ -36,9 +36,9 @@ returns c =
     let flags = c.in_ok-changing.changing.items in
     let null = c.in_ok-nullable.nullable.items in
     let leaves = λ (r : List ℕ) (f : List Bool). not (name_flag g r f whitespace) && not (name_flag g r f comment) in
-    let calm : SkippingChangesStack g → ⊥ = is_calm c.args.rules.now c.number_all.new.nodes.items c.in_ok-roots.roots.items c.in_ok-roots.ensures flags
-    (sound_at asks.ChangesStack _ _ _ _ flags c.as_slice-2.ensures.value c.as_slice.ensures.value c.in_ok-changing.ensures.sound)
-    (closed_at asks.ChangesStack _ _ _ _ flags c.as_slice-2.ensures.value c.as_slice.ensures.value c.in_ok-changing.ensures.closed)
+    let calm : SkippingAltersStack g → ⊥ = is_calm c.args.rules.now c.number_all.new.nodes.items c.in_ok-roots.roots.items c.in_ok-roots.ensures flags
+    (sound_at asks.AltersStack _ _ _ _ flags c.as_slice-2.ensures.value c.as_slice.ensures.value c.in_ok-changing.ensures.sound)
+    (closed_at asks.AltersStack _ _ _ _ flags c.as_slice-2.ensures.value c.as_slice.ensures.value c.in_ok-changing.ensures.closed)
     (ap₂ leaves (sym c.as_slice-3.ensures.value) (sym c.as_slice-4.ensures.value) ∙ (sym c.leaves_stack.ensures ∙ c.if-not-leaves_stack.false)) in
     as_it_should c.args.rules.now _ (record {
       tabled = c.in_ok-roots.ensures;

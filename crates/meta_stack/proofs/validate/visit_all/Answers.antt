@@ -2,6 +2,7 @@ use Rattle.std.proofs.Common.{◌≡◌, ◌<◌, ◌+◌, ◌∙◌, sym, ap, s
 use Rattle.std.proofs.lemmas.List.{take_more}
 use Rattle.std.proofs.lemmas.Option.{slice_get_read}
 use Rattle.meta_stack.specs.Table.{nodes_of}
+use Rattle.meta_stack.specs.Following.{seen_stacks}
 use Rattle.meta_stack.specs.Visiting.{FindsAll}
 use Rattle.meta_stack.proofs.Whole.{all_none, all_more}
 use Rattle.meta_stack.proofs.validate.visit_all.Goals as goal
@@ -28,10 +29,11 @@ loop-rule-preserved c =
     let i = c.loop-rule.rule in
     let root = c.index.result.now in
     let h : i < length roots = search rules in
+    let one : c.in_ok-vec.field-0.items ≡ c.entry.result ∷ [] = c.in_ok-vec.ensures.items_if_clones_equal (λ y h. search rules) in
     let more : take (i + 1) roots ≡ take i roots ++ root ∷ [] = take_more roots i root h ∙ ap (λ z. take i roots ++ z ∷ []) (sym c.index.ensures) in
     record {
       right = λ meaning m. c.in_ok-visit.ensures.kept meaning m (c.loop-rule.invariant.right meaning m);
       found = subst (λ z. FindsAll t z c.visit.new.found.items) (sym more)
-          (all_more t (take i roots) root c.loop-rule.memory c.visit.new.memory (c.entry.result ∷ []) c.loop-rule.found.items c.visit.new.found.items
-          c.loop-rule.invariant.right (ap (λ z. z ∷ []) c.entry.ensures) c.loop-rule.invariant.found c.in_ok-visit.ensures);
+          (all_more t (take i roots) root c.loop-rule.memory c.visit.new.memory c.in_ok-vec.field-0.items c.loop-rule.found.items c.visit.new.found.items
+          c.loop-rule.invariant.right (ap seen_stacks one ∙ ap (λ z. z ∷ []) c.entry.ensures) c.loop-rule.invariant.found c.in_ok-visit.ensures);
     }

@@ -1,5 +1,4 @@
-use Rattle.std.proofs.Common.{map, [], subst}
-use Rattle.meta_base.specs.Language.WellFormed.{IsWellFormed}
+use Rattle.std.proofs.Common.{map, subst}
 use Rattle.meta_nodes.specs.Nodes.{piece_of, rule_views}
 use Rattle.meta_stack.specs.Certain.{AreReports}
 use Rattle.meta_validator.specs.Reported.{AreReported}

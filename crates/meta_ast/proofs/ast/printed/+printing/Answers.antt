@@ -58,6 +58,10 @@ fmt_pair-fmt_sides-requires g t c κs within =
     let lighter = rw c.deref.ensures at c.in-Ok.ensures.lighter in
     (omega (arith, some, lighter, c.decreases), within)
 
+pub fmt_two-fmt_alone-requires : goal.fmt_two-fmt_alone-requires
+fmt_two-fmt_alone-requires g t c κs within =
+    let some = some_weight (expression_of c.args.left.now) in (omega (arith, some, c.decreases), within)
+
 pub fmt_sides-loop-side-init : goal.fmt_sides-loop-side-init
 fmt_sides-loop-side-init g t c = (
   omega arith,

@@ -22,14 +22,17 @@ decreases-fmt_sides g l = 5 * (weight (expression_of l.end.now) + weight_aside l
 abbrev pub decreases-fmt_side : goal.decreases-fmt_side
 decreases-fmt_side g l = 5 * weight_aside (l.side ∷ [])
 
-abbrev pub decreases-fmt_sequence : goal.decreases-fmt_sequence
-decreases-fmt_sequence g l = 5 * (2 * weight (expression_of l.left.now) + weight (expression_of l.right.now) + 1)
+abbrev pub decreases-fmt_two : goal.decreases-fmt_two
+decreases-fmt_two g l = 5 * (2 * weight (expression_of l.left.now) + weight_aside (l.side ∷ [])) + 1
 
-abbrev pub decreases-fmt_choice : goal.decreases-fmt_choice
-decreases-fmt_choice g l = 5 * (2 * weight (expression_of l.left.now) + weight (expression_of l.right.now) + 1)
+abbrev pub decreases-fmt_within : goal.decreases-fmt_within
+decreases-fmt_within g l = 5 * weight (expression_of l.inner.now) + 4
 
 abbrev pub decreases-fmt_postfix : goal.decreases-fmt_postfix
 decreases-fmt_postfix g l = 5 * weight (expression_of l.inner.now) + 5
+
+abbrev pub decreases-fmt_counted : goal.decreases-fmt_counted
+decreases-fmt_counted g l = 5 * weight (expression_of l.inner.now) + 5
 
 abbrev pub decreases-fmt_after_tilde : goal.decreases-fmt_after_tilde
 decreases-fmt_after_tilde g l = 5 * weight (expression_of l.expr.now) + 4

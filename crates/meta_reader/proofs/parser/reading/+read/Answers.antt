@@ -46,8 +46,8 @@ expression-returns-in_err-right t c =
     let p = err_from_is_err_and c.from_residual-in_err-right.result c.from_residual-in_err-right.ensures.1 in
     rw (p.1, p.2, c.loop-bar.invariant.flaws, c.in-Some.ensures, r.0, r.1, quiet_bar) (c.in_err-right.ensures)
 
-pub expression-choice-requires : goal.expression-choice-requires
-expression-choice-requires t c =
+pub expression-combined-requires : goal.expression-combined-requires
+expression-combined-requires t c =
     let r = rest_tree (rw c.in-Some.ensures at c.loop-bar.invariant.shape) in
     let e = c.in_ok-right.ensures in
     let h = rw (c.in-Some.ensures, r.0, r.1) at c.loop-bar.invariant.reads in
@@ -114,8 +114,8 @@ sequence-returns-in_err-right t c =
     let p = err_from_is_err_and c.from_residual-in_err-right.result c.from_residual-in_err-right.ensures.1 in
     rw (p.1, p.2, c.loop-inner.invariant.flaws, w.flaw) (first_in _ _ _ c.in_err-right.ensures)
 
-pub sequence-in_sequence-requires : goal.sequence-in_sequence-requires
-sequence-in_sequence-requires t c =
+pub sequence-combined-requires : goal.sequence-combined-requires
+sequence-combined-requires t c =
     let s : StandIn c.args.text.now (named_trees_of c.args.trees.now) = assumption in
     let w = has_term (c.in-Some.ensures c.args.text.now c.loop-inner.invariant.shape) in
     w.place (named_trees_of c.args.trees.now) c.loop-inner.left c.in_ok-right.right s c.loop-inner.invariant.reads c.in_ok-right.ensures.1

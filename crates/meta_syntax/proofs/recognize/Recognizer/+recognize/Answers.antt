@@ -17,6 +17,8 @@ use Rattle.meta_syntax.proofs.Choices.{failed_at, found_among, found_at, goes_on
 use Rattle.meta_base.specs.declared.grammar.Rule.TheVariants as is
 use Rattle.meta_syntax.specs.MetaGrammar.{body_of}
 use Rattle.meta_syntax.specs.declared.sets.Set.TheVariants as set
+use Rattle.meta_syntax.specs.declared.modes.Mode.TheVariants as in_mode
+use Rattle.meta_syntax.proofs.Comments.{all_closed, begun_one, left_open, never_begun, one_closed, one_less, one_opened, one_turn, past_plain, shortened, turn_kept}
 use Rattle.meta_syntax.proofs.Quoted.{finds_quoted, so_far_escape, unseen}
 use Rattle.meta_syntax.proofs.SetCharacters.{finds_characters, finds_tight, so_far_further, so_far_past}
 use Rattle.meta_syntax.proofs.recognize.Recognizer.+recognize.Goals as goal
@@ -221,20 +223,6 @@ skip-returns-in-Atomic t c = record {
   means = finds_no_skipping c.args.mode _ _ _ _ c.in-Atomic.is;
 }
 
-pub call-returns-in-Some-clause-means : goal.call-returns-in-Some-clause-means
-call-returns-in-Some-clause-means t c =
-    let l : IsLeft c.args.text.now c.args.rest.now = search rules in
-    record {
-      trees = None';
-      added = not_grown (named_entries c.args.self.now.entries.items);
-      ran = λ classes. c.in-Some.ensures.means c.args.text.now l classes c.args.mode c.args.self.now.furthest;
-    }
-
-pub call-returns-in-Some-rejection-clause-sound : goal.call-returns-in-Some-rejection-clause-sound
-call-returns-in-Some-rejection-clause-sound t c =
-    let s : IsSound c.args.text.now c.args.self.now = search rules in
-    sound_on c.args.text.now c.args.self.now c.in-Some-rejection.furthest s c.in-Some-rejection.ensures.further
-
 pub characters-loop-set-init : goal.characters-loop-set-init
 characters-loop-set-init t c =
     let l : IsLeft c.args.text.now c.args.from.now = search rules in
@@ -311,6 +299,98 @@ quoted-returns-in-None-clause-means t c =
     let w = rw c.in-None.is at c.in_ok-after.ensures.means in
     let k = unseen c.args.mode (sym c.is_seen_from.ensures ∙ c.if-is_seen_from.false) in
     rw k (finds_quoted c.loop-next.invariant.means y w)
+
+pub comment-returns-then-is_seen_from-clause-means : goal.comment-returns-then-is_seen_from-clause-means
+comment-returns-then-is_seen_from-clause-means t c =
+    let o : expression_of c.args.spelled.now ≡ body_of is.block_comment = search rules in
+    rw (← o) c.copies.ensures.means
+
+pub comment-returns-in_default-clause-means : goal.comment-returns-in_default-clause-means
+comment-returns-in_default-clause-means t c =
+    let l : IsLeft c.args.text.now c.args.from.now = search rules in
+    let k = unseen c.args.mode (sym c.is_seen_from.ensures ∙ c.if-is_seen_from.false) in
+    rw k (never_begun _ (c.in_default.ensures.means c.args.text.now l))
+
+pub comment-loop-after-init : goal.comment-loop-after-init
+comment-loop-after-init t c =
+    let l : IsLeft c.args.text.now c.args.from.now = search rules in
+    let g = c.in-Some.ensures.goes_on c.args.text.now l in
+    record {
+      text = search rules;
+      means = begun_one (c.in-Some.ensures.means c.args.text.now l);
+      kept = refl;
+      left = g.left;
+      shorter = omega (arith, shortened g.consumed);
+      sound = search rules;
+    }
+
+pub comment-returns-then-inner-eq0-clause-means : goal.comment-returns-then-inner-eq0-clause-means
+comment-returns-then-inner-eq0-clause-means t c =
+    let i = c.loop-after.invariant in
+    let k = unseen c.args.mode (sym c.is_seen_from.ensures ∙ c.if-is_seen_from.false) in
+    let g = c.past-next.ensures.goes_on c.args.text.now i.left in
+    let h = past_plain (c.past-next.ensures.means c.args.text.now in_mode.Atomic i.left refl) i.means in
+    rw k (all_closed h _ _ c.if-inner-eq0.true i.kept (c.in-Some-literal.ensures.means c.args.text.now g.left))
+
+pub comment-loop-after-preserved-in-Some-literal : goal.comment-loop-after-preserved-in-Some-literal
+comment-loop-after-preserved-in-Some-literal t c =
+    let i = c.loop-after.invariant in
+    let g = c.past-next.ensures.goes_on c.args.text.now i.left in
+    let f = c.in-Some-literal.ensures.goes_on c.args.text.now g.left in
+    let h = past_plain (c.past-next.ensures.means c.args.text.now in_mode.Atomic i.left refl) i.means in
+    record {
+      text = search rules;
+      means = one_closed h (one_less _ c.if-inner-eq0.false) (c.in-Some-literal.ensures.means c.args.text.now g.left);
+      kept = i.kept;
+      left = f.left;
+      shorter = omega (arith, f.shorter, g.shorter, i.shorter);
+      sound = search rules;
+    }
+
+pub comment-loop-after-preserved-in-Some-opened : goal.comment-loop-after-preserved-in-Some-opened
+comment-loop-after-preserved-in-Some-opened t c =
+    let i = c.loop-after.invariant in
+    let g = c.past-next.ensures.goes_on c.args.text.now i.left in
+    let o = c.in-Some-opened.ensures c.args.text.now g.left in
+    let f = o.goes_on in
+    let h = past_plain (c.past-next.ensures.means c.args.text.now in_mode.Atomic i.left refl) i.means in
+    record {
+      text = search rules;
+      means = one_opened h (omega arith) o;
+      kept = i.kept;
+      left = f.left;
+      shorter = omega (arith, shortened f.consumed, g.shorter, i.shorter);
+      sound = search rules;
+    }
+
+pub comment-loop-after-preserved : goal.comment-loop-after-preserved
+comment-loop-after-preserved t c =
+    let i = c.loop-after.invariant in
+    let g = c.past-next.ensures.goes_on c.args.text.now i.left in
+    let h = past_plain (c.past-next.ensures.means c.args.text.now in_mode.Atomic i.left refl) i.means in
+    let b : expression_of c.args.body.now ≡ spelled_by set.Comment = search rules in
+    let v = rw c.in-Some-2.is at c.in_ok-after.ensures.means in
+    let f = rw c.in-Some-2.is at c.in_ok-after.ensures.goes_on in
+    let w = rw b at v in
+    record {
+      text = search rules;
+      means = one_turn h w;
+      kept = turn_kept w ∙ i.kept;
+      left = f.left;
+      shorter = omega (arith, f.shorter, g.shorter, i.shorter);
+      sound = search rules;
+    }
+
+pub comment-returns-in_default-2-clause-means : goal.comment-returns-in_default-2-clause-means
+comment-returns-in_default-2-clause-means t c =
+    let i = c.loop-after.invariant in
+    let k = unseen c.args.mode (sym c.is_seen_from.ensures ∙ c.if-is_seen_from.false) in
+    let g = c.past-next.ensures.goes_on c.args.text.now i.left in
+    let h = past_plain (c.past-next.ensures.means c.args.text.now in_mode.Atomic i.left refl) i.means in
+    let b : expression_of c.args.body.now ≡ spelled_by set.Comment = search rules in
+    let v = rw c.in_default-2.is at c.in_ok-after.ensures.means in
+    let w = rw b at v in
+    rw k (left_open h _ _ _ i.kept (c.in_default-literal.ensures.means c.args.text.now g.left) w)
 
 pub called-returns-then-has_failed-clause-means : goal.called-returns-then-has_failed-clause-means
 called-returns-then-has_failed-clause-means t c =

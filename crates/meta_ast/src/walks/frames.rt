@@ -1,0 +1,62 @@
+//! One step of a map: an expression that is taken apart, or what stands round it put together again.
+ghost use Rattle.std.specs.Prelude.{◌≡◌, ◌++◌, ◌∷◌, [], alloc_error, IfErr, IfOk, OnOk};
+ghost use Rattle.meta_ast.specs.Frames.{Closes, Opens};
+
+use super::{Frame, Node, Onward, Tree};
+use meta_base::runtime::Fault;
+use std::alloc::Global;
+
+/// What is to be met next of an expression, with a frame for what stands round it. The only fault is a want of
+/// memory.
+pub(crate) fn opened<E: Tree>(
+    frames: &mut Vec<Frame<E, E::Sign>>,
+    expr: E,
+) -> Result<Onward<E>, Fault>
+    ensures opens { IfOk result (λ next.
+        Opens E.says E.stands_for (E.says expr) frames.old.items next frames.new.items) }
+    ensures memory { IfErr result (λ fault. fault ≡ Fault.Memory alloc_error) }
+{
+    match expr.open() {
+        Node::Leaf(leaf) => Ok(Onward::Done(leaf)),
+        Node::One(sign, operand) => {
+            keep(frames, Frame::Around(sign))?;
+            Ok(Onward::Next(operand))
+        }
+        Node::Two(joint, left, right) => {
+            keep(frames, Frame::Before(joint, right))?;
+            Ok(Onward::Next(left))
+        }
+    }
+}
+
+/// What becomes of a frame, the last one, once what stands in it is done. The only fault is a want of memory.
+pub(crate) fn closed<E: Tree>(
+    alloc: Global,
+    frames: &mut Vec<Frame<E, E::Sign>>,
+    frame: Frame<E, E::Sign>,
+    done: E,
+) -> Result<Onward<E>, Fault>
+    ensures closes { IfOk result (λ next.
+        Closes E.says E.stands_for frames.old.items done frame next frames.new.items) }
+    ensures memory { IfErr result (λ fault. fault ≡ Fault.Memory alloc_error) }
+{
+    match frame {
+        Frame::Around(sign) => Ok(Onward::Done(E::enclose(alloc, sign, done)?)),
+        Frame::After(joint, left) => Ok(Onward::Done(E::join(alloc, joint, left, done)?)),
+        Frame::Before(joint, right) => {
+            keep(frames, Frame::After(joint, done))?;
+            Ok(Onward::Next(right))
+        }
+    }
+}
+
+// Puts a frame behind the others.
+fn keep<E: Drop, S: Drop>(frames: &mut Vec<Frame<E, S>>, frame: Frame<E, S>) -> Result<(), Fault>
+    ensures kept { OnOk result (frames.new.items ≡ frames.old.items ++ (frame ∷ [])) }
+    ensures memory { IfErr result (λ fault. fault ≡ Fault.Memory alloc_error) }
+{
+    match frames.push(frame) {
+        Ok(()) => Ok(()),
+        Err(refused) => Err(Fault::Memory(refused.into())),
+    }
+}

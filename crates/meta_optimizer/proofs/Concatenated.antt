@@ -1,0 +1,40 @@
+-- Putting literals together by a loop is putting them together at each node from the leaves up.
+use Rattle.std.proofs.Common.{◌≡◌, ◌∙◌, refl, sym, ap, subst, List, [], ◌∷◌, ◌++◌, Global, Result, Ok, Err, IfOk}
+use Rattle.std.proofs.lemmas.List.{append_assoc, append-nil}
+use Rattle.std.specs.declared.alloc.AllocError.{AllocError}
+use Rattle.std.specs.declared.string.String.{String}
+use Rattle.meta_ast.specs.Ast.{expression_of, text_of}
+use Rattle.meta_ast.specs.declared.ast.Expr.{Expr, Str, Insens, Range, Ident, PeekSlice, PosPred', NegPred', Seq', Choice', Opt', Rep', RepOnce', RepExact', RepMin', RepMax', RepMinMax', Skip, Push'}
+use Rattle.meta_optimizer.specs.Joined.{backwards, concatenated}
+use Rattle.meta_optimizer.specs.Traversals as trav
+use Rattle.meta_optimizer.specs.Traversals.{BottomUp}
+use Rattle.meta_optimizer.proofs.Joining.{Joined}
+
+pub backwards_last : (xs : List (String Global)) (y : String Global) → backwards (xs ++ y ∷ []) ≡ text_of y ++ backwards xs
+backwards_last [] y = sym (append-nil (text_of y))
+backwards_last (x ∷ xs) y = ap (λ t. t ++ text_of x) (backwards_last xs y) ∙ append_assoc (text_of y) (backwards xs) (text_of x)
+
+pub from_the_leaves : (x : Expr) → BottomUp Joined (expression_of x) (concatenated (expression_of x))
+from_the_leaves (Str s) = trav.left (trav.Above.leaf tt) refl
+from_the_leaves (Insens s) = trav.left (trav.Above.leaf tt) refl
+from_the_leaves (Range s t) = trav.left (trav.Above.leaf tt) refl
+from_the_leaves (Ident s) = trav.left (trav.Above.leaf tt) refl
+from_the_leaves (PeekSlice i j) = trav.left (trav.Above.leaf tt) refl
+from_the_leaves (Skip ss) = trav.left (trav.Above.leaf tt) refl
+from_the_leaves (PosPred' p y) = trav.left (trav.Above.pos_pred (from_the_leaves y)) refl
+from_the_leaves (NegPred' p y) = trav.left (trav.Above.neg_pred (from_the_leaves y)) refl
+from_the_leaves (Opt' p y) = trav.left (trav.Above.opt (from_the_leaves y)) refl
+from_the_leaves (Rep' p y) = trav.left (trav.Above.rep (from_the_leaves y)) refl
+from_the_leaves (RepOnce' p y) = trav.left (trav.Above.rep_once (from_the_leaves y)) refl
+from_the_leaves (RepExact' p y i) = trav.left (trav.Above.rep_exact (from_the_leaves y)) refl
+from_the_leaves (RepMin' p y i) = trav.left (trav.Above.rep_min (from_the_leaves y)) refl
+from_the_leaves (RepMax' p y i) = trav.left (trav.Above.rep_max (from_the_leaves y)) refl
+from_the_leaves (RepMinMax' p y i j) = trav.left (trav.Above.rep_min_max (from_the_leaves y)) refl
+from_the_leaves (Push' p y) = trav.left (trav.Above.push (from_the_leaves y)) refl
+from_the_leaves (Seq' p y q z) = trav.left (trav.Above.seq (from_the_leaves y) (from_the_leaves z)) refl
+from_the_leaves (Choice' p y q z) = trav.left (trav.Above.choice (from_the_leaves y) (from_the_leaves z)) refl
+
+pub answered : (x : Expr) (r : Result Expr AllocError) → IfOk r (λ y. expression_of y ≡ concatenated (expression_of x))
+    → IfOk r (λ y. BottomUp Joined (expression_of x) (expression_of y))
+answered x (Ok y) h = subst (BottomUp Joined (expression_of x)) (sym h) (from_the_leaves x)
+answered x (Err e) h = h

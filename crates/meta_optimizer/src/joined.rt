@@ -1,0 +1,194 @@
+//! Literals in sequence put together by a loop, in time linear in their texts.
+ghost use Rattle.std.specs.Prelude.{◌≡◌, ◌++◌, ◌*◌, ⊤, IfOk};
+ghost use Rattle.meta_base.specs.Language.Expression.{Expression, Seq};
+ghost use Rattle.meta_ast.specs.Ast.{expression_of, text_of};
+ghost use Rattle.meta_ast.specs.Weight.{weight};
+ghost use Rattle.meta_optimizer.specs.Here.{joined_here};
+ghost use Rattle.meta_optimizer.specs.Joined.{backwards, concatenated, joined_with, said_by, waits_of};
+
+use meta_ast::ast::Expr;
+use meta_ast::rebuilt::{Rebuild, Step, rebuilt};
+use std::alloc::{AllocError, Global};
+
+/// The expression with two literals in sequence as one, at each node from the leaves up. The only fault is a
+/// want of memory.
+pub(crate) fn with_literals_joined(alloc: Global, expr: Expr) -> Result<Expr, AllocError>
+    ensures { IfOk result (λ e. expression_of e ≡ concatenated (expression_of expr)) }
+{
+    let joined = rebuilt::<Around>(alloc, expr)?;
+    whole(alloc, joined)
+}
+
+// An expression that is made. A literal of several is kept in parts, the last one first, so that another one
+// can be put before it.
+#[derive(Drop)]
+enum Joined {
+    Texts(Vec<String>),
+    Insensitive(Vec<String>),
+    Other(Expr),
+}
+
+// What stands around an operand.
+#[derive(Drop)]
+enum Around {
+    PosPred,
+    NegPred,
+    Opt,
+    Rep,
+    RepOnce,
+    RepExact(u32),
+    RepMin(u32),
+    RepMax(u32),
+    RepMinMax(u32, u32),
+    Push,
+    // A `~` or a `|` whose left side is at hand, with the right one; and with the left one as it is made.
+    FirstOfSeq(Box<Expr>),
+    FirstOfChoice(Box<Expr>),
+    SecondOfSeq(Expr),
+    SecondOfChoice(Box<Expr>),
+}
+
+impl Rebuild for Around {
+    type Source = Expr;
+
+    type Target = Joined;
+
+    ghost Meaning = { Expression };
+
+    ghost says = { λ expr. concatenated (expression_of expr) };
+
+    ghost made = { λ joined. said_by joined };
+
+    ghost fills = { λ around operand. joined_with around operand };
+
+    ghost is_right = { λ _. ⊤ };
+
+    ghost is_ready = { λ _. ⊤ };
+
+    ghost size = { λ expr. 4 * weight (expression_of expr) };
+
+    ghost waits = { λ around. waits_of around };
+
+    fn open(expr: Expr) -> Result<Step<Expr, Around, Joined>, AllocError> {
+        use Around as A;
+        match expr {
+            Expr::PosPred(inner) => Ok(Step::Inside(A::PosPred, Box::into_inner(inner))),
+            Expr::NegPred(inner) => Ok(Step::Inside(A::NegPred, Box::into_inner(inner))),
+            Expr::Opt(inner) => Ok(Step::Inside(A::Opt, Box::into_inner(inner))),
+            Expr::Rep(inner) => Ok(Step::Inside(A::Rep, Box::into_inner(inner))),
+            Expr::RepOnce(inner) => Ok(Step::Inside(A::RepOnce, Box::into_inner(inner))),
+            Expr::RepExact(inner, n) => Ok(Step::Inside(A::RepExact(n), Box::into_inner(inner))),
+            Expr::RepMin(inner, min) => Ok(Step::Inside(A::RepMin(min), Box::into_inner(inner))),
+            Expr::RepMax(inner, max) => Ok(Step::Inside(A::RepMax(max), Box::into_inner(inner))),
+            Expr::RepMinMax(inner, min, max) => {
+                Ok(Step::Inside(A::RepMinMax(min, max), Box::into_inner(inner)))
+            }
+            Expr::Push(inner) => Ok(Step::Inside(A::Push, Box::into_inner(inner))),
+            Expr::Seq(left, right) => {
+                Ok(Step::Inside(A::FirstOfSeq(right), Box::into_inner(left)))
+            }
+            Expr::Choice(left, right) => {
+                Ok(Step::Inside(A::FirstOfChoice(right), Box::into_inner(left)))
+            }
+            leaf => Ok(Step::Made(Joined::Other(leaf))),
+        }
+    }
+
+    fn close(
+        self,
+        alloc: Global,
+        operand: Joined,
+    ) -> Result<Step<Expr, Around, Joined>, AllocError> {
+        use Joined::Other;
+        match self {
+            Around::FirstOfSeq(right) => {
+                let left = whole(alloc, operand)?;
+                Ok(Step::Inside(Around::SecondOfSeq(left), Box::into_inner(right)))
+            }
+            Around::SecondOfSeq(left) => Ok(Step::Made(beside(alloc, left, operand)?)),
+            Around::FirstOfChoice(right) => {
+                let left = boxed(alloc, operand)?;
+                Ok(Step::Inside(Around::SecondOfChoice(left), Box::into_inner(right)))
+            }
+            Around::SecondOfChoice(left) => {
+                let right = boxed(alloc, operand)?;
+                Ok(Step::Made(Other(Expr::Choice(left, right))))
+            }
+            Around::PosPred => Ok(Step::Made(Other(Expr::PosPred(boxed(alloc, operand)?)))),
+            Around::NegPred => Ok(Step::Made(Other(Expr::NegPred(boxed(alloc, operand)?)))),
+            Around::Opt => Ok(Step::Made(Other(Expr::Opt(boxed(alloc, operand)?)))),
+            Around::Rep => Ok(Step::Made(Other(Expr::Rep(boxed(alloc, operand)?)))),
+            Around::RepOnce => Ok(Step::Made(Other(Expr::RepOnce(boxed(alloc, operand)?)))),
+            Around::RepExact(n) => Ok(Step::Made(Other(Expr::RepExact(boxed(alloc, operand)?, n)))),
+            Around::RepMin(min) => Ok(Step::Made(Other(Expr::RepMin(boxed(alloc, operand)?, min)))),
+            Around::RepMax(max) => Ok(Step::Made(Other(Expr::RepMax(boxed(alloc, operand)?, max)))),
+            Around::RepMinMax(min, max) => {
+                let inner = boxed(alloc, operand)?;
+                Ok(Step::Made(Other(Expr::RepMinMax(inner, min, max))))
+            }
+            Around::Push => Ok(Step::Made(Other(Expr::Push(boxed(alloc, operand)?)))),
+        }
+    }
+}
+
+// What is made, as an expression.
+fn whole(alloc: Global, joined: Joined) -> Result<Expr, AllocError>
+    ensures { IfOk result (λ e. expression_of e ≡ said_by joined) }
+{
+    match joined {
+        Joined::Texts(parts) => Ok(Expr::Str(together(alloc, parts)?)),
+        Joined::Insensitive(parts) => Ok(Expr::Insens(together(alloc, parts)?)),
+        Joined::Other(expr) => Ok(expr),
+    }
+}
+
+fn boxed(alloc: Global, joined: Joined) -> Result<Box<Expr>, AllocError>
+    ensures { IfOk result (λ e. expression_of e.value ≡ said_by joined) }
+{
+    let expr = whole(alloc, joined)?;
+    Ok(Box::new(alloc, expr)?)
+}
+
+// The texts one after another, from the last to the first.
+fn together(alloc: Global, texts: Vec<String>) -> Result<String, AllocError>
+    ensures { IfOk result (λ text. text_of text ≡ backwards texts.items) }
+{
+    let mut parts = texts;
+    let mut text = String::new(alloc);
+    'parts: while let Some(part) = parts.pop() {
+        text.push_str(&part)?;
+    }
+    Ok(text)
+}
+
+// `left ~ right`, or one literal.
+fn beside(alloc: Global, left: Expr, right: Joined) -> Result<Joined, AllocError>
+    ensures { IfOk result
+        (λ j. said_by j ≡ joined_here (Seq (expression_of left) (said_by right))) }
+{
+    match (left, right) {
+        (Expr::Str(first), Joined::Texts(parts)) => Ok(Joined::Texts(before(first, parts)?)),
+        (Expr::Str(first), Joined::Other(Expr::Str(last))) => {
+            Ok(Joined::Texts(vec![in alloc; last, first]?))
+        }
+        (Expr::Insens(first), Joined::Insensitive(parts)) => {
+            Ok(Joined::Insensitive(before(first, parts)?))
+        }
+        (Expr::Insens(first), Joined::Other(Expr::Insens(last))) => {
+            Ok(Joined::Insensitive(vec![in alloc; last, first]?))
+        }
+        (left, right) => {
+            let left = Box::new(alloc, left)?;
+            Ok(Joined::Other(Expr::Seq(left, boxed(alloc, right)?)))
+        }
+    }
+}
+
+// The parts of a text, with another one before them.
+fn before(first: String, parts: Vec<String>) -> Result<Vec<String>, AllocError>
+    ensures { IfOk result (λ all. backwards all.items ≡ text_of first ++ backwards parts.items) }
+{
+    let mut all = parts;
+    all.push(first)?;
+    Ok(all)
+}

@@ -1,0 +1,64 @@
+-- Numbers that are noted behind one another are those of an expression's names.
+use Rattle.std.proofs.Common.{◌≡◌, ℕ, ◌+◌, List, [], ◌∷◌, ◌++◌, Option, Some, map, slice_get, length, refl, sym, ◌∙◌, ap, subst}
+use Rattle.std.proofs.lemmas.List.{append-nil, append_assoc, length-append, length-map, map-append}
+use Rattle.std.proofs.Math.Nat.{add_assoc}
+use Rattle.meta_base.specs.Language.Text.{Text}
+use Rattle.meta_base.specs.Language.Expression.{Expression, Str, Insens, Range, Ident, PeekSlice, PosPred, NegPred, Seq, Choice, Opt, Rep, RepOnce, RepExact, RepMin, RepMax, RepMinMax, Skip, Push, RestoreOnErr}
+use Rattle.meta_restorer.specs.Calls.{names_in, AreNoted}
+use Rattle.meta_restorer.specs.Names.{number_of}
+use Rattle.meta_restorer.specs.declared.names.Names.{Names}
+use Rattle.meta_restorer.specs.declared.names.Names.{Names}
+
+got_here : {A : Type 0} (xs ys : List A) (x : A) → slice_get (xs ++ (x ∷ ys)) (length xs) ≡ Some x
+got_here [] ys x = refl
+got_here (z ∷ xs) ys x = got_here xs ys x
+
+pub counted : {A : Type 0} (xs ys : List A) (i j k : ℕ) → j ≡ i + length xs → i + length (xs ++ ys) ≡ k → j + length ys ≡ k
+counted xs ys i j k e f = ap (λ n. n + length ys) e ∙ (add_assoc i (length xs) (length ys) ∙ (ap (λ n. i + n) (sym (length-append xs ys)) ∙ f))
+
+module _ (names : Names) where
+  abbrev numbers : List Text → List (Option ℕ)
+  numbers ns = map (number_of names) ns
+
+  abbrev Behind : List (Option ℕ) → Expression → List (Option ℕ) → Type 0
+  Behind before e behind = AreNoted names (before ++ (numbers (names_in e) ++ behind)) e (length before)
+
+  both : (a b : Expression) (before behind : List (Option ℕ)) → ((qs : List (Option ℕ)) → Behind before a qs) → ((qs : List (Option ℕ)) → Behind qs b behind)
+      → AreNoted names (before ++ (numbers (names_in a ++ names_in b) ++ behind)) a (length before)
+      × AreNoted names (before ++ (numbers (names_in a ++ names_in b) ++ behind)) b (length before + length (names_in a))
+  both a b before behind f k =
+      let whole = before ++ (numbers (names_in a ++ names_in b) ++ behind) in
+      let parts : numbers (names_in a ++ names_in b) ++ behind ≡ numbers (names_in a) ++ (numbers (names_in b) ++ behind)
+      = ap (λ qs. qs ++ behind) (map-append (number_of names) (names_in a) (names_in b)) ∙ append_assoc (numbers (names_in a)) (numbers (names_in b)) behind in
+      let first : before ++ (numbers (names_in a) ++ (numbers (names_in b) ++ behind)) ≡ whole = ap (λ qs. before ++ qs) (sym parts) in
+      let second : (before ++ numbers (names_in a)) ++ (numbers (names_in b) ++ behind) ≡ whole = append_assoc before (numbers (names_in a)) (numbers (names_in b) ++ behind) ∙ first in
+      let place : length (before ++ numbers (names_in a)) ≡ length before + length (names_in a)
+      = length-append before (numbers (names_in a)) ∙ ap (λ n. length before + n) (length-map (names_in a) (number_of names)) in (
+        subst (λ qs. AreNoted names qs a (length before)) first (f (numbers (names_in b) ++ behind)),
+        subst (λ i. AreNoted names whole b i) place (subst (λ qs. AreNoted names qs b (length (before ++ numbers (names_in a)))) second (k (before ++ numbers (names_in a)))),
+      )
+
+  behind_all : (e : Expression) (before behind : List (Option ℕ)) → Behind before e behind
+  behind_all (Ident n) before behind = got_here before behind (number_of names n)
+  behind_all (PosPred e) before behind = behind_all e before behind
+  behind_all (NegPred e) before behind = behind_all e before behind
+  behind_all (Push e) before behind = behind_all e before behind
+  behind_all (Opt e) before behind = behind_all e before behind
+  behind_all (Rep e) before behind = behind_all e before behind
+  behind_all (Seq a b) before behind = both a b before behind (λ qs. behind_all a before qs) (λ qs. behind_all b qs behind)
+  behind_all (Choice a b) before behind = both a b before behind (λ qs. behind_all a before qs) (λ qs. behind_all b qs behind)
+  behind_all (RepOnce e) before behind = tt
+  behind_all (RepExact e i) before behind = tt
+  behind_all (RepMin e i) before behind = tt
+  behind_all (RepMax e i) before behind = tt
+  behind_all (RepMinMax e i j) before behind = tt
+  behind_all (RestoreOnErr e) before behind = tt
+  behind_all (Str t) before behind = tt
+  behind_all (Insens t) before behind = tt
+  behind_all (Range t u) before behind = tt
+  behind_all (PeekSlice i j) before behind = tt
+  behind_all (Skip ts) before behind = tt
+
+  -- what was noted of an expression from the start
+  pub all_noted : (e : Expression) (qs : List (Option ℕ)) → qs ≡ numbers (names_in e) → AreNoted names qs e 0
+  all_noted e qs h = subst (λ rs. AreNoted names rs e 0) (append-nil (numbers (names_in e)) ∙ sym h) (behind_all e [] [])

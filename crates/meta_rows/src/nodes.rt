@@ -1,0 +1,58 @@
+//! Walks over nodes.
+ghost use Rattle.std.specs.Prelude.{◌≡◌, IfSome};
+ghost use Rattle.meta_base.specs.Pieces.Span.{span_end, span_start};
+
+use crate::reading::rules_of;
+use meta_base::runtime::Fault;
+use meta_reader::parser::{ParserExpr, ParserNode, filter_internal};
+use std::alloc::Global;
+
+/// Where a node and each one in it stand, in bytes.
+fn places_of(alloc: Global, node: ParserNode<'_>) -> Result<Vec<(usize, usize)>, Fault> {
+    node.filter_map_top_down(
+        alloc,
+        |node: ParserNode<'_>| -> Option<(usize, usize)>
+            ensures { result ≡ Some (span_start node.entry.span, span_end node.entry.span) }
+        { Some((node.span.start(), node.span.end())) },
+    )
+}
+
+/// Where the names in a node begin.
+fn names_of(alloc: Global, node: ParserNode<'_>) -> Result<Vec<usize>, Fault> {
+    node.filter_map_top_down(
+        alloc,
+        |node: ParserNode<'_>| -> Option<usize>
+            ensures { IfSome result (λ start. start ≡ span_start node.entry.span) }
+        {
+            match node.expr {
+                ParserExpr::Ident(_) => Some(node.span.start()),
+                _ => None,
+            }
+        },
+    )
+}
+
+/// Adds where a node and each one in it end to a list.
+fn add_ends(alloc: Global, node: ParserNode<'_>, ends: &mut Vec<usize>) -> Result<(), Fault> {
+    let mut end_of = |node: ParserNode<'_>| -> Option<usize>
+        ensures { result ≡ Some (span_end node.entry.span) }
+    { Some(node.span.end()) };
+    filter_internal(alloc, node, &mut end_of, ends)
+}
+
+/// Of the bodies of a text where their nodes stand, each before what is in it, where their names begin, and
+/// the ends of all nodes so far.
+pub(crate) fn walked(alloc: Global, text: &str) -> Result<String, Fault> {
+    let mut out = String::new(alloc);
+    let mut ends = Vec::new(alloc);
+    for rule in rules_of(alloc, text)? {
+        let places = places_of(alloc, rule.node.clone()?)?;
+        let names = names_of(alloc, rule.node.clone()?)?;
+        add_ends(alloc, rule.node, &mut ends)?;
+        write!(
+            out,
+            "places {places:?}\nnames {names:?}\nends so far {ends:?}\n"
+        )?;
+    }
+    Ok(out)
+}

@@ -1,0 +1,120 @@
+//! Places, errors and pairs that no call makes of a text, and faults.
+use crate::syntax::{LEVELS, write_pairs};
+use crate::values::write_equalities;
+use meta_base::grammar::Rule;
+use meta_base::runtime::{Error, ErrorVariant, Fault, Pairs, Position, Span, TokenTree};
+use std::alloc::{AllocError, Global};
+
+/// Texts with the two places of a span.
+static SPANS: [(&str, usize, usize); 5] = [
+    ("a b", 0, 1),
+    ("a b", 1, 1),
+    ("a b", 0, 2),
+    ("a b", 0, 3),
+    ("a c", 0, 1),
+];
+
+/// Texts with a place, and with a message where there is one.
+static PLACES: [(&str, usize, &str); 4] = [
+    ("a b", 1, ""),
+    ("a b", 2, ""),
+    ("a c", 1, ""),
+    ("a b", 1, "m"),
+];
+
+/// How spans equal those between positions at their ends.
+fn write_spans(alloc: Global, out: &mut String) -> Result<(), AllocError> {
+    let mut spans = Vec::new(alloc);
+    let mut copies = Vec::new(alloc);
+    for (text, start, end) in &SPANS {
+        if let Some(span) = Span::new(text, *start, *end) {
+            if let Some(position) = Position::new(text, *start) {
+                copies.push(position.span(&span.end_pos()))?;
+                spans.push(span)?;
+            }
+        }
+    }
+    write_equalities(out, "spans", &spans, &copies)
+}
+
+/// How positions equal the ends of spans there.
+fn write_positions(alloc: Global, out: &mut String) -> Result<(), AllocError> {
+    let mut positions = Vec::new(alloc);
+    let mut copies = Vec::new(alloc);
+    for (text, place, message) in &PLACES {
+        if let Some(span) = Span::new(text, 0, *place) {
+            if let Some(position) = Position::new(text, *place) {
+                if message.is_empty() {
+                    copies.push(span.end_pos())?;
+                    positions.push(position)?;
+                }
+            }
+        }
+    }
+    write_equalities(out, "positions", &positions, &copies)
+}
+
+/// The errors of all places.
+fn errors(alloc: Global) -> Result<Vec<Error<Rule>>, Fault> {
+    let mut errors = Vec::new(alloc);
+    for (text, place, message) in &PLACES {
+        if let Some(position) = Position::new(text, *place) {
+            let variant = if message.is_empty() {
+                ErrorVariant::ParsingError
+            } else {
+                let message = String::from_str(alloc, message)?;
+                ErrorVariant::CustomError { message }
+            };
+            errors.push(Error::new_from_pos(alloc, variant, position)?)?;
+        }
+    }
+    Ok(errors)
+}
+
+/// How spans, positions and errors equal others of the same parts.
+pub(crate) fn equal_places(alloc: Global) -> Result<String, Fault> {
+    let mut out = String::new(alloc);
+    write_spans(alloc, &mut out)?;
+    write_positions(alloc, &mut out)?;
+    write_equalities(&mut out, "errors", &errors(alloc)?, &errors(alloc)?)?;
+    Ok(out)
+}
+
+/// A pair of `a b` with one of `a` and one of `b` inside it, and one of the empty text after it.
+fn sample(alloc: Global) -> Result<Pairs<'static, Rule>, AllocError> {
+    let mut inner = Vec::new(alloc);
+    inner.push(TokenTree::new(Rule::EOI, 2, 3, Vec::new(alloc)))?;
+    inner.push(TokenTree::new(Rule::EOI, 0, 1, Vec::new(alloc)))?;
+    let mut trees = Vec::new(alloc);
+    trees.push(TokenTree::new(Rule::EOI, 3, 3, Vec::new(alloc)))?;
+    trees.push(TokenTree::new(Rule::grammar_rules, 0, 3, inner))?;
+    Ok(Pairs::new("a b", trees))
+}
+
+/// Writes the text of each pair, in preorder.
+fn write_flat(alloc: Global, pairs: Pairs<'_, Rule>, out: &mut String) -> Result<(), Fault> {
+    for pair in pairs.flatten(alloc)? {
+        write!(out, " {:?}", pair?.as_str())?;
+    }
+    Ok(())
+}
+
+/// Pairs that are made by hand: where they stand, and their texts, and those of a copy, in preorder.
+pub(crate) fn made_pairs(alloc: Global) -> Result<String, Fault> {
+    let mut out = String::new(alloc);
+    let pairs = sample(alloc)?;
+    let copy = pairs.clone()?;
+    write_pairs(sample(alloc)?, LEVELS, &mut out)?;
+    out.push_str("\ntexts")?;
+    write_flat(alloc, pairs, &mut out)?;
+    out.push_str("\ncopied")?;
+    write_flat(alloc, copy, &mut out)?;
+    Ok(out)
+}
+
+/// What faults print.
+pub(crate) fn faults(alloc: Global) -> Result<String, Fault> {
+    let memory = Fault::from(AllocError);
+    let grammar = Fault::Grammar(Vec::new(alloc));
+    Ok(format!(in alloc; "{memory}\n{grammar}")?)
+}
