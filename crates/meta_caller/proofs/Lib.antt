@@ -1,1 +1,2 @@
+mod Caseless
 mod Named

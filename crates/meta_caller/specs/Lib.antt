@@ -1,1 +1,2 @@
+pub mod Caseless
 pub mod NamedPlaces

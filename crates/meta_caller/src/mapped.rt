@@ -2,14 +2,17 @@
 ghost use Rattle.std.specs.Prelude.{◌≡◌, IfOk};
 ghost use Rattle.meta_ast.specs.Ast.{expression_of};
 ghost use Rattle.meta_ast.specs.Optimized.{optimized_expression_of};
+ghost use Rattle.meta_caller.specs.Caseless.{caseless};
 
 use meta_ast::ast::Expr;
 use meta_ast::optimized::OptimizedExpr;
 use meta_base::runtime::Fault;
 use std::alloc::Global;
 
-/// The expression, in which literals no longer look at the case of ASCII letters.
-pub fn without_case(alloc: Global, expr: Expr) -> Result<Expr, Fault> {
+/// The expression, in which literals no longer look at the case of ASCII letters: each `"a"` as `^"a"`.
+pub fn without_case(alloc: Global, expr: Expr) -> Result<Expr, Fault>
+    ensures { IfOk result (λ e. expression_of e ≡ caseless (expression_of expr)) }
+{
     expr.map_top_down(alloc, |e| match e {
         Expr::Str(text) => Ok(Expr::Insens(text)),
         other => Ok(other),

@@ -6,7 +6,7 @@ ghost use Rattle.meta_base.specs.Pieces.NamedTrees.{named_trees_of};
 ghost use Rattle.meta_base.specs.Pieces.Saying.{piece, piece_of};
 ghost use Rattle.meta_base.specs.Pieces.TreeViews.{trees_of};
 ghost use Rattle.meta_names.specs.GrammarNames as spec;
-ghost use Rattle.meta_names.specs.Standing.{StandIn};
+ghost use Rattle.meta_names.specs.Standing.{TokenTreesStandIn};
 
 use meta_base::grammar::Rule;
 use meta_base::runtime::{FirstTree, Span, TokenTree, first_tree};
@@ -50,7 +50,7 @@ fn with_names<'i>(
     trees: &[TokenTree<Rule>],
     mut names: Vec<Span<'i>>,
 ) -> Result<Vec<Span<'i>>, AllocError>
-    requires { StandIn text.now (trees_of trees.now) }
+    requires { TokenTreesStandIn text.now (trees_of trees.now) }
     ensures { IfOk result (λ more. map piece_of more.items
         ≡ map piece_of names.entry.items ++ spec.names_in text.entry.now (named_trees_of trees.now)) }
 {
@@ -81,7 +81,7 @@ fn with_definition<'i>(
     trees: &[TokenTree<Rule>],
     names: Vec<Span<'i>>,
 ) -> Result<Vec<Span<'i>>, AllocError>
-    requires { StandIn text.now (trees_of trees.now) }
+    requires { TokenTreesStandIn text.now (trees_of trees.now) }
     ensures { IfOk result (λ more. map piece_of more.items
         ≡ map piece_of names.entry.items ++ spec.defined_by text.entry.now (named_trees_of trees.now)) }
 {
@@ -98,7 +98,7 @@ fn with_calls<'i>(
     trees: &[TokenTree<Rule>],
     names: Vec<Span<'i>>,
 ) -> Result<Vec<Span<'i>>, AllocError>
-    requires { StandIn text.now (trees_of trees.now) }
+    requires { TokenTreesStandIn text.now (trees_of trees.now) }
     ensures { IfOk result (λ more. map piece_of more.items
         ≡ map piece_of names.entry.items ++ spec.called_by text.entry.now (named_trees_of trees.now)) }
 {
@@ -115,7 +115,7 @@ pub(crate) fn definitions<'i>(
     text: &'i str,
     trees: &[TokenTree<Rule>],
 ) -> Result<Vec<Span<'i>>, AllocError>
-    requires { StandIn text.now (trees_of trees.now) }
+    requires { TokenTreesStandIn text.now (trees_of trees.now) }
     ensures { IfOk result (λ found. map piece_of found.items
         ≡ spec.definitions text.entry.now (named_trees_of trees.now)) }
 {
@@ -145,7 +145,7 @@ pub(crate) fn calls<'i>(
     text: &'i str,
     trees: &[TokenTree<Rule>],
 ) -> Result<Vec<Span<'i>>, AllocError>
-    requires { StandIn text.now (trees_of trees.now) }
+    requires { TokenTreesStandIn text.now (trees_of trees.now) }
     ensures { IfOk result (λ found. map piece_of found.items
         ≡ spec.calls text.entry.now (named_trees_of trees.now)) }
 {

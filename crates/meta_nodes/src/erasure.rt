@@ -81,43 +81,26 @@ impl<'i> Rebuild for Around<'i> {
 
     fn open(node: ParserNode<'i>) -> Result<Step<ParserNode<'i>, Around<'i>, Expr>, AllocError> {
         use ParserExpr as E;
-        match node.expr {
-            E::Str(text) => Ok(Step::Made(Expr::Str(text))),
-            E::Insens(text) => Ok(Step::Made(Expr::Insens(text))),
-            E::Range(first, last) => Ok(Step::Made(Expr::Range(first, last))),
-            E::Ident(name) => Ok(Step::Made(Expr::Ident(name))),
-            E::PeekSlice(start, end) => Ok(Step::Made(Expr::PeekSlice(start, end))),
-            E::PosPred(inner) => Ok(Step::Inside(Around::PosPred, Box::into_inner(inner))),
-            E::NegPred(inner) => Ok(Step::Inside(Around::NegPred, Box::into_inner(inner))),
-            E::Opt(inner) => Ok(Step::Inside(Around::Opt, Box::into_inner(inner))),
-            E::Rep(inner) => Ok(Step::Inside(Around::Rep, Box::into_inner(inner))),
-            E::RepOnce(inner) => Ok(Step::Inside(Around::RepOnce, Box::into_inner(inner))),
-            E::RepExact(inner, count) => Ok(Step::Inside(
-                Around::RepExact(count),
-                Box::into_inner(inner),
-            )),
-            E::RepMin(inner, least) => Ok(Step::Inside(
-                Around::RepMin(least),
-                Box::into_inner(inner),
-            )),
-            E::RepMax(inner, greatest) => Ok(Step::Inside(
-                Around::RepMax(greatest),
-                Box::into_inner(inner),
-            )),
-            E::RepMinMax(inner, least, greatest) => Ok(Step::Inside(
-                Around::RepMinMax(least, greatest),
-                Box::into_inner(inner),
-            )),
-            E::Push(inner) => Ok(Step::Inside(Around::Push, Box::into_inner(inner))),
-            E::Seq(left, right) => {
-                let around = Around::FirstOfSeq(Box::into_inner(right));
-                Ok(Step::Inside(around, Box::into_inner(left)))
-            }
-            E::Choice(left, right) => {
-                let around = Around::FirstOfChoice(Box::into_inner(right));
-                Ok(Step::Inside(around, Box::into_inner(left)))
-            }
-        }
+        let (around, operand) = match node.expr {
+            E::Str(text) => return Ok(Step::Made(Expr::Str(text))),
+            E::Insens(text) => return Ok(Step::Made(Expr::Insens(text))),
+            E::Range(first, last) => return Ok(Step::Made(Expr::Range(first, last))),
+            E::Ident(name) => return Ok(Step::Made(Expr::Ident(name))),
+            E::PeekSlice(start, end) => return Ok(Step::Made(Expr::PeekSlice(start, end))),
+            E::PosPred(inner) => (Around::PosPred, inner),
+            E::NegPred(inner) => (Around::NegPred, inner),
+            E::Opt(inner) => (Around::Opt, inner),
+            E::Rep(inner) => (Around::Rep, inner),
+            E::RepOnce(inner) => (Around::RepOnce, inner),
+            E::RepExact(inner, count) => (Around::RepExact(count), inner),
+            E::RepMin(inner, least) => (Around::RepMin(least), inner),
+            E::RepMax(inner, greatest) => (Around::RepMax(greatest), inner),
+            E::RepMinMax(inner, least, greatest) => (Around::RepMinMax(least, greatest), inner),
+            E::Push(inner) => (Around::Push, inner),
+            E::Seq(left, right) => (Around::FirstOfSeq(Box::into_inner(right)), left),
+            E::Choice(left, right) => (Around::FirstOfChoice(Box::into_inner(right)), left),
+        };
+        Ok(Step::Inside(around, Box::into_inner(operand)))
     }
 
     fn close(
@@ -126,25 +109,26 @@ impl<'i> Rebuild for Around<'i> {
         operand: Expr,
     ) -> Result<Step<ParserNode<'i>, Around<'i>, Expr>, AllocError> {
         let operand = Box::new(alloc, operand)?;
-        match self {
-            Around::PosPred => Ok(Step::Made(Expr::PosPred(operand))),
-            Around::NegPred => Ok(Step::Made(Expr::NegPred(operand))),
-            Around::Opt => Ok(Step::Made(Expr::Opt(operand))),
-            Around::Rep => Ok(Step::Made(Expr::Rep(operand))),
-            Around::RepOnce => Ok(Step::Made(Expr::RepOnce(operand))),
-            Around::RepExact(count) => Ok(Step::Made(Expr::RepExact(operand, count))),
-            Around::RepMin(least) => Ok(Step::Made(Expr::RepMin(operand, least))),
-            Around::RepMax(greatest) => Ok(Step::Made(Expr::RepMax(operand, greatest))),
-            Around::RepMinMax(least, greatest) => {
-                Ok(Step::Made(Expr::RepMinMax(operand, least, greatest)))
+        let whole = match self {
+            Around::FirstOfSeq(right) => {
+                return Ok(Step::Inside(Around::SecondOfSeq(operand), right));
             }
-            Around::Push => Ok(Step::Made(Expr::Push(operand))),
-            Around::FirstOfSeq(right) => Ok(Step::Inside(Around::SecondOfSeq(operand), right)),
             Around::FirstOfChoice(right) => {
-                Ok(Step::Inside(Around::SecondOfChoice(operand), right))
+                return Ok(Step::Inside(Around::SecondOfChoice(operand), right));
             }
-            Around::SecondOfSeq(left) => Ok(Step::Made(Expr::Seq(left, operand))),
-            Around::SecondOfChoice(left) => Ok(Step::Made(Expr::Choice(left, operand))),
-        }
+            Around::PosPred => Expr::PosPred(operand),
+            Around::NegPred => Expr::NegPred(operand),
+            Around::Opt => Expr::Opt(operand),
+            Around::Rep => Expr::Rep(operand),
+            Around::RepOnce => Expr::RepOnce(operand),
+            Around::RepExact(count) => Expr::RepExact(operand, count),
+            Around::RepMin(least) => Expr::RepMin(operand, least),
+            Around::RepMax(greatest) => Expr::RepMax(operand, greatest),
+            Around::RepMinMax(least, greatest) => Expr::RepMinMax(operand, least, greatest),
+            Around::Push => Expr::Push(operand),
+            Around::SecondOfSeq(left) => Expr::Seq(left, operand),
+            Around::SecondOfChoice(left) => Expr::Choice(left, operand),
+        };
+        Ok(Step::Made(whole))
     }
 }

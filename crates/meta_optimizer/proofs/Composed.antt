@@ -123,10 +123,6 @@ optimized rules listing answer e restores same =
       lists = erased_listing factored.second (all_bare rules e) same;
     }
 
-pub answered : {A E : Type 0} {P Q : A → Type 0} (r : Result A E) → ((a : A) → P a → Q a) → IfOk r P → IfOk r Q
-answered (Ok a) f p = f a p
-answered (Err e) f p = p
-
 pub answered_both : {A E : Type 0} {P Q S : A → Type 0} (r : Result A E) → ((a : A) → P a → Q a → S a) → IfOk r P → IfOk r Q → IfOk r S
 answered_both (Ok a) f p q = f a p q
 answered_both (Err e) f p q = p

@@ -1,7 +1,6 @@
 -- Putting literals together by a loop is putting them together at each node from the leaves up.
-use Rattle.std.proofs.Common.{◌≡◌, ◌∙◌, refl, sym, ap, subst, List, [], ◌∷◌, ◌++◌, Global, Result, Ok, Err, IfOk}
+use Rattle.std.proofs.Common.{◌≡◌, ◌∙◌, refl, sym, ap, List, [], ◌∷◌, ◌++◌, Global}
 use Rattle.std.proofs.lemmas.List.{append_assoc, append-nil}
-use Rattle.std.specs.declared.alloc.AllocError.{AllocError}
 use Rattle.std.specs.declared.string.String.{String}
 use Rattle.meta_ast.specs.Ast.{expression_of, text_of}
 use Rattle.meta_ast.specs.declared.ast.Expr.{Expr, Str, Insens, Range, Ident, PeekSlice, PosPred', NegPred', Seq', Choice', Opt', Rep', RepOnce', RepExact', RepMin', RepMax', RepMinMax', Skip, Push'}
@@ -33,8 +32,3 @@ from_the_leaves (RepMinMax' p y i j) = trav.left (trav.Above.rep_min_max (from_t
 from_the_leaves (Push' p y) = trav.left (trav.Above.push (from_the_leaves y)) refl
 from_the_leaves (Seq' p y q z) = trav.left (trav.Above.seq (from_the_leaves y) (from_the_leaves z)) refl
 from_the_leaves (Choice' p y q z) = trav.left (trav.Above.choice (from_the_leaves y) (from_the_leaves z)) refl
-
-pub answered : (x : Expr) (r : Result Expr AllocError) → IfOk r (λ y. expression_of y ≡ concatenated (expression_of x))
-    → IfOk r (λ y. BottomUp Joined (expression_of x) (expression_of y))
-answered x (Ok y) h = subst (BottomUp Joined (expression_of x)) (sym h) (from_the_leaves x)
-answered x (Err e) h = h

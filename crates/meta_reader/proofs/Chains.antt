@@ -2,10 +2,11 @@
 use Rattle.meta_reader.proofs.SpansArePieces.{piece_in}
 use Rattle.std.proofs.Common.{◌≡◌, ◌≤◌, ◌<◌, ℕ, List, None, refl, sym, ap, ◌∙◌, subst, arith}
 use Rattle.std.specs.Prelude.{codes}
+use Rattle.std.specs.Option.{option_or}
 use Rattle.meta_base.specs.Language.Text.{Text}
 use Rattle.meta_base.specs.Language.State.{Trees, None', Tree, joined}
-use Rattle.meta_reader.specs.Flaws.{first_flaw, own_flaw, or_else}
-use Rattle.meta_reader.specs.Pieces.{IsPiece, Nested, StandIn}
+use Rattle.meta_reader.specs.Flaws.{first_flaw, own_flaw}
+use Rattle.meta_reader.specs.Pieces.{IsPiece, NestedInBytes, StandIn}
 use Rattle.meta_reader.specs.Reading as reading
 use Rattle.meta_reader.specs.Reading.{Reads, AnExpression, Alternatives, ASequence, ATerm, both}
 use Rattle.meta_base.specs.Pieces.MetaRules.{name_of}
@@ -93,13 +94,13 @@ piece_across text m n e f h =
 -- where two nodes are read as one, and its trees stand in the text
 joined_piece : {text : List ℕ} {category : reading.Category} {us : Trees} {f : Binary} (m n : ParserNode) (i j : ℕ)
     → m.span.text.now ≡ text → n.span.text.now ≡ text → Reads text category us (both text f (view m) (view n))
-    → Nested text us i j → IsPiece text m.span.start n.span.end
+    → NestedInBytes text us i j → IsPiece text m.span.start n.span.end
 joined_piece {text} m n i j e f d h =
     let w = reads_within text d i j h in
     piece_across text m n e f (rw (start_of-view m, end_of-view n) at w.order)
 
 pub same_text : {text : List ℕ} {category : reading.Category} {us : Trees} (n : ParserNode) (i j : ℕ)
-    → Reads text category us (view n) → Nested text us i j → n.span.text.now ≡ text
+    → Reads text category us (view n) → NestedInBytes text us i j → n.span.text.now ≡ text
 same_text {text} n i j d h =
     let w = reads_within text d i j h in
     sym (ap (λ (s : Span). s.text) (span_of-view n)) ∙ w.same_text
@@ -198,7 +199,7 @@ quiet_term text i j us vs = refl
 pub record HasTerm (text : List ℕ) (us inner after : Trees) : Type 0 where
   pub operand : IsTerm text inner
   pub others : IsMore text after
-  pub flaw : first_flaw text us ≡ or_else (first_flaw text inner) (first_flaw text after)
+  pub flaw : first_flaw text us ≡ option_or (first_flaw text inner) (first_flaw text after)
   pub stand_operand : StandIn text us → StandIn text inner
   pub stand_others : StandIn text us → StandIn text after
   pub smaller : count_of inner < count_of us

@@ -1,15 +1,16 @@
 -- Where trees have no flaw: nor has what stands in them.
 use Rattle.std.proofs.Common.{◌≡◌, ℕ, List, Option, Some, None, false, refl}
+use Rattle.std.specs.Option.{option_or}
 use Rattle.meta_base.specs.Language.Text.{Text}
 use Rattle.meta_base.specs.Language.State.{Trees, None', Tree, joined}
-use Rattle.meta_reader.specs.Flaws.{Flaw, or_else, own_flaw, closes, first_flaw}
+use Rattle.meta_reader.specs.Flaws.{Flaw, own_flaw, closes, first_flaw}
 
 -- where neither of two has a flaw
-pub none_left : (a b : Option Flaw) → or_else a b ≡ None → a ≡ None
+pub none_left : (a b : Option Flaw) → option_or a b ≡ None → a ≡ None
 none_left None b h = refl
 none_left (Some f) b h = h
 
-pub none_right : (a b : Option Flaw) → or_else a b ≡ None → b ≡ None
+pub none_right : (a b : Option Flaw) → option_or a b ≡ None → b ≡ None
 none_right None b h = h
 none_right (Some f) b h = cc
 

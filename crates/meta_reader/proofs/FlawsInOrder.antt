@@ -1,15 +1,16 @@
 -- Answers: first flaws, and what is read.
 use Rattle.std.proofs.Common.{◌≡◌, refl, ◌∙◌, Option, Some, None, Result, Ok, Err}
-use Rattle.meta_reader.specs.Flaws.{Flaw, or_else}
+use Rattle.std.specs.Option.{option_or}
+use Rattle.meta_reader.specs.Flaws.{Flaw}
 use Rattle.meta_reader.specs.Views.{Answers, IsFirst}
 use Rattle.meta_reader.specs.declared.parser.flaws.ReadError.{ReadError}
 use Rattle.meta_reader.specs.declared.parser.flaws.ReadError.TheVariants.{Memory, Found}
 
-pub or_none : (o : Option Flaw) → or_else o None ≡ o
+pub or_none : (o : Option Flaw) → option_or o None ≡ o
 or_none None = refl
 or_none (Some f) = refl
 
-pub or_assoc : (o p q : Option Flaw) → or_else (or_else o p) q ≡ or_else o (or_else p q)
+pub or_assoc : (o p q : Option Flaw) → option_or (option_or o p) q ≡ option_or o (option_or p q)
 or_assoc None p q = refl
 or_assoc (Some f) p q = refl
 
@@ -21,7 +22,7 @@ answers_as o p (Err (Memory a)) P Q e f h = tt
 answers_as o p (Err (Found a)) P Q e f h = e ∙ h
 
 -- the error of a part is that of the whole, where nothing before it is wrong
-pub first_in : (o p : Option Flaw) (e : ReadError) → IsFirst o e → IsFirst (or_else o p) e
+pub first_in : (o p : Option Flaw) (e : ReadError) → IsFirst o e → IsFirst (option_or o p) e
 first_in o p (Memory a) h = tt
 first_in o p (Found a) h = rw h refl
 
@@ -34,5 +35,5 @@ pub answers_err : {X : Type 0} (o : Option Flaw) (r : Result X ReadError) (P : X
 answers_err o r P e h f = rw h f
 
 -- where nothing is wrong with a tree by itself, and nothing in it
-pub or_skip : (o p q : Option Flaw) → o ≡ None → p ≡ None → or_else o (or_else p q) ≡ q
+pub or_skip : (o p q : Option Flaw) → o ≡ None → p ≡ None → option_or o (option_or p q) ≡ q
 or_skip o p q e f = rw (e, f) refl

@@ -3,8 +3,9 @@ use Rattle.meta_reader.proofs.SpansArePieces.{piece_in}
 use Rattle.std.proofs.Common.{◌≡◌, ℕ, List, refl, sym, ap, ◌∙◌, subst, arith}
 use Rattle.meta_base.specs.Language.Text.{Text}
 use Rattle.meta_base.specs.Language.State.{Trees, Tree}
+use Rattle.meta_base.specs.Pieces.Saying.{piece}
 use Rattle.meta_reader.specs.Pieces.{IsPiece}
-use Rattle.meta_reader.specs.Reading.{piece, Postfixed, more, both}
+use Rattle.meta_reader.specs.Reading.{Postfixed, more, both}
 use Rattle.meta_nodes.specs.Spanned as spanned
 use Rattle.meta_nodes.specs.Spanned.{Spanned, span_of, start_of, end_of, placed, One, Two, Binary}
 use Rattle.meta_reader.specs.Views.{StandsBefore, IsPostfixOf}

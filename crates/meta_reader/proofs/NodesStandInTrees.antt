@@ -2,7 +2,7 @@
 use Rattle.std.proofs.Common.{◌≡◌, ◌≤◌, ℕ, List, refl, ap, ◌∙◌, arith}
 use Rattle.std.specs.Prelude.{codes}
 use Rattle.meta_base.specs.Language.State.{Trees, None', Tree, joined}
-use Rattle.meta_reader.specs.Pieces.{Nested}
+use Rattle.meta_reader.specs.Pieces.{NestedInBytes}
 use Rattle.meta_reader.specs.Reading.{Category, Reads, Postfixed, done, more, barred, unbarred, one_alternative, choice, one_term, sequence, tagged, pos_pred, neg_pred, bare, grouped, leaf, pushed}
 use Rattle.meta_nodes.specs.Spanned.{Span, Spanned, Leaf, One, Two, span_of, start_of, end_of, placed, ending}
 use Rattle.meta_syntax.specs.Shape.{Mark}
@@ -22,15 +22,15 @@ pub record Within (text : List ℕ) (x : Spanned) (i j : ℕ) : Type 0 where
 
 module _ (text : List ℕ) where
   -- trees in front of others
-  pub nested_joined : (us vs : Trees) (i j : ℕ) → Nested text (joined us vs) i j
-      → (k : ℕ) × Nested text us i k × Nested text vs k j
+  pub nested_joined : (us vs : Trees) (i j : ℕ) → NestedInBytes text (joined us vs) i j
+      → (k : ℕ) × NestedInBytes text us i k × NestedInBytes text vs k j
   nested_joined None' vs i j h = (i, omega arith, h)
   nested_joined (Tree r a b inner us) vs i j h =
       let s = nested_joined us vs b j h.4 in
       (s.0, (h.0, h.1, h.2, h.3, s.1), s.2)
 
   pub postfixed_within : {x y : Spanned} {us : Trees} → Postfixed text x us y → (i k j : ℕ)
-      → Within text x i k → Nested text us k j → Within text y i j
+      → Within text x i k → NestedInBytes text us k j → Within text y i j
   postfixed_within done i k j w h = record { same_text = w.same_text; after = w.after; order = w.order; before = omega (arith, w.before, h) }
   postfixed_within (more {r = r} {from = a} {to = b} {inner = inner} p d) i k j w h =
       let o = nested_order text inner a b h.3 in
@@ -40,7 +40,7 @@ module _ (text : List ℕ) where
   wider i k l j w h m = record { same_text = w.same_text; after = omega (arith, w.after, h); order = w.order; before = omega (arith, w.before, m) }
 
   pub reads_within : {category : Category} {us : Trees} {x : Spanned} → Reads text category us x → (i j : ℕ)
-      → Nested text us i j → Within text x i j
+      → NestedInBytes text us i j → Within text x i j
   reads_within (barred {bar_to = b} d) i j h = wider i b j j (reads_within d b j h.4) (omega (arith, h.0, h.3)) (omega arith)
   reads_within (unbarred d) i j h = reads_within d i j h
   reads_within (one_alternative d) i j h = reads_within d i j h

@@ -1,9 +1,10 @@
 -- Postfix operators that count, by the trees in them.
 use Rattle.std.proofs.Common.{◌≡◌, refl, sym, ap, ℕ, List, Option, None}
 use Rattle.std.specs.Prelude.{codes}
+use Rattle.std.specs.Option.{option_or}
 use Rattle.meta_base.specs.Language.Text.{Text}
 use Rattle.meta_base.specs.Language.State.{Trees, None', Tree}
-use Rattle.meta_reader.specs.Flaws.{first_flaw, own_flaw, not_a_count, past_u32, or_else, Flaw}
+use Rattle.meta_reader.specs.Flaws.{first_flaw, own_flaw, not_a_count, past_u32, Flaw}
 use Rattle.meta_reader.specs.Reading as reading
 use Rattle.meta_reader.specs.Reading.{Postfix, number}
 use Rattle.meta_base.specs.Pieces.MetaRules.{name_of}
@@ -42,7 +43,7 @@ max_trees {text} {i = i} {j = j} (max d) = record { digits = d; flaw = or_none (
 pub record HoldsTwo (text : List ℕ) (r : Text) (us : Trees) (i j k l : ℕ) : Type 0 where
   pub least : IsNumber text i j
   pub most : IsNumber text k l
-  pub flaw : first_flaw text us ≡ or_else (past_u32 text i j) (not_a_count text k l)
+  pub flaw : first_flaw text us ≡ option_or (past_u32 text i j) (not_a_count text k l)
   pub says : (m n : ℕ) → m ≡ number text i j → n ≡ number text k l → Postfix text r us (RepMinMax m n)
 
 pub two_trees : {text : List ℕ} {r s t u : Text} {a b c d i j k l : ℕ} {us vs ws xs ys : Trees}
@@ -53,7 +54,7 @@ unfolding own_flaw
 two_trees {text} {i = i} {j = j} {k = k} {l = l} (min_max d e) = record {
   least = d;
   most = e;
-  flaw = ap (λ o. or_else (past_u32 text i j) o) (or_none (not_a_count text k l));
+  flaw = ap (λ o. option_or (past_u32 text i j) o) (or_none (not_a_count text k l));
   says = λ m n p q. rw (p, q) reading.min_max;
 }
 
@@ -88,7 +89,7 @@ rep_once_trees (counted h) = elim h [ ]
 pub record HoldsFirst (text : List ℕ) (us : Trees) (i j : ℕ) : Type 0 where
   pub digits : IsNumber text i j
   pub behind : Option Flaw
-  pub flaw : first_flaw text us ≡ or_else (past_u32 text i j) behind
+  pub flaw : first_flaw text us ≡ option_or (past_u32 text i j) behind
 
 pub first_of_two : {text : List ℕ} {r s : Text} {a b i j : ℕ} {us vs ws : Trees}
     → IsCounted text (codes "repeat_min_max") (Tree r a b us (Tree s i j vs ws))

@@ -1,13 +1,14 @@
 -- Rules, by the trees in them.
 use Rattle.std.proofs.Common.{◌≡◌, ℕ, List, [], ◌∷◌, ◌++◌, Some, None, refl, sym, ap}
 use Rattle.std.specs.Prelude.{codes}
+use Rattle.std.specs.Option.{option_or}
 use Rattle.meta_base.specs.Language.Text.{Text}
 use Rattle.meta_base.specs.Language.State.{Trees, None', Tree}
 use Rattle.meta_base.specs.Language.Expression.{RuleType, Normal, Silent, Atomic, CompoundAtomic, NonAtomic}
-use Rattle.meta_reader.specs.Flaws.{first_flaw, own_flaw, or_else}
+use Rattle.meta_reader.specs.Flaws.{first_flaw, own_flaw}
 use Rattle.meta_reader.specs.Pieces.{StandIn}
 use Rattle.meta_reader.specs.Reading as reading
-use Rattle.meta_reader.specs.Reading.{Reads, AnExpression, ReadsRule, ReadsRules, Modifies, characters_between, piece}
+use Rattle.meta_reader.specs.Reading.{Reads, AnExpression, ReadsRule, ReadsRules, Modifies, characters_between}
 use Rattle.meta_base.specs.Pieces.MetaRules.{name_of}
 use Rattle.meta_syntax.specs.Shape.{Mark, IsRule, AreGrammarTrees, IsExpression, line_doc, normal, modified, silent, atomic, compound_atomic, non_atomic, end_of_input, grammar_doc, grammar_rule}
 use Rattle.meta_nodes.specs.Spanned.{Spanned, SpannedRule}
@@ -19,6 +20,7 @@ use Rattle.meta_base.specs.declared.grammar.Rule.TheVariants as rule_is
 use Rattle.meta_reader.proofs.FlawsInOrder.{or_none}
 use Rattle.meta_reader.proofs.TreesStandInText.{stand_behind}
 use Rattle.meta_base.proofs.MetaNames.{name_of-injective}
+use Rattle.meta_base.specs.Pieces.Saying.{piece}
 
 -- modifiers
 
@@ -122,7 +124,7 @@ pub data ReadsLeft (text : List ℕ) : Trees → List SpannedRule → Type 0 whe
 pub record RuleFirst (text : List ℕ) (us inner others : Trees) : Type 0 where
   pub inside : IsRule text inner
   pub behind : IsLeft text others
-  pub flaw : first_flaw text us ≡ or_else (first_flaw text inner) (first_flaw text others)
+  pub flaw : first_flaw text us ≡ option_or (first_flaw text inner) (first_flaw text others)
   pub comment : ReadsRule text inner None → (rs : List SpannedRule) → ReadsLeft text others rs
       → ReadsLeft text us rs
   pub definition : (r : SpannedRule) → ReadsRule text inner (Some r) → (rs : List SpannedRule)

@@ -10,14 +10,15 @@ use Rattle.meta_base.specs.Pieces.MetaRules.{name_of}
 use Rattle.meta_base.specs.declared.grammar.Rule.{Rule}
 use Rattle.meta_base.specs.declared.grammar.Rule.TheVariants as rule_is
 use Rattle.meta_base.proofs.MetaNames.{name_of-injective}
+use Rattle.meta_base.specs.Pieces.Saying.{piece}
 use Rattle.meta_syntax.specs.Shape.{Mark, IsTerm, tagged, predicate, grouped, bare, terminal, positive, negative}
 use Rattle.meta_nodes.specs.Spanned.{Spanned, One, Unary, PosPred, NegPred, end_of}
 use Rattle.meta_nodes.specs.Nodes.{view, piece_of}
 use Rattle.meta_nodes.specs.declared.node.ParserNode.{ParserNode}
 use Rattle.meta_reader.specs.Flaws.{first_flaw, own_flaw}
-use Rattle.meta_reader.specs.Pieces.{IsPiece, Nested, StandIn}
+use Rattle.meta_reader.specs.Pieces.{IsPiece, NestedInBytes, StandIn}
 use Rattle.meta_reader.specs.Reading as reading
-use Rattle.meta_reader.specs.Reading.{Reads, ATerm, piece}
+use Rattle.meta_reader.specs.Reading.{Reads, ATerm}
 use Rattle.meta_reader.specs.Signs as signs
 use Rattle.meta_reader.specs.Signs.{predicate_of, signed, IsOperand, SignsStand, IsBehindSigns}
 use Rattle.meta_reader.specs.Views.{count_of}
@@ -144,7 +145,7 @@ term_operand r h e a b c = record {
 }
 
 -- from a sign to the end of what is read behind it
-sign_place : {text : List ℕ} {us : Trees} (n : ParserNode) (i from to : ℕ) → Nested text us from to
+sign_place : {text : List ℕ} {us : Trees} (n : ParserNode) (i from to : ℕ) → NestedInBytes text us from to
     → Reads text ATerm us (view n) → IsCharBoundary text i × (i ≤ from)
     → IsPiece (span_text n.span) i (span_end n.span)
 sign_place {text} n i from to h d a =

@@ -2,12 +2,13 @@
 use Rattle.std.proofs.Common.{◌≡◌, refl, sym, ℕ, List, Option, Some, None, pos, ℤ, Bool, true, false, not, if◌then◌else◌}
 use Rattle.std.specs.Prelude.{codes, unwrap_or}
 use Rattle.std.specs.Str.{all_scalars}
+use Rattle.std.specs.Option.{option_or}
 use Rattle.meta_base.specs.Language.Text.{Text}
 use Rattle.meta_base.specs.Language.Expression.{Expression, Str, Insens, Range, PeekSlice}
 use Rattle.meta_base.specs.Language.State.{Trees, None', Tree}
-use Rattle.meta_reader.specs.Flaws.{first_flaw, own_flaw, wrong_literal, past_i32, or_else, Flaw, PushLiteralCalled}
+use Rattle.meta_reader.specs.Flaws.{first_flaw, own_flaw, wrong_literal, past_i32, Flaw, PushLiteralCalled}
 use Rattle.meta_reader.specs.Reading as reading
-use Rattle.meta_reader.specs.Reading.{Terminal, literal, integer, piece}
+use Rattle.meta_reader.specs.Reading.{Terminal, literal_value, integer}
 use Rattle.meta_base.specs.Pieces.MetaRules.{name_of}
 use Rattle.meta_syntax.specs.Shape.{Mark, IsQuoted, in_quotes, in_single_quotes, IsTerminal, identifier, string, insensitive, range, slice, push_literal, IsInteger, MayBeNumber, IsSlice, in_brackets, IsSliceStart, IsSliceEnd}
 use Rattle.meta_syntax.specs.Shape as shape
@@ -19,6 +20,7 @@ use Rattle.meta_reader.proofs.FlawsInOrder.{or_none}
 use Rattle.meta_reader.specs.Pieces.{StandIn}
 use Rattle.meta_reader.proofs.TreesStandInText.{stand_behind}
 use Rattle.meta_base.proofs.MetaNames.{name_of-injective}
+use Rattle.meta_base.specs.Pieces.Saying.{piece}
 
 pub quiet_quoted : (text : List ℕ) {us : Trees} → IsQuoted us → first_flaw text us ≡ None
 unfolding own_flaw
@@ -29,9 +31,9 @@ quiet_quoted text in_single_quotes = refl
 pub record HoldsLiterals (text : List ℕ) (us : Trees) (a b e f : ℕ) (low high : Trees) : Type 0 where
   pub low_quoted : IsQuoted low
   pub high_quoted : IsQuoted high
-  pub flaw : (i j : ℕ) → first_flaw text (Tree (codes "range") i j us None') ≡ or_else
+  pub flaw : (i j : ℕ) → first_flaw text (Tree (codes "range") i j us None') ≡ option_or
       (wrong_literal text a b low) (wrong_literal text e f high)
-  pub reads : (i j : ℕ) → Terminal text (codes "range") i j us (Range (literal text low) (literal text high))
+  pub reads : (i j : ℕ) → Terminal text (codes "range") i j us (Range (literal_value text low) (literal_value text high))
 
 pub range_trees : {text : List ℕ} {r s t : Text} {a b c d e f : ℕ} {us vs ws xs : Trees}
     → IsTerminal text (codes "range") (Tree r a b us (Tree s c d vs (Tree t e f ws xs)))
@@ -47,7 +49,7 @@ range_trees {text} {a = a} {b = b} {e = e} {f = f} {us = us} {ws = ws} (range h 
 -- a number of a slice that stands first
 pub record NumberFirst (text : List ℕ) (i j : ℕ) (inner us : Trees) : Type 0 where
   pub digits : IsInteger text i j
-  pub flaw : first_flaw text (Tree (codes "integer") i j inner us) ≡ or_else (past_i32 text i j)
+  pub flaw : first_flaw text (Tree (codes "integer") i j inner us) ≡ option_or (past_i32 text i j)
       (first_flaw text us)
   pub takes : TakesNumber text (Tree (codes "integer") i j inner us) (Some (integer text i j)) us
 
@@ -128,7 +130,7 @@ takes_standing h views.the_end = h
 pub record IsLiteral (text : List ℕ) (r : Text) (us inner : Trees) (f : Text → Expression) : Type 0 where
   pub quoted : IsQuoted inner
   pub flaw : (i j : ℕ) → first_flaw text (Tree r i j us None') ≡ wrong_literal text i j inner
-  pub reads : (i j : ℕ) → Terminal text r i j us (f (literal text inner))
+  pub reads : (i j : ℕ) → Terminal text r i j us (f (literal_value text inner))
 
 pub string_trees : {text : List ℕ} {us : Trees} → IsTerminal text (codes "string") us
     → IsLiteral text (codes "string") us us Str
@@ -139,8 +141,8 @@ string_trees {text} {us} (string h) = record {
   reads = λ i j. reading.string;
 }
 
-wrong_twice : (b : Bool) (f g : Flaw) → or_else (if b then Some f else None)
-    (or_else (or_else (if b then Some g else None) None) None) ≡ (if b then Some f else None)
+wrong_twice : (b : Bool) (f g : Flaw) → option_or (if b then Some f else None)
+    (option_or (option_or (if b then Some g else None) None) None) ≡ (if b then Some f else None)
 wrong_twice true f g = refl
 wrong_twice false f g = refl
 
@@ -151,7 +153,7 @@ pub insensitive_trees : {text : List ℕ} {r : Text} {a b : ℕ} {us vs : Trees}
 unfolding own_flaw
 insensitive_trees {text} {a = a} {b = b} {us = us} (insensitive h) = record {
   quoted = h;
-  flaw = λ i j. rw (quiet_quoted text h) (wrong_twice (not (all_scalars (literal text us))) _ _);
+  flaw = λ i j. rw (quiet_quoted text h) (wrong_twice (not (all_scalars (literal_value text us))) _ _);
   reads = λ i j. reading.insensitive;
 }
 

@@ -2,12 +2,13 @@
 use Rattle.meta_reader.proofs.SpansArePieces.{piece_in}
 use Rattle.std.proofs.Common.{◌≡◌, ◌<◌, ℕ, List, None, refl, sym, ap, ◌∙◌, arith}
 use Rattle.std.specs.Prelude.{codes}
+use Rattle.std.specs.Option.{option_or}
 use Rattle.meta_base.specs.Language.Text.{Text}
 use Rattle.meta_base.specs.Language.State.{Trees, None', Tree}
-use Rattle.meta_reader.specs.Flaws.{first_flaw, own_flaw, or_else}
-use Rattle.meta_reader.specs.Pieces.{IsPiece, Nested, StandIn}
+use Rattle.meta_reader.specs.Flaws.{first_flaw, own_flaw}
+use Rattle.meta_reader.specs.Pieces.{IsPiece, NestedInBytes, StandIn}
 use Rattle.meta_reader.specs.Reading as reading
-use Rattle.meta_reader.specs.Reading.{Reads, Postfixed, AnExpression, ATerm, ANode, piece}
+use Rattle.meta_reader.specs.Reading.{Reads, Postfixed, AnExpression, ATerm, ANode}
 use Rattle.meta_base.specs.Pieces.MetaRules.{name_of}
 use Rattle.meta_syntax.specs.Shape.{Mark, IsExpression, IsTerm, IsNode, IsTerminal, ArePostfixes, tagged, predicate, bare, terminal, pushed, identifier, string, insensitive, range, slice, push_literal}
 use Rattle.meta_nodes.specs.Spanned as spanned
@@ -23,6 +24,7 @@ use Rattle.meta_reader.proofs.Chains.{same_text}
 use Rattle.meta_reader.proofs.Nodes.{span_of-view, start_of-view, end_of-view, view_at-placed}
 use Rattle.meta_reader.proofs.TreesStandInText.{nested_from, nested_order}
 use Rattle.meta_base.proofs.MetaNames.{name_of-injective}
+use Rattle.meta_base.specs.Pieces.Saying.{piece}
 use Rattle.meta_reader.proofs.NodesStandInTrees.{reads_within, span_of-placed}
 
 pub no_term : {text : List ℕ} → IsTerm text None' → ⊥
@@ -81,7 +83,7 @@ open_group (node (terminal h) k) = elim h [ ]
 pub record IsGroup (text : List ℕ) (us inner operators : Trees) (i q : ℕ) : Type 0 where
   pub inside : IsExpression text inner
   pub behind : ArePostfixes text operators
-  pub flaw : first_flaw text us ≡ or_else (first_flaw text inner) (first_flaw text operators)
+  pub flaw : first_flaw text us ≡ option_or (first_flaw text inner) (first_flaw text operators)
   pub reads : (x y : Spanned) → Reads text AnExpression inner x
       → Postfixed text (ending q x) operators y → Reads text ATerm us (starting i y)
 
@@ -118,7 +120,7 @@ quiet_behind text i j inner us (terminal push_literal) = refl
 quiet_behind text i j inner us (pushed h) = refl
 
 pub node_flaw : (text : List ℕ) {n : Text} (i j : ℕ) (inner us : Trees) → IsNode text n inner
-    → first_flaw text (Tree n i j inner us) ≡ or_else (first_flaw text (Tree n i j inner None'))
+    → first_flaw text (Tree n i j inner us) ≡ option_or (first_flaw text (Tree n i j inner None'))
     (first_flaw text us)
 node_flaw text {n} i j inner us h =
     rw (quiet_behind text i j inner us h, or_none (first_flaw text inner)) (sym (or_assoc (own_flaw text n i j inner None') (first_flaw text inner) (first_flaw text us)))
@@ -143,7 +145,7 @@ pub push_tree : {text : List ℕ} {n o : Text} {i j k l : ℕ} {vs inner us : Tr
     → IsPush text (Tree n i j vs (Tree o k l inner us)) inner
 unfolding own_flaw
 push_tree (terminal h) = elim h [ ]
-push_tree {text} {inner = inner} (pushed h) = record { inside = h; flaw = λ i j. or_none (or_else (first_flaw text inner) None) ∙ or_none (first_flaw text inner); reads = λ i j x d. reading.pushed d }
+push_tree {text} {inner = inner} (pushed h) = record { inside = h; flaw = λ i j. or_none (option_or (first_flaw text inner) None) ∙ or_none (first_flaw text inner); reads = λ i j x d. reading.pushed d }
 
 -- where nodes of terms stand
 
@@ -152,7 +154,7 @@ pub before_operators : {text : List ℕ} {r : Text} {a b : ℕ} {inner us : Tree
     → StandIn text (Tree r a b inner us) → Reads text ANode (Tree r a b inner None') (view n)
     → StandsBefore text n us
 before_operators {text} {r} {a} {b} {inner} {us} n s d =
-    let t : Nested text (Tree r a b inner None') s.from b = (s.nested.0, s.nested.1, s.nested.2, s.nested.3, omega arith) in
+    let t : NestedInBytes text (Tree r a b inner None') s.from b = (s.nested.0, s.nested.1, s.nested.2, s.nested.3, omega arith) in
     let w = reads_within text d s.from b t in
     record {
       same_text = same_text n s.from b d t;

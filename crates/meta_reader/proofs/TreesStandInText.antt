@@ -5,14 +5,14 @@ use Rattle.meta_base.specs.Language.State.{Trees, None', Tree}
 use Rattle.meta_base.specs.Pieces.NamedTrees.{named}
 use Rattle.meta_base.specs.Pieces.TokenTrees.{TokenTrees, NoTokens, Token, AreNested}
 use Rattle.meta_base.specs.declared.grammar.Rule.{Rule}
-use Rattle.meta_reader.specs.Pieces.{IsPiece, Nested, StandIn}
+use Rattle.meta_reader.specs.Pieces.{IsPiece, NestedInBytes, StandIn}
 
 module _ (text : List ℕ) where
-  pub nested_order : (us : Trees) (i j : ℕ) → Nested text us i j → i ≤ j
+  pub nested_order : (us : Trees) (i j : ℕ) → NestedInBytes text us i j → i ≤ j
   nested_order None' i j h = h
   nested_order (Tree r a b inner others) i j h = omega (arith, h.0, nested_order inner a b h.3, nested_order others b j h.4)
 
-  pub nested_from : (us : Trees) (i k j : ℕ) → i ≤ k → Nested text us k j → Nested text us i j
+  pub nested_from : (us : Trees) (i k j : ℕ) → i ≤ k → NestedInBytes text us k j → NestedInBytes text us i j
   nested_from None' i k j h n = omega (arith, h, n)
   nested_from (Tree r a b inner others) i k j h n = (omega (arith, h, n.0), n.1, n.2, n.3, n.4)
 
@@ -37,6 +37,6 @@ stand_alone {b = b} h = record { from = h.from; to = b; nested = (h.nested.0, h.
 
 -- nested trees of tokens, with their rules by name
 pub nested_named : (text : List ℕ) (us : TokenTrees Rule) (i j : ℕ) → AreNested text us i j
-    → Nested text (named us) i j
+    → NestedInBytes text (named us) i j
 nested_named text NoTokens i j h = h
 nested_named text (Token r a b inner others) i j h = (h.0.0, h.0.1.0, h.0.1.1, nested_named text inner a b h.1.0, nested_named text others b j h.1.1)

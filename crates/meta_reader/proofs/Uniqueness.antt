@@ -6,8 +6,9 @@ use Rattle.std.specs.Prelude.{codes, bytes_eq}
 use Rattle.meta_base.specs.Language.Text.{Text}
 use Rattle.meta_base.specs.Language.Expression.{Expression, RuleType, Normal}
 use Rattle.meta_base.specs.Language.State.{Trees, None', Tree, joined}
+use Rattle.meta_base.specs.Pieces.Saying.{piece}
 use Rattle.meta_reader.specs.Reading as reading
-use Rattle.meta_reader.specs.Reading.{Category, AnExpression, Alternatives, ASequence, ATerm, ANode, Modifies, Postfix, Postfixed, done, more, Terminal, Reads, barred, unbarred, one_alternative, choice, one_term, sequence, tagged, pos_pred, neg_pred, bare, grouped, leaf, pushed, both, around, piece, characters_between, ReadsRule, ReadsRules, line_doc, normal, modified, end_of_input, grammar_doc, documented, defined}
+use Rattle.meta_reader.specs.Reading.{Category, AnExpression, Alternatives, ASequence, ATerm, ANode, Modifies, Postfix, Postfixed, done, more, Terminal, Reads, barred, unbarred, one_alternative, choice, one_term, sequence, tagged, pos_pred, neg_pred, bare, grouped, leaf, pushed, both, around, characters_between, ReadsRule, ReadsRules, line_doc, normal, modified, end_of_input, grammar_doc, documented, defined}
 use Rattle.meta_syntax.specs.Shape.{Mark}
 use Rattle.meta_nodes.specs.Spanned.{Spanned, Unary, SpannedRule, Seq, Choice, ending, starting, end_of, Leaf, One, PosPred, NegPred, Push}
 

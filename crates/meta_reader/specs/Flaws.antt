@@ -1,10 +1,12 @@
 -- The flaws that trees of a grammar's text may have, and the first of them.
 use Rattle.std.specs.Prelude.{ℕ, ℤ, pos, negsuc, List, ◌^◌, Option, Some, None, Bool, true, false, not, if◌then◌else◌, bytes_eq, codes, nat_lt, nat_eq}
 use Rattle.std.specs.Str.{all_scalars}
+use Rattle.std.specs.Option.{option_or}
 use Rattle.meta_base.specs.Language.Text.{Text}
 use Rattle.meta_base.specs.Language.State.{Trees, None', Tree}
+use Rattle.meta_base.specs.Pieces.Saying.{piece}
 use Rattle.meta_nodes.specs.Spanned.{Span}
-use Rattle.meta_reader.specs.Reading.{piece, number, integer, literal}
+use Rattle.meta_reader.specs.Reading.{number, integer, literal_value}
 
 pub data Cause : Type 0 where
   PushLiteralCalled : Cause
@@ -17,10 +19,6 @@ pub data Cause : Type 0 where
 pub record Flaw : Type 0 where
   pub cause : Cause
   pub span : Span
-
-abbrev pub or_else : Option Flaw → Option Flaw → Option Flaw
-or_else (Some f) o = Some f
-or_else None o = o
 
 abbrev pub fits_i32 : ℤ → Bool
 fits_i32 (pos n) = nat_lt n (2 ^ 31)
@@ -43,7 +41,7 @@ module _ (text : List ℕ) where
 
   -- a literal from i to j, with these trees in it, has an escape that is no character's number
   abbrev pub wrong_literal : ℕ → ℕ → Trees → Option Flaw
-  wrong_literal i j us = flaw_if (not (all_scalars (literal text us))) NoScalarValue i j
+  wrong_literal i j us = flaw_if (not (all_scalars (literal_value text us))) NoScalarValue i j
 
   -- numbers that fit no u32, and no i32
   abbrev pub past_u32 : ℕ → ℕ → Option Flaw
@@ -57,7 +55,7 @@ module _ (text : List ℕ) where
   zero_times i j = flaw_if (nat_eq (number text i j) 0) ZeroTimes i j
 
   abbrev pub not_a_count : ℕ → ℕ → Option Flaw
-  not_a_count i j = or_else (past_u32 i j) (zero_times i j)
+  not_a_count i j = option_or (past_u32 i j) (zero_times i j)
 
   -- what is wrong with a number, by what is behind it: before a closing brace it counts how often at most
   abbrev pub number_flaw : ℕ → ℕ → Trees → Option Flaw
@@ -79,4 +77,4 @@ module _ (text : List ℕ) where
   abbrev pub first_flaw : Trees → Option Flaw
   first_flaw None' = None
   first_flaw (Tree r i j inner others) =
-      or_else (own_flaw r i j inner others) (or_else (first_flaw inner) (first_flaw others))
+      option_or (own_flaw r i j inner others) (option_or (first_flaw inner) (first_flaw others))

@@ -12,12 +12,12 @@ letter c =
     else (if c == 48 then 0 else c)))
 
 -- the value of a hexadecimal digit
-abbrev pub hex_digit : ℕ → ℕ
-hex_digit c = if nat_lt (digit_value c) 16 then digit_value c else 0
+abbrev pub hex_digit_value : ℕ → ℕ
+hex_digit_value c = if nat_lt (digit_value c) 16 then digit_value c else 0
 
 -- the number that one more hexadecimal digit makes of another
 abbrev pub extended : ℕ → ℕ → ℕ
-extended n c = 16 * n + hex_digit c
+extended n c = 16 * n + hex_digit_value c
 
 -- the characters of a text with escapes, by number; a number that a text in braces names may be no character
 abbrev mutual

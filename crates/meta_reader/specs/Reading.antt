@@ -5,6 +5,7 @@ use Rattle.std.specs.Str.Parse.{digits_value, signed_digits_value}
 use Rattle.meta_base.specs.Language.Text.{Text}
 use Rattle.meta_base.specs.Language.Expression.{Expression, Str, Insens, Range, Ident, PeekSlice, RuleType, Normal, Silent, Atomic, CompoundAtomic, NonAtomic}
 use Rattle.meta_base.specs.Language.State.{Trees, None', Tree, joined}
+use Rattle.meta_base.specs.Pieces.Saying.{piece}
 use Rattle.meta_syntax.specs.Shape.{Mark, Braced}
 use Rattle.meta_nodes.specs.Spanned.{Span, Spanned, Leaf, One, Two, Unary, PosPred, NegPred, Opt, Rep, RepOnce, RepExact, RepMin, RepMax, RepMinMax, Push, Binary, Seq, Choice, start_of, end_of, starting, ending, SpannedRule}
 use Rattle.meta_reader.specs.Literal.{unescaped}
@@ -25,10 +26,6 @@ pub data Modifies : Text → RuleType → Type 0 where
   non_atomic : Modifies (codes "non_atomic_modifier") NonAtomic
 
 module _ (text : List ℕ) where
-  -- the piece from i to j
-  abbrev pub piece : ℕ → ℕ → Span
-  piece i j = record { text = text; start = i; end = j }
-
   -- what is written there: characters, a number, a number with a sign
   abbrev pub characters_between : ℕ → ℕ → Text
   characters_between i j = chars (slice_range text i j)
@@ -40,17 +37,17 @@ module _ (text : List ℕ) where
   integer i j = signed_digits_value 10 (slice_range text i j)
 
   -- what a literal stands for, by the trees in it: a quote, what is quoted, a quote
-  abbrev pub literal : Trees → Text
-  literal (Tree q i j inner (Tree r k l inner' us)) = unescaped (characters_between k l)
-  literal us = []
+  abbrev pub literal_value : Trees → Text
+  literal_value (Tree q i j inner (Tree r k l inner' us)) = unescaped (characters_between k l)
+  literal_value us = []
 
   -- two nodes round an operator
   abbrev pub both : Binary → Spanned → Spanned → Spanned
-  both f x y = Two (piece (start_of x) (end_of y)) f x y
+  both f x y = Two (piece text (start_of x) (end_of y)) f x y
 
   -- what a postfix operator that ends at j makes of its operand
   abbrev pub around : ℕ → Unary → Spanned → Spanned
-  around j f x = One (piece (start_of x) j) f x
+  around j f x = One (piece text (start_of x) j) f x
 
   -- what a postfix operator says; `_at` and `_to` are where a tree begins, and where it ends
   pub data Postfix : Text → Trees → Unary → Type 0 where
@@ -96,16 +93,16 @@ module _ (text : List ℕ) where
   pub data Terminal : Text → ℕ → ℕ → Trees → Expression → Type 0 where
     identifier : {from to : ℕ} {us : Trees}
         → Terminal (codes "identifier") from to us (Ident (characters_between from to))
-    string : {from to : ℕ} {us : Trees} → Terminal (codes "string") from to us (Str (literal us))
+    string : {from to : ℕ} {us : Trees} → Terminal (codes "string") from to us (Str (literal_value us))
     insensitive : {from to string_at string_to : ℕ} {us vs : Trees}
         → Terminal (codes "insensitive_string") from to
-        (Tree (codes "string") string_at string_to us vs) (Insens (literal us))
+        (Tree (codes "string") string_at string_to us vs) (Insens (literal_value us))
     range : {from to low_at low_to dots_at dots_to high_at high_to : ℕ} {us vs : Trees}
         → Terminal (codes "range") from to
         (Tree (codes "character") low_at low_to us
         (Mark (codes "range_operator") dots_at dots_to
         (Tree (codes "character") high_at high_to vs None')))
-        (Range (literal us) (literal vs))
+        (Range (literal_value us) (literal_value vs))
     slice : {from to open_at open_to dots_at dots_to close_at close_to : ℕ}
         → Terminal (codes "peek_slice") from to
         (Mark (codes "opening_brack") open_at open_to
@@ -162,11 +159,11 @@ module _ (text : List ℕ) where
     pos_pred : {us : Trees} {x : Spanned} {sign_at sign_to : ℕ}
         → Reads ATerm us x
         → Reads ATerm (Mark (codes "positive_predicate_operator") sign_at sign_to us)
-        (One (piece sign_at (end_of x)) PosPred x)
+        (One (piece text sign_at (end_of x)) PosPred x)
     neg_pred : {us : Trees} {x : Spanned} {sign_at sign_to : ℕ}
         → Reads ATerm us x
         → Reads ATerm (Mark (codes "negative_predicate_operator") sign_at sign_to us)
-        (One (piece sign_at (end_of x)) NegPred x)
+        (One (piece text sign_at (end_of x)) NegPred x)
     -- a node begins and ends with its token; in parentheses it ends with the second, and the outermost
     -- begins with the first
     bare : {r : Text} {from to : ℕ} {inner us : Trees} {x y : Spanned}
@@ -180,7 +177,7 @@ module _ (text : List ℕ) where
         (Mark (codes "closing_paren") close_at close_to us)))
         (starting open_at y)
     leaf : {r : Text} {from to : ℕ} {inner : Trees} {e : Expression}
-        → Terminal r from to inner e → Reads ANode (Tree r from to inner None') (Leaf (piece from to) e)
+        → Terminal r from to inner e → Reads ANode (Tree r from to inner None') (Leaf (piece text from to) e)
     -- `PUSH` ends where its operand does
     pushed : {from to open_at open_to body_at body_to close_at close_to : ℕ} {inner us : Trees} {x : Spanned}
         → Reads AnExpression inner x
@@ -190,7 +187,7 @@ module _ (text : List ℕ) where
         (Tree (codes "expression") body_at body_to inner
         (Mark (codes "closing_paren") close_at close_to us)))
         None')
-        (One (piece from (end_of x)) Push x)
+        (One (piece text from (end_of x)) Push x)
 
   -- a rule whose name stands from one place to another; a comment that documents one gives none
   pub data ReadsRule : Trees → Option SpannedRule → Type 0 where
@@ -204,7 +201,7 @@ module _ (text : List ℕ) where
         (Braced open_at open_to body_at body_to close_at close_to body)))
         (Some (record {
           name = characters_between from to;
-          span = piece from to;
+          span = piece text from to;
           type_of = Normal;
           body = x;
         }))
@@ -218,7 +215,7 @@ module _ (text : List ℕ) where
         (Braced open_at open_to body_at body_to close_at close_to body))))
         (Some (record {
           name = characters_between from to;
-          span = piece from to;
+          span = piece text from to;
           type_of = t;
           body = x;
         }))

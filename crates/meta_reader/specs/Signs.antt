@@ -3,11 +3,12 @@ use Rattle.std.specs.Prelude.{◌≡◌, ◌≤◌, ℕ, List, [], ◌∷◌, Bo
 use Rattle.std.specs.Str.{IsCharBoundary}
 use Rattle.meta_base.specs.Language.Text.{Text}
 use Rattle.meta_base.specs.Language.State.{Trees, Tree}
+use Rattle.meta_base.specs.Pieces.Saying.{piece}
 use Rattle.meta_syntax.specs.Shape.{Mark, IsExpression, IsNode, ArePostfixes}
 use Rattle.meta_nodes.specs.Spanned.{Spanned, One, Unary, PosPred, NegPred, end_of}
 use Rattle.meta_reader.specs.Flaws.{first_flaw}
-use Rattle.meta_reader.specs.Pieces.{Nested, StandIn}
-use Rattle.meta_reader.specs.Reading.{Reads, ATerm, piece}
+use Rattle.meta_reader.specs.Pieces.{NestedInBytes, StandIn}
+use Rattle.meta_reader.specs.Reading.{Reads, ATerm}
 use Rattle.meta_reader.specs.Views.{count_of}
 use Rattle.meta_reader.specs.declared.parser.signs.Sign.{Sign}
 
@@ -38,7 +39,7 @@ pub data IsOperand (text : List ℕ) : Trees → Type 0 where
 pub record SignsStand (text : List ℕ) (signs : List Sign) (us : Trees) : Type 0 where
   pub from : ℕ
   pub to : ℕ
-  pub nested : Nested text us from to
+  pub nested : NestedInBytes text us from to
   pub before : All (λ sign. IsCharBoundary text sign.start × (sign.start ≤ from)) signs
 
 -- a term's trees behind these signs

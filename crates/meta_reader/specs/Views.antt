@@ -15,7 +15,7 @@ use Rattle.meta_syntax.specs.Shape.{Mark, IsChain, IsMore, IsTerm, IsModifier}
 use Rattle.meta_nodes.specs.Spanned.{Spanned, Binary, Seq, Choice, One, Unary, Opt, Rep, RepOnce, RepExact, RepMin, RepMax, RepMinMax}
 use Rattle.meta_nodes.specs.Nodes.{piece_of, view, rule_view, rule_views}
 use Rattle.meta_base.specs.Pieces.NamedTrees.{named_trees_of}
-use Rattle.meta_reader.specs.Reading.{Modifies, Category, AnExpression, Alternatives, ASequence, Reads, ReadsRule, ReadsRules, Postfix, Postfixed, integer, literal}
+use Rattle.meta_reader.specs.Reading.{Modifies, Category, AnExpression, Alternatives, ASequence, Reads, ReadsRule, ReadsRules, Postfix, Postfixed, integer, literal_value}
 use Rattle.meta_reader.specs.Literal.{unescaped}
 use Rattle.meta_reader.specs.Flaws as flaws
 use Rattle.meta_reader.specs.Flaws.{first_flaw, wrong_literal}
@@ -83,7 +83,7 @@ AnswersRules text us result =
 -- what a literal from i to j stands for, by the trees in it, or its flaw
 abbrev pub AnswersLiteral : List ℕ → ℕ → ℕ → state.Trees → Result (String Global) error.ReadError → Type 0
 AnswersLiteral text i j us result =
-    Answers (wrong_literal text i j us) result (λ s. chars (string_bytes s) ≡ literal text us)
+    Answers (wrong_literal text i j us) result (λ s. chars (string_bytes s) ≡ literal_value text us)
 
 -- the numbers of a postfix operator that counts, by the trees in it, or their first flaw
 abbrev pub AnswersCount : {N : Type 0} → List ℕ → Text → state.Trees → (N → Unary) → Result N error.ReadError

@@ -25,6 +25,7 @@ pub use crate::parser::shown::rename_meta_rule;
 use meta_ast::ast::RuleType;
 pub use meta_base::grammar::Rule;
 use meta_base::runtime::{Fault, Pairs, TokenTree};
+use meta_nodes::release;
 pub use meta_nodes::{ParserExpr, ParserNode, ParserRule, filter_internal};
 pub use meta_syntax::grammar::PestParser;
 use meta_syntax::laws::trees_of_a_grammar_have_their_shape;
@@ -92,8 +93,13 @@ fn rules<'i>(
     while let Some(tree) = first_tree(rest) {
         rest = tree.others;
         if let Rule::grammar_rule = tree.rule {
-            if let Some(one) = rule(alloc, text, tree.inner)? {
-                read.push(one)?;
+            match rule(alloc, text, tree.inner) {
+                Ok(Some(one)) => read.push(one)?,
+                Ok(None) => {}
+                Err(error) => {
+                    release(read);
+                    return Err(error);
+                }
             }
         }
     }

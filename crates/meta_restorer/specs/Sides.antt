@@ -1,29 +1,32 @@
--- Restored expressions, and the left sides that a walk along right sides leaves behind.
+-- Whether expressions change the stack, and the left sides that a walk along right sides leaves behind.
 use Rattle.std.specs.Prelude.{◌≡◌, List, [], ◌∷◌, Bool, ⊤}
 use Rattle.meta_base.specs.Language.Text.{Text}
 use Rattle.meta_base.specs.Language.Expression.{Expression, Seq, Choice}
 use Rattle.meta_ast.specs.Optimized.{optimized_expression_of}
 use Rattle.meta_restorer.specs.Changing.{changes_by, wrapped_by}
-use Rattle.meta_restorer.specs.declared.sides.Restored.{Restored}
+use Rattle.meta_restorer.specs.declared.sides.Left.{Left}
 use Rattle.meta_restorer.specs.declared.sides.Side.{Side}
 use Rattle.meta_restorer.specs.declared.sides.Side.TheVariants as side
 
-abbrev pub left_of : Side → Restored
+abbrev pub left_of : Side → Left
 left_of (side.Sequence left) = left
 left_of (side.Choice left) = left
 
 module _ (p : Text → Bool) where
-  -- it is told rightly whether it changes the stack
-  abbrev pub IsTold : Restored → Type 0
-  IsTold r = r.changes ≡ changes_by p (optimized_expression_of r.expr)
+  -- it is told rightly whether an expression changes the stack
+  abbrev pub IsTold : Bool → Expression → Type 0
+  IsTold b e = b ≡ changes_by p e
+
+  abbrev pub IsSideTold : Side → Type 0
+  IsSideTold s = IsTold (left_of s).changes (optimized_expression_of (left_of s).expr.value)
 
   abbrev pub AreTold : List Side → Type 0
   AreTold [] = ⊤
-  AreTold (s ∷ ss) = IsTold (left_of s) × AreTold ss
+  AreTold (s ∷ ss) = IsSideTold s × AreTold ss
 
   abbrev pub beside : Side → Expression → Expression
-  beside (side.Sequence left) e = Seq (optimized_expression_of left.expr) e
-  beside (side.Choice left) e = Choice (wrapped_by p (optimized_expression_of left.expr)) (wrapped_by p e)
+  beside (side.Sequence left) e = Seq (optimized_expression_of left.expr.value) e
+  beside (side.Choice left) e = Choice (wrapped_by p (optimized_expression_of left.expr.value)) (wrapped_by p e)
 
   -- an expression behind left sides, the last of which stands next to it
   abbrev pub put_behind : List Side → Expression → Expression

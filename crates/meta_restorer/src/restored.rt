@@ -7,9 +7,10 @@ ghost use Rattle.meta_restorer.specs.Telling.{told};
 ghost use Rattle.meta_ast.specs.Optimized.{optimized_expression_of};
 
 use crate::changes::{Changes, is_changing};
-use crate::sides::{Restored, Side, behind, wrapped};
+use crate::sides::{Left, Restored, Side, behind, nothing, wrap};
 use meta_ast::optimized::OptimizedExpr;
 use std::alloc::{AllocError, Global};
+use std::mem;
 
 /// What is noted at a place, which moves on.
 fn next_rule(rules: &[Option<usize>], place: &mut usize) -> Option<usize>
@@ -22,9 +23,81 @@ fn next_rule(rules: &[Option<usize>], place: &mut usize) -> Option<usize>
     rule
 }
 
-/// The expression, restored, where the rules of its names are noted from a place on.
+/// Restores an expression where it stands, where the rules of its names are noted from a place on: no node is
+/// made anew but for wrappers. Whether it then changes the stack.
 #[cycle(restored)]
-pub(crate) fn restored(
+pub(crate) fn restore(
+    alloc: Global,
+    changes: &Changes,
+    rules: &[Option<usize>],
+    place: &mut usize,
+    expr: &mut OptimizedExpr,
+) -> Result<bool, AllocError>
+    requires noted { AreNoted changes.now.names rules.now (optimized_expression_of expr.old) place.old }
+    ensures place { OnOk result
+        (place.new ≡ place.old + length (names_in (optimized_expression_of expr.old))) }
+    ensures told { IfOk result
+        (λ yes. IsTold (told changes.now) yes (optimized_expression_of expr.new)) }
+    ensures made { OnOk result (optimized_expression_of expr.new
+        ≡ restored_by (told changes.now) (optimized_expression_of expr.old)) }
+{
+    match expr {
+        OptimizedExpr::Seq(_, _) | OptimizedExpr::Choice(_, _) => {
+            let chain = mem::replace(expr, nothing());
+            let Restored {
+                expr: chain,
+                changes: is_changing,
+            } = restored_chain(alloc, changes, rules, place, chain)?;
+            *expr = chain;
+            Ok(is_changing)
+        }
+        _ => restore_one(alloc, changes, rules, place, expr),
+    }
+}
+
+// Restores an expression that is no `~` and no `|` where it stands.
+#[cycle(restored)]
+fn restore_one(
+    alloc: Global,
+    changes: &Changes,
+    rules: &[Option<usize>],
+    place: &mut usize,
+    expr: &mut OptimizedExpr,
+) -> Result<bool, AllocError>
+    requires single { IsNoPair (optimized_expression_of expr.old) }
+    requires noted { AreNoted changes.now.names rules.now (optimized_expression_of expr.old) place.old }
+    ensures place { OnOk result
+        (place.new ≡ place.old + length (names_in (optimized_expression_of expr.old))) }
+    ensures told { IfOk result
+        (λ yes. IsTold (told changes.now) yes (optimized_expression_of expr.new)) }
+    ensures made { OnOk result (optimized_expression_of expr.new
+        ≡ restored_by (told changes.now) (optimized_expression_of expr.old)) }
+{
+    match expr {
+        OptimizedExpr::Ident(name) => Ok(is_changing(changes, name, next_rule(rules, place))),
+        OptimizedExpr::PosPred(inner) => Ok(restore(alloc, changes, rules, place, inner)?),
+        OptimizedExpr::NegPred(inner) => Ok(restore(alloc, changes, rules, place, inner)?),
+        OptimizedExpr::Push(inner) => {
+            restore(alloc, changes, rules, place, inner)?;
+            Ok(true)
+        }
+        OptimizedExpr::Opt(inner) => {
+            let is_changing = restore(alloc, changes, rules, place, inner)?;
+            wrap(alloc, changes, inner, is_changing)?;
+            Ok(false)
+        }
+        OptimizedExpr::Rep(inner) => {
+            let is_changing = restore(alloc, changes, rules, place, inner)?;
+            wrap(alloc, changes, inner, is_changing)?;
+            Ok(false)
+        }
+        _ => Ok(false),
+    }
+}
+
+// An expression with what stands on its right along `~` and `|`, restored.
+#[cycle(restored)]
+fn restored_chain(
     alloc: Global,
     changes: &Changes,
     rules: &[Option<usize>],
@@ -33,7 +106,8 @@ pub(crate) fn restored(
 ) -> Result<Restored, AllocError>
     requires noted { AreNoted changes.now.names rules.now (optimized_expression_of expr) place.old }
     ensures place { OnOk result (place.new ≡ place.old + length (names_in (optimized_expression_of expr))) }
-    ensures told { IfOk result (λ r. IsTold (told changes.now) r) }
+    ensures told { IfOk result
+        (λ r. IsTold (told changes.now) r.changes (optimized_expression_of r.expr)) }
     ensures made { IfOk result (λ r. optimized_expression_of r.expr
         ≡ restored_by (told changes.now) (optimized_expression_of expr)) }
 {
@@ -42,93 +116,36 @@ pub(crate) fn restored(
     'along: loop {
         match rest {
             OptimizedExpr::Seq(left, right) => {
-                let left = restored(alloc, changes, rules, place, Box::into_inner(left))?;
-                sides.push(Side::Sequence(left))?;
-                rest = Box::into_inner(right);
+                let mut left = left;
+                let mut room = right;
+                let is_changing = restore(alloc, changes, rules, place, &mut left)?;
+                rest = Box::replace(&mut room, nothing());
+                sides.push(Side::Sequence(Left {
+                    expr: left,
+                    changes: is_changing,
+                    room,
+                }))?;
             }
             OptimizedExpr::Choice(left, right) => {
-                let left = restored(alloc, changes, rules, place, Box::into_inner(left))?;
-                sides.push(Side::Choice(left))?;
-                rest = Box::into_inner(right);
+                let mut left = left;
+                let mut room = right;
+                let is_changing = restore(alloc, changes, rules, place, &mut left)?;
+                rest = Box::replace(&mut room, nothing());
+                sides.push(Side::Choice(Left {
+                    expr: left,
+                    changes: is_changing,
+                    room,
+                }))?;
             }
             last => {
-                let last = one(alloc, changes, rules, place, last)?;
+                let mut last = last;
+                let is_changing = restore_one(alloc, changes, rules, place, &mut last)?;
+                let last = Restored {
+                    expr: last,
+                    changes: is_changing,
+                };
                 return behind(alloc, changes, sides, last);
             }
         }
-    }
-}
-
-// An expression that is no `~` and no `|`, restored.
-#[cycle(restored)]
-fn one(
-    alloc: Global,
-    changes: &Changes,
-    rules: &[Option<usize>],
-    place: &mut usize,
-    expr: OptimizedExpr,
-) -> Result<Restored, AllocError>
-    requires single { IsNoPair (optimized_expression_of expr) }
-    requires noted { AreNoted changes.now.names rules.now (optimized_expression_of expr) place.old }
-    ensures place { OnOk result (place.new ≡ place.old + length (names_in (optimized_expression_of expr))) }
-    ensures told { IfOk result (λ r. IsTold (told changes.now) r) }
-    ensures made { IfOk result (λ r. optimized_expression_of r.expr
-        ≡ restored_by (told changes.now) (optimized_expression_of expr)) }
-{
-    match expr {
-        OptimizedExpr::Ident(name) => {
-            let is_changing = is_changing(changes, &name, next_rule(rules, place));
-            Ok(Restored {
-                expr: OptimizedExpr::Ident(name),
-                changes: is_changing,
-            })
-        }
-        OptimizedExpr::PosPred(inner) => {
-            let inner = restored(alloc, changes, rules, place, Box::into_inner(inner))?;
-            let Restored {
-                expr,
-                changes: is_changing,
-            } = inner;
-            Ok(Restored {
-                expr: OptimizedExpr::PosPred(Box::new(alloc, expr)?),
-                changes: is_changing,
-            })
-        }
-        OptimizedExpr::NegPred(inner) => {
-            let inner = restored(alloc, changes, rules, place, Box::into_inner(inner))?;
-            let Restored {
-                expr,
-                changes: is_changing,
-            } = inner;
-            Ok(Restored {
-                expr: OptimizedExpr::NegPred(Box::new(alloc, expr)?),
-                changes: is_changing,
-            })
-        }
-        OptimizedExpr::Push(inner) => {
-            let inner = restored(alloc, changes, rules, place, Box::into_inner(inner))?;
-            Ok(Restored {
-                expr: OptimizedExpr::Push(Box::new(alloc, inner.expr)?),
-                changes: true,
-            })
-        }
-        OptimizedExpr::Opt(inner) => {
-            let inner = restored(alloc, changes, rules, place, Box::into_inner(inner))?;
-            Ok(Restored {
-                expr: OptimizedExpr::Opt(wrapped(alloc, changes, inner)?),
-                changes: false,
-            })
-        }
-        OptimizedExpr::Rep(inner) => {
-            let inner = restored(alloc, changes, rules, place, Box::into_inner(inner))?;
-            Ok(Restored {
-                expr: OptimizedExpr::Rep(wrapped(alloc, changes, inner)?),
-                changes: false,
-            })
-        }
-        leaf => Ok(Restored {
-            expr: leaf,
-            changes: false,
-        }),
     }
 }

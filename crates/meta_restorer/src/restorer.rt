@@ -16,7 +16,7 @@ ghost use Rattle.meta_restorer.specs.Telling.{AreCallsOf, Tells, told};
 use crate::bodies::{bodies_of_map, bodies_of_rules};
 use crate::calls::{Calls, calls_in, changes_itself, is_shown};
 use crate::changes::{Changes, changes_of};
-use crate::restored::restored;
+use crate::restored::restore;
 use meta_ast::optimized::{OptimizedExpr, OptimizedRule};
 use meta_base::runtime::Fault;
 use std::alloc::{AllocError, Global};
@@ -150,14 +150,10 @@ fn restored_rule(
     if !is_shown(calls, &changes.marks) {
         return Ok(rule);
     }
-    let OptimizedRule { name, ty, expr } = rule;
+    let mut rule = rule;
     let mut place = 0;
-    let restored = restored(alloc, changes, &calls.rules, &mut place, expr)?;
-    Ok(OptimizedRule {
-        name,
-        ty,
-        expr: restored.expr,
-    })
+    restore(alloc, changes, &calls.rules, &mut place, &mut rule.expr)?;
+    Ok(rule)
 }
 
 // A rule with wrappers, whose body is looked through first.

@@ -1,6 +1,6 @@
 //! Expressions as they are restored, and the left sides that a walk along right sides leaves behind.
-ghost use Rattle.std.specs.Prelude.{◌≡◌, IfOk};
-ghost use Rattle.meta_restorer.specs.Sides.{IsTold, AreTold, left_of, put_behind, beside};
+ghost use Rattle.std.specs.Prelude.{◌≡◌, IfOk, OnOk};
+ghost use Rattle.meta_restorer.specs.Sides.{IsTold, IsSideTold, AreTold, put_behind, beside};
 ghost use Rattle.meta_restorer.specs.Changing.{wrapped_by};
 ghost use Rattle.meta_restorer.specs.Telling.{told};
 ghost use Rattle.meta_ast.specs.Optimized.{optimized_expression_of};
@@ -8,6 +8,7 @@ ghost use Rattle.meta_ast.specs.Optimized.{optimized_expression_of};
 use crate::changes::Changes;
 use meta_ast::optimized::OptimizedExpr;
 use std::alloc::{AllocError, Global};
+use std::mem;
 
 /// A restored expression.
 #[derive(Drop)]
@@ -19,31 +20,43 @@ pub struct Restored {
 
 /// The left side of a `~` or `|`, restored.
 #[derive(Drop)]
-pub enum Side {
-    Sequence(Restored),
-    Choice(Restored),
+pub struct Left {
+    pub expr: Box<OptimizedExpr>,
+    /// Whether it changes the stack.
+    pub changes: bool,
+    /// Where the right side has its room.
+    pub room: Box<OptimizedExpr>,
 }
 
-/// A wrapper round what changes the stack.
-pub(crate) fn wrapped(
+/// The left side of a `~` or of a `|`.
+#[derive(Drop)]
+pub enum Side {
+    Sequence(Left),
+    Choice(Left),
+}
+
+/// What stands where an expression has been taken out.
+pub(crate) fn nothing() -> OptimizedExpr {
+    OptimizedExpr::PeekSlice(0, None)
+}
+
+/// Puts a wrapper round an expression that changes the stack.
+pub(crate) fn wrap(
     alloc: Global,
     changes: &Changes,
-    restored: Restored,
-) -> Result<Box<OptimizedExpr>, AllocError>
-    requires { IsTold (told changes.now) restored }
-    ensures { IfOk result (λ e. optimized_expression_of e.value
-        ≡ wrapped_by (told changes.now) (optimized_expression_of restored.expr)) }
+    expr: &mut Box<OptimizedExpr>,
+    is_changing: bool,
+) -> Result<(), AllocError>
+    requires { IsTold (told changes.now) is_changing (optimized_expression_of expr.old.value) }
+    ensures { OnOk result (optimized_expression_of expr.new.value
+        ≡ wrapped_by (told changes.now) (optimized_expression_of expr.old.value)) }
 {
-    let Restored {
-        expr,
-        changes: is_changing,
-    } = restored;
-    let expr = Box::new(alloc, expr)?;
     if is_changing {
-        Ok(Box::new(alloc, OptimizedExpr::RestoreOnErr(expr))?)
-    } else {
-        Ok(expr)
+        let wrapper = Box::new(alloc, nothing())?;
+        let wrapped = mem::replace(expr, wrapper);
+        drop(Box::replace(expr, OptimizedExpr::RestoreOnErr(wrapped)));
     }
+    Ok(())
 }
 
 /// A left side and what stands on its right.
@@ -53,37 +66,54 @@ fn pair(
     side: Side,
     right: Restored,
 ) -> Result<Restored, AllocError>
-    requires left { IsTold (told changes.now) (left_of side) }
-    requires right { IsTold (told changes.now) right }
-    ensures told { IfOk result (λ r. IsTold (told changes.now) r) }
+    requires left { IsSideTold (told changes.now) side }
+    requires right { IsTold (told changes.now) right.changes (optimized_expression_of right.expr) }
+    ensures told { IfOk result
+        (λ r. IsTold (told changes.now) r.changes (optimized_expression_of r.expr)) }
     ensures made { IfOk result (λ r. optimized_expression_of r.expr
         ≡ beside (told changes.now) side (optimized_expression_of right.expr)) }
 {
+    let Restored {
+        expr: second,
+        changes: is_second_changing,
+    } = right;
     match side {
         Side::Sequence(left) => {
-            let is_changing = left.changes || right.changes;
-            let Restored {
+            let Left {
                 expr: first,
-                changes: _,
+                changes: is_first_changing,
+                room,
             } = left;
-            let Restored {
-                expr: second,
-                changes: _,
-            } = right;
             Ok(Restored {
-                expr: OptimizedExpr::Seq(Box::new(alloc, first)?, Box::new(alloc, second)?),
-                changes: is_changing,
+                expr: OptimizedExpr::Seq(first, put(room, second)),
+                changes: is_first_changing || is_second_changing,
             })
         }
         Side::Choice(left) => {
-            let first = wrapped(alloc, changes, left)?;
-            let second = wrapped(alloc, changes, right)?;
+            let Left {
+                expr,
+                changes: is_first_changing,
+                room,
+            } = left;
+            let mut first = expr;
+            let mut second = put(room, second);
+            wrap(alloc, changes, &mut first, is_first_changing)?;
+            wrap(alloc, changes, &mut second, is_second_changing)?;
             Ok(Restored {
                 expr: OptimizedExpr::Choice(first, second),
                 changes: false,
             })
         }
     }
+}
+
+/// An expression in a box that was made before.
+fn put(room: Box<OptimizedExpr>, expr: OptimizedExpr) -> Box<OptimizedExpr>
+    ensures { result.value ≡ expr }
+{
+    let mut room = room;
+    drop(Box::replace(&mut room, expr));
+    room
 }
 
 /// The expression behind its left sides, the last of which stands next to it.
@@ -94,8 +124,9 @@ pub(crate) fn behind(
     last: Restored,
 ) -> Result<Restored, AllocError>
     requires sides { AreTold (told changes.now) sides.items }
-    requires last { IsTold (told changes.now) last }
-    ensures told { IfOk result (λ r. IsTold (told changes.now) r) }
+    requires last { IsTold (told changes.now) last.changes (optimized_expression_of last.expr) }
+    ensures told { IfOk result
+        (λ r. IsTold (told changes.now) r.changes (optimized_expression_of r.expr)) }
     ensures made { IfOk result (λ r. optimized_expression_of r.expr
         ≡ put_behind (told changes.now) sides.items (optimized_expression_of last.expr)) }
 {

@@ -1,7 +1,7 @@
 -- Flags that are set.
 use Rattle.std.proofs.Common.{◌≡◌, ℕ, zero, suc, ◌<◌, ◌⊎◌, inl, inr, List, [], ◌∷◌, Option, Some, None, Bool, true, false, ◌&&◌, ◌||◌, nat_eq, slice_get, length, refl, sym, ◌∙◌, ap, subst, arith}
 use Rattle.std.proofs.Math.ListN.{set}
-use Rattle.meta_stack.specs.Answers.{at_place, null_kind, changing_kind, some_part, leading, answer, Holds, holds, AreSound, AreClosed, AreAnswers}
+use Rattle.meta_stack.specs.Answers.{at_place, null_kind, changing_kind, still_kind, some_part, leading, answer, Holds, holds, AreSound, AreClosed, AreAnswers}
 use Rattle.meta_stack.specs.Flags.{is_set_at}
 use Rattle.meta_stack.specs.Reaching.{unset}
 use Rattle.meta_stack.specs.Table.{called_by, parts_of}
@@ -85,6 +85,23 @@ module _ (roots : List ℕ) (p r : ℕ → Bool) (f : (j : ℕ) → p j ≡ true
   changing_more (is.PosPred j) h = h
   changing_more (is.NegPred j) h = h
 
+  still_more : (k : Kind) → still_kind roots p k ≡ true → still_kind roots r k ≡ true
+  still_more (is.Call n) h = place_more p r f (slice_get roots n) h
+  still_more (is.Push j) h = f j h
+  still_more (is.Repeat j a b c) h = or_more (nat_eq a 0) (p j) (nat_eq a 0) (r j) (λ e. e) (f j) h
+  still_more (is.Seq j k) h = and_more (p j) (p k) (r j) (r k) (f j) (f k) h
+  still_more (is.Choice j k) h = or_more (p j) (p k) (r j) (r k) (f j) (f k) h
+  still_more is.Leaf h = h
+  still_more is.Still h = h
+  still_more is.Peek h = h
+  still_more is.Pop h = h
+  still_more is.Drop h = h
+  still_more is.PeekAll h = h
+  still_more is.PopAll h = h
+  still_more (is.PosPred j) h = h
+  still_more (is.NegPred j) h = h
+  still_more (is.Opt j) h = h
+
   part_more : (ps : Parts) → some_part p ps ≡ true → some_part r ps ≡ true
   part_more parts.Nothing h = h
   part_more (parts.Inside j required optional endless) h = f j h
@@ -98,6 +115,7 @@ module _ (roots : List ℕ) (p r : ℕ → Bool) (f : (j : ℕ) → p j ≡ true
   pub answer_more : (q : Question) (n : Node) → answer q roots p n ≡ true → answer q roots r n ≡ true
   answer_more asks.TakesNothing n h = or_more n.free (null_kind roots p n.kind) n.free (null_kind roots r n.kind) (λ e. e) (null_more n.kind) h
   answer_more asks.AltersStack n h = changing_more n.kind h
+  answer_more asks.MayBeStill n h = still_more n.kind h
   answer_more (asks.LeadsTo s) n h = leading_more s (called_by n.kind) (parts_of n.kind) h
 
 -- what holds is marked, where the flags are closed

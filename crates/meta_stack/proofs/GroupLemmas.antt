@@ -3,7 +3,7 @@ use Rattle.std.proofs.Common.{◌≡◌, ℕ, zero, suc, ◌⊎◌, ◌+◌, inl
 use Rattle.std.proofs.Math.ListN.{set}
 use Rattle.std.proofs.lemmas.List.{length_push}
 use Rattle.meta_stack.specs.Flags.{is_set_at}
-use Rattle.meta_stack.specs.Leading.{IsOperand, LeadsToCall, to_call, by_body, by_operand, LeadsFrom, LeadsBack, Owns, AreOwned, AreLinks, AreReached, AreReturning, IsOnward, owner_in, leader_in}
+use Rattle.meta_stack.specs.Leading.{IsOperand, LeadsToCall, to_call, by_body, by_operand, LeadsFrom, LeadsBack, Owns, AreOwned, AreLinks, AreLed, IsOnward, owner_in, leader_in, turned}
 use Rattle.meta_stack.specs.Table.{called_by, parts_of}
 use Rattle.meta_stack.specs.declared.calls.Link.{Link}
 use Rattle.meta_stack.specs.declared.table.Node.{Node}
@@ -66,24 +66,7 @@ module _ (ns : List Node) (roots : List ℕ) where
   one_link (x ∷ xs) l all one zero m e = all zero m e
   one_link (x ∷ xs) l all one (suc k) m e = one_link xs l (λ k m e. all (suc k) m e) one k m e
 
-  none_set : (n r : ℕ) (flags : List Bool) → flags ≡ replicate n false → is_set_at flags r ≡ true → ⊥
-  none_set n r flags e h = clash (is_set_at flags r) h (ap (λ bs. is_set_at bs r) e ∙ none n r)
-    where
-      none : (n i : ℕ) → is_set_at (replicate n false) i ≡ false
-      none zero i = refl
-      none (suc n) zero = refl
-      none (suc n) (suc i) = none n i
-
-      clash : (b : Bool) → b ≡ true → b ≡ false → ⊥
-      clash b h k = let z : true ≡ false = sym h ∙ k in cc
-
-  pub none_reached : (leaders : List ℕ) (flags : List Bool) (n : ℕ) → flags ≡ replicate n false → AreReached ns roots leaders flags
-  none_reached leaders flags n e r h = absurd (none_set n r flags e h)
-
-  pub none_returning : (leaders : List ℕ) (flags : List Bool) (n : ℕ) → flags ≡ replicate n false → AreReturning ns roots leaders flags
-  none_returning leaders flags n e r h = absurd (none_set n r flags e h)
-
-  pub one_reached : (leaders : List ℕ) (flags : List Bool) (q r : ℕ) → AreReached ns roots leaders flags → LeadsFrom ns roots q r → IsOnward leaders flags q r → AreReached ns roots leaders (set flags r true)
+  one_reached : (leaders : List ℕ) (flags : List Bool) (q r : ℕ) → AreLed ns roots true leaders flags → LeadsFrom ns roots q r → IsOnward leaders flags q r → AreLed ns roots true leaders (set flags r true)
   one_reached leaders flags q r all link on s h = elim (set_or_one flags r s h) [
     | inl e ↦ subst (λ z. LeadsFrom ns roots (leader_in leaders z) z) (sym e) (go on.known)
     | inr e ↦ all s e
@@ -93,7 +76,7 @@ module _ (ns : List Node) (roots : List ℕ) where
       go (inl e) = subst (λ z. LeadsFrom ns roots z r) e link
       go (inr e) = subst (λ z. LeadsFrom ns roots z r) on.same (trans (leader_in leaders q) q r (all q e) link)
 
-  pub one_returning : (leaders : List ℕ) (flags : List Bool) (q r : ℕ) → AreReturning ns roots leaders flags → LeadsFrom ns roots q r → IsOnward leaders flags r q → AreReturning ns roots leaders (set flags q true)
+  one_returning : (leaders : List ℕ) (flags : List Bool) (q r : ℕ) → AreLed ns roots false leaders flags → LeadsFrom ns roots q r → IsOnward leaders flags r q → AreLed ns roots false leaders (set flags q true)
   one_returning leaders flags q r all link on s h = elim (set_or_one flags q s h) [
     | inl e ↦ subst (λ z. LeadsFrom ns roots z (leader_in leaders z)) (sym e) (go on.known)
     | inr e ↦ all s e
@@ -103,8 +86,13 @@ module _ (ns : List Node) (roots : List ℕ) where
       go (inl e) = subst (LeadsFrom ns roots q) e link
       go (inr e) = subst (LeadsFrom ns roots q) on.same (trans q r (leader_in leaders r) link (all r e))
 
+  pub one_led : (down : Bool) (leaders : List ℕ) (flags : List Bool) (l : Link) → AreLed ns roots down leaders flags → LeadsFrom ns roots l.source l.target
+      → IsOnward leaders flags (turned down l).source (turned down l).target → AreLed ns roots down leaders (set flags (turned down l).target true)
+  one_led true leaders flags l all link on = one_reached leaders flags l.source l.target all link on
+  one_led false leaders flags l all link on = one_returning leaders flags l.source l.target all link on
+
   -- a rule is reached from its leader, which is that rule or is reached from it
-  pub back_by_leader : (leaders : List ℕ) (reached returning : List Bool) (r : ℕ) → AreReached ns roots leaders reached → AreReturning ns roots leaders returning
+  pub back_by_leader : (leaders : List ℕ) (reached returning : List Bool) (r : ℕ) → AreLed ns roots true leaders reached → AreLed ns roots false leaders returning
       → is_set_at reached r ≡ true → (leader_in leaders r ≡ r) ⊎ (is_set_at returning r ≡ true) → LeadsBack ns roots r
   back_by_leader leaders reached returning r down up h (inl e) = subst (λ z. LeadsFrom ns roots z r) e (down r h)
   back_by_leader leaders reached returning r down up h (inr e) = trans r (leader_in leaders r) r (up r e) (down r h)

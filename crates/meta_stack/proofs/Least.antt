@@ -198,6 +198,7 @@ module _ (rules : List ParserRule) (ns : List Node) (roots : List ℕ) (tabled :
   node_asked : (q : Question) (p : ℕ → Bool) → Right q p → (i : ℕ) (n : Node) (x : Spanned) → IsNode (kind_in G) all i n x → answer q roots p n ≡ true → Asked q G (without_spans x)
   node_asked asks.TakesNothing p k i n x fit h = node_null p k i n x fit h
   node_asked asks.AltersStack p k i n x fit h = node_changes p k i n x fit h
+  node_asked asks.MayBeStill p k i n x fit h = tt
   node_asked (asks.LeadsTo r) p k i n x fit h = tt
 
   -- what holds of a node is what is asked of its expression

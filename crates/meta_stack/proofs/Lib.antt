@@ -27,3 +27,7 @@ pub mod LastNames
 pub mod Telling
 pub mod Awaiting
 pub mod Left
+pub mod Lacked
+pub mod Still
+pub mod Silence
+pub mod Answered

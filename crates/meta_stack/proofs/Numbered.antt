@@ -21,7 +21,7 @@ got_before [] ys k n e = cc
 got_before (x ∷ xs) ys zero n e = e
 got_before (x ∷ xs) ys (suc k) n e = got_before xs ys k n e
 
-got_end : {A : Type 0} (xs : List A) (y : A) → slice_get (xs ++ y ∷ []) (length xs) ≡ Some y
+pub got_end : {A : Type 0} (xs : List A) (y : A) → slice_get (xs ++ y ∷ []) (length xs) ≡ Some y
 got_end [] y = refl
 got_end (x ∷ xs) y = got_end xs y
 

@@ -101,7 +101,7 @@ both_called Choice j k = refl
 not_called : (o : Option ℕ) (r : ℕ) → o ≡ None → o ≡ Some r → ⊥
 not_called o r e h = let f : None ≡ Some r = sym e ∙ h in cc
 
-only_operand : (f : Unary) (j k : ℕ) → IsOperand k (parts_of (wrap_kind (wrap_of f) j)) → k ≡ j
+pub only_operand : (f : Unary) (j k : ℕ) → IsOperand k (parts_of (wrap_kind (wrap_of f) j)) → k ≡ j
 only_operand PosPred j k h = h
 only_operand NegPred j k h = h
 only_operand Opt j k h = h
@@ -113,7 +113,7 @@ only_operand (RepMin n) j k h = h
 only_operand (RepMax n) j k h = h
 only_operand (RepMinMax m n) j k h = h
 
-either_operand : (f : Binary) (i j k : ℕ) → IsOperand k (parts_of (both_kind (choice_of f) i j)) → (k ≡ i) ⊎ (k ≡ j)
+pub either_operand : (f : Binary) (i j k : ℕ) → IsOperand k (parts_of (both_kind (choice_of f) i j)) → (k ≡ i) ⊎ (k ≡ j)
 either_operand Seq i j k h = h
 either_operand Choice i j k h = h
 

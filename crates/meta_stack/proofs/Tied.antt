@@ -73,7 +73,7 @@ side_part Choice d e c (of_choice_left p) = inl p
 side_part Choice d e c (of_choice_right p) = inr p
 
 -- 2. kinds and copies
-abbrev required_of : Unary → ℕ
+abbrev pub required_of : Unary → ℕ
 required_of PosPred = 1
 required_of NegPred = 1
 required_of Opt = 1
@@ -85,7 +85,7 @@ required_of (RepMin n) = n
 required_of (RepMax n) = 0
 required_of (RepMinMax m n) = min m n
 
-abbrev optional_of : Unary → ℕ
+abbrev pub optional_of : Unary → ℕ
 optional_of (RepMax n) = n
 optional_of (RepMinMax m n) = n - m
 optional_of PosPred = 0
@@ -97,7 +97,7 @@ optional_of RepOnce = 0
 optional_of (RepExact n) = 0
 optional_of (RepMin n) = 0
 
-unary_parts : (f : Unary) (j : ℕ) → parts_of (wrap_kind (wrap_of f) j) ≡ parts.Inside j (required_of f) (optional_of f) (is_endless f)
+pub unary_parts : (f : Unary) (j : ℕ) → parts_of (wrap_kind (wrap_of f) j) ≡ parts.Inside j (required_of f) (optional_of f) (is_endless f)
 unary_parts PosPred j = refl
 unary_parts NegPred j = refl
 unary_parts Opt j = refl
@@ -121,7 +121,7 @@ same_copies (RepMin n) = refl
 same_copies (RepMax n) = append-nil (replicate n Optional)
 same_copies (RepMinMax m n) = ap (λ l. replicate (min m n) Required ++ l) (append-nil (replicate (n - m) Optional))
 
-binary_parts : (f : Binary) (j k : ℕ) → parts_of (both_kind (choice_of f) j k) ≡ parts.Both j k (is_choice f)
+pub binary_parts : (f : Binary) (j k : ℕ) → parts_of (both_kind (choice_of f) j k) ≡ parts.Both j k (is_choice f)
 binary_parts Seq j k = refl
 binary_parts Choice j k = refl
 

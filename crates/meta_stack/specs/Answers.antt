@@ -53,6 +53,24 @@ changing_kind roots p is.PeekAll = false
 changing_kind roots p (is.PosPred j) = false
 changing_kind roots p (is.NegPred j) = false
 
+-- it may be read as taking nothing, from some stack, by its operands
+abbrev pub still_kind : List ℕ → (ℕ → Bool) → Kind → Bool
+still_kind roots p (is.Call r) = at_place p (slice_get roots r)
+still_kind roots p (is.Push j) = p j
+still_kind roots p (is.Repeat j required optional endless) = nat_eq required 0 || p j
+still_kind roots p (is.Seq j k) = p j && p k
+still_kind roots p (is.Choice j k) = p j || p k
+still_kind roots p is.Leaf = false
+still_kind roots p is.Still = true
+still_kind roots p is.Peek = true
+still_kind roots p is.Pop = true
+still_kind roots p is.Drop = true
+still_kind roots p is.PeekAll = true
+still_kind roots p is.PopAll = true
+still_kind roots p (is.PosPred j) = true
+still_kind roots p (is.NegPred j) = true
+still_kind roots p (is.Opt j) = true
+
 -- some operand is
 abbrev pub some_part : (ℕ → Bool) → Parts → Bool
 some_part p parts.Nothing = false
@@ -68,6 +86,7 @@ leading roots p r None ps = some_part p ps
 abbrev pub answer : Question → List ℕ → (ℕ → Bool) → Node → Bool
 answer asks.TakesNothing roots p n = n.free || null_kind roots p n.kind
 answer asks.AltersStack roots p n = changing_kind roots p n.kind
+answer asks.MayBeStill roots p n = still_kind roots p n.kind
 answer (asks.LeadsTo r) roots p n = leading roots p r (called_by n.kind) (parts_of n.kind)
 
 -- each flag is the answer for its node, by the flags of others
@@ -93,8 +112,9 @@ IsClosedAt q ns roots flags i = (n : Node) → slice_get ns i ≡ Some n
 abbrev pub AreClosed : Question → List Node → List ℕ → List Bool → Type 0
 AreClosed q ns roots flags = (i : ℕ) → IsClosedAt q ns roots flags i
 
--- what a question asks of an expression; where nodes lead is said of numbers alone
+-- what a question asks of an expression; what nodes are read as and where they lead is said of numbers alone
 abbrev pub Asked : Question → Grammar → Expression → Type 0
 Asked asks.TakesNothing g e = IsNullable g e
 Asked asks.AltersStack g e = AltersStack g e
+Asked asks.MayBeStill g e = ⊤
 Asked (asks.LeadsTo r) g e = ⊤

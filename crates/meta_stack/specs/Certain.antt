@@ -1,5 +1,5 @@
 -- What is promised of the reports.
-use Rattle.std.specs.Prelude.{◌≡◌, ◌↔◌, ℕ, ◌+◌, List, [], Some, Bool, true, false, slice_get, map, codes, IsPermutation}
+use Rattle.std.specs.Prelude.{◌≡◌, ◌↔◌, ℕ, ◌+◌, ◌<◌, List, [], Some, Bool, true, false, slice_get, map, codes, IsPermutation}
 use Rattle.std.specs.Ordering.{is_lt, ordering_then, nat_cmp}
 use Rattle.meta_base.specs.Pieces.Saying.{Complaint, Tell}
 use Rattle.meta_base.specs.declared.grammar.Rule.{Rule}
@@ -13,6 +13,7 @@ use Rattle.meta_stacks.specs.Recursion.{ReachesByCalls}
 use Rattle.meta_stacks.specs.Reported.{IsCertainAt, ReportedFrom}
 use Rattle.meta_stacks.specs.Reports.{SkippingAltersStack, skips_in}
 use Rattle.meta_stacks.specs.Stack.{In}
+use Rattle.meta_stacks.specs.Turns.{most_stacks}
 use Rattle.meta_stack.specs.Answers.{AreAnswers, AreSound}
 use Rattle.meta_stack.specs.Flags.{is_set_at}
 use Rattle.meta_stack.specs.Leading.{LeadsBack}
@@ -51,17 +52,16 @@ pub record IsSorted (found sorted : List Span) : Type 0 where
   pub rising : IsRising sorted
 
 -- what the plain reading reports in the bodies of rules, one body after another; calls of rules that reach
--- themselves are not followed
+-- themselves are not followed, and turns are, up to any limit beyond the number of stacks
 pub record AreRead (rules : List SpannedRule) (spans : List Span) : Type 0 where
   pub recursive : Text → Bool
   pub reaches_itself : (n : Text) → (recursive n ≡ true) ↔ ReachesByCalls (rules_without_spans rules) n n
   pub nullable : Spanned → Bool
   pub knows : (x : Spanned) → (nullable x ≡ true) ↔ IsNullable (rules_without_spans rules) (without_spans x)
-  pub limit : ℕ
   pub turns : ℕ
-  pub most_turns : limit ≡ 3067
   pub most_searched : turns ≡ 64
-  pub read : AllReported (ReportedFrom limit turns recursive (rules_without_spans rules) nullable)
+  pub read : (limit : ℕ) → most_stacks < limit
+      → AllReported (ReportedFrom limit turns recursive (rules_without_spans rules) nullable)
       (map (λ r. r.body) rules) spans
 
 -- these are the reports: none where what is skipped changes the stack, else what the plain reading reports

@@ -91,14 +91,16 @@ module _ (ns : List Node) (roots : List ℕ) where
   abbrev pub AreLinks : List Link → Type 0
   AreLinks links = (k : ℕ) (l : Link) → slice_get links k ≡ Some l → LeadsFrom ns roots l.source l.target
 
-  -- where a flag is set the leader of a rule leads to it
-  abbrev pub AreReached : List ℕ → List Bool → Type 0
-  AreReached leaders flags = (r : ℕ) → is_set_at flags r ≡ true → LeadsFrom ns roots (leader_in leaders r) r
-
-  -- where a flag is set a rule leads to its leader
-  abbrev pub AreReturning : List ℕ → List Bool → Type 0
-  AreReturning leaders flags =
+  -- where a flag is set the leader of a rule leads to it, or else the rule to its leader
+  abbrev pub AreLed : Bool → List ℕ → List Bool → Type 0
+  AreLed true leaders flags = (r : ℕ) → is_set_at flags r ≡ true → LeadsFrom ns roots (leader_in leaders r) r
+  AreLed false leaders flags =
       (r : ℕ) → is_set_at flags r ≡ true → LeadsFrom ns roots r (leader_in leaders r)
+
+-- a link, or the same from its target to its source
+abbrev pub turned : Bool → Link → Link
+turned true link = link
+turned false link = record { source = link.target; target = link.source }
 
 -- two rules have one leader, and the first one is that or has its flag set
 pub record IsOnward (leaders : List ℕ) (flags : List Bool) (q r : ℕ) : Type 0 where

@@ -13,6 +13,8 @@ pub mod Told
 pub mod Reaching
 pub mod Expressions
 pub mod Certain
+pub mod Reportable
 pub mod NamedPlaces
 pub mod Leading
 pub mod Waiting
+pub mod Lacking

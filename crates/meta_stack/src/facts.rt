@@ -1,4 +1,5 @@
-//! Which nodes may take nothing, which change the stack, and which lead to calls of a rule.
+//! Which nodes may take nothing, which change the stack, which may be read as taking nothing, and which lead to
+//! calls of a rule.
 ghost use Rattle.std.specs.Prelude.{◌≡◌, ◌<◌, ◌≤◌, ◌+◌, IfOk, true, false};
 ghost use Rattle.std.specs.Prelude.{slice_get};
 ghost use Rattle.meta_stack.specs.Flags.{is_set_at};
@@ -17,6 +18,8 @@ pub enum Question {
     TakesNothing,
     /// Whether it changes the stack, outside predicates.
     AltersStack,
+    /// Whether it may be read as taking nothing, from some stack.
+    MayBeStill,
     /// Whether it leads to a call of the rule of that number.
     LeadsTo(usize),
 }
@@ -76,8 +79,31 @@ fn changes_stack(roots: &[usize], flags: &[bool], kind: Kind) -> bool
     }
 }
 
+/// Whether a node may be read as taking nothing, from some stack, by the flags of its operands.
+fn may_be_still(roots: &[usize], flags: &[bool], kind: Kind) -> bool
+    ensures { result ≡ spec.still_kind roots.now (is_set_at flags.now) kind }
+{
+    match kind {
+        Kind::Call(rule) => is_root_set(roots, flags, rule),
+        Kind::Push(body) => is_set(flags, body),
+        Kind::Repeat(body, required, _, _) => required == 0 || is_set(flags, body),
+        Kind::Seq(first, second) => is_set(flags, first) && is_set(flags, second),
+        Kind::Choice(first, second) => is_set(flags, first) || is_set(flags, second),
+        Kind::Leaf => false,
+        Kind::Still => true,
+        Kind::Peek => true,
+        Kind::Pop => true,
+        Kind::Drop => true,
+        Kind::PeekAll => true,
+        Kind::PopAll => true,
+        Kind::PosPred(_) => true,
+        Kind::NegPred(_) => true,
+        Kind::Opt(_) => true,
+    }
+}
+
 /// Whether some operand has its flag set.
-fn is_part_set(flags: &[bool], parts: Parts) -> bool
+pub(crate) fn is_part_set(flags: &[bool], parts: Parts) -> bool
     ensures { result ≡ spec.some_part (is_set_at flags.now) parts }
 {
     match parts {
@@ -105,6 +131,7 @@ fn answer<'i>(question: Question, roots: &[usize], flags: &[bool], node: Node<'i
     match question {
         Question::TakesNothing => node.free || takes_nothing(roots, flags, node.kind),
         Question::AltersStack => changes_stack(roots, flags, node.kind),
+        Question::MayBeStill => may_be_still(roots, flags, node.kind),
         Question::LeadsTo(rule) => leads_to(roots, flags, rule, node.kind),
     }
 }
@@ -137,7 +164,7 @@ fn mark<'i>(
 }
 
 /// The first node of a rule, and its body.
-fn nodes_of_rule(roots: &[usize], rule: usize) -> (usize, usize) {
+pub(crate) fn nodes_of_rule(roots: &[usize], rule: usize) -> (usize, usize) {
     let first = match rule.checked_sub(1) {
         None => 0,
         Some(before) => match roots.get(before) {

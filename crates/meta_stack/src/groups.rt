@@ -1,6 +1,6 @@
 //! Which rules certainly reach themselves: those that are reached from a leader from which they are reached.
-ghost use Rattle.std.specs.Prelude.{◌≡◌, ℕ, IfOk, Some, true, slice_get};
-ghost use Rattle.meta_stack.specs.Leading.{AreLinks, AreReached, AreReturning, IsOnward, LeadsBack, leader_in};
+ghost use Rattle.std.specs.Prelude.{◌≡◌, ℕ, IfOk, Some, false, true, slice_get};
+ghost use Rattle.meta_stack.specs.Leading.{AreLed, AreLinks, IsOnward, LeadsBack, leader_in, turned};
 
 use crate::calls::{Groups, Link};
 use crate::table::{Node, is_set};
@@ -24,66 +24,62 @@ fn leads_on(leaders: &[usize], flags: &[bool], first: usize, second: usize) -> b
     leader_of(leaders, first) == leader && (first == leader || is_set(flags, first))
 }
 
-/// Sets the flag of the rule that is called, if the caller is reached from the leader of both.
-fn go_down<'i>(
+/// The link, or the same from its target to its source.
+fn turned(link: Link, down: bool) -> Link
+    ensures { result ≡ turned down link }
+{
+    if down {
+        link
+    } else {
+        Link {
+            source: link.target,
+            target: link.source,
+        }
+    }
+}
+
+/// Sets the flag of the rule at the end of a link, if the one at its beginning is the leader of both or has
+/// its flag set. Where flags tell which rules lead up to their leaders, the link is taken from its target.
+fn go_on<'i>(
     roots: &[usize],
     nodes: &[Node<'i>],
     links: &[Link],
     leaders: &[usize],
-    reached: &mut Vec<bool>,
+    down: bool,
+    flags: &mut Vec<bool>,
     place: usize,
 )
     requires links { AreLinks nodes.now roots.now links.now }
-    requires reached { AreReached nodes.now roots.now leaders.now reached.old.items }
-    ensures { AreReached nodes.now roots.now leaders.now reached.new.items }
+    requires flags { AreLed nodes.now roots.now down leaders.now flags.old.items }
+    ensures { AreLed nodes.now roots.now down leaders.now flags.new.items }
 {
     if place >= links.len() {
         return;
     }
-    let Link { source, target } = links[place];
-    if target < reached.len() && leads_on(leaders, reached.as_slice(), source, target) {
-        reached[target] = true;
+    let link = turned(links[place], down);
+    if link.target < flags.len() && leads_on(leaders, flags.as_slice(), link.source, link.target) {
+        flags[link.target] = true;
     }
 }
 
-/// Sets the flag of the caller, if from the rule that is called the leader of both is reached.
-fn go_up<'i>(
+/// Which rules are reached from their leaders, or else from which rules these are, by links in this order.
+fn led_by<'i>(
+    alloc: Global,
     roots: &[usize],
     nodes: &[Node<'i>],
     links: &[Link],
     leaders: &[usize],
-    returning: &mut Vec<bool>,
-    place: usize,
-)
-    requires links { AreLinks nodes.now roots.now links.now }
-    requires returning { AreReturning nodes.now roots.now leaders.now returning.old.items }
-    ensures { AreReturning nodes.now roots.now leaders.now returning.new.items }
-{
-    if place >= links.len() {
-        return;
-    }
-    let Link { source, target } = links[place];
-    if source < returning.len() && leads_on(leaders, returning.as_slice(), target, source) {
-        returning[source] = true;
-    }
-}
-
-/// Sets the flags of rules that are reached from their leaders, by links in this order.
-fn go_along<'i>(
-    roots: &[usize],
-    nodes: &[Node<'i>],
-    links: &[Link],
-    leaders: &[usize],
-    reached: &mut Vec<bool>,
+    down: bool,
     steps: &[usize],
-)
-    requires links { AreLinks nodes.now roots.now links.now }
-    requires reached { AreReached nodes.now roots.now leaders.now reached.old.items }
-    ensures { AreReached nodes.now roots.now leaders.now reached.new.items }
+) -> Result<Vec<bool>, AllocError>
+    requires { AreLinks nodes.now roots.now links.now }
+    ensures { IfOk result (λ flags. AreLed nodes.now roots.now down leaders.now flags.items) }
 {
+    let mut flags = vec![in alloc; false; roots.len()]?;
     for step in steps {
-        go_down(roots, nodes, links, leaders, reached, *step);
+        go_on(roots, nodes, links, leaders, down, &mut flags, *step);
     }
+    Ok(flags)
 }
 
 /// Which rules are reached from their leaders, these themselves too.
@@ -96,33 +92,13 @@ fn reached_by<'i>(
     steps: &[usize],
 ) -> Result<Vec<bool>, AllocError>
     requires { AreLinks nodes.now roots.now links.now }
-    ensures { IfOk result (λ flags. AreReached nodes.now roots.now leaders.now flags.items) }
+    ensures { IfOk result (λ flags. AreLed nodes.now roots.now true leaders.now flags.items) }
 {
-    let mut reached = vec![in alloc; false; roots.len()]?;
-    go_along(roots, nodes, links, leaders, &mut reached, steps);
+    let mut reached = led_by(alloc, roots, nodes, links, leaders, true, steps)?;
     for place in 0..links.len() {
-        go_down(roots, nodes, links, leaders, &mut reached, place);
+        go_on(roots, nodes, links, leaders, true, &mut reached, place);
     }
     Ok(reached)
-}
-
-/// From which rules their leaders are reached.
-fn returning_by<'i>(
-    alloc: Global,
-    roots: &[usize],
-    nodes: &[Node<'i>],
-    links: &[Link],
-    leaders: &[usize],
-    steps: &[usize],
-) -> Result<Vec<bool>, AllocError>
-    requires { AreLinks nodes.now roots.now links.now }
-    ensures { IfOk result (λ flags. AreReturning nodes.now roots.now leaders.now flags.items) }
-{
-    let mut returning = vec![in alloc; false; roots.len()]?;
-    for step in steps {
-        go_up(roots, nodes, links, leaders, &mut returning, *step);
-    }
-    Ok(returning)
 }
 
 /// Whether a rule is reached from its leader, which is that rule or is reached from it.
@@ -135,8 +111,8 @@ fn is_recursive<'i>(
     returning: &[bool],
     rule: usize,
 ) -> bool
-    requires reached { AreReached nodes.now roots.now leaders.now reached.now }
-    requires returning { AreReturning nodes.now roots.now leaders.now returning.now }
+    requires reached { AreLed nodes.now roots.now true leaders.now reached.now }
+    requires returning { AreLed nodes.now roots.now false leaders.now returning.now }
     ensures { result ≡ true → LeadsBack nodes.now roots.now rule }
 {
     is_set(reached, rule) && (leader_of(leaders, rule) == rule || is_set(returning, rule))
@@ -156,7 +132,8 @@ pub(crate) fn recursive_by<'i>(
 {
     let leaders = groups.leaders.as_slice();
     let reached = reached_by(alloc, roots, nodes, links, leaders, groups.down.as_slice())?;
-    let returning = returning_by(alloc, roots, nodes, links, leaders, groups.up.as_slice())?;
+    let up = groups.up.as_slice();
+    let returning = led_by(alloc, roots, nodes, links, leaders, false, up)?;
     let mut flags = Vec::with_capacity(alloc, roots.len())?;
     for rule in 0..roots.len() {
         flags.push(is_recursive(

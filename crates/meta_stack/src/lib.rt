@@ -12,6 +12,7 @@ mod numbering;
 mod owners;
 mod reader;
 mod recursion;
+mod reportable;
 mod table;
 mod validate;
 mod visits;

@@ -1,5 +1,6 @@
 //! The nodes of all rules, numbered, each behind those inside it.
-ghost use Rattle.std.specs.Prelude.{◌≡◌, ◌<◌, ◌+◌, ◌++◌, [], IfOk, OnOk, List, length};
+ghost use Rattle.std.specs.Prelude.{◌≡◌, ◌<◌, ◌+◌, ◌++◌, ◌∷◌, [], IfOk, OnOk, List, length};
+ghost use Rattle.meta_base.specs.Language.Text.{Text};
 ghost use Rattle.meta_ast.specs.Ast.{text_of};
 ghost use Rattle.meta_nodes.specs.Nodes.{view, view_at, piece_of};
 ghost use Rattle.meta_nodes.specs.Spanned as spanned;
@@ -7,6 +8,7 @@ ghost use Rattle.meta_nodes.specs.Spanned.{Spanned};
 ghost use Rattle.meta_stack.specs.Names.{kind_in, grammar_of, is_end};
 ghost use Rattle.meta_stack.specs.NameMaps.{KnowsRules};
 ghost use Rattle.meta_stack.specs.Numbering.{AreSmaller, IsMadeOf, kind_of_code, AreNodes, AreTabled, text_kind, slice_kind, is_empty_text, is_free, wrap_kind, both_kind, postorder};
+ghost use Rattle.meta_stack.specs.Lacking.{IsBehind, Numbers};
 
 use crate::names::{Names, is_literal, kind_of_name};
 use crate::table::{Kind, Node};
@@ -178,32 +180,42 @@ fn kind_of_both(choice: bool, first: usize, second: usize) -> Kind
     }
 }
 
-/// The nodes inside a node at the end of the list, and then the node itself: its number.
-fn number<'i>(
-    rules: &[ParserRule<'i>],
-    names: &Names,
+/// Which operand of a node has no number yet.
+#[derive(Clone, Copy)]
+pub enum Lacks<'a, 'i> {
+    /// The only one; what stands round it.
+    Only(Wrap),
+    /// The first of two; whether it is a choice, and the second one.
+    First(bool, &'a ParserNode<'i>),
+    /// The second of two; whether it is a choice, and the number of the first.
+    Second(bool, usize),
+}
+
+/// A node that waits for the number of an operand.
+#[derive(Clone, Copy)]
+pub struct Unnumbered<'a, 'i> {
+    pub node: &'a ParserNode<'i>,
+    pub lacks: Lacks<'a, 'i>,
+}
+
+/// What comes next.
+#[derive(Clone, Copy)]
+pub enum Coming<'a, 'i> {
+    /// A node is numbered, with those inside it.
+    Node(&'a ParserNode<'i>),
+    /// That was done: its number.
+    Number(usize),
+}
+
+/// Puts a node behind the others: its number.
+fn put<'i>(
     rule: usize,
     node: &ParserNode<'i>,
+    kind: Kind,
     nodes: &mut Vec<Node<'i>>,
 ) -> Result<usize, AllocError>
-    requires { KnowsRules rules.now names.now }
-    ensures last { IfOk result (λ own. length nodes.new.items ≡ own + 1) }
-    ensures nodes { OnOk result ((all : List Spanned)
-        → AreNodes (kind_in (grammar_of rules.now)) all nodes.old.items
-        → AreNodes (kind_in (grammar_of rules.now)) (all ++ postorder (view node.now)) nodes.new.items) }
+    ensures { IfOk result (IsBehind node.now kind nodes.old.items nodes.new.items) }
 {
-    let kind = match taken_apart(&node.expr) {
-        Operands::Nothing => kind_of_leaf(rules, names, &node.expr),
-        Operands::Inside(wrap, body) => {
-            let inside = number(rules, names, rule, body, nodes)?;
-            kind_of_wrap(wrap, inside)
-        }
-        Operands::Both(choice, first, second) => {
-            let first = number(rules, names, rule, first, nodes)?;
-            let second = number(rules, names, rule, second, nodes)?;
-            kind_of_both(choice, first, second)
-        }
-    };
     let own = nodes.len();
     let free = is_free(&node.expr);
     nodes.push(Node {
@@ -213,6 +225,101 @@ fn number<'i>(
         span: node.span,
     })?;
     Ok(own)
+}
+
+/// Begins with a node: its first operand comes next, or else it is numbered.
+fn enter<'a, 'i>(
+    rules: &[ParserRule<'i>],
+    names: &Names,
+    rule: usize,
+    node: &'a ParserNode<'i>,
+    waiting: &mut Vec<Unnumbered<'a, 'i>>,
+    nodes: &mut Vec<Node<'i>>,
+) -> Result<Coming<'a, 'i>, AllocError>
+    requires { KnowsRules rules.now names.now }
+    ensures { IfOk result (Numbers (kind_in (grammar_of rules.now)) (Coming.Node node.entry)
+        waiting.old.items nodes.old.items waiting.new.items nodes.new.items) }
+{
+    match taken_apart(&node.expr) {
+        Operands::Nothing => {
+            let kind = kind_of_leaf(rules, names, &node.expr);
+            let own = put(rule, node, kind, nodes)?;
+            Ok(Coming::Number(own))
+        }
+        Operands::Inside(wrap, body) => {
+            let lacks = Lacks::Only(wrap);
+            waiting.push(Unnumbered { node, lacks })?;
+            Ok(Coming::Node(body))
+        }
+        Operands::Both(choice, first, second) => {
+            let lacks = Lacks::First(choice, second);
+            waiting.push(Unnumbered { node, lacks })?;
+            Ok(Coming::Node(first))
+        }
+    }
+}
+
+/// Goes on with a node once the operand that it lacked has a number: the second operand comes next, or else
+/// it is numbered.
+fn leave<'a, 'i>(
+    rule: usize,
+    last: Unnumbered<'a, 'i>,
+    number: usize,
+    waiting: &mut Vec<Unnumbered<'a, 'i>>,
+    nodes: &mut Vec<Node<'i>>,
+) -> Result<Coming<'a, 'i>, AllocError>
+    ensures { IfOk result (λ next. (names : Text → Kind) → Numbers names (Coming.Number number)
+        (waiting.old.items ++ last.entry ∷ []) nodes.old.items waiting.new.items nodes.new.items next) }
+{
+    let node = last.node;
+    match last.lacks {
+        Lacks::Only(wrap) => {
+            let own = put(rule, node, kind_of_wrap(wrap, number), nodes)?;
+            Ok(Coming::Number(own))
+        }
+        Lacks::First(choice, second) => {
+            let lacks = Lacks::Second(choice, number);
+            waiting.push(Unnumbered { node, lacks })?;
+            Ok(Coming::Node(second))
+        }
+        Lacks::Second(choice, first) => {
+            let own = put(rule, node, kind_of_both(choice, first, number), nodes)?;
+            Ok(Coming::Number(own))
+        }
+    }
+}
+
+/// The nodes inside a node at the end of the list, and then the node itself: its number. Nodes that wait for
+/// that of an operand lie on a list, so that no depth takes the machine's stack; it is empty before and
+/// after.
+fn number<'a, 'i>(
+    rules: &[ParserRule<'i>],
+    names: &Names,
+    rule: usize,
+    node: &'a ParserNode<'i>,
+    waiting: &mut Vec<Unnumbered<'a, 'i>>,
+    nodes: &mut Vec<Node<'i>>,
+) -> Result<usize, AllocError>
+    requires known { KnowsRules rules.now names.now }
+    requires none { waiting.old.items ≡ [] }
+    ensures none { OnOk result (waiting.new.items ≡ []) }
+    ensures last { IfOk result (λ own. length nodes.new.items ≡ own + 1) }
+    ensures nodes { OnOk result ((all : List Spanned)
+        → AreNodes (kind_in (grammar_of rules.now)) all nodes.old.items
+        → AreNodes (kind_in (grammar_of rules.now)) (all ++ postorder (view node.now)) nodes.new.items) }
+{
+    let mut next = Coming::Node(node);
+    'steps: loop {
+        match next {
+            Coming::Node(node) => {
+                next = enter(rules, names, rule, node, waiting, nodes)?;
+            }
+            Coming::Number(own) => match waiting.pop() {
+                None => return Ok(own),
+                Some(last) => next = leave(rule, last, own, waiting, nodes)?,
+            },
+        }
+    }
 }
 
 /// The nodes of all rules at the end of a list, and which of them are the rules' bodies.
@@ -228,8 +335,9 @@ pub(crate) fn number_all<'i>(
         (grammar_of rules.now)) nodes.new.items roots.items) }
 {
     let mut roots = Vec::new(alloc);
+    let mut waiting = Vec::new(alloc);
     for place in 0..rules.len() {
-        let root = number(rules, names, place, &rules[place].node, nodes)?;
+        let root = number(rules, names, place, &rules[place].node, &mut waiting, nodes)?;
         roots.push(root)?;
     }
     Ok(roots)

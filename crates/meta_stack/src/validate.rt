@@ -1,24 +1,28 @@
 //! The whole pass.
-ghost use Rattle.std.specs.Prelude.{◌≡◌, ◌&&◌, not, IfOk, IfErr, OnOk, MatchOption, alloc_error, map, is_some, [], ◌∷◌};
+ghost use Rattle.std.specs.Prelude.{◌≡◌, ◌<◌, ◌&&◌, not, IfOk, IfErr, OnOk, MatchOption, alloc_error, map, is_some, [], ◌∷◌};
+ghost use Rattle.std.specs.List.{filter};
 ghost use Rattle.std.specs.Str.{IsAscii};
 ghost use Rattle.meta_base.specs.Language.Expression.{whitespace, comment};
 ghost use Rattle.meta_base.specs.Pieces.Saying.{Tell};
 ghost use Rattle.meta_nodes.specs.Nodes.{rule_views, piece_of};
-ghost use Rattle.meta_stacks.specs.Reports.{SkippingAltersStack, skips_in};
-ghost use Rattle.meta_stack.specs.Certain.{AreCertain, ArePlain, AreReports, IsSorted, IsTableOf, TellReports, complaint_at};
+ghost use Rattle.meta_stacks.specs.Reports.{skips_in};
+ghost use Rattle.meta_stack.specs.Certain.{AreCertain, ArePlain, AreReports, IsSorted, TellReports, complaint_at};
 ghost use Rattle.meta_stack.specs.Expressions.{body_flag, name_flag};
+ghost use Rattle.meta_stack.specs.Flags.{is_set_at};
 ghost use Rattle.meta_stack.specs.NameMaps.{KnowsRules};
 ghost use Rattle.meta_stack.specs.Names.{grammar_of, last_place};
 ghost use Rattle.meta_stack.specs.Table.{AreInside, IsOrdered};
+ghost use Rattle.meta_stack.specs.Reportable.{FindsMore, IsToVisit};
 ghost use Rattle.meta_stack.specs.Visiting.{FindsAll, Keeps};
 
-use crate::facts::{Question, answers, is_root_set};
+use crate::facts::{Question, answers, is_root_set, nodes_of_rule};
 use crate::memory::Memory;
 use crate::names::{Names, names_of};
 use crate::numbering::number_all;
 use crate::reader::read;
 use crate::recursion::{Calls, calls_of};
-use crate::table::Table;
+use crate::reportable::{is_some_root_set, reportable_nodes};
+use crate::table::{Table, is_set};
 use crate::visits::{Pending, visit};
 use meta_base::grammar::Rule;
 use meta_base::runtime::{Error, ErrorVariant, Fault, Span};
@@ -82,14 +86,31 @@ fn leaves_stack<'i>(
         && !is_body_set(rules, names, roots, flags, "COMMENT")
 }
 
-/// The table of rules, where what is skipped leaves the stack alone.
-fn table_of<'i>(alloc: Global, rules: &[ParserRule<'i>]) -> Result<Option<Table<'i>>, AllocError>
-    ensures { IfOk result (λ found. MatchOption found (SkippingAltersStack (grammar_of rules.now))
-        (λ table. IsTableOf rules.now table)) }
+/// What is visited.
+#[derive(Drop)]
+pub struct ToVisit<'i> {
+    /// The table of rules.
+    pub table: Table<'i>,
+    /// In which of its nodes something may be reported.
+    pub reportable: Vec<bool>,
+}
+
+/// What is visited; none where nothing is reported, which is mostly seen before it is asked which calls are
+/// followed.
+fn to_visit_in<'i>(
+    alloc: Global,
+    rules: &[ParserRule<'i>],
+) -> Result<Option<ToVisit<'i>>, AllocError>
+    ensures { IfOk result (λ found. MatchOption found (ArePlain (rule_views rules.now) [])
+        (λ visited. IsToVisit rules.now visited)) }
 {
     let names = names_of(alloc, rules)?;
     let mut nodes = Vec::new(alloc);
     let roots = number_all(alloc, rules, &names, &mut nodes)?;
+    let reportable = reportable_nodes(alloc, roots.as_slice(), nodes.as_slice())?;
+    if !is_some_root_set(roots.as_slice(), reportable.as_slice()) {
+        return Ok(None);
+    }
     let changing = answers(
         alloc,
         Question::AltersStack,
@@ -106,7 +127,7 @@ fn table_of<'i>(alloc: Global, rules: &[ParserRule<'i>]) -> Result<Option<Table<
         nodes.as_slice(),
     )?;
     let Calls { recursive, ranks } = calls_of(alloc, roots.as_slice(), nodes.as_slice())?;
-    Ok(Some(Table {
+    let table = Table {
         nodes,
         roots,
         recursive,
@@ -115,7 +136,8 @@ fn table_of<'i>(alloc: Global, rules: &[ParserRule<'i>]) -> Result<Option<Table<
         skips: is_skipping(rules, &names),
         limit: MOST_STACKS,
         turns: MOST_TURNS,
-    }))
+    };
+    Ok(Some(ToVisit { table, reportable }))
 }
 
 /// The rules by their ranks, the lowest first.
@@ -128,16 +150,20 @@ fn by_rank<'i>(alloc: Global, table: &Table<'i>) -> Result<Vec<usize>, AllocErro
     Ok(order)
 }
 
-/// Reads the body of a rule from where each rule begins.
+/// Reads the body of a rule from where each rule begins, where the rule is noted.
 fn read_body<'i>(
     alloc: Global,
     table: &Table<'i>,
+    wanted: &[bool],
     memory: &mut Memory,
     rule: usize,
 ) -> Result<(), AllocError>
     requires { IsOrdered table.now }
     ensures { OnOk result (Keeps table.now memory.old memory.new) }
 {
+    if !is_set(wanted, rule) {
+        return Ok(());
+    }
     match table.roots.get(rule) {
         None => Ok(()),
         Some(root) => {
@@ -149,33 +175,136 @@ fn read_body<'i>(
     }
 }
 
-/// Reads all bodies, those of lower ranks first: so that no reading goes deep along calls.
-fn read_all<'i>(alloc: Global, table: &Table<'i>, memory: &mut Memory) -> Result<(), AllocError>
+/// Notes a rule.
+fn want(wanted: &mut Vec<bool>, rule: usize) {
+    if rule < wanted.len() {
+        wanted[rule] = true;
+    }
+}
+
+/// Notes a rule in whose body something may be reported; and where a rule is noted, the rules that it calls,
+/// where these calls are followed.
+fn want_with_calls<'i>(
+    table: &Table<'i>,
+    reportable: &[bool],
+    wanted: &mut Vec<bool>,
+    rule: usize,
+) {
+    if is_root_set(table.roots.as_slice(), reportable, rule) {
+        want(wanted, rule);
+    }
+    if !is_set(wanted.as_slice(), rule) {
+        return;
+    }
+    let (first, root) = nodes_of_rule(table.roots.as_slice(), rule);
+    for place in first..root {
+        want_call(table, wanted, place);
+    }
+    want_call(table, wanted, root);
+}
+
+/// Notes the rule that a node calls, where the call is followed.
+fn want_call<'i>(table: &Table<'i>, wanted: &mut Vec<bool>, place: usize) {
+    let Some(node) = table.nodes.get(place) else {
+        return;
+    };
+    let Some(rule) = node.kind.called() else {
+        return;
+    };
+    if table.followed(rule).is_some() {
+        want(wanted, rule);
+    }
+}
+
+/// The rules in whose bodies something may be reported, and those that they lead to by calls that are
+/// followed; `order`: all rules, those of lower ranks first.
+fn wanted_of<'i>(
+    alloc: Global,
+    table: &Table<'i>,
+    reportable: &[bool],
+    order: &[usize],
+) -> Result<Vec<bool>, AllocError> {
+    let mut wanted = vec![in alloc; false; table.roots.len()]?;
+    for done in 0..order.len() {
+        want_with_calls(
+            table,
+            reportable,
+            &mut wanted,
+            order[order.len() - 1 - done],
+        );
+    }
+    Ok(wanted)
+}
+
+/// Reads the bodies that are visited, and those that they lead to, those of lower ranks first: so that no
+/// reading goes deep along calls.
+fn read_wanted<'i>(
+    alloc: Global,
+    table: &Table<'i>,
+    reportable: &[bool],
+    memory: &mut Memory,
+) -> Result<(), AllocError>
     requires { IsOrdered table.now }
     ensures { OnOk result (Keeps table.now memory.old memory.new) }
 {
     let order = by_rank(alloc, table)?;
+    let wanted = wanted_of(alloc, table, reportable, order.as_slice())?;
     for rule in &order {
-        read_body(alloc, table, memory, *rule)?;
+        read_body(alloc, table, wanted.as_slice(), memory, *rule)?;
     }
     Ok(())
 }
 
-/// The repetitions that are reported in each rule's body, one body after another.
-fn visit_all<'i>(alloc: Global, table: &Table<'i>) -> Result<Vec<Span<'i>>, AllocError>
+/// Appends the repetitions that are reported in a body, where something may be.
+fn visit_body<'i>(
+    alloc: Global,
+    table: &Table<'i>,
+    reportable: &[bool],
+    memory: &mut Memory,
+    body: usize,
+    found: &mut Vec<Span<'i>>,
+) -> Result<(), AllocError>
+    requires inside { body < table.now.nodes.len }
+    requires ordered { IsOrdered table.now }
+    ensures kept { OnOk result (Keeps table.now memory.old memory.new) }
+    ensures found { OnOk result (FindsMore table.now reportable.now memory.old body
+        found.old.items found.new.items) }
+{
+    if !is_set(reportable, body) {
+        return Ok(());
+    }
+    let start = Pending {
+        node: body,
+        stacks: vec![in alloc; Stack::entry(); 1]?,
+    };
+    visit(alloc, table, memory, start, found)?;
+    Ok(())
+}
+
+/// The repetitions that are reported in each rule's body, one body after another; bodies in which nothing can
+/// be reported are left out.
+fn visit_all<'i>(
+    alloc: Global,
+    table: &Table<'i>,
+    reportable: &[bool],
+) -> Result<Vec<Span<'i>>, AllocError>
     requires ordered { IsOrdered table.now }
     requires inside { AreInside table.now }
-    ensures { IfOk result (λ found. FindsAll table.now table.now.roots.items found.items) }
+    ensures { IfOk result (λ found. FindsAll table.now
+        (filter (is_set_at reportable.now) table.now.roots.items) found.items) }
 {
     let mut memory = Memory::new(alloc);
-    read_all(alloc, table, &mut memory)?;
+    read_wanted(alloc, table, reportable, &mut memory)?;
     let mut found = Vec::new(alloc);
     for rule in 0..table.roots.len() {
-        let start = Pending {
-            node: table.roots[rule],
-            stacks: vec![in alloc; Stack::entry(); 1]?,
-        };
-        visit(alloc, table, &mut memory, start, &mut found)?;
+        visit_body(
+            alloc,
+            table,
+            reportable,
+            &mut memory,
+            table.roots[rule],
+            &mut found,
+        )?;
     }
     Ok(found)
 }
@@ -185,9 +314,9 @@ fn all_reports<'i>(alloc: Global, rules: &[ParserRule<'i>]) -> Result<Vec<Span<'
     ensures certain { IfOk result (λ found. AreCertain (rule_views rules.now) (map piece_of found.items)) }
     ensures plain { IfOk result (λ found. ArePlain (rule_views rules.now) (map piece_of found.items)) }
 {
-    match table_of(alloc, rules)? {
+    match to_visit_in(alloc, rules)? {
         None => Ok(Vec::new(alloc)),
-        Some(table) => visit_all(alloc, &table),
+        Some(visited) => visit_all(alloc, &visited.table, visited.reportable.as_slice()),
     }
 }
 

@@ -7,3 +7,7 @@ pub mod Certain
 pub mod Fuel
 pub mod MarkLemmas
 pub mod Routes
+pub mod Counting
+pub mod FewMarks
+pub mod Turning
+pub mod AnyLimit

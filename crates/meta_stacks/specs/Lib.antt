@@ -6,3 +6,4 @@ pub mod Views
 pub mod Walks
 pub mod Reported
 pub mod Recursion
+pub mod Turns

@@ -1,11 +1,13 @@
 //! Laws over the definitions alone.
-ghost use Rattle.std.specs.Prelude.{◌≡◌, ℕ, Bool, List};
+ghost use Rattle.std.specs.Prelude.{◌≡◌, ℕ, ◌<◌, ◌≤◌, Bool, List, [], Some, length};
 ghost use Rattle.meta_base.specs.Language.Text.{Text};
 ghost use Rattle.meta_base.specs.Language.Expression.{Grammar, Expression};
 ghost use Rattle.meta_nodes.specs.Spanned.{Spanned, Span};
 ghost use Rattle.meta_stacks.specs.Stack.{AbstractStack, In};
-ghost use Rattle.meta_stacks.specs.Reported.{KnowsNullable, ReportedFrom, IsCertainAt};
-ghost use Rattle.meta_stacks.specs.Reports.{Route, IsReport, IsCertain, SkippingAltersStack};
+ghost use Rattle.meta_stacks.specs.Reading.{Reading, Walk, turns, reading, name_reading};
+ghost use Rattle.meta_stacks.specs.Reported.{KnowsNullable, ReportedFrom, IsCertainAt, turn_starts};
+ghost use Rattle.meta_stacks.specs.Reports.{Route, IsReport, IsCertain, SkippingAltersStack, reading_in};
+ghost use Rattle.meta_stacks.specs.Turns.{HasFewMarks, most_stacks, AreDistinct, KeepsFewMarks, TurnsEnd};
 
 /// Each report is certain: no start of the rule that reaches the repetition has an outcome. That holds
 /// however many turns are followed, and whichever rules are taken for recursive.
@@ -21,4 +23,35 @@ pub fn reported_is_certain()
         → KnowsNullable g nullable → (SkippingAltersStack g → ⊥)
         → (x : Spanned) (ts : List Span) → ReportedFrom limit turns recursive g nullable x ts
         → (t : Span) → In t ts → IsCertainAt g x t }
+{}
+
+/// There are no more stacks with eight marks at most than `most_stacks`. So with any limit above it the turns
+/// of a body go on until a start comes again or there is no ok, and the limit is never met. Turns end in one
+/// way.
+pub fn turns_end()
+    ensures few { (stacks : List AbstractStack) → ((a : AbstractStack) → In a stacks → HasFewMarks a)
+        → AreDistinct stacks → length stacks ≤ most_stacks }
+    ensures unlimited { (limit : ℕ) (step : AbstractStack → Reading) (a : AbstractStack) (w : Walk)
+        → most_stacks < limit → KeepsFewMarks step → HasFewMarks a
+        → TurnsEnd step [] (Some a) w
+        (turn_starts step limit [] (Some a))
+        (turns limit step limit [] (Some a) w) }
+    ensures unique { (step : AbstractStack → Reading) (a : AbstractStack) (w v u : Walk)
+        → (ss ts : List AbstractStack)
+        → TurnsEnd step [] (Some a) w ss v → TurnsEnd step [] (Some a) w ts u → (ss ≡ ts) × (v ≡ u) }
+{}
+
+/// A reading leads from stacks with eight marks at most to such stacks. So its limit is never met, and with
+/// any two limits above the number of stacks expressions have the same readings and bodies the same reports.
+pub fn limits_agree()
+    ensures few { (limit depth : ℕ) (skips : Bool) (recursive : Text → Bool) (g : Grammar) (e : Expression)
+        → KeepsFewMarks (reading limit skips (name_reading limit skips recursive g depth) e) }
+    ensures readings { (limit other : ℕ) (recursive : Text → Bool) (g : Grammar) (e : Expression)
+        → (a : AbstractStack) → most_stacks < limit → most_stacks < other → HasFewMarks a
+        → reading_in limit recursive g e a ≡ reading_in other recursive g e a }
+    ensures reports { (limit other turns : ℕ) (recursive : Text → Bool) (g : Grammar)
+        → (nullable : Spanned → Bool) (x : Spanned) (ts : List Span)
+        → most_stacks < limit → most_stacks < other
+        → ReportedFrom limit turns recursive g nullable x ts
+        → ReportedFrom other turns recursive g nullable x ts }
 {}

@@ -105,6 +105,18 @@ one_found text f bs given r left c h ub g e l t =
     ∙ (sym (one_at (length text - length bs) c (chars r) f t)
     ∙ ap (λ xs. character_outcome f (here (length text - length bs) xs)) (sym (chars_past_char bs r c ub (sym g ∙ e)))))
 
+-- a text of one character
+one_text_here : (p c : ℕ) (cs : Text) → character_outcome (nat_eq c) (here p cs) ≡ text_outcome nat_eq (c ∷ []) (here p cs)
+one_text_here p c [] = refl
+one_text_here p c (d ∷ u) = go (nat_eq c d)
+  where
+    go : (b : Bool) → (if b then Success (moved 1 (here p (d ∷ u))) None' else Failure) ≡ (if (b && true) then Success (moved 1 (here p (d ∷ u))) None' else Failure)
+    go true = refl
+    go false = refl
+
+pub one_text : (text bs : List ℕ) (c : ℕ) → character_outcome (nat_eq c) (at text bs) ≡ text_outcome nat_eq (c ∷ []) (at text bs)
+one_text text bs c = one_text_here (length text - length bs) c (chars bs)
+
 pub one_refused : (text : List ℕ) (f : ℕ → Bool) (bs given r : List ℕ) (c : ℕ) → IsUtf8 bs → given ≡ bs → given ≡ encode_utf8 c ++ r → f c ≡ false → Failure ≡ character_outcome f (at text bs)
 one_refused text f bs given r c ub g e h = rw (chars_past_char bs r c ub (sym g ∙ e)) (sym (one_not_at (length text - length bs) c (chars r) f h))
 

@@ -1,5 +1,5 @@
 pub mod Choices
-pub mod Comments
+pub mod CommentEnds
 pub mod EntryLists
 pub mod FirstCharacters
 pub mod LeafLemmas

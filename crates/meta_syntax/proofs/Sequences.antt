@@ -42,7 +42,7 @@ module _ {m : Mode} {text from : List ℕ} where
   fails_followed d (form.Rep' a f) x = fails_first x
   fails_followed d (form.Characters' s a f) x = fails_first x
   fails_followed d (form.Quoted' a f b g) x = fails_first x
-  fails_followed d (form.Comment' a f b g) x = fails_first x
+  fails_followed d (form.Comment' a f) x = fails_first x
   fails_followed d (form.RepOnce' a f) x = fails_first x
   fails_followed d (form.NegPred' a f) x = fails_first x
   fails_followed d (form.RepMinMax' a f i j b g) x = fails_first x

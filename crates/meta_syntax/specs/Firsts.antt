@@ -85,7 +85,7 @@ takes_one is.alpha_num c = (is_lower c || is_upper c) || is_between 48 57 c
 takes_one _ c = false
 
 -- what a look at the next character tells of a call is so
-abbrev pub Tells : Rule → ℕ → Lookahead → Type 0
-Tells r c ahead.Fails = may_begin r c ≡ false
-Tells r c ahead.TakesOne = takes_one r c ≡ true
-Tells r c ahead.MustRun = (may_begin r c ≡ true) × (takes_one r c ≡ false)
+abbrev pub Foretells : Rule → ℕ → Lookahead → Type 0
+Foretells r c ahead.Fails = may_begin r c ≡ false
+Foretells r c ahead.TakesOne = takes_one r c ≡ true
+Foretells r c ahead.MustRun = (may_begin r c ≡ true) × (takes_one r c ≡ false)

@@ -1,5 +1,5 @@
 -- What the table's forms stand for, and how far a run of one may go before it takes input.
-use Rattle.std.specs.Prelude.{◌≡◌, ℕ, ◌+◌, max, List, [], ◌∷◌, Bool, true, false, not, ◌&&◌, ◌||◌, Option, Some, None, if◌then◌else◌, nat_eq, nat_lt, length, codes, ⊤}
+use Rattle.std.specs.Prelude.{◌≡◌, ℕ, ◌+◌, ◌<◌, max, List, [], ◌∷◌, Bool, true, false, not, ◌&&◌, ◌||◌, Option, Some, None, if◌then◌else◌, nat_eq, nat_lt, length, codes, ⊤}
 use Rattle.std.specs.Str.{chars_after, continuation_len, lead_bits}
 use Rattle.std.specs.Borrow.{Bor}
 use Rattle.meta_base.specs.Language.Expression as spec
@@ -10,6 +10,7 @@ use Rattle.meta_base.specs.declared.grammar.Rule.{Rule}
 use Rattle.meta_base.specs.declared.grammar.Rule.TheVariants as is
 use Rattle.meta_syntax.specs.MetaGrammar.{body_of}
 use Rattle.meta_syntax.specs.Sets.{spelled_by}
+use Rattle.meta_syntax.specs.declared.sets.Set.{Set}
 use Rattle.meta_syntax.specs.declared.sets.Set.TheVariants as set
 use Rattle.meta_syntax.specs.declared.table.Kind.{Kind}
 use Rattle.meta_syntax.specs.declared.table.Kind.TheVariants as of
@@ -53,7 +54,7 @@ followed d (form.Opt' p a) = behind d (spec.Opt (followed None a))
 followed d (form.Rep' p a) = behind d (spec.Rep (followed None a))
 followed d (form.Characters' s p a) = behind d (spec.Rep (followed None a))
 followed d (form.Quoted' p a q b) = behind d (followed None b)
-followed d (form.Comment' p a q b) = behind d (followed None b)
+followed d (form.Comment' p a) = behind d (followed None a)
 followed d (form.RepOnce' p a) = behind d (spec.RepOnce (followed None a))
 followed d (form.NegPred' p a) = behind d (spec.NegPred (followed None a))
 followed d (form.RepMinMax' p a i j q b) = behind d (spec.RepMinMax (followed None a) i j)
@@ -90,7 +91,7 @@ null (form.Opt' p a) = true
 null (form.Rep' p a) = true
 null (form.Characters' s p a) = true
 null (form.Quoted' p a q b) = true
-null (form.Comment' p a q b) = null b
+null (form.Comment' p a) = null a
 null (form.RepOnce' p a) = null a
 null (form.NegPred' p a) = true
 null (form.RepMinMax' p a i j q b) = null b
@@ -162,7 +163,7 @@ cost (form.Opt' p a) = 2 + cost a
 cost (form.Rep' p a) = 2 + cost a
 cost (form.Characters' s p a) = 3 + cost a
 cost (form.Quoted' p a q b) = 7 + max (cost a) (cost b)
-cost (form.Comment' p a q b) = 3 + cost b
+cost (form.Comment' p a) = 3 + cost a
 cost (form.RepOnce' p a) = 3 + cost a
 cost (form.NegPred' p a) = 2 + cost a
 cost (form.RepMinMax' p a i j q b) = 2 + cost b
@@ -182,7 +183,7 @@ good (form.Opt' p a) = good a
 good (form.Rep' p a) = good a && (not (null a) && nat_lt (cost a) 999)
 good (form.Characters' s p a) = good a && (not (null a) && nat_lt (cost a) 999)
 good (form.Quoted' p a q b) = (good a && (not (null a) && nat_lt (cost a) 999)) && good b
-good (form.Comment' p a q b) = (good a && (not (null a) && nat_lt (cost a) 999)) && good b
+good (form.Comment' p a) = good a
 good (form.RepOnce' p a) = good a && (not (null a) && nat_lt (cost a) 999)
 good (form.NegPred' p a) = good a
 good (form.RepMinMax' p a i j q b) = good b
@@ -206,11 +207,39 @@ IsSpelled (form.Rep' p a) = IsSpelled a
 IsSpelled (form.Characters' s p a) = (expression_of a ≡ spelled_by s) × IsSpelled a
 IsSpelled (form.Quoted' p a q b) = (expression_of a ≡ spelled_by set.Quoted) × IsSpelled a
     × (expression_of b ≡ body_of is.inner_str) × IsSpelled b
-IsSpelled (form.Comment' p a q b) = (expression_of a ≡ spelled_by set.Comment) × IsSpelled a
-    × (expression_of b ≡ body_of is.block_comment) × IsSpelled b
+IsSpelled (form.Comment' p a) = (expression_of a ≡ body_of is.block_comment) × IsSpelled a
 IsSpelled (form.RepOnce' p a) = IsSpelled a
 IsSpelled (form.NegPred' p a) = IsSpelled a
 IsSpelled (form.RepMinMax' p a i j q b) = (expression_of b ≡ from_to (expression_of a) i j) × IsSpelled b
+
+-- a form that can be run
+abbrev pub IsRunnable : Form → Type 0
+IsRunnable f = record {
+  good : IsGood f;
+  spelled : IsSpelled f;
+}
+
+-- a turn of a repetition can be run, takes input, and costs little enough
+abbrev pub IsTurn : Form → Type 0
+IsTurn f = record {
+  runnable : IsRunnable f;
+  consumes : null f ≡ false;
+  below : cost f < 999;
+}
+
+-- it is the turn that a set belongs to
+abbrev pub IsTurnOf : Set → Form → Type 0
+IsTurnOf s f = record {
+  turn : IsTurn f;
+  of_set : expression_of f ≡ spelled_by s;
+}
+
+-- a form that spells out what a rule matches
+abbrev pub SpellsOut : Rule → Form → Type 0
+SpellsOut r f = record {
+  runnable : IsRunnable f;
+  body : expression_of f ≡ body_of r;
+}
 
 -- how many parts of a sequence a form is
 abbrev pub count_of_parts : Form → ℕ

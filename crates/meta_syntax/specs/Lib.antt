@@ -1,9 +1,11 @@
 pub mod Building
+pub mod CommentEnds
 pub mod Entries
 pub mod Firsts
 pub mod Forms
 pub mod MetaGrammar
 pub mod Parses
+pub mod Remembering
 pub mod Rows
 pub mod Runs
 pub mod Sets

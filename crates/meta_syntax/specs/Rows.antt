@@ -1,5 +1,6 @@
 -- What is known of a rule's row.
-use Rattle.std.specs.Prelude.{◌≡◌, ◌≤◌, Bool, true, false}
+use Rattle.std.specs.Prelude.{◌≡◌, ◌≤◌, ℕ, [], ◌∷◌, Bool, true, false}
+use Rattle.meta_base.specs.Language.Expression.{Normal, Str}
 use Rattle.meta_base.specs.declared.grammar.Rule.{Rule}
 use Rattle.meta_base.specs.declared.grammar.Rule.TheVariants.{EOI}
 use Rattle.meta_syntax.specs.declared.table.Kind.{Kind}
@@ -11,6 +12,14 @@ use Rattle.meta_syntax.specs.MetaGrammar.{body_of, type_of_rule}
 abbrev pub is_defined : Rule → Bool
 is_defined EOI = false
 is_defined _ = true
+
+-- a normal rule matches one character, and no other
+abbrev pub IsSign : Rule → ℕ → Type 0
+IsSign rule c = record {
+  defined : is_defined rule ≡ true;
+  kind : type_of_rule rule ≡ Normal;
+  body : body_of rule ≡ Str (c ∷ []);
+}
 
 -- type and body are those of the meta-grammar, and what the recognizer needs to end
 abbrev pub IsRow : Kind → Form → Rule → Type 0

@@ -1,15 +1,9 @@
 -- What a run of the recognizer answers.
-use Rattle.std.specs.Prelude.{◌≡◌, ℕ, ◌+◌, ◌-◌, ◌*◌, ◌<◌, ◌≤◌, max, List, [], Bool, true, false, Option, Some, None, drop, length, chars, ◌⊎◌, if◌then◌else◌, nat_eq, ⊤}
+use Rattle.std.specs.Prelude.{◌≡◌, ℕ, ◌+◌, ◌-◌, ◌*◌, ◌<◌, ◌≤◌, max, List, [], Bool, true, false, Option, Some, None, drop, length, chars, ◌⊎◌, if◌then◌else◌, ⊤}
 use Rattle.std.specs.Borrow.{Bor}
-use Rattle.std.specs.HashSet.{HashSet, contains}
-use Rattle.std.specs.declared.hash.FoldHasher.{FoldHasher}
-use Rattle.std.specs.declared.hash.BuildHasherDefault.{BuildHasherDefault}
-use Rattle.meta_base.specs.Language.Expression.{Ident}
 use Rattle.meta_base.specs.Language.State.{Mode, NonAtomicMode, AtomicMode, CompoundAtomicMode, State, Trees, None', Outcome, Success, Failure, Classes}
-use Rattle.meta_base.specs.Language.Meaning.{Matches, Task}
-use Rattle.meta_base.specs.Language.FurthestFailure.{furthest}
+use Rattle.meta_base.specs.Language.Meaning.{Task}
 use Rattle.meta_base.specs.Language.Ran.{Ran}
-use Rattle.meta_base.specs.Pieces.MetaRules.{name_of}
 use Rattle.meta_base.specs.declared.grammar.Rule.{Rule}
 use Rattle.meta_base.specs.declared.grammar.Rule.TheVariants as is
 use Rattle.meta_syntax.specs.declared.entries.Entry.{Entry}
@@ -76,24 +70,6 @@ Runs k text rest old new o = Gives k text rest old.entries.items new.entries.ite
 abbrev pub RunsTo : Task → List ℕ → List ℕ → Recognizer → Recognizer → List ℕ → Type 0
 RunsTo k text rest old new after =
     Finds k text rest old.entries.items new.entries.items old.furthest new.furthest after
-
--- a call fails, whatever the classes are, and nothing in it fails further than at a place
-abbrev pub FailsWithin : Rule → Mode → List ℕ → List ℕ → ℕ → Type 0
-FailsWithin rule m text rest bound = (classes : Classes)
-    → (d : Matches meta_grammar classes (Ident (name_of rule)) m (at text rest) Failure)
-    × (furthest d ≤ bound)
-
--- a comment does so at each place that is remembered, by the count of bytes that are left there
-abbrev pub Remembers : Mode → List ℕ → ℕ → HashSet ℕ (BuildHasherDefault FoldHasher) → Type 0
-Remembers m text bound places = (n : ℕ) → contains nat_eq places n ≡ true
-    → FailsWithin is.block_comment m text (drop (length text - n) text) bound
-
--- what the recognizer remembers is so
-abbrev pub IsSound : List ℕ → Recognizer → Type 0
-IsSound text r = record {
-  atomic : Remembers AtomicMode text r.furthest r.failed_in_atomic;
-  non_atomic : Remembers NonAtomicMode text r.furthest r.failed_in_non_atomic;
-}
 
 -- the furthest failure, with one more at a position if it counts
 abbrev pub furthest_with : Bool → ℕ → ℕ → ℕ

@@ -1,15 +1,13 @@
 -- The sets of characters that are taken one by one in loops, and the bodies that they belong to.
-use Rattle.std.specs.Prelude.{◌≡◌, ℕ, List, Bool, false, not, ◌||◌, nat_eq, codes}
+use Rattle.std.specs.Prelude.{ℕ, Bool, false, not, ◌||◌, nat_eq, codes}
 use Rattle.meta_base.specs.Language.Builtins.{is_between, is_lower, is_upper}
 use Rattle.meta_base.specs.Language.Expression.{Expression, Str, NegPred}
-use Rattle.meta_base.specs.Language.State.{Classes, Mode, None', State, Outcome, Success, Failure}
-use Rattle.meta_base.specs.Language.Matching.{text_outcome}
+use Rattle.meta_base.specs.Language.State.{Classes, Mode, State, Outcome}
 use Rattle.meta_base.specs.Language.Meaning.{Turns}
 use Rattle.meta_base.specs.Language.Ran.{Ran}
 use Rattle.meta_base.specs.declared.grammar.Rule.TheVariants.{alpha_num, newline, block_comment}
 use Rattle.meta_syntax.specs.declared.sets.Set.{Set}
 use Rattle.meta_syntax.specs.declared.sets.Set.TheVariants as set
-use Rattle.meta_syntax.specs.Runs.{GoesOn, at}
 use Rattle.meta_syntax.specs.MetaGrammar.{meta_grammar, rule, any, ◌~◌, ◌or◌, double_quote, backslash}
 
 -- the body of the repetition
@@ -42,11 +40,3 @@ is_out set.Comment c = false
 abbrev pub IsBefore : Mode → Expression → State → State → Type 0
 IsBefore m e s t = (classes : Classes) (o : Outcome) (p q : ℕ)
     → Ran meta_grammar classes (Turns m e) t o p q → Ran meta_grammar classes (Turns m e) s o p q
-
--- two characters begin a comment, and no slash follows them
-abbrev pub Opens : List ℕ → List ℕ → List ℕ → Type 0
-Opens text rest after = record {
-  goes_on : GoesOn text rest false after;
-  begins : Success (at text after) None' ≡ text_outcome nat_eq (codes "/*") (at text rest);
-  no_slash : Failure ≡ text_outcome nat_eq (codes "/*/") (at text rest);
-}

@@ -1,7 +1,8 @@
 //! Trees as one flat list of entries.
 ghost use Rattle.std.specs.Prelude.{◌≡◌, ◌<◌, ◌++◌, OnOk, length, take, true};
+ghost use Rattle.meta_base.specs.Language.State.{None'};
 ghost use Rattle.meta_base.specs.Pieces.MetaRules.{name_of};
-ghost use Rattle.meta_syntax.specs.Entries.{Closes, open_start, named_entries};
+ghost use Rattle.meta_syntax.specs.Entries.{Adds, Closes, open_start, named_entries, token};
 
 use meta_base::grammar::Rule;
 use std::alloc::{AllocError, Global};
@@ -72,6 +73,32 @@ pub(crate) fn close(
             pos: from,
             partner: last,
         };
+    }
+    Ok(())
+}
+
+/// Adds a tree with no trees inside it, if there is to be one.
+pub(crate) fn leaf(
+    entries: &mut Vec<Entry>,
+    gives: bool,
+    rule: Rule,
+    from: usize,
+    to: usize,
+) -> Result<(), AllocError>
+    ensures { OnOk result
+        (Adds entries.old.items entries.new.items (token gives (name_of rule) from to None')) }
+{
+    if gives {
+        let first = entries.len();
+        entries.push(Entry::Start {
+            rule,
+            pos: from,
+            partner: first + 1,
+        })?;
+        entries.push(Entry::End {
+            pos: to,
+            partner: first,
+        })?;
     }
     Ok(())
 }

@@ -3,7 +3,7 @@ ghost use Rattle.std.specs.Prelude.{◌≡◌, ℕ, List, true};
 ghost use Rattle.meta_base.specs.Language.State.{Classes, None', NonAtomicMode, Success};
 ghost use Rattle.meta_base.specs.Language.Meaning.{Skipping};
 ghost use Rattle.meta_base.specs.Language.Ran.{Ran};
-ghost use Rattle.meta_syntax.specs.Firsts.{Tells, is_noted_at_once, may_begin, takes_one};
+ghost use Rattle.meta_syntax.specs.Firsts.{Foretells, is_noted_at_once, may_begin, takes_one};
 ghost use Rattle.meta_syntax.specs.MetaGrammar.{meta_grammar};
 ghost use Rattle.meta_syntax.specs.Runs.{at};
 
@@ -92,7 +92,7 @@ fn takes_one(rule: Rule, first: char) -> bool
 /// calls fail, and of a rule that is known there only the comparisons are left.
 #[inline(always)]
 pub fn look(rule: Rule, first: char) -> Lookahead
-    ensures { Tells rule first result }
+    ensures { Foretells rule first result }
 {
     if !may_begin(rule, first) {
         Lookahead::Fails

@@ -58,7 +58,7 @@ impl PestParser {
 
 /// The fault of a text with one syntax error, at a place in bytes that stands on a character; or the
 /// want of memory for it.
-pub fn syntax_error(alloc: Global, text: &str, place: usize) -> Fault
+fn syntax_error(alloc: Global, text: &str, place: usize) -> Fault
     requires { IsCharBoundary text.now place }
     ensures { IsSyntaxErrorOrMemory text.now place result }
 {

@@ -1,9 +1,9 @@
-//! What is matched without the table: a text, a character.
-ghost use Rattle.std.specs.Prelude.{◌≡◌, ℕ, [], ◌∷◌, IfSome, List, length, true, false, nat_eq};
+//! What is matched without the table: a text, a character. Each is a few comparisons, and is built into what
+//! asks for it (`inline(always)`).
+ghost use Rattle.std.specs.Prelude.{◌≡◌, ℕ, [], ◌∷◌, List, length, true, false, nat_eq};
 ghost use Rattle.meta_base.specs.Language.Matching.{character_outcome, range_set, text_outcome};
 ghost use Rattle.meta_syntax.specs.Forms.{decoded};
 ghost use Rattle.meta_syntax.specs.Runs.{IsLeft, Progress, at, leaving};
-ghost use Rattle.meta_syntax.specs.Sets.{Opens};
 
 /// Matches the text itself.
 #[inline(always)]
@@ -14,6 +14,27 @@ pub fn literal<'i>(text: &str, rest: &'i str) -> Option<&'i str>
         → leaving whole result ≡ text_outcome nat_eq (decoded text.now) (at whole rest.entry.now) }
 {
     rest.strip_prefix(text)
+}
+
+/// Matches one character, and no other.
+#[inline(always)]
+pub fn sign<'i>(sign: char, rest: &'i str) -> Option<&'i str>
+    ensures goes_on { (whole : List ℕ) → IsLeft whole rest.entry.now
+        → Progress whole rest.entry.now false result }
+    ensures means { (whole : List ℕ) → IsLeft whole rest.entry.now
+        → leaving whole result ≡ text_outcome nat_eq (sign ∷ []) (at whole rest.entry.now) }
+{
+    let mut characters = rest.chars();
+    match characters.next() {
+        Some(c) => {
+            if c == sign {
+                Some(characters.as_str())
+            } else {
+                None
+            }
+        }
+        None => None,
+    }
 }
 
 /// Matches one character from `low` to `high`.
@@ -50,18 +71,5 @@ pub fn any<'i>(rest: &'i str) -> Option<&'i str>
     match characters.next() {
         Some(_) => Some(characters.as_str()),
         None => None,
-    }
-}
-
-/// Matches the two characters that begin a comment, unless a slash follows: where such a comment is left
-/// open, that slash closes the one around it.
-#[inline(always)]
-pub fn opened<'i>(rest: &'i str) -> Option<&'i str>
-    ensures { (whole : List ℕ) → IsLeft whole rest.entry.now
-        → IfSome result (λ after. Opens whole rest.entry.now after.now) }
-{
-    match literal("/*/", rest) {
-        Some(_) => None,
-        None => literal("/*", rest),
     }
 }

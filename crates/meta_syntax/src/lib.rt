@@ -1,6 +1,7 @@
 //! The recognizer of the meta-grammar.
 #![tactic(auto)]
 
+mod comments;
 pub mod entries;
 mod firsts;
 pub mod grammar;

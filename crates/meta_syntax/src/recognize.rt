@@ -1,25 +1,33 @@
 //! The recognizer: an interpreter of the table.
+//!
+//! Forms stand within forms, and so do the calls that run them: what each keeps on the stack says how deep
+//! a text may nest. So each kind of form has a function that is built into no other (`inline(never)`).
+//! What only picks one of them is built into whoever asks (`inline(always)`), so that a form within a form
+//! costs one call.
 ghost use Rattle.std.specs.Prelude.{◌≡◌, ◌<◌, ◌&&◌, ◌||◌, ℕ, List, IfOk, IfSome, MatchOption, OnOk, Some, [], true, false, codes};
 ghost use Rattle.meta_base.specs.Language.State.{Between};
 ghost use Rattle.meta_base.specs.Language.Expression.{Choice, Ident, NegPred, Opt, Rep, RepOnce, Seq, comment, whitespace};
 ghost use Rattle.meta_base.specs.Language.Meaning.{Run, Skipping, Turns};
 ghost use Rattle.meta_base.specs.Pieces.MetaRules.{name_of};
 ghost use Rattle.meta_base.specs.declared.grammar.Rule.TheVariants.{block_comment, inner_str};
+ghost use Rattle.meta_syntax.specs.CommentEnds.{AreAllEnds};
 ghost use Rattle.meta_syntax.specs.Entries.{named_entries};
-ghost use Rattle.meta_syntax.specs.Forms.{IsGood, IsSpelled, all_take, choice_among, cost, expression_of, followed, null, nullable};
+ghost use Rattle.meta_syntax.specs.Forms.{IsRunnable, IsTurn, IsTurnOf, SpellsOut, all_take, choice_among, cost, expression_of, followed, null, nullable};
 ghost use Rattle.meta_syntax.specs.MetaGrammar.{body_of};
-ghost use Rattle.meta_syntax.specs.Sets.{spelled_by};
+ghost use Rattle.meta_syntax.specs.Rows.{IsSign};
 ghost use Rattle.meta_syntax.specs.declared.sets.Set.{Set};
-ghost use Rattle.meta_syntax.specs.Runs.{FailsWithin, GoesOn, IsLeft, IsSound, Progress, RunsTo, Runs, mode_of};
+ghost use Rattle.meta_syntax.specs.Remembering.{FailsWithin, IsReady, IsSound};
+ghost use Rattle.meta_syntax.specs.Runs.{GoesOn, IsLeft, Progress, RunsTo, Runs, mode_of};
 
-use crate::entries::{Entry, close, count_of_entries, cut, open};
+use crate::comments::{behind, closed, ends_of};
+use crate::entries::{Entry, close, count_of_entries, cut, leaf, open};
 use crate::firsts::{Lookahead, is_left_alone, is_noted_at_once, look};
-use crate::leaves::{any, character, literal, opened};
+use crate::leaves::{any, character, literal, sign};
 use crate::modes::{
     Mode, body_mode, call_counts, furthest_with, gives_token, is_seen_from, is_tight,
 };
 use crate::sets::{Set, ends, past};
-use crate::table::{Form, parts_of, row_of};
+use crate::table::{Form, Kind, parts_of, row_of, sign_of};
 use meta_base::grammar::Rule;
 use std::alloc::{AllocError, Global};
 use std::collections::HashSet;
@@ -31,9 +39,11 @@ pub struct Recognizer {
     pub entries: Vec<Entry>,
     /// The furthest place, in bytes, at which a call that counts has failed.
     pub furthest: usize,
-    /// The places where a comment is left open, each as the count of bytes that are left there.
-    failed_in_atomic: HashSet<usize>,
-    failed_in_non_atomic: HashSet<usize>,
+    /// The places where a call of `block_comment` in NonAtomic has failed, each as the count of bytes that
+    /// are left there.
+    failed: HashSet<usize>,
+    /// Where comments end, by the count of bytes that are left; nothing until one is left open.
+    ends: Vec<Option<usize>>,
 }
 
 /// Whether a call is that of a comment which is begun there: such a call may be made again and
@@ -53,8 +63,8 @@ impl Recognizer {
         Recognizer {
             entries: Vec::new(alloc),
             furthest: 0,
-            failed_in_atomic: HashSet::new(alloc),
-            failed_in_non_atomic: HashSet::new(alloc),
+            failed: HashSet::new(alloc),
+            ends: Vec::new(alloc),
         }
     }
 
@@ -65,8 +75,8 @@ impl Recognizer {
         let Recognizer {
             entries,
             furthest: _,
-            failed_in_atomic: _,
-            failed_in_non_atomic: _,
+            failed: _,
+            ends: _,
         } = self;
         entries
     }
@@ -82,8 +92,7 @@ impl Recognizer {
         mode: Mode,
         rest: &'i str,
     ) -> Option<Option<&'i str>>
-        requires left { IsLeft text.now rest.now }
-        requires sound { IsSound text.now self.old }
+        requires ready { IsReady text.now rest.now self.old }
         ensures goes_on { IfSome result (Progress text.now rest.entry.now (nullable rule)) }
         ensures sound { IsSound text.now self.new }
         ensures means { MatchOption result (self.new ≡ self.old)
@@ -112,11 +121,9 @@ impl Recognizer {
         if !begins_comment(rule, rest) {
             return false;
         }
-        let left = rest.len();
         match mode {
-            Mode::Atomic => self.failed_in_atomic.contains(&left),
-            Mode::NonAtomic => self.failed_in_non_atomic.contains(&left),
-            Mode::CompoundAtomic => false,
+            Mode::NonAtomic => self.failed.contains(&rest.len()),
+            Mode::Atomic | Mode::CompoundAtomic => false,
         }
     }
 
@@ -129,18 +136,49 @@ impl Recognizer {
             → OnOk result (IsSound text self.new) }
     {
         if begins_comment(rule, rest) {
-            let left = rest.len();
             match mode {
-                Mode::Atomic => {
-                    self.failed_in_atomic.insert(left)?;
-                }
                 Mode::NonAtomic => {
-                    self.failed_in_non_atomic.insert(left)?;
+                    self.failed.insert(rest.len())?;
                 }
-                Mode::CompoundAtomic => {}
+                Mode::Atomic | Mode::CompoundAtomic => {}
             }
         }
         Ok(())
+    }
+
+    /// A call of a normal rule that matches one character and no other. Most calls that write a tree are such
+    /// calls: they run no form.
+    #[inline(never)]
+    fn sign<'i>(
+        &mut self,
+        text: &str,
+        rule: Rule,
+        character: char,
+        mode: Mode,
+        rest: &'i str,
+    ) -> Result<Option<&'i str>, AllocError>
+        requires sign { IsSign rule character }
+        requires ready { IsReady text.now rest.now self.old }
+        ensures goes_on { IfOk result (Progress text.now rest.entry.now false) }
+        ensures sound { OnOk result (IsSound text.now self.new) }
+        ensures means { IfOk result
+            (Runs (Run (mode_of mode) (Ident (name_of rule)))
+            text.now rest.entry.now self.old self.new) }
+    {
+        let place = text.len() - rest.len();
+        let Some(after) = sign(character, rest) else {
+            self.furthest = furthest_with(call_counts(Kind::Normal, mode), place, self.furthest);
+            return Ok(None);
+        };
+        let gives = gives_token(Kind::Normal, mode);
+        leaf(
+            &mut self.entries,
+            gives,
+            rule,
+            place,
+            text.len() - after.len(),
+        )?;
+        Ok(Some(after))
     }
 
     /// Matches the end of the text, with a token.
@@ -150,8 +188,7 @@ impl Recognizer {
         mode: Mode,
         rest: &'i str,
     ) -> Result<Option<&'i str>, AllocError>
-        requires left { IsLeft text.now rest.now }
-        requires sound { IsSound text.now self.old }
+        requires ready { IsReady text.now rest.now self.old }
         ensures goes_on { IfOk result (Progress text.now rest.entry.now true) }
         ensures sound { OnOk result (IsSound text.now self.new) }
         ensures means { IfOk result
@@ -164,9 +201,7 @@ impl Recognizer {
             self.furthest = furthest_with(is_seen, place, self.furthest);
             return Ok(None);
         }
-        let first = count_of_entries(&self.entries);
-        open(&mut self.entries, is_seen, Rule::EOI, place)?;
-        close(&mut self.entries, is_seen, Rule::EOI, first, place, place)?;
+        leaf(&mut self.entries, is_seen, Rule::EOI, place, place)?;
         Ok(Some(rest))
     }
 
@@ -184,10 +219,8 @@ impl Recognizer {
         mode: Mode,
         rest: &'i str,
     ) -> Result<Option<&'i str>, AllocError>
-        requires good { IsGood form.now }
-        requires spelled { IsSpelled form.now }
-        requires left { IsLeft text.now rest.now }
-        requires sound { IsSound text.now self.old }
+        requires form { IsRunnable form.now }
+        requires ready { IsReady text.now rest.now self.old }
         ensures goes_on { IfOk result (Progress text.now rest.entry.now (null form.now)) }
         ensures sound { OnOk result (IsSound text.now self.new) }
         ensures means { IfOk result
@@ -220,7 +253,7 @@ impl Recognizer {
                 Ok(Some(after))
             }
             Form::Quoted(body, spelled) => self.quoted(text, body, spelled, mode, rest),
-            Form::Comment(body, spelled) => self.comment(text, body, spelled, mode, rest),
+            Form::Comment(spelled) => self.comment(text, spelled, mode, rest),
             Form::RepOnce(body) => self.once_or_more(text, body, mode, rest),
             Form::NegPred(body) => self.negation(text, body, mode, rest),
             Form::RepMinMax(_, _, _, spelled) => self.copies(text, spelled, mode, rest),
@@ -238,10 +271,8 @@ impl Recognizer {
         mode: Mode,
         rest: &'i str,
     ) -> Result<Option<&'i str>, AllocError>
-        requires good { IsGood spelled.now }
-        requires spelled { IsSpelled spelled.now }
-        requires left { IsLeft text.now rest.now }
-        requires sound { IsSound text.now self.old }
+        requires spelled { IsRunnable spelled.now }
+        requires ready { IsReady text.now rest.now self.old }
         ensures goes_on { IfOk result (Progress text.now rest.entry.now (null spelled.now)) }
         ensures sound { OnOk result (IsSound text.now self.new) }
         ensures means { IfOk result
@@ -262,12 +293,9 @@ impl Recognizer {
         mode: Mode,
         rest: &'i str,
     ) -> Result<Option<&'i str>, AllocError>
-        requires first { IsGood first.now }
-        requires second { IsGood second.now }
-        requires first_spelled { IsSpelled first.now }
-        requires second_spelled { IsSpelled second.now }
-        requires left { IsLeft text.now rest.now }
-        requires sound { IsSound text.now self.old }
+        requires first { IsRunnable first.now }
+        requires second { IsRunnable second.now }
+        requires ready { IsReady text.now rest.now self.old }
         ensures goes_on { IfOk result
             (Progress text.now rest.entry.now (null first.now || null second.now)) }
         ensures sound { OnOk result (IsSound text.now self.new) }
@@ -295,8 +323,7 @@ impl Recognizer {
     ) -> Result<Option<&'i str>, AllocError>
         requires takes { nullable first ≡ false }
         requires others_take { all_take others.now ≡ true }
-        requires left { IsLeft text.now rest.now }
-        requires sound { IsSound text.now self.old }
+        requires ready { IsReady text.now rest.now self.old }
         ensures goes_on { IfOk result (Progress text.now rest.entry.now false) }
         ensures sound { OnOk result (IsSound text.now self.new) }
         ensures means { IfOk result
@@ -324,10 +351,8 @@ impl Recognizer {
         mode: Mode,
         rest: &'i str,
     ) -> Result<Option<&'i str>, AllocError>
-        requires good { IsGood body.now }
-        requires spelled { IsSpelled body.now }
-        requires left { IsLeft text.now rest.now }
-        requires sound { IsSound text.now self.old }
+        requires body { IsRunnable body.now }
+        requires ready { IsReady text.now rest.now self.old }
         ensures goes_on { IfOk result (Progress text.now rest.entry.now true) }
         ensures sound { OnOk result (IsSound text.now self.new) }
         ensures means { IfOk result
@@ -350,10 +375,8 @@ impl Recognizer {
         mode: Mode,
         rest: &'i str,
     ) -> Result<Option<&'i str>, AllocError>
-        requires good { IsGood body.now }
-        requires spelled { IsSpelled body.now }
-        requires left { IsLeft text.now rest.now }
-        requires sound { IsSound text.now self.old }
+        requires body { IsRunnable body.now }
+        requires ready { IsReady text.now rest.now self.old }
         ensures goes_on { IfOk result (Progress text.now rest.entry.now true) }
         ensures sound { OnOk result (IsSound text.now self.new) }
         ensures means { IfOk result
@@ -380,12 +403,8 @@ impl Recognizer {
         mode: Mode,
         rest: &'i str,
     ) -> Result<Option<&'i str>, AllocError>
-        requires good { IsGood body.now }
-        requires spelled { IsSpelled body.now }
-        requires consumes { null body.now ≡ false }
-        requires below { cost body.now < 999 }
-        requires left { IsLeft text.now rest.now }
-        requires sound { IsSound text.now self.old }
+        requires turn { IsTurn body.now }
+        requires ready { IsReady text.now rest.now self.old }
         ensures goes_on { IfOk result (Progress text.now rest.entry.now (null body.now)) }
         ensures sound { OnOk result (IsSound text.now self.new) }
         ensures means { IfOk result
@@ -411,13 +430,10 @@ impl Recognizer {
         mode: Mode,
         from: &'i str,
     ) -> Result<Option<&'i str>, AllocError>
-        requires first { IsGood first.now }
-        requires others { IsGood others.now }
-        requires first_spelled { IsSpelled first.now }
-        requires others_spelled { IsSpelled others.now }
+        requires first { IsRunnable first.now }
+        requires others { IsRunnable others.now }
         requires below { cost others.now < 1000 }
-        requires left { IsLeft text.now from.now }
-        requires sound { IsSound text.now self.old }
+        requires ready { IsReady text.now from.now self.old }
         ensures goes_on { IfOk result
             (Progress text.now from.entry.now (null first.now && null others.now)) }
         ensures sound { OnOk result (IsSound text.now self.new) }
@@ -455,12 +471,8 @@ impl Recognizer {
         mode: Mode,
         rest: &'i str,
     ) -> Result<&'i str, AllocError>
-        requires good { IsGood body.now }
-        requires spelled { IsSpelled body.now }
-        requires consumes { null body.now ≡ false }
-        requires below { cost body.now < 999 }
-        requires left { IsLeft text.now rest.now }
-        requires sound { IsSound text.now self.old }
+        requires turn { IsTurn body.now }
+        requires ready { IsReady text.now rest.now self.old }
         ensures goes_on { IfOk result (λ after. GoesOn text.now rest.entry.now true after.now) }
         ensures sound { OnOk result (IsSound text.now self.new) }
         ensures means { IfOk result
@@ -486,12 +498,8 @@ impl Recognizer {
         mode: Mode,
         from: &'i str,
     ) -> Result<&'i str, AllocError>
-        requires good { IsGood body.now }
-        requires spelled { IsSpelled body.now }
-        requires consumes { null body.now ≡ false }
-        requires below { cost body.now < 999 }
-        requires left { IsLeft text.now from.now }
-        requires sound { IsSound text.now self.old }
+        requires turn { IsTurn body.now }
+        requires ready { IsReady text.now from.now self.old }
         ensures goes_on { IfOk result (λ after. GoesOn text.now from.entry.now true after.now) }
         ensures sound { OnOk result (IsSound text.now self.new) }
         ensures means { IfOk result
@@ -523,13 +531,8 @@ impl Recognizer {
         mode: Mode,
         from: &'i str,
     ) -> Result<&'i str, AllocError>
-        requires good { IsGood body.now }
-        requires spelled { IsSpelled body.now }
-        requires of_set { expression_of body.now ≡ spelled_by set }
-        requires consumes { null body.now ≡ false }
-        requires below { cost body.now < 999 }
-        requires left { IsLeft text.now from.now }
-        requires sound { IsSound text.now self.old }
+        requires turn { IsTurnOf set body.now }
+        requires ready { IsReady text.now from.now self.old }
         ensures goes_on { IfOk result (λ after. GoesOn text.now from.entry.now true after.now) }
         ensures sound { OnOk result (IsSound text.now self.new) }
         ensures means { IfOk result
@@ -564,16 +567,9 @@ impl Recognizer {
         mode: Mode,
         from: &'i str,
     ) -> Result<Option<&'i str>, AllocError>
-        requires good { IsGood body.now }
-        requires body_spelled { IsSpelled body.now }
-        requires of_set { expression_of body.now ≡ spelled_by Set.Quoted }
-        requires consumes { null body.now ≡ false }
-        requires below { cost body.now < 999 }
-        requires whole_good { IsGood spelled.now }
-        requires whole_spelled { IsSpelled spelled.now }
-        requires whole { expression_of spelled.now ≡ body_of inner_str }
-        requires left { IsLeft text.now from.now }
-        requires sound { IsSound text.now self.old }
+        requires turn { IsTurnOf Set.Quoted body.now }
+        requires whole { SpellsOut inner_str spelled.now }
+        requires ready { IsReady text.now from.now self.old }
         ensures goes_on { IfOk result (Progress text.now from.entry.now true) }
         ensures sound { OnOk result (IsSound text.now self.new) }
         ensures means { IfOk result
@@ -593,28 +589,34 @@ impl Recognizer {
         }
     }
 
-    /// What `block_comment` matches. The rule calls itself where a comment begins within it; here that is
-    /// one more to be closed. Where no turn is left all that are open fail, the first too.
+    /// Finds out where comments end, if that isn't known yet.
+    fn find_ends(&mut self, text: &str) -> Result<(), AllocError>
+        requires sound { IsSound text.now self.old }
+        ensures entries { OnOk result (self.new.entries ≡ self.old.entries) }
+        ensures furthest { OnOk result (self.new.furthest ≡ self.old.furthest) }
+        ensures sound { OnOk result (IsSound text.now self.new) }
+        ensures known { OnOk result (AreAllEnds text.now self.new.ends.items) }
+    {
+        if !self.ends.is_empty() {
+            return Ok(());
+        }
+        ends_of(text, &mut self.ends)
+    }
+
+    /// What `block_comment` matches. The rule calls itself where a comment begins within it. Where all of them
+    /// are closed one look over them tells where; where one is left open, it is found out once for the whole
+    /// text where comments end.
     #[inline(never)]
     #[cycle(recognize)]
     fn comment<'i>(
         &mut self,
         text: &str,
-        body: &'static Form,
         spelled: &'static Form,
         mode: Mode,
         from: &'i str,
     ) -> Result<Option<&'i str>, AllocError>
-        requires good { IsGood body.now }
-        requires body_spelled { IsSpelled body.now }
-        requires of_set { expression_of body.now ≡ spelled_by Set.Comment }
-        requires consumes { null body.now ≡ false }
-        requires below { cost body.now < 999 }
-        requires whole_good { IsGood spelled.now }
-        requires whole_spelled { IsSpelled spelled.now }
-        requires whole { expression_of spelled.now ≡ body_of block_comment }
-        requires left { IsLeft text.now from.now }
-        requires sound { IsSound text.now self.old }
+        requires whole { SpellsOut block_comment spelled.now }
+        requires ready { IsReady text.now from.now self.old }
         ensures goes_on { IfOk result (Progress text.now from.entry.now (null spelled.now)) }
         ensures sound { OnOk result (IsSound text.now self.new) }
         ensures means { IfOk result
@@ -624,27 +626,16 @@ impl Recognizer {
         if is_seen_from(mode) {
             return self.copies(text, spelled, mode, from);
         }
-        let Some(mut rest) = literal("/*", from) else {
+        let Some(inside) = literal("/*", from) else {
             return Ok(None);
         };
-        let mut inner: usize = 0;
-        loop {
-            let next = past(Set::Comment, rest);
-            if let Some(after) = literal("*/", next) {
-                if inner == 0 {
-                    return Ok(Some(after));
-                }
-                inner -= 1;
-                rest = after;
-            } else if let Some(after) = opened(next) {
-                inner += 1;
-                rest = after;
-            } else if let Some(after) = self.run(text, body, Mode::Atomic, next)? {
-                rest = after;
-            } else {
-                return Ok(None);
+        if self.ends.is_empty() {
+            if let Some(after) = closed(inside) {
+                return Ok(Some(after));
             }
         }
+        self.find_ends(text)?;
+        Ok(behind(text, self.ends.as_slice(), inside))
     }
 
     /// A call of a rule, or of `EOI`, which the next character may decide. It is built into each place that
@@ -658,16 +649,18 @@ impl Recognizer {
         mode: Mode,
         rest: &'i str,
     ) -> Result<Option<&'i str>, AllocError>
-        requires left { IsLeft text.now rest.now }
-        requires sound { IsSound text.now self.old }
+        requires ready { IsReady text.now rest.now self.old }
         ensures goes_on { IfOk result (Progress text.now rest.entry.now (nullable rule)) }
         ensures sound { OnOk result (IsSound text.now self.new) }
         ensures means { IfOk result
             (Runs (Run (mode_of mode) (Ident (name_of rule)))
             text.now rest.entry.now self.old self.new) }
     {
-        match self.decided(text, rule, mode, rest) {
-            Some(answer) => Ok(answer),
+        if let Some(answer) = self.decided(text, rule, mode, rest) {
+            return Ok(answer);
+        }
+        match sign_of(rule) {
+            Some(character) => self.sign(text, rule, character, mode, rest),
             None => self.called(text, rule, mode, rest),
         }
     }
@@ -683,8 +676,7 @@ impl Recognizer {
         mode: Mode,
         rest: &'i str,
     ) -> Result<Option<&'i str>, AllocError>
-        requires left { IsLeft text.now rest.now }
-        requires sound { IsSound text.now self.old }
+        requires ready { IsReady text.now rest.now self.old }
         ensures goes_on { IfOk result (Progress text.now rest.entry.now (nullable rule)) }
         ensures sound { OnOk result (IsSound text.now self.new) }
         ensures means { IfOk result
@@ -717,12 +709,12 @@ impl Recognizer {
         }
     }
 
-    /// The implicit skipping.
+    /// The implicit skipping. It is built into each place that skips: at most of them there is nothing to
+    /// skip.
     #[inline(always)]
     #[cycle(recognize)]
     fn skip<'i>(&mut self, text: &str, mode: Mode, from: &'i str) -> Result<&'i str, AllocError>
-        requires left { IsLeft text.now from.now }
-        requires sound { IsSound text.now self.old }
+        requires ready { IsReady text.now from.now self.old }
         ensures goes_on { IfOk result (λ after. GoesOn text.now from.entry.now true after.now) }
         ensures sound { OnOk result (IsSound text.now self.new) }
         ensures means { IfOk result
@@ -746,8 +738,7 @@ impl Recognizer {
     #[inline(never)]
     #[cycle(recognize)]
     fn blanks<'i>(&mut self, text: &str, from: &'i str) -> Result<&'i str, AllocError>
-        requires left { IsLeft text.now from.now }
-        requires sound { IsSound text.now self.old }
+        requires ready { IsReady text.now from.now self.old }
         ensures goes_on { IfOk result (λ after. GoesOn text.now from.entry.now true after.now) }
         ensures sound { OnOk result (IsSound text.now self.new) }
         ensures means { IfOk result
@@ -767,8 +758,7 @@ impl Recognizer {
     #[inline(never)]
     #[cycle(recognize)]
     fn comments<'i>(&mut self, text: &str, from: &'i str) -> Result<&'i str, AllocError>
-        requires left { IsLeft text.now from.now }
-        requires sound { IsSound text.now self.old }
+        requires ready { IsReady text.now from.now self.old }
         ensures goes_on { IfOk result (λ after. GoesOn text.now from.entry.now true after.now) }
         ensures sound { OnOk result (IsSound text.now self.new) }
         ensures means { IfOk result

@@ -1,4 +1,5 @@
-//! Sets of characters that a repetition takes one by one, and the loop over them.
+//! Sets of characters that a repetition takes one by one, and the loop over them. It is built into what asks
+//! for it (`inline(always)`): where the set is known, the comparisons of that set are left.
 ghost use Rattle.std.specs.Prelude.{◌≡◌, ℕ, List, true};
 ghost use Rattle.meta_base.specs.Language.State.{Classes, Failure};
 ghost use Rattle.meta_base.specs.Language.Meaning.{Run};

@@ -1,8 +1,8 @@
 //! The meta-grammar as data: a row for each rule.
-ghost use Rattle.std.specs.Prelude.{◌≡◌, ◌≤◌, MatchOption};
+ghost use Rattle.std.specs.Prelude.{◌≡◌, ◌≤◌, IfSome, MatchOption};
 ghost use Rattle.meta_base.specs.declared.grammar.Rule.TheVariants.{EOI};
 ghost use Rattle.meta_syntax.specs.Forms.{AreParts, IsGood, IsSpelled, cost};
-ghost use Rattle.meta_syntax.specs.Rows.{IsRow};
+ghost use Rattle.meta_syntax.specs.Rows.{IsRow, IsSign};
 
 use crate::sets::Set;
 use meta_base::grammar::Rule;
@@ -45,8 +45,8 @@ pub enum Form {
     Characters(Set, &'static Form),
     /// What `inner_str` matches: the form of one of its characters, and all of it spelled out.
     Quoted(&'static Form, &'static Form),
-    /// What `block_comment` matches: the form of one turn within it, and all of it spelled out.
-    Comment(&'static Form, &'static Form),
+    /// What `block_comment` matches, spelled out.
+    Comment(&'static Form),
     /// As many turns as there are, and one at least.
     RepOnce(&'static Form),
     /// Nothing, where it fails.
@@ -62,7 +62,8 @@ pub struct Parts {
     pub others: Option<&'static Form>,
 }
 
-/// The parts of what is behind a part of a sequence: where it is no sequence, it is the last part.
+/// The parts of what is behind a part of a sequence: where it is no sequence, it is the last part. It is one
+/// comparison, and is built into the loop that asks.
 #[inline(always)]
 pub fn parts_of(form: &'static Form) -> Parts
     ensures good { IsGood form.now → IsGood result.first.now }
@@ -432,19 +433,14 @@ static LINE_COMMENT: Form = sequence!(
     characters!(Line, sequence!(not!(call!(newline)), Form::Any))
 );
 
-macro_rules! commented {
-    () => {
-        choice!(
-            call!(block_comment),
-            sequence!(not!(Form::Str("*/")), Form::Any)
-        )
-    };
-}
-
-static BLOCK_COMMENT: Form = Form::Comment(
-    &commented!(),
-    &sequence!(Form::Str("/*"), repeated!(commented!()), Form::Str("*/")),
-);
+static BLOCK_COMMENT: Form = Form::Comment(&sequence!(
+    Form::Str("/*"),
+    repeated!(choice!(
+        call!(block_comment),
+        sequence!(not!(Form::Str("*/")), Form::Any)
+    )),
+    Form::Str("*/")
+));
 
 static COMMENT: Form = first_of!(block_comment, line_comment);
 
@@ -455,6 +451,36 @@ static GRAMMAR_DOC: Form = sequence!(Form::Str("//!"), optional!(call!(space)), 
 static LINE_DOC: Form = sequence!(Form::Str("///"), optional!(call!(space)), call!(inner_doc));
 
 static INNER_DOC: Form = characters!(Line, sequence!(not!(call!(newline)), Form::Any));
+
+/// The character that a rule matches, where it is a normal rule that matches one character and no other.
+#[inline(always)]
+pub fn sign_of(rule: Rule) -> Option<char>
+    ensures { IfSome result (IsSign rule) }
+{
+    match rule {
+        Rule::assignment_operator => Some('='),
+        Rule::opening_brace => Some('{'),
+        Rule::closing_brace => Some('}'),
+        Rule::opening_paren => Some('('),
+        Rule::closing_paren => Some(')'),
+        Rule::opening_brack => Some('['),
+        Rule::closing_brack => Some(']'),
+        Rule::silent_modifier => Some('_'),
+        Rule::atomic_modifier => Some('@'),
+        Rule::compound_atomic_modifier => Some('$'),
+        Rule::non_atomic_modifier | Rule::negative_predicate_operator => Some('!'),
+        Rule::positive_predicate_operator => Some('&'),
+        Rule::sequence_operator => Some('~'),
+        Rule::choice_operator => Some('|'),
+        Rule::optional_operator => Some('?'),
+        Rule::repeat_operator => Some('*'),
+        Rule::repeat_once_operator => Some('+'),
+        Rule::comma => Some(','),
+        Rule::quote => Some('"'),
+        Rule::single_quote => Some('\''),
+        _ => None,
+    }
+}
 
 macro_rules! normal {
     ($body:ident) => {

@@ -7,15 +7,16 @@ use Rattle.std.proofs.Math.Utf8.{scalar_cases}
 use Rattle.std.specs.Char.{IsScalar}
 use Rattle.std.specs.Prelude.{nat_lt}
 use Rattle.std.specs.Str.{IsUtf8, all_scalars}
+use Rattle.std.specs.Option.{option_or}
 use Rattle.meta_base.specs.Language.Text.{Text, IsText, IsScalarValue}
 use Rattle.meta_base.specs.Language.Expression.{Expression}
 use Rattle.meta_base.specs.Language.Grammar.{FitsItsTypes, FitsSigned32, FitsUnsigned32}
 use Rattle.meta_base.specs.Language.State.{Trees, None', Tree, joined}
 use Rattle.meta_nodes.specs.Erasure.{round, between}
 use Rattle.meta_nodes.specs.Spanned.{Unary, Binary, Seq, Choice}
-use Rattle.meta_reader.specs.Flaws.{Cause, or_else, own_flaw, closes, flaw_if, fits_i32, past_u32, past_i32, wrong_literal, zero_times, first_flaw}
+use Rattle.meta_reader.specs.Flaws.{Cause, own_flaw, closes, flaw_if, fits_i32, past_u32, past_i32, wrong_literal, zero_times, first_flaw}
 use Rattle.meta_reader.specs.Reading as reading
-use Rattle.meta_reader.specs.Reading.{Postfix, Terminal, number, integer, literal}
+use Rattle.meta_reader.specs.Reading.{Postfix, Terminal, number, integer, literal_value}
 use Rattle.meta_reader.proofs.Flawless.{none_left, own_none, inner_none, behind_none, front_none}
 use Rattle.meta_reader.proofs.ReadParts.{IsHandedDown, IsGiven}
 use Rattle.pest_meta.proofs.WholeCharacters.{OnCharacters}
@@ -46,8 +47,8 @@ characters_are_text b u = is_text (chars b) (scalars-chars b u)
 
 module _ (text : List ℕ) where
   -- trees without a flaw, on characters
-  abbrev pub IsSound : Trees → Type 0
-  IsSound us = (first_flaw text us ≡ None) × OnCharacters text us
+  abbrev pub AreSound : Trees → Type 0
+  AreSound us = (first_flaw text us ≡ None) × OnCharacters text us
 
   not_flawed : (b : Bool) (cause : Cause) (i j : ℕ) → flaw_if text (not b) cause i j ≡ None → b ≡ true
   not_flawed true cause i j h = refl
@@ -57,15 +58,15 @@ module _ (text : List ℕ) where
   front_on_characters None' vs h = tt
   front_on_characters (Tree r i j inner us) vs h = (h.0, h.1, front_on_characters us vs h.2)
 
-  pub handed_down : IsHandedDown IsSound
+  pub handed_down : IsHandedDown AreSound
   handed_down = record {
     inner = λ r i j us vs h. (inner_none text r i j us vs h.0, h.1.1);
     behind = λ r i j us vs h. (behind_none text r i j us vs h.0, h.1.2);
     front = λ us vs c h. (front_none text us vs c h.0, front_on_characters us vs h.1);
   }
 
-  right_literal : (i j : ℕ) (us : Trees) → wrong_literal text i j us ≡ None → IsText (literal text us)
-  right_literal i j us h = is_text (literal text us) (not_flawed (all_scalars (literal text us)) _ i j h)
+  right_literal : (i j : ℕ) (us : Trees) → wrong_literal text i j us ≡ None → IsText (literal_value text us)
+  right_literal i j us h = is_text (literal_value text us) (not_flawed (all_scalars (literal_value text us)) _ i j h)
 
   within_u32 : (i j : ℕ) → past_u32 text i j ≡ None → FitsUnsigned32 (number text i j)
   within_u32 i j h = ltb-true (number text i j) (2 ^ 32) (not_flawed (nat_lt (number text i j) (2 ^ 32)) _ i j h)
@@ -82,7 +83,7 @@ module _ (text : List ℕ) where
   unfolding own_flaw
   number_fits i j us vs h = go (closes vs) h
     where
-      go : (b : Bool) → (if b then or_else (past_u32 text i j) (zero_times text i j) else past_u32 text i j) ≡ None → FitsUnsigned32 (number text i j)
+      go : (b : Bool) → (if b then option_or (past_u32 text i j) (zero_times text i j) else past_u32 text i j) ≡ None → FitsUnsigned32 (number text i j)
       go true h = within_u32 i j (none_left _ _ h)
       go false h = within_u32 i j h
 
@@ -90,16 +91,16 @@ module _ (text : List ℕ) where
   unfolding own_flaw
   integer_fits i j us vs h = within_i32 i j h
 
-  string_fits : (i j : ℕ) (us vs : Trees) → own_flaw text (codes "string") i j us vs ≡ None → IsText (literal text us)
+  string_fits : (i j : ℕ) (us vs : Trees) → own_flaw text (codes "string") i j us vs ≡ None → IsText (literal_value text us)
   unfolding own_flaw
   string_fits i j us vs h = right_literal i j us h
 
-  character_fits : (i j : ℕ) (us vs : Trees) → own_flaw text (codes "character") i j us vs ≡ None → IsText (literal text us)
+  character_fits : (i j : ℕ) (us vs : Trees) → own_flaw text (codes "character") i j us vs ≡ None → IsText (literal_value text us)
   unfolding own_flaw
   character_fits i j us vs h = right_literal i j us h
 
   terminal_fits : {r : Text} {i j : ℕ} {us : Trees} {e : Expression} (vs : Trees)
-      → Terminal text r i j us e → IsSound (Tree r i j us vs) → FitsItsTypes e
+      → Terminal text r i j us e → AreSound (Tree r i j us vs) → FitsItsTypes e
   terminal_fits vs reading.identifier h = characters_are_text _ h.1.0
   terminal_fits {i = i} {j = j} {us = us} vs reading.string h = string_fits i j us vs (own_none text _ i j us vs h.0)
   terminal_fits vs (reading.insensitive {string_at = i} {string_to = j} {us = us} {vs = behind}) h =
@@ -120,7 +121,7 @@ module _ (text : List ℕ) where
       let last = behind_none text _ _ _ None' _ (behind_none text _ i j None' _ inner) in
       (integer_fits i j None' _ (own_none text _ i j None' _ inner), integer_fits k l None' _ (own_none text _ k l None' _ last))
 
-  postfix_fits : {r : Text} {us : Trees} {f : Unary} → Postfix text r us f → IsSound us → (e : Expression)
+  postfix_fits : {r : Text} {us : Trees} {f : Unary} → Postfix text r us f → AreSound us → (e : Expression)
       → FitsItsTypes (round f e)
   postfix_fits reading.opt h e = tt
   postfix_fits reading.rep h e = tt
@@ -140,7 +141,7 @@ module _ (text : List ℕ) where
   between_fits Seq a b = tt
   between_fits Choice a b = tt
 
-  pub fits_given : IsGiven text IsSound FitsItsTypes
+  pub fits_given : IsGiven text AreSound FitsItsTypes
   fits_given = record {
     terminal = λ vs t h. terminal_fits vs t h;
     postfix = λ p h e. postfix_fits p h e;

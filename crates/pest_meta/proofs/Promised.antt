@@ -22,12 +22,12 @@ use Rattle.meta_reader.specs.Reading.{ReadsRules}
 use Rattle.meta_restorer.specs.Agreeing.{WrappersSuffice}
 use Rattle.pest_meta.proofs.Builtins.{builtins_outside}
 use Rattle.pest_meta.proofs.Called.{each_is_called}
-use Rattle.pest_meta.proofs.Fitting.{IsSound as AreSound, fits_given, handed_down}
+use Rattle.pest_meta.proofs.Fitting.{AreSound, fits_given, handed_down}
 use Rattle.pest_meta.proofs.NothingNew.{finished_suffice, steps_suffice}
 use Rattle.pest_meta.proofs.Spelled.{spells_once}
 use Rattle.pest_meta.proofs.WellNamed.{defined_texts, distinct_read, keeps_any, names_are_texts, no_keyword_read}
 use Rattle.pest_meta.proofs.WholeCharacters.{trees_on_characters}
-use Rattle.pest_meta.specs.Promises.{AreBuiltinsOf, Ends, HasOutcomesOf, IsSound, OfSpelled}
+use Rattle.pest_meta.specs.Promises.{AreBuiltinsOf, EndsFromEverywhere, HasOutcomesOf, IsWellFormedGrammar, OfSpelled}
 use Rattle.pest_meta.specs.Spelling.{IsAnswer, SpellsGrammar, complaints_in}
 
 module _ (text : List ℕ) (utf8 : IsUtf8 text) (us : Trees) (sound : AreSound text us) (h : complaints_in text us ≡ []) (rs : List SpannedRule) (d : ReadsRules text us rs) where
@@ -68,8 +68,8 @@ module _ (text : List ℕ) (utf8 : IsUtf8 text) (builtins : List (Bor (List ℕ)
   pub answers_builtins : OfSpelled text (λ g. AreBuiltinsOf g builtins)
   answers_builtins g s = subst (λ h. AreBuiltinsOf h builtins) (the_same g s) accepted_builtins
 
-  pub spells_grammar : OfSpelled text IsSound
-  spells_grammar g s = subst IsSound (the_same g s) (accepted_is_grammar, a.accepted.well_formed)
+  pub spells_grammar : OfSpelled text IsWellFormedGrammar
+  spells_grammar g s = subst IsWellFormedGrammar (the_same g s) (accepted_is_grammar, a.accepted.well_formed)
 
   optimized_outcomes : HasOutcomesOf a.spelled (optimized_rules_of answer)
   optimized_outcomes =
@@ -87,18 +87,18 @@ module _ (text : List ℕ) (utf8 : IsUtf8 text) (builtins : List (Bor (List ℕ)
   answers_outcomes g s = subst (λ h. HasOutcomesOf h (optimized_rules_of answer)) (the_same g s) optimized_outcomes
 
 -- a plain well-formed grammar ends
-sound_ends : (g : Grammar) → IsSound g → IsPlain g → Ends g
+sound_ends : (g : Grammar) → IsWellFormedGrammar g → IsPlain g → EndsFromEverywhere g
 sound_ends g h plain classes start =
     let d = ends g classes start.name start.rule start.mode start.state (names_readable g h.0.readable) h.1 plain start.defined in
     (d.0, d.1, λ p e. same g classes e d.1)
 
-finished_sound : (g h : Grammar) → Finished g h → IsSound g → IsSound h
+finished_sound : (g h : Grammar) → Finished g h → IsWellFormedGrammar g → IsWellFormedGrammar h
 finished_sound g h f s = (finished_grammar g h f s.0, finished_well_formed g h f s.1)
 
-pub spelled_ends : (g : Grammar) → IsSound g → IsPlain g → Ends g
+pub spelled_ends : (g : Grammar) → IsWellFormedGrammar g → IsPlain g → EndsFromEverywhere g
 spelled_ends = sound_ends
 
-pub answer_ends : (g answer : Grammar) → HasOutcomesOf g answer → IsPlain g → Ends answer
+pub answer_ends : (g answer : Grammar) → HasOutcomesOf g answer → IsPlain g → EndsFromEverywhere answer
 answer_ends g answer o plain =
     let finished = wrapped_listing_finishes o.reached answer o.listing in
     sound_ends answer (finished_sound o.reached answer finished o.grammar) (finished_plain o.reached answer finished (plain_along g o.reached o.chain plain))

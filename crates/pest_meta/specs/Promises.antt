@@ -31,12 +31,12 @@ pub record AreBuiltinsOf (g : Grammar) (names : List (Bor (List ℕ))) : Type 0 
       → is_one_of (map (λ name. chars name.now) names) n ≡ true
 
 -- it is a grammar, and well-formed
-abbrev pub IsSound : Grammar → Type 0
-IsSound g = IsGrammar g × IsWellFormed g
+abbrev pub IsWellFormedGrammar : Grammar → Type 0
+IsWellFormedGrammar g = IsGrammar g × IsWellFormed g
 
 -- wherever it is started it has exactly one outcome
-abbrev pub Ends : Grammar → Type 0
-Ends g = (classes : Classes) (start : Start g) → EndsFrom g classes start
+abbrev pub EndsFromEverywhere : Grammar → Type 0
+EndsFromEverywhere g = (classes : Classes) (start : Start g) → EndsFrom g classes start
 
 -- rewritings lead to a grammar that has the same outcomes from everywhere, and of which the answer is the
 -- listing once wrappers are left out
@@ -44,5 +44,5 @@ pub record HasOutcomesOf (g answer : Grammar) : Type 0 where
   pub reached : Grammar
   pub chain : Chain g reached
   pub outcomes : SameOutcomes g reached
-  pub grammar : IsSound reached
+  pub grammar : IsWellFormedGrammar reached
   pub listing : EachBody (λ y. IsListing) reached answer

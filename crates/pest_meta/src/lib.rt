@@ -11,7 +11,7 @@ ghost use Rattle.std.specs.Prelude.{[], IfErr, IfOk};
 ghost use Rattle.meta_ast.specs.Optimized.{optimized_rules_of};
 ghost use Rattle.meta_base.specs.Language.WellFormed.{IsPlain};
 ghost use Rattle.meta_stack.specs.Certain.{AreReports};
-ghost use Rattle.pest_meta.specs.Promises.{AreBuiltinsOf, Ends, HasOutcomesOf, IsSound};
+ghost use Rattle.pest_meta.specs.Promises.{AreBuiltinsOf, EndsFromEverywhere, HasOutcomesOf, IsWellFormedGrammar};
 ghost use Rattle.pest_meta.specs.Promises.{OfRead, OfSpelled};
 ghost use Rattle.meta_restorer.specs.Agreeing.{AgreesLoosely, WrappersSuffice};
 ghost use Rattle.pest_meta.specs.Spelling.{HasRefusal, IsAnswer, IsRefusal};
@@ -49,12 +49,13 @@ pub fn parse_and_optimize<'i>(
     ensures answer { IfOk result (λ answer. IsAnswer grammar.entry.now answer.0.items answer.1.items) }
     ensures builtins { IfOk result (λ answer. OfSpelled grammar.entry.now
         (λ rules. AreBuiltinsOf rules answer.0.items)) }
-    ensures sound { IfOk result (λ answer. OfSpelled grammar.entry.now IsSound) }
+    ensures sound { IfOk result (λ answer. OfSpelled grammar.entry.now IsWellFormedGrammar) }
     ensures outcomes { IfOk result (λ answer. OfSpelled grammar.entry.now
         (λ rules. HasOutcomesOf rules (optimized_rules_of answer.1.items))) }
-    ensures ends { IfOk result (λ answer. OfSpelled grammar.entry.now (λ rules. IsPlain rules → Ends rules)) }
+    ensures ends { IfOk result (λ answer. OfSpelled grammar.entry.now
+        (λ rules. IsPlain rules → EndsFromEverywhere rules)) }
     ensures answer_ends { IfOk result (λ answer. OfSpelled grammar.entry.now
-        (λ rules. IsPlain rules → Ends (optimized_rules_of answer.1.items))) }
+        (λ rules. IsPlain rules → EndsFromEverywhere (optimized_rules_of answer.1.items))) }
     ensures no_reports { IfOk result (λ answer. OfRead grammar.entry.now (λ rules. AreReports rules [])) }
     ensures agrees { IfOk result (λ answer. OfSpelled grammar.entry.now
         (λ rules. WrappersSuffice rules → AgreesLoosely (optimized_rules_of answer.1.items))) }

@@ -10,7 +10,8 @@ ghost use Rattle.pest_meta.specs.Spelling.{AreAccepted, AreRejected};
 use crate::validator::validate_ast;
 use meta_ast::ast;
 use meta_base::runtime::{Fault, Pairs};
-use meta_nodes::{erase_spans, release};
+use meta_nodes::erase_spans;
+pub use meta_nodes::release;
 pub use meta_reader::parser::{
     ParserExpr, ParserNode, ParserRule, PestParser, Rule, consume_rules_with_spans,
     filter_internal, parse, rename_meta_rule,

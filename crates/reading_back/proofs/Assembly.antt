@@ -5,10 +5,11 @@ use Rattle.meta_base.specs.Language.Expression.{Expression, Seq, Choice, PosPred
 use Rattle.meta_base.specs.Language.State.{Trees, None', Tree, Success, Failure, joined}
 use Rattle.meta_base.specs.declared.grammar.Rule.TheVariants as is
 use Rattle.meta_base.proofs.Steps.{joined_assoc}
+use Rattle.meta_base.specs.Pieces.Saying.{piece}
 use Rattle.meta_syntax.specs.Shape.{Mark}
 use Rattle.meta_nodes.specs.Spanned as spanned
 use Rattle.meta_nodes.specs.Spanned.{Spanned, Leaf, One, Two, Span, Unary, starting, ending, end_of}
-use Rattle.meta_reader.specs.Reading.{AnExpression, ATerm, Reads, Postfixed, done, more, Postfix, pos_pred, neg_pred, one_term, one_alternative, sequence, choice, unbarred, grouped, around, both, piece}
+use Rattle.meta_reader.specs.Reading.{AnExpression, ATerm, Reads, Postfixed, done, more, Postfix, pos_pred, neg_pred, one_term, one_alternative, sequence, choice, unbarred, grouped, around, both}
 use Rattle.meta_reader.specs.Flaws.{own_flaw}
 use Rattle.meta_nodes.specs.Erasure.{round, between}
 use Rattle.reading_back.specs.Nesting.{nested_right, sequence_of, choice_of}

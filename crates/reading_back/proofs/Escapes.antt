@@ -54,7 +54,7 @@ single_form q = by_escape (39 ∷ []) refl (λ K p. (p + 1 + 1, call is.escape r
 
 -- a digit
 record Digit (x v : ℕ) : Type 0 where
-  value : literal.hex_digit x ≡ v
+  value : literal.hex_digit_value x ≡ v
   no_brace : nat_eq x 125 ≡ false
   takes : (K : Text) (p : ℕ) → (r : ℕ) × Gives (Run AtomicMode (rule is.hex_digit)) (at p (x ∷ K)) (Success (at r K) None')
 
@@ -62,7 +62,7 @@ digit : (v : ℕ) → v < 16 → Digit (hex_digit v) v
 unfolding whitespace comment
 digit v h =
     let e : digit_value (hex_digit v) ≡ v = digit_value-digit_char v (omega (arith, h)) in
-    let value : literal.hex_digit (hex_digit v) ≡ v = rw (e, lt-ltb v 16 h) refl in
+    let value : literal.hex_digit_value (hex_digit v) ≡ v = rw (e, lt-ltb v 16 h) refl in
     let (n, t) = go (nat_lt v 10) refl in
     record { value = value; no_brace = n; takes = t }
   where

@@ -17,7 +17,7 @@ use Rattle.meta_syntax.specs.Shape.{Mark}
 use Rattle.meta_syntax.specs.Firsts.{may_begin}
 use Rattle.reading_back.specs.ReadsBack.{is_name_start}
 use Rattle.meta_syntax.proofs.Steps.{ran_any}
-use Rattle.meta_reader.specs.Reading.{leaf, string, insensitive, range, literal}
+use Rattle.meta_reader.specs.Reading.{leaf, string, insensitive, range, literal_value}
 use Rattle.meta_reader.specs.Flaws.{own_flaw, wrong_literal, flaw_if, NoScalarValue}
 use Rattle.meta_reader.specs.Literal.{unescaped}
 use Rattle.meta_reader.proofs.Literals.{unescaped_plain}
@@ -113,25 +113,25 @@ no_word c K p h i j =
 
 module _ (text : List ℕ) (utf8 : IsUtf8 text) where
   -- what a string's trees stand for
-  string_value : (p : ℕ) (t K : Text) (s : StringAt p t K) → IsLeftAt text p (literal_before t K) → literal text (string_trees p s.close) ≡ t
+  string_value : (p : ℕ) (t K : Text) (s : StringAt p t K) → IsLeftAt text p (literal_before t K) → literal_value text (string_trees p s.close) ≡ t
   string_value p t K s h =
       let i : IsLeftAt text (p + 1) (escapes_before 34 t (34 ∷ K)) = still_left text {k = Run NonAtomicMode (plain.Str (34 ∷ []))} str h in
       let j : IsLeftAt text s.close (34 ∷ K) = still_left text s.inner i in
       let w : Text = flat_map (escaped 34) t in
       ap unescaped (written_is text utf8 (p + 1) s.close w (34 ∷ K) (subst (λ x. IsLeftAt text (p + 1) x) (sym (append-escapes 34 t (34 ∷ K))) i) j) ∙ unescaped_all 34 form_in_double t
 
-  right_literal : (i j : ℕ) (us : Trees) (t : Text) → literal text us ≡ t → IsText t → wrong_literal text i j us ≡ None
+  right_literal : (i j : ℕ) (us : Trees) (t : Text) → literal_value text us ≡ t → IsText t → wrong_literal text i j us ≡ None
   right_literal i j us t e h = ap (λ x. flaw_if text (not (all_scalars x)) NoScalarValue i j) e ∙ ap (λ b. flaw_if text (not b) NoScalarValue i j) (are_scalars t h)
 
-  string_flawless : (p q : ℕ) (us : Trees) (t : Text) → literal text us ≡ t → IsText t → IsFlawless text us → IsFlawless text (Tree (codes "string") p q us None')
+  string_flawless : (p q : ℕ) (us : Trees) (t : Text) → literal_value text us ≡ t → IsText t → IsFlawless text us → IsFlawless text (Tree (codes "string") p q us None')
   unfolding own_flaw
   string_flawless p q us t e h c = flawless_tree text (λ vs. right_literal p q us t e h) c (flawless_none text)
 
-  insensitive_flawless : (p q i j : ℕ) (us : Trees) (t : Text) → literal text us ≡ t → IsText t → IsFlawless text us → IsFlawless text (Tree (codes "insensitive_string") p q (Tree (codes "string") i j us None') None')
+  insensitive_flawless : (p q i j : ℕ) (us : Trees) (t : Text) → literal_value text us ≡ t → IsText t → IsFlawless text us → IsFlawless text (Tree (codes "insensitive_string") p q (Tree (codes "string") i j us None') None')
   unfolding own_flaw
   insensitive_flawless p q i j us t e h c = flawless_tree text (λ vs. right_literal p q us t e h) (string_flawless i j us t e h c) (flawless_none text)
 
-  pub character_flawless : (p q : ℕ) (us vs : Trees) (t : Text) → literal text us ≡ t → IsText t → IsFlawless text us → IsFlawless text vs → IsFlawless text (Tree (codes "character") p q us vs)
+  pub character_flawless : (p q : ℕ) (us vs : Trees) (t : Text) → literal_value text us ≡ t → IsText t → IsFlawless text us → IsFlawless text vs → IsFlawless text (Tree (codes "character") p q us vs)
   unfolding own_flaw
   character_flawless p q us vs t e h c d = flawless_tree text (λ ws. right_literal p q us t e h) c d
 
@@ -190,7 +190,7 @@ character_at c K p =
     record { close = q; inner = d; does = call is.character refl (seq (seq (call is.single_quote refl str) compound_atomic d) compound_atomic (call is.single_quote refl str)) }
 
 module _ (text : List ℕ) (utf8 : IsUtf8 text) where
-  character_value : (p c : ℕ) (K : Text) (s : CharacterAt p c K) → IsLeftAt text p (39 ∷ (escaped 39 c ++ (39 ∷ K))) → literal text (character_trees p s.close) ≡ c ∷ []
+  character_value : (p c : ℕ) (K : Text) (s : CharacterAt p c K) → IsLeftAt text p (39 ∷ (escaped 39 c ++ (39 ∷ K))) → literal_value text (character_trees p s.close) ≡ c ∷ []
   character_value p c K s h =
       let i : IsLeftAt text (p + 1) (escaped 39 c ++ (39 ∷ K)) = still_left text {k = Run NonAtomicMode (plain.Str (39 ∷ []))} str h in
       let j : IsLeftAt text s.close (39 ∷ K) = still_left text s.inner i in

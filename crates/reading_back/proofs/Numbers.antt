@@ -7,6 +7,7 @@ use Rattle.std.specs.Str.Parse.{AllDigits, IsNumeral, digits_value}
 use Rattle.std.proofs.lemmas.Fmt.{IsAscii-from_digits}
 use Rattle.std.proofs.lemmas.Str.{encodes-IsAscii}
 use Rattle.std.proofs.lemmas.Str.Parse.{digit_from_value}
+use Rattle.std.specs.Option.{option_or}
 use Rattle.meta_base.specs.Language.Text.{Text}
 use Rattle.meta_base.specs.Language.Expression.{Expression, Range, Rep, whitespace, comment}
 use Rattle.meta_base.specs.Language.State.{AtomicMode, None', Tree, Trees, Success, Failure, joined}
@@ -16,7 +17,7 @@ use Rattle.meta_base.specs.declared.grammar.Rule.TheVariants as is
 use Rattle.meta_syntax.specs.MetaGrammar.{body_of}
 use Rattle.meta_syntax.specs.Shape.{Mark}
 use Rattle.meta_reader.specs.Reading.{number}
-use Rattle.meta_reader.specs.Flaws.{own_flaw, or_else, flaw_if, past_u32, zero_times, number_flaw, closes, PastU32, ZeroTimes}
+use Rattle.meta_reader.specs.Flaws.{own_flaw, flaw_if, past_u32, zero_times, number_flaw, closes, PastU32, ZeroTimes}
 use Rattle.reading_back.proofs.Deriving.{at, Gives, Calls, Skips, call, seq, rep, rep_none, turn, turn_none, rep_once, atomic, stays}
 use Rattle.reading_back.proofs.Parts.{IsLeftAt, IsFlawless, flawless_none, flawless_tree}
 use Rattle.reading_back.proofs.Characters.{past, range_takes, range_misses, solid_when, differs, sign_misses}
@@ -88,7 +89,7 @@ module _ (text : List ℕ) (utf8 : IsUtf8 text) where
   fine_count : (i j n : ℕ) → number text i j ≡ n → n < 2 ^ 32 → 1 ≤ n → (vs : Trees) → number_flaw text i j vs ≡ None
   fine_count i j n e h k vs = go (closes vs)
     where
-      go : (b : Bool) → (if b then or_else (past_u32 text i j) (zero_times text i j) else past_u32 text i j) ≡ None
+      go : (b : Bool) → (if b then option_or (past_u32 text i j) (zero_times text i j) else past_u32 text i j) ≡ None
       go true = rw (small i j n e h) (not_zero i j n e k)
       go false = small i j n e h
 

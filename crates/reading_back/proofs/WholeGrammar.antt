@@ -10,6 +10,7 @@ use Rattle.meta_base.specs.Language.Meaning.{Does, Run, Turns}
 use Rattle.meta_base.specs.Pieces.MetaRules.{name_of}
 use Rattle.meta_base.specs.declared.grammar.Rule.TheVariants as is
 use Rattle.meta_base.proofs.Steps.{joined_assoc}
+use Rattle.meta_base.specs.Pieces.Saying.{piece}
 use Rattle.meta_syntax.specs.declared.modes.Mode.TheVariants as in_mode
 use Rattle.meta_syntax.specs.MetaGrammar.{meta_grammar, rule}
 use Rattle.meta_syntax.specs.Shape.{Mark, Braced}
@@ -17,7 +18,7 @@ use Rattle.meta_syntax.proofs.Steps.{ran_soi, ran_end}
 use Rattle.meta_nodes.specs.Spanned.{Spanned, SpannedRule}
 use Rattle.meta_nodes.specs.Erasure.{without_spans, rules_without_spans}
 use Rattle.meta_reader.specs.Reading as reading
-use Rattle.meta_reader.specs.Reading.{AnExpression, Reads, ReadsRule, ReadsRules, defined, end_of_input, normal, modified, characters_between, piece}
+use Rattle.meta_reader.specs.Reading.{AnExpression, Reads, ReadsRule, ReadsRules, defined, end_of_input, normal, modified, characters_between}
 use Rattle.meta_reader.specs.Flaws.{own_flaw}
 use Rattle.meta_ast.specs.Printing.{Alone, printed}
 use Rattle.reading_back.specs.Nesting.{nested_right, nested_rules}

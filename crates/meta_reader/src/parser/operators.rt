@@ -138,7 +138,13 @@ fn postfix<'i>(
     requires nested { StandIn (span_text span) (named_trees_of operator.inner.now) }
     ensures { AnswersPostfix span.entry operator.entry node.entry result }
 {
-    let times = times_of(span.get_input(), operator)?;
+    let times = match times_of(span.get_input(), operator) {
+        Ok(times) => times,
+        Err(error) => {
+            node.release();
+            return Err(error);
+        }
+    };
     let node = Box::new(alloc, node)?;
     Ok(ParserNode {
         expr: repeated(times, node),

@@ -1,8 +1,9 @@
 //! Pieces of the text, and the numbers that are written there.
 ghost use Rattle.std.specs.Prelude.{◌≡◌, slice_range};
+ghost use Rattle.meta_base.specs.Pieces.Saying.{piece};
 ghost use Rattle.meta_reader.specs.Flaws.{not_a_count, past_u32, past_i32};
 ghost use Rattle.meta_reader.specs.Pieces.{IsPiece};
-ghost use Rattle.meta_reader.specs.Reading.{number, integer, piece};
+ghost use Rattle.meta_reader.specs.Reading.{number, integer};
 ghost use Rattle.meta_syntax.specs.Shape.{IsNumber, IsInteger};
 ghost use Rattle.meta_reader.specs.Views.{Answers};
 ghost use Rattle.meta_nodes.specs.Nodes.{piece_of};

@@ -113,7 +113,13 @@ pub fn expression<'i>(
 {
     let (mut left, mut rest) = sequence(alloc, text, behind_bar(trees))?;
     while let Some(bar) = first_tree(rest) {
-        let (right, after) = sequence(alloc, text, bar.others)?;
+        let (right, after) = match sequence(alloc, text, bar.others) {
+            Ok(front) => front,
+            Err(error) => {
+                left.release();
+                return Err(error);
+            }
+        };
         left = combined(alloc, text, Infix::Choice, left, right)?;
         rest = after;
     }
@@ -135,7 +141,13 @@ fn sequence<'i, 't>(
     let mut left = term(alloc, text, first.inner)?;
     let mut rest: &'t [TokenTree<Rule>] = first.others;
     while let Some((inner, after)) = next_term(rest) {
-        let right = term(alloc, text, inner)?;
+        let right = match term(alloc, text, inner) {
+            Ok(right) => right,
+            Err(error) => {
+                left.release();
+                return Err(error);
+            }
+        };
         left = combined(alloc, text, Infix::Sequence, left, right)?;
         rest = after;
     }

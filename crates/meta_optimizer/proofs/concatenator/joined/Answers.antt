@@ -1,4 +1,8 @@
-use Rattle.meta_optimizer.proofs.Concatenated.{answered}
+use Rattle.std.proofs.Common.{sym, subst}
+use Rattle.std.proofs.lemmas.Result.{IfOk-weaker}
+use Rattle.meta_ast.specs.Ast.{expression_of}
+use Rattle.meta_optimizer.specs.Traversals.{BottomUp}
+use Rattle.meta_optimizer.proofs.Concatenated.{from_the_leaves}
 use Rattle.meta_optimizer.proofs.Joining.{Joined}
 use Rattle.meta_optimizer.proofs.Staying.{stays_up}
 use Rattle.meta_optimizer.proofs.concatenator.joined.Goals as goal
@@ -7,4 +11,4 @@ pub returns-then-is_done : goal.returns-then-is_done
 returns-then-is_done c = stays_up Joined c.args.expr (rw c.if-is_done.true at c.in_ok-is_done.ensures)
 
 pub returns : goal.returns
-returns c = answered c.args.expr c.with_literals_joined.result c.with_literals_joined.ensures
+returns c = IfOk-weaker c.with_literals_joined.result _ _ (λ y h. subst (BottomUp Joined (expression_of c.args.expr)) (sym h) (from_the_leaves c.args.expr)) c.with_literals_joined.ensures

@@ -1,7 +1,8 @@
+use Rattle.std.proofs.lemmas.Result.{IfOk-weaker}
 use Rattle.meta_ast.specs.Ast.{rules_of}
 use Rattle.meta_ast.specs.Optimized.{optimized_rules_of}
 use Rattle.meta_restorer.proofs.Safe.{agree}
-use Rattle.meta_optimizer.proofs.Composed.{answered, answered_both, optimized}
+use Rattle.meta_optimizer.proofs.Composed.{answered_both, optimized}
 use Rattle.meta_optimizer.proofs.Wrapped.{have_no_wrappers}
 use Rattle.meta_optimizer.proofs.passes.optimize.Goals as goal
 
@@ -18,4 +19,4 @@ returns-in_ok-listing-in-Ok-clause-agrees c =
     let rules = rules_of c.args.rules.items in
     let listing = optimized_rules_of c.in_ok-listing-in-Ok.field-0.items in
     let each = c.in_ok-listing-in-Ok.ensures.rules rules c.in-Ok.ensures in
-    answered c.restore_rules.result (λ a f w. agree listing (optimized_rules_of a.items) (f (have_no_wrappers rules each)) w) c.restore_rules.ensures.restores
+    IfOk-weaker c.restore_rules.result _ _ (λ a f w. agree listing (optimized_rules_of a.items) (f (have_no_wrappers rules each)) w) c.restore_rules.ensures.restores

@@ -7,8 +7,8 @@ use Rattle.meta_restorer.specs.Size.{size}
 use Rattle.meta_restorer.specs.Telling.{told}
 use Rattle.meta_restorer.proofs.restored.+restored.Given as goal
 
-abbrev pub invariant-restored-along : goal.invariant-restored-along
-invariant-restored-along l = record {
+abbrev pub invariant-restored_chain-along : goal.invariant-restored_chain-along
+invariant-restored_chain-along l = record {
   left : AreTold (told l.changes) l.sides.items;
   made : put_behind (told l.changes) l.sides.items (restored_by (told l.changes) (optimized_expression_of l.rest)) ≡ restored_by (told l.changes) (optimized_expression_of l.fn.expr);
   noted : AreNoted l.changes.names l.rules (optimized_expression_of l.rest) l.place;
@@ -16,11 +16,14 @@ invariant-restored-along l = record {
   smaller : size (optimized_expression_of l.rest) ≤ size (optimized_expression_of l.fn.expr);
 }
 
-abbrev pub decreases-restored-along : goal.decreases-restored-along
-decreases-restored-along l = size (optimized_expression_of l.rest)
+abbrev pub decreases-restored_chain-along : goal.decreases-restored_chain-along
+decreases-restored_chain-along l = size (optimized_expression_of l.rest)
 
-abbrev pub decreases-restored : goal.decreases-restored
-decreases-restored l = 2 * size (optimized_expression_of l.expr) + 1
+abbrev pub decreases-restore : goal.decreases-restore
+decreases-restore l = 3 * size (optimized_expression_of l.expr.now) + 2
 
-abbrev pub decreases-one : goal.decreases-one
-decreases-one l = 2 * size (optimized_expression_of l.expr)
+abbrev pub decreases-restored_chain : goal.decreases-restored_chain
+decreases-restored_chain l = 3 * size (optimized_expression_of l.expr) + 1
+
+abbrev pub decreases-restore_one : goal.decreases-restore_one
+decreases-restore_one l = 3 * size (optimized_expression_of l.expr.now)

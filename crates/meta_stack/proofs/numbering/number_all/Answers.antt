@@ -14,14 +14,17 @@ loop-place-preserved c =
     let d = get_or rs i c.index-rules-place.result in
     let names = kind_in (grammar_of rs) in
     let old = all_nodes (take i rs) in
-    let nodes = c.in_ok-root.ensures.nodes old c.loop-place.invariant.nodes in
+    let nodes = c.in_ok-root.ensures.nodes old c.loop-place.invariant.tabled.nodes in
     let at = found_last old (view d.node) c.in_ok-root.root (sym nodes.alike ∙ c.in_ok-root.ensures.last) in
-    let roots = root_step (take i rs) d old (postorder (view d.node)) c.loop-place.roots.items c.in_ok-root.root at c.loop-place.invariant.roots in
+    let roots = root_step (take i rs) d old (postorder (view d.node)) c.loop-place.roots.items c.in_ok-root.root at c.loop-place.invariant.tabled.roots in
     let e = take_more rs i c.index-rules-place.result c.loop-place-test.true in
     let m = ap (λ z. all_nodes z) e ∙ nodes_more (take i rs) d in
     record {
-      nodes = subst (λ z. AreNodes names z c.number.new.nodes.items) (sym m) nodes;
-      roots = subst (λ z. AreRoots (take (i + 1) rs) (all_nodes (take (i + 1) rs)) z) (sym c.in_ok-push.ensures.items)
-          (subst (λ z. AreRoots z (all_nodes (take (i + 1) rs)) (c.loop-place.roots.items ++ c.in_ok-root.root ∷ [])) (sym e)
-          (subst (λ z. AreRoots (take i rs ++ d ∷ []) z (c.loop-place.roots.items ++ c.in_ok-root.root ∷ [])) (sym m) roots));
+      tabled = record {
+        nodes = subst (λ z. AreNodes names z c.number.new.nodes.items) (sym m) nodes;
+        roots = subst (λ z. AreRoots (take (i + 1) rs) (all_nodes (take (i + 1) rs)) z) (sym c.in_ok-push.ensures.items)
+            (subst (λ z. AreRoots z (all_nodes (take (i + 1) rs)) (c.loop-place.roots.items ++ c.in_ok-root.root ∷ [])) (sym e)
+            (subst (λ z. AreRoots (take i rs ++ d ∷ []) z (c.loop-place.roots.items ++ c.in_ok-root.root ∷ [])) (sym m) roots));
+      };
+      none = c.in_ok-root.ensures.none;
     }

@@ -1,7 +1,10 @@
-use Rattle.std.proofs.Common.{MatchOption, subst}
-use Rattle.meta_stacks.specs.Reports.{SkippingAltersStack}
-use Rattle.meta_stack.specs.Certain.{IsTableOf}
-use Rattle.meta_stack.specs.Names.{grammar_of}
+use Rattle.std.proofs.Common.{MatchOption, [], map, subst, sym}
+use Rattle.std.specs.List.{filter}
+use Rattle.meta_nodes.specs.Nodes.{piece_of, rule_views}
+use Rattle.meta_stack.specs.Certain.{ArePlain}
+use Rattle.meta_stack.specs.Flags.{is_set_at}
+use Rattle.meta_stack.specs.Reportable.{IsToVisit}
+use Rattle.meta_stack.specs.Visiting.{FindsAll}
 use Rattle.meta_stack.proofs.Whole.{all_certain, all_plain}
 use Rattle.meta_stack.proofs.Work.{where_ok}
 use Rattle.meta_stack.proofs.validate.all_reports.Goals as goal
@@ -9,11 +12,33 @@ use Rattle.meta_stack.proofs.validate.all_reports.Goals as goal
 pub returns-in-Some-clause-certain : goal.returns-in-Some-clause-certain
 returns-in-Some-clause-certain c =
     let rs = c.args.rules.now in
-    let h : IsTableOf rs c.in-Some.table = subst (λ o. MatchOption o (SkippingAltersStack (grammar_of rs)) (λ t. IsTableOf rs t)) c.in-Some.is c.in_ok-table_of.ensures in
-    where_ok c.visit_all.result (λ v g. all_certain rs c.in-Some.table h v.items g) c.visit_all.ensures
+    let v = c.in-Some.visited in
+    let h : IsToVisit rs v = subst (λ o. MatchOption o (ArePlain (rule_views rs) []) (λ v. IsToVisit rs v)) c.in-Some.is c.in_ok-to_visit_in.ensures in
+    where_ok c.visit_all.result (λ found g. all_certain rs v.table h.table v.reportable.items h.silent found.items
+    (subst (λ l. FindsAll v.table (filter (is_set_at l) v.table.roots.items) found.items) c.as_slice.ensures.value g)) c.visit_all.ensures
 
 pub returns-in-Some-clause-plain : goal.returns-in-Some-clause-plain
 returns-in-Some-clause-plain c =
     let rs = c.args.rules.now in
-    let h : IsTableOf rs c.in-Some.table = subst (λ o. MatchOption o (SkippingAltersStack (grammar_of rs)) (λ t. IsTableOf rs t)) c.in-Some.is c.in_ok-table_of.ensures in
-    where_ok c.visit_all.result (λ v g. all_plain rs c.in-Some.table h v.items g) c.visit_all.ensures
+    let v = c.in-Some.visited in
+    let h : IsToVisit rs v = subst (λ o. MatchOption o (ArePlain (rule_views rs) []) (λ v. IsToVisit rs v)) c.in-Some.is c.in_ok-to_visit_in.ensures in
+    where_ok c.visit_all.result (λ found g. all_plain rs v.table h.table v.reportable.items h.silent found.items
+    (subst (λ l. FindsAll v.table (filter (is_set_at l) v.table.roots.items) found.items) c.as_slice.ensures.value g)) c.visit_all.ensures
+
+pub returns-in-None-clause-plain : goal.returns-in-None-clause-plain
+returns-in-None-clause-plain c =
+    let rs = c.args.rules.now in
+    let h : ArePlain (rule_views rs) [] = subst (λ o. MatchOption o (ArePlain (rule_views rs) []) (λ v. IsToVisit rs v)) c.in-None.is c.in_ok-to_visit_in.ensures in
+    subst (λ z. ArePlain (rule_views rs) (map piece_of z)) (sym c.new.ensures.items) h
+
+pub visit_all-requires-clause-ordered : goal.visit_all-requires-clause-ordered
+visit_all-requires-clause-ordered c =
+    let rs = c.args.rules.now in
+    let h : IsToVisit rs c.in-Some.visited = subst (λ o. MatchOption o (ArePlain (rule_views rs) []) (λ v. IsToVisit rs v)) c.in-Some.is c.in_ok-to_visit_in.ensures in
+    h.table.ordered
+
+pub visit_all-requires-clause-inside : goal.visit_all-requires-clause-inside
+visit_all-requires-clause-inside c =
+    let rs = c.args.rules.now in
+    let h : IsToVisit rs c.in-Some.visited = subst (λ o. MatchOption o (ArePlain (rule_views rs) []) (λ v. IsToVisit rs v)) c.in-Some.is c.in_ok-to_visit_in.ensures in
+    h.table.inside

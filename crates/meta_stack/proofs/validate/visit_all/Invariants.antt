@@ -1,4 +1,6 @@
 use Rattle.std.proofs.Common.{take}
+use Rattle.std.specs.List.{filter}
+use Rattle.meta_stack.specs.Flags.{is_set_at}
 use Rattle.meta_stack.specs.Memory.{Meaning, IsRight}
 use Rattle.meta_stack.specs.Table.{IsMeaning}
 use Rattle.meta_stack.specs.Visiting.{FindsAll}
@@ -7,5 +9,5 @@ use Rattle.meta_stack.proofs.validate.visit_all.Given as goal
 abbrev pub invariant-loop-rule : goal.invariant-loop-rule
 invariant-loop-rule l = record {
   right : (meaning : Meaning) → IsMeaning l.table meaning → IsRight meaning l.memory;
-  found : FindsAll l.table (take l.rule l.table.roots.items) l.found.items;
+  found : FindsAll l.table (filter (is_set_at l.reportable) (take l.rule l.table.roots.items)) l.found.items;
 }

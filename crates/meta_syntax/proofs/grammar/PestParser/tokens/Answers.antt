@@ -1,8 +1,9 @@
+use Rattle.std.proofs.Common.{rules}
 use Rattle.meta_syntax.proofs.Parsing.{fails_on_character, refused, refuses, spelled, tokens_whole}
 use Rattle.meta_syntax.proofs.grammar.PestParser.tokens.Goals as goal
 
-pub call-requires-clause-sound : goal.call-requires-clause-sound
-call-requires-clause-sound c = c.new-recognizer.ensures.sound c.args.text.now
+pub call-requires : goal.call-requires
+call-requires c = record { ready = record { left = search rules; sound = c.new-recognizer.ensures.sound c.args.text.now } }
 
 pub returns-in-Ok-Some-clause-trees : goal.returns-in-Ok-Some-clause-trees
 returns-in-Ok-Some-clause-trees c =

@@ -1,4 +1,4 @@
-use Rattle.std.proofs.Common.{rules, refl, sym, true, length, ◌≡◌, ◌<◌, ap, ◌∙◌, arith}
+use Rattle.std.proofs.Common.{rules, refl, sym, true, length, ◌≡◌, ◌<◌, ap, ◌∙◌, Some, arith}
 use Rattle.std.proofs.lemmas.Bool.{ltb-true}
 use Rattle.meta_base.specs.Language.Expression.{Ident}
 use Rattle.meta_base.specs.Pieces.MetaRules.{name_of}
@@ -7,7 +7,8 @@ use Rattle.meta_base.proofs.Steps.{ran_str, ran_range}
 use Rattle.meta_syntax.specs.Entries.{named_entries}
 use Rattle.meta_syntax.specs.Forms.{IsSpelled, all_take, expression_of, good}
 use Rattle.meta_syntax.specs.Sets.{spelled_by}
-use Rattle.meta_syntax.specs.Runs.{IsLeft, IsSound}
+use Rattle.meta_syntax.specs.Remembering.{IsSound}
+use Rattle.meta_syntax.specs.Runs.{IsLeft}
 use Rattle.meta_syntax.proofs.EntryLists.{adds_tree, not_grown}
 use Rattle.meta_syntax.proofs.Memory.{failed_within, fails_again, sound_on}
 use Rattle.meta_syntax.proofs.Steps.{call_failed, call_found, copies_if_ok, cut_opened, fails_first, fails_not, fails_once, fails_start, finds_blanks, finds_comments, finds_left, finds_no_opt, finds_no_rep, finds_no_skipping, finds_not, finds_once, finds_opt, finds_rep, finds_seq, finds_skipped, finds_start, finds_turns, gives_leaving, ran_any, right_if_ok, so_far_nothing, so_far_blank, so_far_comment, so_far_turn}
@@ -17,8 +18,7 @@ use Rattle.meta_syntax.proofs.Choices.{failed_at, found_among, found_at, goes_on
 use Rattle.meta_base.specs.declared.grammar.Rule.TheVariants as is
 use Rattle.meta_syntax.specs.MetaGrammar.{body_of}
 use Rattle.meta_syntax.specs.declared.sets.Set.TheVariants as set
-use Rattle.meta_syntax.specs.declared.modes.Mode.TheVariants as in_mode
-use Rattle.meta_syntax.proofs.Comments.{all_closed, begun_one, left_open, never_begun, one_closed, one_less, one_opened, one_turn, past_plain, shortened, turn_kept}
+use Rattle.meta_syntax.proofs.CommentEnds.{comment_gives, never_begun}
 use Rattle.meta_syntax.proofs.Quoted.{finds_quoted, so_far_escape, unseen}
 use Rattle.meta_syntax.proofs.SetCharacters.{finds_characters, finds_tight, so_far_further, so_far_past}
 use Rattle.meta_syntax.proofs.recognize.Recognizer.+recognize.Goals as goal
@@ -309,88 +309,21 @@ pub comment-returns-in_default-clause-means : goal.comment-returns-in_default-cl
 comment-returns-in_default-clause-means t c =
     let l : IsLeft c.args.text.now c.args.from.now = search rules in
     let k = unseen c.args.mode (sym c.is_seen_from.ensures ∙ c.if-is_seen_from.false) in
-    rw k (never_begun _ (c.in_default.ensures.means c.args.text.now l))
+    rw k (never_begun _ _ _ _ (c.in_default.ensures.means c.args.text.now l))
 
-pub comment-loop-after-init : goal.comment-loop-after-init
-comment-loop-after-init t c =
+pub comment-returns-in-Some-closed-clause-means : goal.comment-returns-in-Some-closed-clause-means
+comment-returns-in-Some-closed-clause-means t c =
     let l : IsLeft c.args.text.now c.args.from.now = search rules in
+    let k = unseen c.args.mode (sym c.is_seen_from.ensures ∙ c.if-is_seen_from.false) in
     let g = c.in-Some.ensures.goes_on c.args.text.now l in
-    record {
-      text = search rules;
-      means = begun_one (c.in-Some.ensures.means c.args.text.now l);
-      kept = refl;
-      left = g.left;
-      shorter = omega (arith, shortened g.consumed);
-      sound = search rules;
-    }
+    rw k (comment_gives _ _ _ _ _ (Some c.in-Some-closed.after) (c.in-Some.ensures.means c.args.text.now l) (λ classes. c.in-Some-closed.ensures.closed c.args.text.now classes _ g.left))
 
-pub comment-returns-then-inner-eq0-clause-means : goal.comment-returns-then-inner-eq0-clause-means
-comment-returns-then-inner-eq0-clause-means t c =
-    let i = c.loop-after.invariant in
+pub comment-returns-clause-means : goal.comment-returns-clause-means
+comment-returns-clause-means t c =
+    let l : IsLeft c.args.text.now c.args.from.now = search rules in
     let k = unseen c.args.mode (sym c.is_seen_from.ensures ∙ c.if-is_seen_from.false) in
-    let g = c.past-next.ensures.goes_on c.args.text.now i.left in
-    let h = past_plain (c.past-next.ensures.means c.args.text.now in_mode.Atomic i.left refl) i.means in
-    rw k (all_closed h _ _ c.if-inner-eq0.true i.kept (c.in-Some-literal.ensures.means c.args.text.now g.left))
-
-pub comment-loop-after-preserved-in-Some-literal : goal.comment-loop-after-preserved-in-Some-literal
-comment-loop-after-preserved-in-Some-literal t c =
-    let i = c.loop-after.invariant in
-    let g = c.past-next.ensures.goes_on c.args.text.now i.left in
-    let f = c.in-Some-literal.ensures.goes_on c.args.text.now g.left in
-    let h = past_plain (c.past-next.ensures.means c.args.text.now in_mode.Atomic i.left refl) i.means in
-    record {
-      text = search rules;
-      means = one_closed h (one_less _ c.if-inner-eq0.false) (c.in-Some-literal.ensures.means c.args.text.now g.left);
-      kept = i.kept;
-      left = f.left;
-      shorter = omega (arith, f.shorter, g.shorter, i.shorter);
-      sound = search rules;
-    }
-
-pub comment-loop-after-preserved-in-Some-opened : goal.comment-loop-after-preserved-in-Some-opened
-comment-loop-after-preserved-in-Some-opened t c =
-    let i = c.loop-after.invariant in
-    let g = c.past-next.ensures.goes_on c.args.text.now i.left in
-    let o = c.in-Some-opened.ensures c.args.text.now g.left in
-    let f = o.goes_on in
-    let h = past_plain (c.past-next.ensures.means c.args.text.now in_mode.Atomic i.left refl) i.means in
-    record {
-      text = search rules;
-      means = one_opened h (omega arith) o;
-      kept = i.kept;
-      left = f.left;
-      shorter = omega (arith, shortened f.consumed, g.shorter, i.shorter);
-      sound = search rules;
-    }
-
-pub comment-loop-after-preserved : goal.comment-loop-after-preserved
-comment-loop-after-preserved t c =
-    let i = c.loop-after.invariant in
-    let g = c.past-next.ensures.goes_on c.args.text.now i.left in
-    let h = past_plain (c.past-next.ensures.means c.args.text.now in_mode.Atomic i.left refl) i.means in
-    let b : expression_of c.args.body.now ≡ spelled_by set.Comment = search rules in
-    let v = rw c.in-Some-2.is at c.in_ok-after.ensures.means in
-    let f = rw c.in-Some-2.is at c.in_ok-after.ensures.goes_on in
-    let w = rw b at v in
-    record {
-      text = search rules;
-      means = one_turn h w;
-      kept = turn_kept w ∙ i.kept;
-      left = f.left;
-      shorter = omega (arith, f.shorter, g.shorter, i.shorter);
-      sound = search rules;
-    }
-
-pub comment-returns-in_default-2-clause-means : goal.comment-returns-in_default-2-clause-means
-comment-returns-in_default-2-clause-means t c =
-    let i = c.loop-after.invariant in
-    let k = unseen c.args.mode (sym c.is_seen_from.ensures ∙ c.if-is_seen_from.false) in
-    let g = c.past-next.ensures.goes_on c.args.text.now i.left in
-    let h = past_plain (c.past-next.ensures.means c.args.text.now in_mode.Atomic i.left refl) i.means in
-    let b : expression_of c.args.body.now ≡ spelled_by set.Comment = search rules in
-    let v = rw c.in_default-2.is at c.in_ok-after.ensures.means in
-    let w = rw b at v in
-    rw k (left_open h _ _ _ i.kept (c.in_default-literal.ensures.means c.args.text.now g.left) w)
+    let f = c.in_ok-find_ends.ensures in
+    rw (k, f.entries, f.furthest) (comment_gives _ _ _ _ _ c.behind.result (c.in-Some.ensures.means c.args.text.now l) (λ classes. c.behind.ensures.means classes _))
 
 pub called-returns-then-has_failed-clause-means : goal.called-returns-then-has_failed-clause-means
 called-returns-then-has_failed-clause-means t c =

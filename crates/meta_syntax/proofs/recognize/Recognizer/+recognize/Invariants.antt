@@ -1,13 +1,12 @@
-use Rattle.std.proofs.Common.{◌≡◌, ◌+◌, ◌<◌, ◌≤◌, Some, ◌∷◌, length, max, take, if◌then◌else◌}
+use Rattle.std.proofs.Common.{◌+◌, ◌<◌, ◌≤◌, Some, ◌∷◌, length, max, take, if◌then◌else◌}
 use denote.Shadow.{shadow}
 use denote.Text.{Utf8}
 use Rattle.meta_base.specs.Language.Expression.{Ident}
 use Rattle.meta_base.specs.Language.Meaning.{Run, Turns}
 use Rattle.meta_base.specs.Pieces.MetaRules.{name_of}
 use Rattle.meta_syntax.specs.Forms.{IsGood, IsSpelled, choice_among, cost, count_of_parts, expression_of, followed, greatest_rank, null, rank_of}
-use Rattle.meta_syntax.specs.Runs.{Fails, IsLeft, IsSound, measure, mode_of, skips_in, skips_in_call}
-use Rattle.meta_syntax.specs.Entries.{named_entries}
-use Rattle.meta_syntax.proofs.Comments.{StillOpen}
+use Rattle.meta_syntax.specs.Remembering.{IsSound}
+use Rattle.meta_syntax.specs.Runs.{Fails, IsLeft, measure, mode_of, skips_in, skips_in_call}
 use Rattle.meta_syntax.proofs.Quoted.{text_of_string}
 use Rattle.meta_base.specs.Language.State.{AtomicMode}
 use Rattle.meta_syntax.proofs.Sequences.{Begun, FoundBefore}
@@ -40,19 +39,6 @@ decreases-quoted-loop-next l = length l.rest
 
 abbrev pub decreases-comment : goal.decreases-comment
 decreases-comment l = measure l.from.now (skips_in l.mode) (2 + cost l.spelled.now)
-
-abbrev pub invariant-comment-loop-after : goal.invariant-comment-loop-after
-invariant-comment-loop-after l = record {
-  text : shadow (Utf8 l.rest);
-  means : StillOpen l.text l.from l.fn.self.furthest l.inner l.rest l.self.furthest;
-  kept : named_entries l.self.entries.items ≡ named_entries l.fn.self.entries.items;
-  left : IsLeft l.text l.rest;
-  shorter : l.inner + length l.rest < length l.from;
-  sound : IsSound l.text l.self;
-}
-
-abbrev pub decreases-comment-loop-after : goal.decreases-comment-loop-after
-decreases-comment-loop-after l = length l.rest
 
 abbrev pub invariant-characters-loop-set : goal.invariant-characters-loop-set
 invariant-characters-loop-set l = record {

@@ -11,7 +11,7 @@ use Rattle.meta_syntax.proofs.SingleCharacters.{one_taken}
 use Rattle.meta_syntax.proofs.recognize.Recognizer.decided.Goals as goal
 
 pub returns-in-Fails-clause-sound : goal.returns-in-Fails-clause-sound
-returns-in-Fails-clause-sound c = sound_on c.args.text.now c.args.self.now c.furthest_with-self.result c.requires.sound c.furthest_with-self.ensures.further
+returns-in-Fails-clause-sound c = sound_on c.args.text.now c.args.self.now c.furthest_with-self.result c.requires.ready.sound c.furthest_with-self.ensures.further
 
 pub returns-in-Fails-clause-means : goal.returns-in-Fails-clause-means
 returns-in-Fails-clause-means c =
@@ -24,7 +24,7 @@ returns-in-Fails-clause-means c =
     }
 
 pub returns-in-TakesOne-clause-goes_on : goal.returns-in-TakesOne-clause-goes_on
-returns-in-TakesOne-clause-goes_on c = past_one c.args.text.now _ _ _ _ _ c.requires.left c.chars-characters.ensures.rest c.in_ok-first.ensures.steps.0 c.as_str.ensures
+returns-in-TakesOne-clause-goes_on c = past_one c.args.text.now _ _ _ _ _ c.requires.ready.left c.chars-characters.ensures.rest c.in_ok-first.ensures.steps.0 c.as_str.ensures
 
 pub returns-in-TakesOne-clause-means : goal.returns-in-TakesOne-clause-means
 returns-in-TakesOne-clause-means c =
@@ -32,5 +32,5 @@ returns-in-TakesOne-clause-means c =
     record {
       trees = None';
       added = not_grown (named_entries c.args.self.now.entries.items);
-      ran = λ classes. one_taken c.args.rule c.in_ok-first.first c.args.text.now _ _ _ _ takes c.requires.left c.utf8.rest c.chars-characters.ensures.rest c.in_ok-first.ensures.steps.0 c.as_str.ensures classes (mode_of c.args.mode) c.args.self.now.furthest;
+      ran = λ classes. one_taken c.args.rule c.in_ok-first.first c.args.text.now _ _ _ _ takes c.requires.ready.left c.utf8.rest c.chars-characters.ensures.rest c.in_ok-first.ensures.steps.0 c.as_str.ensures classes (mode_of c.args.mode) c.args.self.now.furthest;
     }

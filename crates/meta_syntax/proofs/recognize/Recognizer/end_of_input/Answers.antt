@@ -1,14 +1,11 @@
 use Rattle.std.proofs.Common.{refl}
-use Rattle.meta_base.specs.Language.State.{None'}
-use Rattle.meta_syntax.specs.Entries.{named_entries}
-use Rattle.meta_syntax.proofs.EntryLists.{adds_tree, not_grown}
 use Rattle.meta_syntax.proofs.LeafLemmas.{end_found, end_missing}
 use Rattle.meta_syntax.proofs.Memory.{sound_on}
 use Rattle.meta_syntax.proofs.Steps.{ran_end, ran_not_end}
 use Rattle.meta_syntax.proofs.recognize.Recognizer.end_of_input.Goals as goal
 
 pub returns-then-not-is_empty-clause-sound : goal.returns-then-not-is_empty-clause-sound
-returns-then-not-is_empty-clause-sound c = sound_on c.args.text.now c.args.self.now c.furthest_with-self.result c.requires.sound c.furthest_with-self.ensures.further
+returns-then-not-is_empty-clause-sound c = sound_on c.args.text.now c.args.self.now c.furthest_with-self.result c.requires.ready.sound c.furthest_with-self.ensures.further
 
 pub returns-then-not-is_empty-clause-means : goal.returns-then-not-is_empty-clause-means
 returns-then-not-is_empty-clause-means c = record { kept = refl; ran = λ classes. ran_not_end c.args.mode _ (end_missing _ _ _ _ c.utf8.rest c.is_empty.ensures c.if-not-is_empty.true) c.is_seen_from-is_seen.ensures c.furthest_with-self.ensures.value }
@@ -16,6 +13,6 @@ returns-then-not-is_empty-clause-means c = record { kept = refl; ran = λ classe
 pub returns-clause-means : goal.returns-clause-means
 returns-clause-means c = record {
   trees = _;
-  added = adds_tree _ _ _ _ _ _ c.open.new.entries.items c.open.new.entries.items _ None' c.in_ok-open.ensures (not_grown (named_entries c.open.new.entries.items)) c.count_of_entries-first.ensures c.in_ok-close.ensures;
+  added = c.in_ok-leaf.ensures;
   ran = λ classes. ran_end c.args.mode (end_found c.args.text.now c.args.rest.now _ _ _ c.is_empty.ensures c.if-not-is_empty.false c.is_seen_from-is_seen.ensures);
 }

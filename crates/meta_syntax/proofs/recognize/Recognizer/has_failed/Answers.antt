@@ -3,8 +3,5 @@ use Rattle.meta_syntax.specs.Runs.{mode_of}
 use Rattle.meta_syntax.proofs.Memory.{recalled}
 use Rattle.meta_syntax.proofs.recognize.Recognizer.has_failed.Goals as goal
 
-pub returns-in-Atomic : goal.returns-in-Atomic
-returns-in-Atomic c = λ text s l t. recalled _ text _ _ c.args.self.now.failed_in_atomic c.args.rule c.args.mode (c.if-not-begins_comment.ensures refl) (ap mode_of c.in-Atomic.is) l s.atomic (sym c.contains.ensures ∙ t)
-
 pub returns-in-NonAtomic : goal.returns-in-NonAtomic
-returns-in-NonAtomic c = λ text s l t. recalled _ text _ _ c.args.self.now.failed_in_non_atomic c.args.rule c.args.mode (c.if-not-begins_comment.ensures refl) (ap mode_of c.in-NonAtomic.is) l s.non_atomic (sym c.contains-in-NonAtomic.ensures ∙ t)
+returns-in-NonAtomic c = λ text s l t. recalled _ text _ _ c.args.self.now.failed c.args.rule c.args.mode (c.if-not-begins_comment.ensures refl) (ap mode_of c.in-NonAtomic.is) l s.failed (sym c.contains.ensures ∙ t)

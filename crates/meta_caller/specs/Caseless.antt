@@ -1,0 +1,19 @@
+-- Expressions in which no literal looks at the case of ASCII letters.
+use Rattle.meta_base.specs.Language.Expression.{Expression, Str, Insens, PosPred, NegPred, Seq, Choice, Opt, Rep, RepOnce, RepExact, RepMin, RepMax, RepMinMax, Push}
+
+-- the same expression, with `^"a"` for each `"a"`
+abbrev pub caseless : Expression → Expression
+caseless (Str s) = Insens s
+caseless (PosPred e) = PosPred (caseless e)
+caseless (NegPred e) = NegPred (caseless e)
+caseless (Seq a b) = Seq (caseless a) (caseless b)
+caseless (Choice a b) = Choice (caseless a) (caseless b)
+caseless (Opt e) = Opt (caseless e)
+caseless (Rep e) = Rep (caseless e)
+caseless (RepOnce e) = RepOnce (caseless e)
+caseless (RepExact e n) = RepExact (caseless e) n
+caseless (RepMin e m) = RepMin (caseless e) m
+caseless (RepMax e n) = RepMax (caseless e) n
+caseless (RepMinMax e m n) = RepMinMax (caseless e) m n
+caseless (Push e) = Push (caseless e)
+caseless e = e
