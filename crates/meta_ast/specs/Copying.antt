@@ -1,31 +1,31 @@
--- What stands around an operand of an expression that is copied.
+-- What an operand of an expression stands under while it is copied.
 use Rattle.std.specs.Prelude.{ℕ, ◌+◌, ◌*◌}
 use Rattle.meta_base.specs.Language.Expression as e
 use Rattle.meta_base.specs.Language.Expression.{Expression}
 use Rattle.meta_ast.specs.Ast.{expression_of}
 use Rattle.meta_ast.specs.Weight.{weight}
-use Rattle.meta_ast.specs.declared.ast.cloned.Around.{Around}
-use Rattle.meta_ast.specs.declared.ast.cloned.Around.TheVariants as around
+use Rattle.meta_ast.specs.declared.ast.cloned.Sign.{Sign}
+use Rattle.meta_ast.specs.declared.ast.cloned.Sign.TheVariants as sign
 
--- an operand inside it
-abbrev pub with_operand : Around → Expression → Expression
-with_operand around.PosPred x = e.PosPred x
-with_operand around.NegPred x = e.NegPred x
-with_operand around.Opt x = e.Opt x
-with_operand around.Rep x = e.Rep x
-with_operand around.RepOnce x = e.RepOnce x
-with_operand (around.RepExact n) x = e.RepExact x n
-with_operand (around.RepMin m) x = e.RepMin x m
-with_operand (around.RepMax n) x = e.RepMax x n
-with_operand (around.RepMinMax m n) x = e.RepMinMax x m n
-with_operand around.Push x = e.Push x
-with_operand (around.FirstOfSeq right) x = e.Seq x (expression_of right.now)
-with_operand (around.FirstOfChoice right) x = e.Choice x (expression_of right.now)
-with_operand (around.SecondOfSeq left) x = e.Seq (expression_of left.value) x
-with_operand (around.SecondOfChoice left) x = e.Choice (expression_of left.value) x
+-- an operand under it
+abbrev pub with_operand : Sign → Expression → Expression
+with_operand sign.PosPred x = e.PosPred x
+with_operand sign.NegPred x = e.NegPred x
+with_operand sign.Opt x = e.Opt x
+with_operand sign.Rep x = e.Rep x
+with_operand sign.RepOnce x = e.RepOnce x
+with_operand (sign.RepExact n) x = e.RepExact x n
+with_operand (sign.RepMin m) x = e.RepMin x m
+with_operand (sign.RepMax n) x = e.RepMax x n
+with_operand (sign.RepMinMax m n) x = e.RepMinMax x m n
+with_operand sign.Push x = e.Push x
+with_operand (sign.FirstOfSeq right) x = e.Seq x (expression_of right.now.value)
+with_operand (sign.FirstOfChoice right) x = e.Choice x (expression_of right.now.value)
+with_operand (sign.SecondOfSeq left) x = e.Seq (expression_of left.value) x
+with_operand (sign.SecondOfChoice left) x = e.Choice (expression_of left.value) x
 
--- how much there is to be done once the operand is made
-abbrev pub waits_of : Around → ℕ
-waits_of (around.FirstOfSeq right) = 4 * weight (expression_of right.now) + 3
-waits_of (around.FirstOfChoice right) = 4 * weight (expression_of right.now) + 3
+-- how much there is to be done once the operand is copied
+abbrev pub waits_of : Sign → ℕ
+waits_of (sign.FirstOfSeq right) = 4 * weight (expression_of right.now.value) + 3
+waits_of (sign.FirstOfChoice right) = 4 * weight (expression_of right.now.value) + 3
 waits_of _ = 1

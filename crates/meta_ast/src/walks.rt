@@ -91,3 +91,10 @@ pub(crate) fn boxed<E: Drop>(alloc: Global, operand: E) -> Result<Box<E>, Fault>
         Err(refused) => Err(Fault::Memory(refused.into())),
     }
 }
+
+/// Two operands without their boxes.
+pub(crate) fn two<E: Drop, S: Drop>(joint: Joint, left: Box<E>, right: Box<E>) -> Node<E, S>
+    ensures { result ≡ Node.Two joint left.value right.value }
+{
+    Node::Two(joint, Box::into_inner(left), Box::into_inner(right))
+}

@@ -1,5 +1,5 @@
 -- Trees that are kept with the last one first, and where trees stand.
-use Rattle.std.proofs.Common.{◌≡◌, ℕ, ◌≤◌, Bool, true, false, cond, List, [], ◌∷◌, ◌++◌, Option, Some, None, map, fold, refl, subst, ap, sym, ◌∙◌, append_assoc, arith}
+use Rattle.std.proofs.Common.{◌≡◌, ℕ, ◌≤◌, ◌<◌, length, Result, Ok, Err, OnErr, Bool, true, false, cond, List, [], ◌∷◌, ◌++◌, Option, Some, None, map, fold, refl, subst, ap, sym, ◌∙◌, append_assoc, arith}
 use Rattle.std.specs.Option.{option_to_list}
 use Rattle.std.proofs.lemmas.List.{map_push, map-append, append-nil}
 use Rattle.std.proofs.lemmas.List.Sums.{fold_push, fold-append}
@@ -107,3 +107,11 @@ preorder_opened old new after tree copies split left copied =
     ap preorder (trees_of_popped old new tree split)
     ∙ ap (λ ts. Token t.rule t.start t.end inner NoTokens ∷ ts) (sym (ap preorder (ap trees_of left ∙ trees_of-append new t.inner.items) ∙ preorder-followed_by inner (trees_of new)))
     ∙ ap (λ i. Token t.rule t.start t.end i NoTokens ∷ preorder (trees_of after)) (sym (ap in_order copied))
+
+-- where a tree was taken there are pairs
+pub some_pairs : {R : Type 0} (old new : List (TokenTree R)) (tree : TokenTree R) → old ≡ new ++ tree ∷ [] → 0 < length (preorder (trees_of old))
+some_pairs old new tree split = subst (λ ts. 0 < length (preorder ts)) (sym (trees_of_popped old new tree split)) (omega arith)
+
+pub on_err : {A E C : Type 0} (r : Result A E) → C → OnErr r C
+on_err (Ok x) h = tt
+on_err (Err e) h = h

@@ -8,13 +8,14 @@
 
 mod figures;
 mod generated;
+mod lines;
 mod shapes;
 mod small;
 mod stages;
 mod texts;
 
 use anyhow::Result;
-use figures::{Figures, measured};
+use figures::{Figure, Figures, measured};
 use stages::STAGES;
 use std::env;
 use texts::text_of;
@@ -24,27 +25,47 @@ const MANY: usize = 100_000;
 
 /// Prints a line for each stage: its milliseconds, its nanoseconds a byte, how these compare with those of
 /// another text, and how its time compares with that of the first stage.
-fn print_figures<R: Print + AllocGlobal>(
-    rt: &R,
-    text: &str,
-    figures: &Figures,
-    other: &Figures,
-) -> Result<()> {
+fn print_figures<R: Print>(rt: &R, text: &str, figures: &Figures, other: &Figures) -> Result<()> {
     let Some(first) = figures.stages.first() else {
         return Ok(());
     };
     for (figure, compared) in figures.stages.iter().zip(other.stages.iter()) {
-        let each = figure.each(figures.bytes);
-        println!(rt;
-            "{text:>16} {:>9} {:<14} {:>10.3} {each:>9.2} {:>7.2} {:>9.3}",
+        print_figure(
+            rt,
+            text,
             figures.bytes,
-            figure.name,
-            figure.milliseconds(),
-            each / compared.each(other.bytes),
-            figure.milliseconds() / first.milliseconds()
+            figure,
+            compared.each(other.bytes),
+            first,
         )?;
     }
     Ok(())
+}
+
+/// Prints the line of a stage on a text of so many bytes.
+fn print_figure<R: Print>(
+    rt: &R,
+    text: &str,
+    bytes: usize,
+    figure: &Figure,
+    compared: f64,
+    first: &Figure,
+) -> Result<()> {
+    let each = figure.each(bytes);
+    let ratio = each / compared;
+    let milliseconds = figure.milliseconds();
+    let to_parse = milliseconds / first.milliseconds();
+    let name = figure.name;
+    println!(rt;
+        "{text:>16} {bytes:>9} {name:<14} {milliseconds:>10.3} {each:>9.2} {ratio:>7.2} {to_parse:>9.3}"
+    )?;
+    Ok(())
+}
+
+/// What stages take on the text that an argument means.
+fn figures_of(rt: &HostRuntime, stages: &[String], argument: &str) -> Result<Figures> {
+    let text = text_of(rt, argument)?;
+    measured(rt, stages, text.as_str())
 }
 
 /// Prints the figures of the text that each of these arguments means.
@@ -54,14 +75,9 @@ fn compare(rt: &HostRuntime, stages: &[String], texts: &[String]) -> Result<()> 
     )?;
     let mut first: Option<Figures> = None;
     for argument in texts {
-        let text = text_of(rt, argument.as_str())?;
-        let figures = measured(rt, stages, text.as_str())?;
-        print_figures(
-            rt,
-            argument.as_str(),
-            &figures,
-            first.as_ref().unwrap_or(&figures),
-        )?;
+        let figures = figures_of(rt, stages, argument.as_str())?;
+        let other = first.as_ref().unwrap_or(&figures);
+        print_figures(rt, argument.as_str(), &figures, other)?;
         if first.is_none() && figures.bytes >= MANY {
             first = Some(figures);
         }
@@ -69,15 +85,21 @@ fn compare(rt: &HostRuntime, stages: &[String], texts: &[String]) -> Result<()> 
     Ok(())
 }
 
+/// Whether an argument names a stage.
+fn is_stage(argument: &String) -> bool {
+    STAGES.iter().any(|(name, _)| *name == argument.as_str())
+}
+
 fn main(rt: HostRuntime) -> Result<()> {
     let mut stages = Vec::new(rt.alloc());
     let mut texts = Vec::new(rt.alloc());
     for argument in env::args(&rt)?.skip(1) {
-        if STAGES.iter().any(|(name, _)| *name == argument.as_str()) {
-            stages.push(argument)?;
+        let pushed = if is_stage(&argument) {
+            stages.push(argument)
         } else {
-            texts.push(argument)?;
-        }
+            texts.push(argument)
+        };
+        pushed?;
     }
     if texts.is_empty() {
         small::describe(&rt)

@@ -1,113 +1,79 @@
 //! Grammars of one shape and any size.
+use crate::lines::push_line;
 use std::alloc::{AllocError, Global};
 
-/// A shape that grammars have.
-#[derive(Clone, Copy)]
-pub enum Shape {
-    /// So many rules, each of which calls two others.
-    Connected,
-    /// One rule, whose body is a choice of so many strings.
-    Choice,
-    /// One rule, whose body is a choice of so many strings that are pushed.
-    Pushes,
-    /// One rule, whose body is a sequence of so many strings.
-    Sequence,
-    /// So many rules, each of which calls the next, and a last one.
-    Chain,
-    /// The same rules, the last one first.
-    Backwards,
-    /// So many rules, each of which calls the next, and the last one the first.
-    Cycle,
+/// A shape that grammars have: what stands before so many lines, such a line, as `push_line` has it, and what
+/// stands behind them, as it is written for the number of lines.
+pub struct Shape {
+    name: &'static str,
+    begin: &'static str,
+    line: &'static str,
+    end: &'static str,
 }
 
-static SHAPES: [(&str, Shape); 7] = [
-    ("connected", Shape::Connected),
-    ("choice", Shape::Choice),
-    ("pushes", Shape::Pushes),
-    ("sequence", Shape::Sequence),
-    ("chain", Shape::Chain),
-    ("backwards", Shape::Backwards),
-    ("cycle", Shape::Cycle),
+static SHAPES: [Shape; 7] = [
+    // So many rules, each of which calls two others.
+    Shape {
+        name: "connected",
+        begin: "",
+        line: "r№ = { \"a№\" ~ r↻ | \"b№\" ~ r⇄* ~ \"c\" }\n",
+        end: "",
+    },
+    // One rule, whose body is a choice of so many strings.
+    Shape {
+        name: "choice",
+        begin: "a = { \"x\"",
+        line: " | \"№\"",
+        end: " }",
+    },
+    // One rule, whose body is a choice of so many strings that are pushed.
+    Shape {
+        name: "pushes",
+        begin: "a = { \"x\"",
+        line: " | PUSH(\"№\")",
+        end: " }",
+    },
+    // One rule, whose body is a sequence of so many strings.
+    Shape {
+        name: "sequence",
+        begin: "a = { \"x\"",
+        line: " ~ \"№\"",
+        end: " }",
+    },
+    // So many rules, each of which calls the next, and a last one.
+    Shape {
+        name: "chain",
+        begin: "",
+        line: "r№ = { r↑ }\n",
+        end: "r№ = { \"x\" }\n",
+    },
+    // The same rules, the last one first.
+    Shape {
+        name: "backwards",
+        begin: "r0 = { \"x\" }\n",
+        line: "r↑ = { r№ }\n",
+        end: "",
+    },
+    // So many rules, each of which calls the next, and the last one the first.
+    Shape {
+        name: "cycle",
+        begin: "",
+        line: "r№ = { r↻ }\n",
+        end: "",
+    },
 ];
 
 /// The shape of a name.
-pub fn shape_named(name: &str) -> Option<Shape> {
-    for (other, shape) in &SHAPES {
-        if *other == name {
-            return Some(*shape);
-        }
-    }
-    None
+pub fn shape_named(name: &str) -> Option<&'static Shape> {
+    SHAPES.iter().find(|shape| shape.name == name)
 }
 
 /// A grammar of a shape.
-pub fn shaped(alloc: Global, shape: Shape, size: u32) -> Result<String, AllocError> {
-    match shape {
-        Shape::Connected => connected(alloc, size),
-        Shape::Choice => joined(alloc, " | ", "\"", "\"", size),
-        Shape::Pushes => joined(alloc, " | ", "PUSH(\"", "\")", size),
-        Shape::Sequence => joined(alloc, " ~ ", "\"", "\"", size),
-        Shape::Chain => chain(alloc, size),
-        Shape::Backwards => backwards(alloc, size),
-        Shape::Cycle => cycle(alloc, size),
+pub fn shaped(alloc: Global, shape: &Shape, size: u32) -> Result<String, AllocError> {
+    let mut out = String::from_str(alloc, shape.begin)?;
+    for number in 0..size {
+        push_line(&mut out, shape.line, number, size)?;
     }
-}
-
-/// So many rules, each of which calls two others.
-fn connected(alloc: Global, rules: u32) -> Result<String, AllocError> {
-    let mut out = String::new(alloc);
-    for rule in 0..rules {
-        let next = (u64::from(rule) + 1) % u64::from(rules);
-        let other = (u64::from(rule) * 7 + 3) % u64::from(rules);
-        write!(
-            out,
-            "r{rule} = {{ \"a{rule}\" ~ r{next} | \"b{rule}\" ~ r{other}* ~ \"c\" }}\n"
-        )?;
-    }
-    Ok(out)
-}
-
-/// One rule, whose body is so many numbers between two signs each, joined.
-fn joined(
-    alloc: Global,
-    joint: &str,
-    open: &str,
-    close: &str,
-    parts: u32,
-) -> Result<String, AllocError> {
-    let mut out = String::from_str(alloc, "a = { \"x\"")?;
-    for part in 0..parts {
-        write!(out, "{joint}{open}{part}{close}")?;
-    }
-    out.push_str(" }")?;
-    Ok(out)
-}
-
-/// So many rules, each of which calls the next, and a last one.
-fn chain(alloc: Global, rules: u32) -> Result<String, AllocError> {
-    let mut out = String::new(alloc);
-    for rule in 0..rules {
-        write!(out, "r{rule} = {{ r{} }}\n", u64::from(rule) + 1)?;
-    }
-    write!(out, "r{rules} = {{ \"x\" }}\n")?;
-    Ok(out)
-}
-
-/// A rule, and so many rules, each of which calls the one before.
-fn backwards(alloc: Global, rules: u32) -> Result<String, AllocError> {
-    let mut out = String::from_str(alloc, "r0 = { \"x\" }\n")?;
-    for rule in 0..rules {
-        write!(out, "r{} = {{ r{rule} }}\n", u64::from(rule) + 1)?;
-    }
-    Ok(out)
-}
-
-/// So many rules, each of which calls the next, and the last one the first.
-fn cycle(alloc: Global, rules: u32) -> Result<String, AllocError> {
-    let mut out = String::new(alloc);
-    for rule in 0..rules {
-        let next = (u64::from(rule) + 1) % u64::from(rules);
-        write!(out, "r{rule} = {{ r{next} }}\n")?;
-    }
+    push_line(&mut out, shape.end, size, size)?;
     Ok(out)
 }

@@ -15,6 +15,7 @@ use meta_validator::validator::validate_rules;
 use pest_meta::parse_and_optimize;
 use pest_meta::parser::consume_rules;
 use std::alloc::Global;
+use std::io;
 use std::time::{CpuClock, Duration};
 
 /// A call that is measured.
@@ -64,15 +65,15 @@ pub fn time_of<R: CpuClock + AllocGlobal>(rt: &R, stage: Stage, text: &str) -> R
 }
 
 /// The processor time since an earlier one.
-fn since<R: CpuClock>(rt: &R, start: Duration) -> Result<Duration> {
-    Ok(rt.thread_cpu_time()?.saturating_sub(start))
+fn since<R: CpuClock>(rt: &R, start: io::Result<Duration>) -> Result<Duration> {
+    Ok(rt.thread_cpu_time()?.saturating_sub(start?))
 }
 
-/// Nothing where memory was found.
-fn found<T: Drop>(answer: Result<T, Fault>) -> Result<()> {
+/// The time of a call, unless memory was refused to it.
+fn ended<T: Drop>(answer: Result<T, Fault>, time: Result<Duration>) -> Result<Duration> {
     match answer {
         Err(Fault::Memory(refused)) => Err(refused.into()),
-        _ => Ok(()),
+        _ => time,
     }
 }
 
@@ -93,8 +94,7 @@ fn unwrapped(alloc: Global, text: &str) -> Result<Vec<OptimizedRule>, Fault> {
     let rules = optimize(alloc, rules_of(alloc, text)?)?;
     let mut answer = Vec::new(alloc);
     for rule in rules {
-        let rule = without_wrappers(alloc, rule)?;
-        answer.push(rule)?;
+        answer.push(without_wrappers(alloc, rule)?)?;
     }
     Ok(answer)
 }
@@ -109,97 +109,86 @@ fn without_wrappers(alloc: Global, rule: OptimizedRule) -> Result<OptimizedRule,
     Ok(OptimizedRule { name, ty, expr })
 }
 
-/// Lets rules go by loops, however wide they are.
-fn let_go(alloc: Global, nodes: Vec<ParserRule<'_>>) -> Result<()> {
-    release(erase_spans(alloc, nodes)?);
-    Ok(())
-}
-
 fn tokens<R: CpuClock + AllocGlobal>(rt: &R, text: &str) -> Result<Duration> {
-    let start = rt.thread_cpu_time()?;
-    let entries = PestParser::tokens(rt.alloc(), Rule::grammar_rules, text)?;
-    let time = since(rt, start)?;
-    drop(entries);
-    Ok(time)
+    let start = rt.thread_cpu_time();
+    let entries = PestParser::tokens(rt.alloc(), Rule::grammar_rules, text);
+    let time = since(rt, start);
+    drop(entries?);
+    time
 }
 
 fn parse<R: CpuClock + AllocGlobal>(rt: &R, text: &str) -> Result<Duration> {
-    let start = rt.thread_cpu_time()?;
-    let pairs = PestParser::parse(rt.alloc(), Rule::grammar_rules, text)?;
-    let time = since(rt, start)?;
-    drop(pairs);
-    Ok(time)
+    let start = rt.thread_cpu_time();
+    let pairs = PestParser::parse(rt.alloc(), Rule::grammar_rules, text);
+    let time = since(rt, start);
+    drop(pairs?);
+    time
 }
 
 fn names<R: CpuClock + AllocGlobal>(rt: &R, text: &str) -> Result<Duration> {
     let pairs = PestParser::parse(rt.alloc(), Rule::grammar_rules, text)?;
-    let start = rt.thread_cpu_time()?;
+    let start = rt.thread_cpu_time();
     let answer = validate_pairs(rt.alloc(), pairs);
-    let time = since(rt, start)?;
-    found(answer)?;
-    Ok(time)
+    let time = since(rt, start);
+    ended(answer, time)
 }
 
 fn reader<R: CpuClock + AllocGlobal>(rt: &R, text: &str) -> Result<Duration> {
     let pairs = PestParser::parse(rt.alloc(), Rule::grammar_rules, text)?;
-    let start = rt.thread_cpu_time()?;
-    let nodes = consume_rules_with_spans(rt.alloc(), pairs)?;
-    let time = since(rt, start)?;
-    let_go(rt.alloc(), nodes)?;
-    Ok(time)
+    let start = rt.thread_cpu_time();
+    let nodes = consume_rules_with_spans(rt.alloc(), pairs);
+    let time = since(rt, start);
+    meta_nodes::release(nodes?);
+    time
 }
 
 fn rules<R: CpuClock + AllocGlobal>(rt: &R, text: &str) -> Result<Duration> {
     let nodes = nodes_of(rt.alloc(), text)?;
-    let start = rt.thread_cpu_time()?;
+    let start = rt.thread_cpu_time();
     let answer = validate_rules(rt.alloc(), &nodes, &[]);
-    let time = since(rt, start)?;
-    let_go(rt.alloc(), nodes)?;
-    found(answer)?;
-    Ok(time)
+    let time = since(rt, start);
+    meta_nodes::release(nodes);
+    ended(answer, time)
 }
 
 fn stack<R: CpuClock + AllocGlobal>(rt: &R, text: &str) -> Result<Duration> {
     let nodes = nodes_of(rt.alloc(), text)?;
-    let start = rt.thread_cpu_time()?;
+    let start = rt.thread_cpu_time();
     let answer = validate_stack_repetition(rt.alloc(), &nodes);
-    let time = since(rt, start)?;
-    let_go(rt.alloc(), nodes)?;
-    found(answer)?;
-    Ok(time)
+    let time = since(rt, start);
+    meta_nodes::release(nodes);
+    ended(answer, time)
 }
 
 fn accepted<R: CpuClock + AllocGlobal>(rt: &R, text: &str) -> Result<Duration> {
     let pairs = PestParser::parse(rt.alloc(), Rule::grammar_rules, text)?;
-    let start = rt.thread_cpu_time()?;
+    let start = rt.thread_cpu_time();
     let answer = consume_rules(rt.alloc(), pairs);
-    let time = since(rt, start)?;
-    found(answer.map(release))?;
-    Ok(time)
+    let time = since(rt, start);
+    ended(answer.map(release), time)
 }
 
 fn passes<R: CpuClock + AllocGlobal>(rt: &R, text: &str) -> Result<Duration> {
     let rules = rules_of(rt.alloc(), text)?;
-    let start = rt.thread_cpu_time()?;
-    let answer = optimize(rt.alloc(), rules)?;
-    let time = since(rt, start)?;
-    optimized::release(answer);
-    Ok(time)
+    let start = rt.thread_cpu_time();
+    let answer = optimize(rt.alloc(), rules);
+    let time = since(rt, start);
+    optimized::release(answer?);
+    time
 }
 
 fn wrappers<R: CpuClock + AllocGlobal>(rt: &R, text: &str) -> Result<Duration> {
     let rules = unwrapped(rt.alloc(), text)?;
-    let start = rt.thread_cpu_time()?;
-    let answer = restore_rules(rt.alloc(), rules)?;
-    let time = since(rt, start)?;
-    optimized::release(answer);
-    Ok(time)
+    let start = rt.thread_cpu_time();
+    let answer = restore_rules(rt.alloc(), rules);
+    let time = since(rt, start);
+    optimized::release(answer?);
+    time
 }
 
 fn whole<R: CpuClock + AllocGlobal>(rt: &R, text: &str) -> Result<Duration> {
-    let start = rt.thread_cpu_time()?;
+    let start = rt.thread_cpu_time();
     let answer = parse_and_optimize(rt.alloc(), text);
-    let time = since(rt, start)?;
-    found(answer.map(|(_, rules)| optimized::release(rules)))?;
-    Ok(time)
+    let time = since(rt, start);
+    ended(answer.map(|(_, rules)| optimized::release(rules)), time)
 }

@@ -5,11 +5,11 @@ use Rattle.std.specs.HashSet as bag
 use Rattle.std.proofs.lemmas.List.{map-append, drop_all}
 use Rattle.meta_base.specs.Language.Text.{Text}
 use Rattle.meta_base.specs.Language.Builtins.{is_one_of}
-use Rattle.meta_base.specs.Pieces.Saying.{Span, Complaint, Tell, piece_of, written}
+use Rattle.meta_base.specs.Pieces.Saying.{Span, Complaint, SaysAt, Tell, piece_of, written}
 use Rattle.meta_base.specs.declared.grammar.Rule.{Rule}
 use Rattle.meta_base.specs.declared.runtime.errors.Error.{Error}
 use Rattle.meta_base.specs.declared.runtime.places.Span as code
-use Rattle.meta_names.specs.Names.{later_places, first_places}
+use Rattle.meta_names.specs.Names.{later_places, first_places, said}
 use Rattle.meta_names.specs.NameSets.{NameSet, HasNames}
 
 -- the same text
@@ -121,6 +121,12 @@ pub first_less : (all before : List Text) (found : List (Bor (List ℕ))) (x : S
 first_less all before found x rest others e b a =
     let now : Bor (List ℕ) → List ℕ = λ t. t.now in
     a ∙ ap (λ r. map now found ++ map written r) (ap (first_places before) e ∙ first_none before x others b)
+
+-- one more error, at the first of the places that are left
+pub told_more : (before after : Text) (all : List Complaint) (rest others : List Span) (x : Span) (errors : List (Error Rule)) (e : Error Rule) → rest ≡ x ∷ others → SaysAt (before ++ written x ++ after) x e
+    → ((more : List (Error Rule)) → Tell (said before after rest) more → Tell all (errors ++ more))
+    → (more : List (Error Rule)) → Tell (said before after others) more → Tell all ((errors ++ e ∷ []) ++ more)
+told_more before after all rest others x errors e left s told more t = rw append_assoc (told (e ∷ more) (rw left (s, t)))
 
 -- errors that tell one thing after another
 pub tell_both : (xs ys : List Complaint) (es fs : List (Error Rule)) → Tell xs es → Tell ys fs → Tell (xs ++ ys) (es ++ fs)

@@ -1,12 +1,12 @@
 //! The names that a grammar's trees define and call.
-ghost use Rattle.std.specs.Prelude.{◌++◌, ◌≡◌, ◌≤◌, IfOk, map};
+ghost use Rattle.std.specs.Prelude.{◌++◌, ◌≡◌, ◌≤◌, [], ◌∷◌, IfOk, OnOk, map};
 ghost use Rattle.std.specs.Str.{IsCharBoundary};
 ghost use Rattle.meta_base.specs.Pieces.MetaRules.{name_of};
 ghost use Rattle.meta_base.specs.Pieces.NamedTrees.{named_trees_of};
 ghost use Rattle.meta_base.specs.Pieces.Saying.{piece, piece_of};
 ghost use Rattle.meta_base.specs.Pieces.TreeViews.{trees_of};
 ghost use Rattle.meta_names.specs.GrammarNames as spec;
-ghost use Rattle.meta_names.specs.Standing.{TokenTreesStandIn};
+ghost use Rattle.meta_names.specs.Standing.{StandsIn, TokenTreesStandIn};
 
 use meta_base::grammar::Rule;
 use meta_base::runtime::{FirstTree, Span, TokenTree, first_tree};
@@ -22,89 +22,86 @@ fn place<'i>(text: &'i str, start: usize, end: usize) -> Span<'i>
     Span::new(text, start, end).unwrap()
 }
 
-/// These places, and that of a tree of `rule` from the byte `start` to the byte `end`, where the tree is a
-/// name.
-fn with_own_name<'i>(
+/// Adds the place of a tree to `names`, where the tree is a name.
+fn add_own_name<'i>(
     text: &'i str,
-    rule: Rule,
-    start: usize,
-    end: usize,
-    mut names: Vec<Span<'i>>,
-) -> Result<Vec<Span<'i>>, AllocError>
-    requires ordered { start ≤ end }
-    requires starts_at_character { IsCharBoundary text.now start }
-    requires ends_at_character { IsCharBoundary text.now end }
-    ensures { IfOk result (λ more. map piece_of more.items
-        ≡ map piece_of names.entry.items ++ spec.own_name text.entry.now (name_of rule) start end) }
+    tree: FirstTree<'_, Rule>,
+    names: &mut Vec<Span<'i>>,
+) -> Result<(), AllocError>
+    requires { StandsIn text.now tree }
+    ensures { OnOk result (map piece_of names.new.items ≡ map piece_of names.old.items
+        ++ spec.own_name text.entry.now (name_of tree.entry.rule) tree.entry.start tree.entry.end) }
 {
-    if let Rule::identifier = rule {
-        names.push(place(text, start, end))?;
+    if let Rule::identifier = tree.rule {
+        names.push(place(text, tree.start, tree.end))?;
     }
-    Ok(names)
+    Ok(())
 }
 
-/// These places, and then those of all names in some trees, in the order of the text.
-fn with_names<'i>(
+/// Leaves what is in a tree, and what is behind it, for later: what is in it comes first.
+fn leave<'t>(
+    tree: FirstTree<'t, Rule>,
+    waiting: &mut Vec<&'t [TokenTree<Rule>]>,
+) -> Result<(), AllocError>
+    ensures { OnOk result (waiting.new.items
+        ≡ waiting.old.items ++ tree.entry.others ∷ [] ++ tree.entry.inner ∷ []) }
+{
+    waiting.push(tree.others)?;
+    waiting.push(tree.inner)?;
+    Ok(())
+}
+
+/// Adds the places of all names in some trees, in the order of the text.
+fn add_names<'i>(
     alloc: Global,
     text: &'i str,
     trees: &[TokenTree<Rule>],
-    mut names: Vec<Span<'i>>,
-) -> Result<Vec<Span<'i>>, AllocError>
+    names: &mut Vec<Span<'i>>,
+) -> Result<(), AllocError>
     requires { TokenTreesStandIn text.now (trees_of trees.now) }
-    ensures { IfOk result (λ more. map piece_of more.items
-        ≡ map piece_of names.entry.items ++ spec.names_in text.entry.now (named_trees_of trees.now)) }
+    ensures { OnOk result (map piece_of names.new.items
+        ≡ map piece_of names.old.items ++ spec.names_in text.entry.now (named_trees_of trees.now)) }
 {
-    let mut waiting = Vec::new(alloc);
-    waiting.push(trees)?;
+    let mut waiting = vec![in alloc; trees]?;
     while let Some(rest) = waiting.pop() {
-        if let Some(
-            FirstTree {
-                rule,
-                start,
-                end,
-                inner,
-                others,
-            },
-        ) = first_tree(rest)
-        {
-            names = with_own_name(text, rule, start, end, names)?;
-            waiting.push(others)?;
-            waiting.push(inner)?;
+        if let Some(tree) = first_tree(rest) {
+            add_own_name(text, tree, names)?;
+            leave(tree, &mut waiting)?;
         }
     }
-    Ok(names)
+    Ok(())
 }
 
-/// These places, and then that of the name which the trees of a rule define, where they define one.
-fn with_definition<'i>(
+/// Adds the place of the name which the trees of a rule define, where they define one.
+fn add_definition<'i>(
     text: &'i str,
     trees: &[TokenTree<Rule>],
-    names: Vec<Span<'i>>,
-) -> Result<Vec<Span<'i>>, AllocError>
+    names: &mut Vec<Span<'i>>,
+) -> Result<(), AllocError>
     requires { TokenTreesStandIn text.now (trees_of trees.now) }
-    ensures { IfOk result (λ more. map piece_of more.items
-        ≡ map piece_of names.entry.items ++ spec.defined_by text.entry.now (named_trees_of trees.now)) }
+    ensures { OnOk result (map piece_of names.new.items
+        ≡ map piece_of names.old.items ++ spec.defined_by text.entry.now (named_trees_of trees.now)) }
 {
     match first_tree(trees) {
-        Some(first) => with_own_name(text, first.rule, first.start, first.end, names),
-        None => Ok(names),
+        Some(first) => add_own_name(text, first, names),
+        None => Ok(()),
     }
 }
 
-/// These places, and then those of the names which the trees of a rule call, in the order of the text.
-fn with_calls<'i>(
+/// Adds the places of the names which the trees of a rule call, in the order of the text.
+fn add_calls<'i>(
     alloc: Global,
     text: &'i str,
     trees: &[TokenTree<Rule>],
-    names: Vec<Span<'i>>,
-) -> Result<Vec<Span<'i>>, AllocError>
+    names: &mut Vec<Span<'i>>,
+) -> Result<(), AllocError>
     requires { TokenTreesStandIn text.now (trees_of trees.now) }
-    ensures { IfOk result (λ more. map piece_of more.items
-        ≡ map piece_of names.entry.items ++ spec.called_by text.entry.now (named_trees_of trees.now)) }
+    ensures { OnOk result (map piece_of names.new.items
+        ≡ map piece_of names.old.items ++ spec.called_by text.entry.now (named_trees_of trees.now)) }
 {
     match first_tree(trees) {
-        Some(first) => with_names(alloc, text, first.others, names),
-        None => Ok(names),
+        Some(first) => add_names(alloc, text, first.others, names),
+        None => Ok(()),
     }
 }
 
@@ -121,19 +118,11 @@ pub(crate) fn definitions<'i>(
 {
     let mut found = Vec::new(alloc);
     let mut rest = trees;
-    while let Some(
-        FirstTree {
-            rule: token,
-            inner,
-            others,
-            ..
-        },
-    ) = first_tree(rest)
-    {
-        if let Rule::grammar_rule = token {
-            found = with_definition(text, inner, found)?;
+    while let Some(tree) = first_tree(rest) {
+        if let Rule::grammar_rule = tree.rule {
+            add_definition(text, tree.inner, &mut found)?;
         }
-        rest = others;
+        rest = tree.others;
     }
     Ok(found)
 }
@@ -151,19 +140,11 @@ pub(crate) fn calls<'i>(
 {
     let mut found = Vec::new(alloc);
     let mut rest = trees;
-    while let Some(
-        FirstTree {
-            rule: token,
-            inner,
-            others,
-            ..
-        },
-    ) = first_tree(rest)
-    {
-        if let Rule::grammar_rule = token {
-            found = with_calls(alloc, text, inner, found)?;
+    while let Some(tree) = first_tree(rest) {
+        if let Rule::grammar_rule = tree.rule {
+            add_calls(alloc, text, tree.inner, &mut found)?;
         }
-        rest = others;
+        rest = tree.others;
     }
     Ok(found)
 }

@@ -1,11 +1,23 @@
 //! The errors that say the same of several names.
-ghost use Rattle.std.specs.Prelude.{◌≡◌, IfErr, IfOk, alloc_error, map};
-ghost use Rattle.meta_base.specs.Pieces.Saying.{Tell, piece_of};
+ghost use Rattle.std.specs.Prelude.{◌++◌, ◌≡◌, IfErr, IfOk, alloc_error, map};
+ghost use Rattle.meta_base.specs.Pieces.Saying.{SaysAt, Tell, piece_of, written};
 ghost use Rattle.meta_names.specs.Names.{said};
 
 use meta_base::grammar::Rule;
 use meta_base::runtime::{Error, ErrorVariant, Fault, Span};
 use std::alloc::{AllocError, Global};
+
+/// The error that says the name at a place, between `before` and `after`. The only fault is a want of
+/// memory.
+fn error(alloc: Global, before: &str, after: &str, place: Span<'_>) -> Result<Error<Rule>, Fault>
+    ensures says { IfOk result
+        (SaysAt (before.now ++ written (piece_of place.entry) ++ after.now) (piece_of place.entry)) }
+    ensures memory { IfErr result (λ fault. fault ≡ Fault.Memory alloc_error) }
+{
+    let name = place.as_str();
+    let message = format!(in alloc; "{before}{name}{after}").map_err(Fault::Memory)?;
+    Error::new_from_span(alloc, ErrorVariant::CustomError { message }, place)
+}
 
 /// An error at each of these places, in their order: it says the name that is written there, between
 /// `before` and `after`. The only fault is a want of memory.
@@ -21,12 +33,10 @@ pub(crate) fn errors(
 {
     let mut errors = Vec::new(alloc);
     for place in places {
-        let name = place.as_str();
-        let message = format!(in alloc; "{before}{name}{after}").map_err(Fault::Memory)?;
-        let variant = ErrorVariant::CustomError { message };
-        let error = Error::new_from_span(alloc, variant, *place)?;
-        if errors.push(error).is_err() {
-            return Err(Fault::Memory(AllocError));
+        let error = error(alloc, before, after, *place)?;
+        match errors.push(error) {
+            Ok(()) => {}
+            Err(_) => return Err(Fault::Memory(AllocError)),
         }
     }
     Ok(errors)

@@ -1,8 +1,8 @@
 //! The bodies of rules by their names.
-ghost use Rattle.std.specs.Prelude.{◌≡◌, IfOk};
+ghost use Rattle.std.specs.Prelude.{◌≡◌, ◌++◌, ◌∷◌, [], IfOk, OnOk};
 ghost use Rattle.std.specs.Bool.{OnTrue};
-ghost use Rattle.meta_base.specs.Language.Expression.{Atomic};
-ghost use Rattle.meta_ast.specs.Ast.{expression_of, rule_type_of, rules_of};
+ghost use Rattle.meta_base.specs.Language.Expression.{Atomic, Grammar};
+ghost use Rattle.meta_ast.specs.Ast.{expression_of, rule_of_code, rule_type_of, rules_of};
 ghost use Rattle.meta_optimizer.specs.Bodies.{HoldsBodies, HasNoTurn, HaveNoTurns, IsTurn, SufficeFor};
 
 use crate::skipper::is_no_turn;
@@ -20,11 +20,20 @@ pub(crate) fn bodies_of(
 {
     let mut bodies = HashMap::new(alloc);
     for rule in rules {
-        let name = rule.name.clone()?;
-        let body = rule.expr.clone()?;
-        bodies.insert(name, body)?;
+        add_body(&mut bodies, rule)?;
     }
     Ok(bodies)
+}
+
+// Adds the body of a rule to those of the rules before it.
+fn add_body(bodies: &mut HashMap<String, Expr>, rule: &Rule) -> Result<(), AllocError>
+    ensures { OnOk result ((g : Grammar) → HoldsBodies bodies.old g
+        → HoldsBodies bodies.new (g ++ rule_of_code rule.now ∷ [])) }
+{
+    let name = rule.name.clone()?;
+    let body = rule.expr.clone()?;
+    bodies.insert(name, body)?;
+    Ok(())
 }
 
 /// What `skip` looks up in these rules: their bodies; none where no Atomic rule has anything in place of which

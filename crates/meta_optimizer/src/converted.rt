@@ -59,30 +59,28 @@ impl Rebuild for Around {
     ghost waits = { λ around. waits_of around };
 
     fn open(expr: Expr) -> Result<Step<Expr, Around, OptimizedExpr>, AllocError> {
-        match expr {
-            Expr::Str(text) => Ok(Step::Made(OptimizedExpr::Str(text))),
-            Expr::Insens(text) => Ok(Step::Made(OptimizedExpr::Insens(text))),
-            Expr::Range(first, last) => Ok(Step::Made(OptimizedExpr::Range(first, last))),
-            Expr::Ident(name) => Ok(Step::Made(OptimizedExpr::Ident(name))),
-            Expr::PeekSlice(start, end) => Ok(Step::Made(OptimizedExpr::PeekSlice(start, end))),
-            Expr::Skip(texts) => Ok(Step::Made(OptimizedExpr::Skip(texts))),
-            Expr::PosPred(inner) => Ok(Step::Inside(Around::PosPred, Box::into_inner(inner))),
-            Expr::NegPred(inner) => Ok(Step::Inside(Around::NegPred, Box::into_inner(inner))),
-            Expr::Opt(inner) => Ok(Step::Inside(Around::Opt, Box::into_inner(inner))),
-            Expr::Rep(inner) => Ok(Step::Inside(Around::Rep, Box::into_inner(inner))),
-            Expr::Push(inner) => Ok(Step::Inside(Around::Push, Box::into_inner(inner))),
-            Expr::Seq(left, right) => {
-                Ok(Step::Inside(Around::FirstOfSeq(right), Box::into_inner(left)))
-            }
-            Expr::Choice(left, right) => {
-                Ok(Step::Inside(Around::FirstOfChoice(right), Box::into_inner(left)))
-            }
+        use OptimizedExpr as E;
+        let (around, operand) = match expr {
+            Expr::Str(text) => return Ok(Step::Made(E::Str(text))),
+            Expr::Insens(text) => return Ok(Step::Made(E::Insens(text))),
+            Expr::Range(first, last) => return Ok(Step::Made(E::Range(first, last))),
+            Expr::Ident(name) => return Ok(Step::Made(E::Ident(name))),
+            Expr::PeekSlice(start, end) => return Ok(Step::Made(E::PeekSlice(start, end))),
+            Expr::Skip(texts) => return Ok(Step::Made(E::Skip(texts))),
+            Expr::PosPred(inner) => (Around::PosPred, inner),
+            Expr::NegPred(inner) => (Around::NegPred, inner),
+            Expr::Opt(inner) => (Around::Opt, inner),
+            Expr::Rep(inner) => (Around::Rep, inner),
+            Expr::Push(inner) => (Around::Push, inner),
+            Expr::Seq(left, right) => (Around::FirstOfSeq(right), left),
+            Expr::Choice(left, right) => (Around::FirstOfChoice(right), left),
             Expr::RepOnce(_)
             | Expr::RepExact(..)
             | Expr::RepMin(..)
             | Expr::RepMax(..)
             | Expr::RepMinMax(..) => unreachable!("a repetition that is not unrolled"),
-        }
+        };
+        Ok(Step::Inside(around, Box::into_inner(operand)))
     }
 
     fn close(
@@ -91,24 +89,22 @@ impl Rebuild for Around {
         operand: OptimizedExpr,
     ) -> Result<Step<Expr, Around, OptimizedExpr>, AllocError> {
         use OptimizedExpr as E;
-        match self {
-            Around::PosPred => Ok(Step::Made(E::PosPred(Box::new(alloc, operand)?))),
-            Around::NegPred => Ok(Step::Made(E::NegPred(Box::new(alloc, operand)?))),
-            Around::Opt => Ok(Step::Made(E::Opt(Box::new(alloc, operand)?))),
-            Around::Rep => Ok(Step::Made(E::Rep(Box::new(alloc, operand)?))),
-            Around::Push => Ok(Step::Made(E::Push(Box::new(alloc, operand)?))),
+        let operand = Box::new(alloc, operand)?;
+        let whole = match self {
             Around::FirstOfSeq(right) => {
-                let left = Box::new(alloc, operand)?;
-                Ok(Step::Inside(Around::SecondOfSeq(left), Box::into_inner(right)))
+                return Ok(Step::Inside(Around::SecondOfSeq(operand), Box::into_inner(right)));
             }
             Around::FirstOfChoice(right) => {
-                let left = Box::new(alloc, operand)?;
-                Ok(Step::Inside(Around::SecondOfChoice(left), Box::into_inner(right)))
+                return Ok(Step::Inside(Around::SecondOfChoice(operand), Box::into_inner(right)));
             }
-            Around::SecondOfSeq(left) => Ok(Step::Made(E::Seq(left, Box::new(alloc, operand)?))),
-            Around::SecondOfChoice(left) => {
-                Ok(Step::Made(E::Choice(left, Box::new(alloc, operand)?)))
-            }
-        }
+            Around::PosPred => E::PosPred(operand),
+            Around::NegPred => E::NegPred(operand),
+            Around::Opt => E::Opt(operand),
+            Around::Rep => E::Rep(operand),
+            Around::Push => E::Push(operand),
+            Around::SecondOfSeq(left) => E::Seq(left, operand),
+            Around::SecondOfChoice(left) => E::Choice(left, operand),
+        };
+        Ok(Step::Made(whole))
     }
 }

@@ -70,28 +70,22 @@ impl Rebuild for Around {
     ghost waits = { λ around. waits_of around };
 
     fn open(expr: Expr) -> Result<Step<Expr, Around, Joined>, AllocError> {
-        use Around as A;
-        match expr {
-            Expr::PosPred(inner) => Ok(Step::Inside(A::PosPred, Box::into_inner(inner))),
-            Expr::NegPred(inner) => Ok(Step::Inside(A::NegPred, Box::into_inner(inner))),
-            Expr::Opt(inner) => Ok(Step::Inside(A::Opt, Box::into_inner(inner))),
-            Expr::Rep(inner) => Ok(Step::Inside(A::Rep, Box::into_inner(inner))),
-            Expr::RepOnce(inner) => Ok(Step::Inside(A::RepOnce, Box::into_inner(inner))),
-            Expr::RepExact(inner, n) => Ok(Step::Inside(A::RepExact(n), Box::into_inner(inner))),
-            Expr::RepMin(inner, min) => Ok(Step::Inside(A::RepMin(min), Box::into_inner(inner))),
-            Expr::RepMax(inner, max) => Ok(Step::Inside(A::RepMax(max), Box::into_inner(inner))),
-            Expr::RepMinMax(inner, min, max) => {
-                Ok(Step::Inside(A::RepMinMax(min, max), Box::into_inner(inner)))
-            }
-            Expr::Push(inner) => Ok(Step::Inside(A::Push, Box::into_inner(inner))),
-            Expr::Seq(left, right) => {
-                Ok(Step::Inside(A::FirstOfSeq(right), Box::into_inner(left)))
-            }
-            Expr::Choice(left, right) => {
-                Ok(Step::Inside(A::FirstOfChoice(right), Box::into_inner(left)))
-            }
-            leaf => Ok(Step::Made(Joined::Other(leaf))),
-        }
+        let (around, operand) = match expr {
+            Expr::PosPred(inner) => (Around::PosPred, inner),
+            Expr::NegPred(inner) => (Around::NegPred, inner),
+            Expr::Opt(inner) => (Around::Opt, inner),
+            Expr::Rep(inner) => (Around::Rep, inner),
+            Expr::RepOnce(inner) => (Around::RepOnce, inner),
+            Expr::RepExact(inner, count) => (Around::RepExact(count), inner),
+            Expr::RepMin(inner, min) => (Around::RepMin(min), inner),
+            Expr::RepMax(inner, max) => (Around::RepMax(max), inner),
+            Expr::RepMinMax(inner, min, max) => (Around::RepMinMax(min, max), inner),
+            Expr::Push(inner) => (Around::Push, inner),
+            Expr::Seq(left, right) => (Around::FirstOfSeq(right), left),
+            Expr::Choice(left, right) => (Around::FirstOfChoice(right), left),
+            leaf => return Ok(Step::Made(Joined::Other(leaf))),
+        };
+        Ok(Step::Inside(around, Box::into_inner(operand)))
     }
 
     fn close(
@@ -99,35 +93,33 @@ impl Rebuild for Around {
         alloc: Global,
         operand: Joined,
     ) -> Result<Step<Expr, Around, Joined>, AllocError> {
-        use Joined::Other;
-        match self {
+        let around = match self {
             Around::FirstOfSeq(right) => {
                 let left = whole(alloc, operand)?;
-                Ok(Step::Inside(Around::SecondOfSeq(left), Box::into_inner(right)))
+                return Ok(Step::Inside(Around::SecondOfSeq(left), Box::into_inner(right)));
             }
-            Around::SecondOfSeq(left) => Ok(Step::Made(beside(alloc, left, operand)?)),
+            Around::SecondOfSeq(left) => return Ok(Step::Made(beside(alloc, left, operand)?)),
+            around => around,
+        };
+        let operand = boxed(alloc, operand)?;
+        let whole = match around {
             Around::FirstOfChoice(right) => {
-                let left = boxed(alloc, operand)?;
-                Ok(Step::Inside(Around::SecondOfChoice(left), Box::into_inner(right)))
+                return Ok(Step::Inside(Around::SecondOfChoice(operand), Box::into_inner(right)));
             }
-            Around::SecondOfChoice(left) => {
-                let right = boxed(alloc, operand)?;
-                Ok(Step::Made(Other(Expr::Choice(left, right))))
-            }
-            Around::PosPred => Ok(Step::Made(Other(Expr::PosPred(boxed(alloc, operand)?)))),
-            Around::NegPred => Ok(Step::Made(Other(Expr::NegPred(boxed(alloc, operand)?)))),
-            Around::Opt => Ok(Step::Made(Other(Expr::Opt(boxed(alloc, operand)?)))),
-            Around::Rep => Ok(Step::Made(Other(Expr::Rep(boxed(alloc, operand)?)))),
-            Around::RepOnce => Ok(Step::Made(Other(Expr::RepOnce(boxed(alloc, operand)?)))),
-            Around::RepExact(n) => Ok(Step::Made(Other(Expr::RepExact(boxed(alloc, operand)?, n)))),
-            Around::RepMin(min) => Ok(Step::Made(Other(Expr::RepMin(boxed(alloc, operand)?, min)))),
-            Around::RepMax(max) => Ok(Step::Made(Other(Expr::RepMax(boxed(alloc, operand)?, max)))),
-            Around::RepMinMax(min, max) => {
-                let inner = boxed(alloc, operand)?;
-                Ok(Step::Made(Other(Expr::RepMinMax(inner, min, max))))
-            }
-            Around::Push => Ok(Step::Made(Other(Expr::Push(boxed(alloc, operand)?)))),
-        }
+            Around::SecondOfChoice(left) => Expr::Choice(left, operand),
+            Around::PosPred => Expr::PosPred(operand),
+            Around::NegPred => Expr::NegPred(operand),
+            Around::Opt => Expr::Opt(operand),
+            Around::Rep => Expr::Rep(operand),
+            Around::RepOnce => Expr::RepOnce(operand),
+            Around::RepExact(count) => Expr::RepExact(operand, count),
+            Around::RepMin(min) => Expr::RepMin(operand, min),
+            Around::RepMax(max) => Expr::RepMax(operand, max),
+            Around::RepMinMax(min, max) => Expr::RepMinMax(operand, min, max),
+            Around::Push => Expr::Push(operand),
+            Around::FirstOfSeq(_) | Around::SecondOfSeq(_) => unreachable!("a side of a `~`"),
+        };
+        Ok(Step::Made(Joined::Other(whole)))
     }
 }
 

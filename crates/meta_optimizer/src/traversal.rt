@@ -102,18 +102,17 @@ fn held_by<'a>(expr: &'a Expr) -> Held<'a>
     ensures { said_of result ≡ operands (expression_of expr.now) }
 {
     match expr {
-        Expr::PosPred(inner) => Held::One(&**inner),
-        Expr::NegPred(inner) => Held::One(&**inner),
-        Expr::Opt(inner) => Held::One(&**inner),
-        Expr::Rep(inner) => Held::One(&**inner),
-        Expr::RepOnce(inner) => Held::One(&**inner),
-        Expr::RepExact(inner, _) => Held::One(&**inner),
-        Expr::RepMin(inner, _) => Held::One(&**inner),
-        Expr::RepMax(inner, _) => Held::One(&**inner),
-        Expr::RepMinMax(inner, _, _) => Held::One(&**inner),
-        Expr::Push(inner) => Held::One(&**inner),
-        Expr::Seq(left, right) => Held::Two(&**left, &**right),
-        Expr::Choice(left, right) => Held::Two(&**left, &**right),
+        Expr::PosPred(inner)
+        | Expr::NegPred(inner)
+        | Expr::Opt(inner)
+        | Expr::Rep(inner)
+        | Expr::RepOnce(inner)
+        | Expr::RepExact(inner, _)
+        | Expr::RepMin(inner, _)
+        | Expr::RepMax(inner, _)
+        | Expr::RepMinMax(inner, _, _)
+        | Expr::Push(inner) => Held::One(&**inner),
+        Expr::Seq(left, right) | Expr::Choice(left, right) => Held::Two(&**left, &**right),
         Expr::Str(_) | Expr::Insens(_) | Expr::Ident(_) => Held::Nothing,
         Expr::Range(_, _) | Expr::PeekSlice(_, _) | Expr::Skip(_) => Held::Nothing,
     }

@@ -1,7 +1,7 @@
 //! Writes `+` and counted repetitions out.
 ghost use Rattle.std.specs.Prelude.{◌≡◌, ◌∷◌, ◌++◌, replicate, IfErr, IfOk, List};
 ghost use Rattle.meta_base.specs.Language.Expression.{Expression};
-ghost use Rattle.meta_base.specs.Language.Meaning.{in_sequence, exactly, from_to};
+ghost use Rattle.meta_base.specs.Language.Meaning.{in_sequence, once_or_more, exactly, at_least, from_to};
 ghost use Rattle.meta_base.specs.Rewritings.Replacing.{KeepsOutcomes, IsChained};
 ghost use Rattle.meta_base.specs.Rewritings.Rewriting.{Many, Unrolls};
 ghost use Rattle.meta_ast.specs.Ast.{text_of, expression_of, rule_of_code};
@@ -52,24 +52,33 @@ impl Pass for Unroller {
 impl Finish for Unroller {
     fn finish(&self, alloc: Global, expr: Expr) -> Result<Expr, AllocError> {
         match expr {
-            Expr::RepOnce(inner) => {
-                let first = Box::into_inner(inner);
-                let others = Expr::Rep(Box::new(alloc, first.clone()?)?);
-                Ok(Expr::Seq(Box::new(alloc, first)?, Box::new(alloc, others)?))
-            }
+            Expr::RepOnce(inner) => one_or_more(alloc, inner),
             Expr::RepExact(inner, count) => exact(alloc, Box::into_inner(inner), count),
-            Expr::RepMin(inner, min) => {
-                let inner = Box::into_inner(inner);
-                let others = Expr::Rep(Box::new(alloc, inner.clone()?)?);
-                let copies = repeated(alloc, &inner, min, others);
-                inner.release();
-                copies
-            }
+            Expr::RepMin(inner, min) => min_or_more(alloc, Box::into_inner(inner), min),
             Expr::RepMax(inner, max) => exact(alloc, Expr::Opt(inner), max),
             Expr::RepMinMax(inner, min, max) => between(alloc, Box::into_inner(inner), min, max),
             other => Ok(other),
         }
     }
+}
+
+// `e ~ e*`.
+fn one_or_more(alloc: Global, inner: Box<Expr>) -> Result<Expr, AllocError>
+    ensures { IfOk result (λ e. expression_of e ≡ once_or_more (expression_of inner.value)) }
+{
+    let copy = Box::new(alloc, (*inner).clone()?)?;
+    let others = Box::new(alloc, Expr::Rep(copy))?;
+    Ok(Expr::Seq(inner, others))
+}
+
+// So many copies, and then `e*`.
+fn min_or_more(alloc: Global, expr: Expr, min: u32) -> Result<Expr, AllocError>
+    ensures { IfOk result (λ e. expression_of e ≡ at_least (expression_of expr) min) }
+{
+    let others = Expr::Rep(Box::new(alloc, expr.clone()?)?);
+    let copies = repeated(alloc, &expr, min, others);
+    expr.release();
+    copies
 }
 
 // So many copies in sequence.

@@ -1,5 +1,5 @@
 -- Grammars whose rules have the same bodies, and maps that hold them.
-use Rattle.std.proofs.Common.{◌≡◌, ℕ, List, [], ◌∷◌, map, Option, Some, None, Bool, true, false, cond, if◌then◌else◌, bytes_eq, refl, sym, ◌∙◌, ap, subst, String, Global, string_bytes, Result, Ok, Err, IfOk}
+use Rattle.std.proofs.Common.{◌≡◌, ℕ, List, [], ◌∷◌, map, Option, Some, None, Bool, true, false, cond, if◌then◌else◌, bytes_eq, refl, sym, ◌∙◌, ap, subst, String, Global, string_bytes}
 use Rattle.std.specs.Bool.{Decides}
 use Rattle.std.specs.List.{AllByRecursion, IsDistinct}
 use Rattle.std.specs.Map.{lookup, keys_of}
@@ -122,7 +122,3 @@ of_entries [] d n = refl
 of_entries (e ∷ es) d n =
     one_entry e n (grammar_with es) (lookup (λ k. bytes_eq (string_bytes n) (string_bytes k)) es) (bytes_eq (string_bytes n) (string_bytes e.0)) (bytes_eq (text_of e.0) (text_of n)) (tested n e.0) refl
     (λ same. ap (rule_of (grammar_with es)) (sym same) ∙ no_other es e.0 d.0) (of_entries es d.1 n)
-
-pub answered : {A E : Type 0} {P Q : A → Type 0} (r : Result A E) → ((a : A) → P a → Q a) → IfOk r P → IfOk r Q
-answered (Ok a) f p = f a p
-answered (Err e) f p = p

@@ -7,35 +7,73 @@ ghost use Rattle.meta_restorer.specs.Calls.{unset, AreSound, AreClosed, IsClosed
 use crate::calls::{Calls, is_set, is_shown};
 use std::alloc::{AllocError, Global};
 
-/// For each rule the numbers of those that call it.
+/// Who calls whom: the callers of all rules in one list, rule by rule.
 #[derive(Drop)]
 pub struct Callers {
-    pub of: Vec<Vec<usize>>,
+    /// For each rule where its callers start in the list, and at last where all end.
+    pub starts: Vec<usize>,
+    pub list: Vec<usize>,
+}
+
+/// Counts who is called in a body.
+fn count(counts: &mut Vec<usize>, met: &Calls) {
+    for rule in &met.rules {
+        if let Some(rule) = rule {
+            if let Some(count) = counts.get_mut(*rule) {
+                *count = count.wrapping_add(1);
+            }
+        }
+    }
+}
+
+/// So many calls of each rule, and none behind the last.
+fn counts_of(alloc: Global, calls: &[Calls]) -> Result<Vec<usize>, AllocError> {
+    let mut counts = vec![in alloc; 0; calls.len() + 1]?;
+    for met in calls {
+        count(&mut counts, met);
+    }
+    Ok(counts)
+}
+
+/// Makes of counts where what is counted ends, if it stands in a row. How many all are.
+fn add_up(counts: &mut Vec<usize>) -> usize {
+    let mut end = 0usize;
+    for count in counts.iter_mut() {
+        end = end.wrapping_add(*count);
+        *count = end;
+    }
+    end
+}
+
+/// Puts a caller before those of the rules that it calls.
+fn put(callers: &mut Callers, caller: usize, met: &Calls) {
+    for rule in &met.rules {
+        if let Some(rule) = rule {
+            if let Some(start) = callers.starts.get_mut(*rule) {
+                *start = start.wrapping_sub(1);
+                if let Some(room) = callers.list.get_mut(*start) {
+                    *room = caller;
+                }
+            }
+        }
+    }
 }
 
 /// Who calls whom.
 fn callers_of(alloc: Global, calls: &[Calls]) -> Result<Callers, AllocError> {
-    let mut callers = Callers {
-        of: Vec::new(alloc),
-    };
-    for _ in 0..calls.len() {
-        callers.of.push(Vec::new(alloc))?;
-    }
+    let mut starts = counts_of(alloc, calls)?;
+    let all = add_up(&mut starts);
+    let list = vec![in alloc; 0; all]?;
+    let mut callers = Callers { starts, list };
     for (caller, met) in calls.iter().enumerate() {
-        add_caller(&mut callers, caller, met)?;
+        put(&mut callers, caller, met);
     }
     Ok(callers)
 }
 
-fn add_caller(callers: &mut Callers, caller: usize, met: &Calls) -> Result<(), AllocError> {
-    for rule in &met.rules {
-        if let Some(rule) = rule {
-            if let Some(list) = callers.of.get_mut(*rule) {
-                list.push(caller)?;
-            }
-        }
-    }
-    Ok(())
+/// Where something stands in the list of callers.
+fn place_at(callers: &Callers, rule: usize) -> usize {
+    callers.starts.get(rule).copied().unwrap_or(0)
 }
 
 /// Marks a rule where it changes the stack by the marks; it then waits to tell its callers. Whether it was
@@ -80,8 +118,8 @@ fn spread(
     ensures fewer { OnOk result (unset marks.new.items ≤ unset marks.old.items) }
 {
     while let Some(rule) = waiting.pop() {
-        if let Some(told) = callers.of.get(rule) {
-            for caller in told {
+        for at in place_at(callers, rule)..place_at(callers, rule.wrapping_add(1)) {
+            if let Some(caller) = callers.list.get(at) {
                 mark(calls, marks, waiting, *caller)?;
             }
         }

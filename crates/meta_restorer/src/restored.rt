@@ -23,10 +23,51 @@ fn next_rule(rules: &[Option<usize>], place: &mut usize) -> Option<usize>
     rule
 }
 
+/// So many levels are taken by calls; what lies deeper is restored along right sides by a loop.
+pub(crate) const LEVELS: usize = 64;
+
 /// Restores an expression where it stands, where the rules of its names are noted from a place on: no node is
-/// made anew but for wrappers. Whether it then changes the stack.
+/// made anew but for wrappers. So many levels are taken by calls. Whether it then changes the stack.
 #[cycle(restored)]
 pub(crate) fn restore(
+    alloc: Global,
+    changes: &Changes,
+    rules: &[Option<usize>],
+    place: &mut usize,
+    levels: usize,
+    expr: &mut OptimizedExpr,
+) -> Result<bool, AllocError>
+    requires noted { AreNoted changes.now.names rules.now (optimized_expression_of expr.old) place.old }
+    ensures place { OnOk result
+        (place.new ≡ place.old + length (names_in (optimized_expression_of expr.old))) }
+    ensures told { IfOk result
+        (λ yes. IsTold (told changes.now) yes (optimized_expression_of expr.new)) }
+    ensures made { OnOk result (optimized_expression_of expr.new
+        ≡ restored_by (told changes.now) (optimized_expression_of expr.old)) }
+{
+    if levels == 0 {
+        return restore_deep(alloc, changes, rules, place, expr);
+    }
+    match expr {
+        OptimizedExpr::Seq(left, right) => {
+            let is_first_changing = restore(alloc, changes, rules, place, levels - 1, left)?;
+            let is_second_changing = restore(alloc, changes, rules, place, levels - 1, right)?;
+            Ok(is_first_changing || is_second_changing)
+        }
+        OptimizedExpr::Choice(left, right) => {
+            let is_first_changing = restore(alloc, changes, rules, place, levels - 1, left)?;
+            let is_second_changing = restore(alloc, changes, rules, place, levels - 1, right)?;
+            wrap(alloc, changes, left, is_first_changing)?;
+            wrap(alloc, changes, right, is_second_changing)?;
+            Ok(false)
+        }
+        _ => restore_one(alloc, changes, rules, place, levels - 1, expr),
+    }
+}
+
+// The same, along right sides by a loop.
+#[cycle(restored)]
+fn restore_deep(
     alloc: Global,
     changes: &Changes,
     rules: &[Option<usize>],
@@ -51,17 +92,18 @@ pub(crate) fn restore(
             *expr = chain;
             Ok(is_changing)
         }
-        _ => restore_one(alloc, changes, rules, place, expr),
+        _ => restore_one(alloc, changes, rules, place, 0, expr),
     }
 }
 
-// Restores an expression that is no `~` and no `|` where it stands.
+// Restores an expression that is no `~` and no `|` where it stands; so many levels below it are taken by calls.
 #[cycle(restored)]
 fn restore_one(
     alloc: Global,
     changes: &Changes,
     rules: &[Option<usize>],
     place: &mut usize,
+    levels: usize,
     expr: &mut OptimizedExpr,
 ) -> Result<bool, AllocError>
     requires single { IsNoPair (optimized_expression_of expr.old) }
@@ -75,19 +117,19 @@ fn restore_one(
 {
     match expr {
         OptimizedExpr::Ident(name) => Ok(is_changing(changes, name, next_rule(rules, place))),
-        OptimizedExpr::PosPred(inner) => Ok(restore(alloc, changes, rules, place, inner)?),
-        OptimizedExpr::NegPred(inner) => Ok(restore(alloc, changes, rules, place, inner)?),
+        OptimizedExpr::PosPred(inner) => Ok(restore(alloc, changes, rules, place, levels, inner)?),
+        OptimizedExpr::NegPred(inner) => Ok(restore(alloc, changes, rules, place, levels, inner)?),
         OptimizedExpr::Push(inner) => {
-            restore(alloc, changes, rules, place, inner)?;
+            restore(alloc, changes, rules, place, levels, inner)?;
             Ok(true)
         }
         OptimizedExpr::Opt(inner) => {
-            let is_changing = restore(alloc, changes, rules, place, inner)?;
+            let is_changing = restore(alloc, changes, rules, place, levels, inner)?;
             wrap(alloc, changes, inner, is_changing)?;
             Ok(false)
         }
         OptimizedExpr::Rep(inner) => {
-            let is_changing = restore(alloc, changes, rules, place, inner)?;
+            let is_changing = restore(alloc, changes, rules, place, levels, inner)?;
             wrap(alloc, changes, inner, is_changing)?;
             Ok(false)
         }
@@ -118,7 +160,7 @@ fn restored_chain(
             OptimizedExpr::Seq(left, right) => {
                 let mut left = left;
                 let mut room = right;
-                let is_changing = restore(alloc, changes, rules, place, &mut left)?;
+                let is_changing = restore(alloc, changes, rules, place, 0, &mut left)?;
                 rest = Box::replace(&mut room, nothing());
                 sides.push(Side::Sequence(Left {
                     expr: left,
@@ -129,7 +171,7 @@ fn restored_chain(
             OptimizedExpr::Choice(left, right) => {
                 let mut left = left;
                 let mut room = right;
-                let is_changing = restore(alloc, changes, rules, place, &mut left)?;
+                let is_changing = restore(alloc, changes, rules, place, 0, &mut left)?;
                 rest = Box::replace(&mut room, nothing());
                 sides.push(Side::Choice(Left {
                     expr: left,
@@ -139,7 +181,7 @@ fn restored_chain(
             }
             last => {
                 let mut last = last;
-                let is_changing = restore_one(alloc, changes, rules, place, &mut last)?;
+                let is_changing = restore_one(alloc, changes, rules, place, 0, &mut last)?;
                 let last = Restored {
                     expr: last,
                     changes: is_changing,

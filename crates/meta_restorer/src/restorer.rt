@@ -16,7 +16,7 @@ ghost use Rattle.meta_restorer.specs.Telling.{AreCallsOf, Tells, told};
 use crate::bodies::{bodies_of_map, bodies_of_rules};
 use crate::calls::{Calls, calls_in, changes_itself, is_shown};
 use crate::changes::{Changes, changes_of};
-use crate::restored::restore;
+use crate::restored::{LEVELS, restore};
 use meta_ast::optimized::{OptimizedExpr, OptimizedRule};
 use meta_base::runtime::Fault;
 use std::alloc::{AllocError, Global};
@@ -152,7 +152,14 @@ fn restored_rule(
     }
     let mut rule = rule;
     let mut place = 0;
-    restore(alloc, changes, &calls.rules, &mut place, &mut rule.expr)?;
+    restore(
+        alloc,
+        changes,
+        &calls.rules,
+        &mut place,
+        LEVELS,
+        &mut rule.expr,
+    )?;
     Ok(rule)
 }
 

@@ -19,7 +19,7 @@ fn modifier(ty: RuleType) -> &'static str {
 }
 
 /// Writes a rule as a line of a grammar.
-fn write_rule<E: fmt::Display>(
+fn write_line<E: fmt::Display>(
     out: &mut String,
     name: &str,
     ty: RuleType,
@@ -28,31 +28,29 @@ fn write_rule<E: fmt::Display>(
     write!(out, "{name} = {}{{ {expr} }}\n", modifier(ty))
 }
 
-/// Optimized rules as the text of a grammar.
-fn optimized_grammar(alloc: Global, rules: &[OptimizedRule]) -> Result<String, AllocError> {
-    let mut out = String::new(alloc);
+/// Writes optimized rules as the text of a grammar.
+fn write_optimized(out: &mut String, rules: &[OptimizedRule]) -> Result<(), AllocError> {
     for rule in rules {
-        write_rule(&mut out, rule.name.as_str(), rule.ty, &rule.expr)?;
+        write_line(out, rule.name.as_str(), rule.ty, &rule.expr)?;
     }
-    Ok(out)
+    Ok(())
 }
 
-/// Rules as the text of a grammar.
-fn grammar(alloc: Global, rules: &[Rule]) -> Result<String, AllocError> {
-    let mut out = String::new(alloc);
+/// Writes rules as the text of a grammar.
+fn write_rules(out: &mut String, rules: &[Rule]) -> Result<(), AllocError> {
     for rule in rules {
-        write_rule(&mut out, rule.name.as_str(), rule.ty, &rule.expr)?;
+        write_line(out, rule.name.as_str(), rule.ty, &rule.expr)?;
     }
-    Ok(out)
+    Ok(())
 }
 
-/// Adds whether what was made again is the same.
-fn push_verdict(out: &mut String, is_same: bool) -> Result<(), AllocError> {
-    out.push_str(if is_same {
+/// What is said of what was made again.
+fn verdict(is_same: bool) -> &'static str {
+    if is_same {
         "the same again"
     } else {
         "others again"
-    })
+    }
 }
 
 /// The optimized rules of a text.
@@ -62,19 +60,25 @@ fn rules_of(alloc: Global, text: &str) -> Result<Vec<OptimizedRule>, Fault> {
 }
 
 /// The optimized rules of a text as they are printed, and whether the same are made of what is printed.
-pub(crate) fn again(alloc: Global, text: &str) -> Result<String, Fault> {
-    let rules = rules_of(alloc, text)?;
-    let mut out = optimized_grammar(alloc, &rules)?;
-    let is_same = rules_of(alloc, out.as_str())? == rules;
-    push_verdict(&mut out, is_same)?;
-    Ok(out)
+pub(crate) fn again(alloc: Global, text: &str, out: &mut String) -> Result<(), Fault> {
+    write_again(alloc, &rules_of(alloc, text)?, out)
+}
+
+/// Writes optimized rules, and whether the same are made of what is written.
+fn write_again(alloc: Global, rules: &Vec<OptimizedRule>, out: &mut String) -> Result<(), Fault> {
+    write_optimized(out, rules)?;
+    let is_same = rules_of(alloc, out.as_str())? == *rules;
+    Ok(out.push_str(verdict(is_same))?)
 }
 
 /// The rules of a text as they are printed, and whether the same are read of what is printed.
-pub(crate) fn read_again(alloc: Global, text: &str) -> Result<String, Fault> {
-    let rules = erased_rules(alloc, text)?;
-    let mut out = grammar(alloc, &rules)?;
-    let is_same = erased_rules(alloc, out.as_str())? == rules;
-    push_verdict(&mut out, is_same)?;
-    Ok(out)
+pub(crate) fn read_again(alloc: Global, text: &str, out: &mut String) -> Result<(), Fault> {
+    write_read_again(alloc, &erased_rules(alloc, text)?, out)
+}
+
+/// Writes rules, and whether the same are read of what is written.
+fn write_read_again(alloc: Global, rules: &Vec<Rule>, out: &mut String) -> Result<(), Fault> {
+    write_rules(out, rules)?;
+    let is_same = erased_rules(alloc, out.as_str())? == *rules;
+    Ok(out.push_str(verdict(is_same))?)
 }

@@ -1,71 +1,74 @@
 //! The front end as a whole.
+use crate::names::write_builtins;
 use crate::passes::write_optimized;
-use crate::refusals::refusal;
-use meta_ast::optimized::release;
+use crate::reading::write_rule;
+use crate::refusals::write_errors;
+use meta_ast::ast;
+use meta_ast::optimized::{OptimizedRule, release};
 use meta_base::runtime::Fault;
 use pest_meta::parser::{Rule, consume_rules, parse};
 use pest_meta::{Report, parse_and_optimize, unwrap_or_report};
 use std::alloc::{AllocError, Global};
 
 /// The rules of a text that are validated.
-pub(crate) fn rules(alloc: Global, text: &str) -> Result<String, Fault> {
+pub(crate) fn rules(alloc: Global, text: &str, out: &mut String) -> Result<(), Fault> {
     let pairs = parse(alloc, Rule::grammar_rules, text)?;
-    let mut out = String::new(alloc);
-    for rule in &consume_rules(alloc, pairs)? {
-        write!(out, "{} {:?} {:?}\n", rule.name, rule.ty, rule.expr)?;
+    Ok(write_rules(out, &consume_rules(alloc, pairs)?)?)
+}
+
+/// Writes rules, a line each.
+fn write_rules(out: &mut String, rules: &[ast::Rule]) -> Result<(), AllocError> {
+    for rule in rules {
+        write_rule(out, rule.name.as_str(), rule.ty, &rule.expr)?;
     }
-    Ok(out)
+    Ok(())
 }
 
 /// The builtins of a text, its optimized rules, and how their bodies are printed.
-pub(crate) fn answer(alloc: Global, text: &str) -> Result<String, Fault> {
+pub(crate) fn answer(alloc: Global, text: &str, out: &mut String) -> Result<(), Fault> {
     let (builtins, rules) = parse_and_optimize(alloc, text)?;
-    let mut out = String::from_str(alloc, "builtins:")?;
-    for name in &builtins {
-        write!(out, " {name}")?;
-    }
+    Ok(write_answer(out, &builtins, &rules)?)
+}
+
+/// Writes builtins and optimized rules.
+fn write_answer(
+    out: &mut String,
+    builtins: &[&str],
+    rules: &[OptimizedRule],
+) -> Result<(), AllocError> {
+    write_builtins(out, builtins)?;
     out.push('\n')?;
-    for rule in &rules {
-        write_optimized(&mut out, rule)?;
-    }
-    Ok(out)
+    write_optimized(out, rules)
 }
 
 /// What is said of a text that is refused.
-pub(crate) fn report(alloc: Global, text: &str) -> Result<String, Fault> {
+pub(crate) fn report(alloc: Global, text: &str, out: &mut String) -> Result<(), Fault> {
     match unwrap_or_report(alloc, parse_and_optimize(alloc, text)) {
-        Ok((_, rules)) => {
+        Ok((_builtins, rules)) => {
             let count = rules.len();
             release(rules);
-            Ok(format!(in alloc; "{count} rules")?)
+            Ok(write!(out, "{count} rules")?)
         }
-        Err(Report::Text(text)) => Ok(text),
-        Err(Report::Memory) => Ok(String::from_str(alloc, "out of memory")?),
+        Err(Report::Text(report)) => Ok(out.push_str(report.as_str())?),
+        Err(Report::Memory) => Ok(out.push_str("out of memory")?),
     }
 }
 
 /// What each beginning of a text answers: its length in bytes, and how many rules it has, or its errors.
-pub(crate) fn beginnings(alloc: Global, text: &str) -> Result<String, Fault> {
-    let mut out = String::new(alloc);
+pub(crate) fn beginnings(alloc: Global, text: &str, out: &mut String) -> Result<(), Fault> {
     for (length, _) in text.char_indices() {
-        let said = beginning(alloc, &text[..length])?;
-        write!(out, "{length} bytes: {said}")?;
+        write_beginning(alloc, &text[..length], out)?;
     }
-    let said = beginning(alloc, text)?;
-    write!(out, "{} bytes: {said}", text.len())?;
-    Ok(out)
+    write_beginning(alloc, text, out)?;
+    Ok(())
 }
 
-/// A line for how many rules a text has, or one for each of its errors.
-fn beginning(alloc: Global, text: &str) -> Result<String, AllocError> {
-    match count(alloc, text) {
-        Ok(count) => format!(in alloc; "{count} rules\n"),
-        Err(Fault::Grammar(errors)) => refusal(alloc, &errors),
+/// Writes how long a beginning is, and how many rules it has, or a line for each of its errors.
+fn write_beginning(alloc: Global, text: &str, out: &mut String) -> Result<(), AllocError> {
+    write!(out, "{} bytes: ", text.len())?;
+    match parse_and_optimize(alloc, text) {
+        Ok((_builtins, rules)) => write!(out, "{} rules\n", rules.len()),
+        Err(Fault::Grammar(errors)) => write_errors(out, "refused: ", &errors),
         Err(Fault::Memory(error)) => Err(error),
     }
-}
-
-fn count(alloc: Global, text: &str) -> Result<usize, Fault> {
-    let (_builtins, rules) = parse_and_optimize(alloc, text)?;
-    Ok(rules.len())
 }

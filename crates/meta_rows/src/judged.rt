@@ -8,48 +8,56 @@ use meta_stack::{ast, validate_stack_repetition};
 use pest_meta::validator::{is_non_failing, is_non_progressing, validate_ast};
 use std::alloc::{AllocError, Global};
 
-/// What is said of errors, or that there are none.
-fn said(alloc: Global, errors: &[Error<Rule>]) -> Result<String, AllocError> {
-    let mut out = String::new(alloc);
+/// Writes what is said of errors, or that there are none.
+fn write_said(out: &mut String, errors: &[Error<Rule>]) -> Result<(), AllocError> {
     if errors.is_empty() {
-        out.push_str("nothing")?;
+        return out.push_str("nothing");
     }
-    write_errors(&mut out, errors)?;
-    Ok(out)
+    write_errors(out, "", errors)
 }
 
 /// What is found in the rules of a text.
-pub(crate) fn found(alloc: Global, text: &str) -> Result<String, Fault> {
+pub(crate) fn found(alloc: Global, text: &str, out: &mut String) -> Result<(), Fault> {
     let rules = rules_of(alloc, text)?;
-    let errors = validate_ast(alloc, &rules)?;
+    let errors = validate_ast(alloc, &rules);
     release(rules);
-    Ok(said(alloc, &errors)?)
+    Ok(write_said(out, &errors?)?)
 }
 
 /// What the stack pass alone finds in the rules of a text.
-pub(crate) fn stacked(alloc: Global, text: &str) -> Result<String, Fault> {
+pub(crate) fn stacked(alloc: Global, text: &str, out: &mut String) -> Result<(), Fault> {
     let rules = rules_of(alloc, text)?;
-    let errors = validate_stack_repetition(alloc, &rules)?;
+    let errors = validate_stack_repetition(alloc, &rules);
     release(rules);
-    Ok(said(alloc, &errors)?)
+    Ok(write_said(out, &errors?)?)
 }
 
-/// The place of the last of some names that is equal to this one.
-pub(crate) fn rule_number(alloc: Global, name: &str, words: &str) -> Result<String, Fault> {
+/// The place of the last word of a text that is equal to this name.
+fn place_of(alloc: Global, name: &str, words: &str) -> Result<Option<usize>, AllocError> {
     let mut names = Vec::new(alloc);
     for word in words.split_whitespace() {
         names.push(word)?;
     }
-    match ast::rule_number(&names, name) {
-        Some(place) => Ok(format!(in alloc; "{place}")?),
-        None => Ok(String::from_str(alloc, "none")?),
+    Ok(ast::rule_number(&names, name))
+}
+
+/// The place of the last of some names that is equal to this one.
+pub(crate) fn rule_number(
+    alloc: Global,
+    name: &str,
+    words: &str,
+    out: &mut String,
+) -> Result<(), Fault> {
+    match place_of(alloc, name, words)? {
+        Some(place) => write!(out, "{place}")?,
+        None => out.push_str("none")?,
     }
+    Ok(())
 }
 
 /// Of each body whether it may take nothing, and whether it cannot fail.
-pub(crate) fn questions(alloc: Global, text: &str) -> Result<String, Fault> {
+pub(crate) fn questions(alloc: Global, text: &str, out: &mut String) -> Result<(), Fault> {
     let rules = rules_of(alloc, text)?;
-    let mut out = String::new(alloc);
     for rule in &rules {
         let is_nullable = is_non_progressing(alloc, &rule.node.expr, &rules)?;
         let is_sure = is_non_failing(alloc, &rule.node.expr, &rules)?;
@@ -59,5 +67,5 @@ pub(crate) fn questions(alloc: Global, text: &str) -> Result<String, Fault> {
             rule.name
         )?;
     }
-    Ok(out)
+    Ok(())
 }

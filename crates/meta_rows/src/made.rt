@@ -4,46 +4,45 @@ use meta_ast::ast::{Expr, Rule, RuleType};
 use meta_base::runtime::Fault;
 use meta_optimizer::{OptimizedExpr, counts_are_readable};
 use std::alloc::{AllocError, Global};
+use std::fmt;
+
+/// Writes values as they are printed, and how they equal their clones.
+fn write_values<T: fmt::Display + PartialEq + Clone + Drop>(
+    out: &mut String,
+    name: &str,
+    values: &Vec<T>,
+) -> Result<(), AllocError> {
+    for value in values {
+        write!(out, "{value}\n")?;
+    }
+    write_equalities(out, name, values, &values.clone()?)
+}
 
 /// The two bounds of `LOW..HIGH`.
 fn bounds(alloc: Global, word: &str) -> Result<(String, String), AllocError> {
     let (low, high) = word.split_once("..").unwrap_or((word, ""));
-    Ok((
-        String::from_str(alloc, low)?,
-        String::from_str(alloc, high)?,
-    ))
+    let low = String::from_str(alloc, low)?;
+    Ok((low, String::from_str(alloc, high)?))
 }
 
 /// Ranges, with bounds that are empty or longer than a character, as they are printed.
-pub(crate) fn ranges(alloc: Global, words: &str) -> Result<String, Fault> {
-    let mut out = String::new(alloc);
+pub(crate) fn ranges(alloc: Global, words: &str, out: &mut String) -> Result<(), Fault> {
     let mut values = Vec::new(alloc);
-    let mut copies = Vec::new(alloc);
     for word in words.split(' ') {
         let (low, high) = bounds(alloc, word)?;
-        let value = Expr::Range(low, high);
-        write!(out, "{value}\n")?;
-        copies.push(value.clone()?)?;
-        values.push(value)?;
+        values.push(Expr::Range(low, high))?;
     }
-    write_equalities(&mut out, "ranges", &values, &copies)?;
-    Ok(out)
+    Ok(write_values(out, "ranges", &values)?)
 }
 
 /// The same as optimized expressions.
-pub(crate) fn optimized_ranges(alloc: Global, words: &str) -> Result<String, Fault> {
-    let mut out = String::new(alloc);
+pub(crate) fn optimized_ranges(alloc: Global, words: &str, out: &mut String) -> Result<(), Fault> {
     let mut values = Vec::new(alloc);
-    let mut copies = Vec::new(alloc);
     for word in words.split(' ') {
         let (low, high) = bounds(alloc, word)?;
-        let value = OptimizedExpr::Range(low, high);
-        write!(out, "{value}\n")?;
-        copies.push(value.clone()?)?;
-        values.push(value)?;
+        values.push(OptimizedExpr::Range(low, high))?;
     }
-    write_equalities(&mut out, "ranges", &values, &copies)?;
-    Ok(out)
+    Ok(write_values(out, "ranges", &values)?)
 }
 
 /// The strings of a word, between commas. `-` has none.
@@ -58,18 +57,12 @@ fn strings(alloc: Global, word: &str) -> Result<Vec<String>, AllocError> {
 }
 
 /// Runs to the next of some strings, as they are printed.
-pub(crate) fn runs(alloc: Global, words: &str) -> Result<String, Fault> {
-    let mut out = String::new(alloc);
+pub(crate) fn runs(alloc: Global, words: &str, out: &mut String) -> Result<(), Fault> {
     let mut values = Vec::new(alloc);
-    let mut copies = Vec::new(alloc);
     for word in words.split(' ') {
-        let value = Expr::Skip(strings(alloc, word)?);
-        write!(out, "{value}\n")?;
-        copies.push(value.clone()?)?;
-        values.push(value)?;
+        values.push(Expr::Skip(strings(alloc, word)?))?;
     }
-    write_equalities(&mut out, "runs", &values, &copies)?;
-    Ok(out)
+    Ok(write_values(out, "runs", &values)?)
 }
 
 /// The name `e` with signs round it, the innermost first: `&` and `!`, `?` and `*`, `P` for a push, `~` for a
@@ -94,23 +87,22 @@ fn wrapped(alloc: Global, signs: &str) -> Result<OptimizedExpr, AllocError> {
 }
 
 /// Such names, as they are printed.
-pub(crate) fn wrappers(alloc: Global, words: &str) -> Result<String, Fault> {
-    let mut out = String::new(alloc);
+pub(crate) fn wrappers(alloc: Global, words: &str, out: &mut String) -> Result<(), Fault> {
     let mut values = Vec::new(alloc);
-    let mut copies = Vec::new(alloc);
     for word in words.split(' ') {
-        let value = wrapped(alloc, word)?;
-        write!(out, "{value}\n")?;
-        copies.push(value.clone()?)?;
-        values.push(value)?;
+        values.push(wrapped(alloc, word)?)?;
     }
-    write_equalities(&mut out, "expressions", &values, &copies)?;
-    Ok(out)
+    Ok(write_values(out, "expressions", &values)?)
+}
+
+/// A name in a box.
+fn named(alloc: Global, name: &str) -> Result<Box<Expr>, AllocError> {
+    Ok(Box::new(alloc, Expr::Ident(String::from_str(alloc, name)?))?)
 }
 
 /// The name `e` so many times as a word counts.
 fn counted(alloc: Global, word: &str) -> Result<Expr, AllocError> {
-    let inner = Box::new(alloc, Expr::Ident(String::from_str(alloc, "e")?))?;
+    let inner = named(alloc, "e")?;
     Ok(match word.as_bytes() {
         b"{0}" => Expr::RepExact(inner, 0),
         b"{,0}" => Expr::RepMax(inner, 0),
@@ -121,28 +113,38 @@ fn counted(alloc: Global, word: &str) -> Result<Expr, AllocError> {
     })
 }
 
+/// An expression in a sequence in a choice.
+fn in_choice(alloc: Global, expr: Expr) -> Result<Expr, AllocError> {
+    let expr = Box::new(alloc, expr)?;
+    let sequence = Box::new(alloc, Expr::Seq(named(alloc, "x")?, expr))?;
+    Ok(Expr::Choice(sequence, named(alloc, "y")?))
+}
+
+/// Whether the counts of a rule are readable whose body that is, and those of no rules.
+fn are_readable(alloc: Global, body: Expr) -> Result<(bool, bool), AllocError> {
+    let mut rules = Vec::new(alloc);
+    let none_are = counts_are_readable(&rules);
+    rules.push(Rule {
+        name: String::new(alloc),
+        ty: RuleType::Normal,
+        expr: body,
+    })?;
+    Ok((counts_are_readable(&rules), none_are))
+}
+
 /// Such counts, each in a sequence in a choice: how they are printed, whether the counts of a rule are
 /// readable whose body that is, and those of no rules.
-pub(crate) fn counts(alloc: Global, words: &str) -> Result<String, Fault> {
-    let mut out = String::new(alloc);
+pub(crate) fn counts(alloc: Global, words: &str, out: &mut String) -> Result<(), Fault> {
     for word in words.split(' ') {
-        let left = Box::new(alloc, Expr::Ident(String::from_str(alloc, "x")?))?;
-        let right = Box::new(alloc, Expr::Ident(String::from_str(alloc, "y")?))?;
-        let sequence = Expr::Seq(left, Box::new(alloc, counted(alloc, word)?)?);
-        let expr = Expr::Choice(Box::new(alloc, sequence)?, right);
-        write!(out, "{expr}: ")?;
-        let mut rules = Vec::new(alloc);
-        let is_readable = counts_are_readable(&rules);
-        rules.push(Rule {
-            name: String::new(alloc),
-            ty: RuleType::Normal,
-            expr,
-        })?;
-        write!(
-            out,
-            "{}, and without rules {is_readable}\n",
-            counts_are_readable(&rules)
-        )?;
+        write_count(alloc, word, out)?;
     }
-    Ok(out)
+    Ok(())
+}
+
+/// Writes what `counts` says of a word.
+fn write_count(alloc: Global, word: &str, out: &mut String) -> Result<(), AllocError> {
+    let expr = in_choice(alloc, counted(alloc, word)?)?;
+    write!(out, "{expr}: ")?;
+    let (one_is, none_are) = are_readable(alloc, expr)?;
+    write!(out, "{one_is}, and without rules {none_are}\n")
 }

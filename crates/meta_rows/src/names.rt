@@ -1,22 +1,28 @@
 //! What is said of the names of grammars.
 use crate::refusals::write_errors;
 use meta_base::grammar::Rule;
-use meta_base::runtime::{Fault, Span};
+use meta_base::runtime::{Error, Fault, Span};
 use meta_names::{
     validate_already_defined, validate_pairs, validate_pest_keywords, validate_rust_keywords,
     validate_undefined,
 };
 use meta_syntax::grammar::PestParser;
-use std::alloc::Global;
+use std::alloc::{AllocError, Global};
 
 /// The names that a text calls and does not define.
-pub(crate) fn names(alloc: Global, text: &str) -> Result<String, Fault> {
+pub(crate) fn names(alloc: Global, text: &str, out: &mut String) -> Result<(), Fault> {
     let pairs = PestParser::parse(alloc, Rule::grammar_rules, text)?;
-    let mut out = String::from_str(alloc, "builtins:")?;
-    for name in &validate_pairs(alloc, pairs)? {
+    write_builtins(out, &validate_pairs(alloc, pairs)?)?;
+    Ok(())
+}
+
+/// Writes the names of builtins.
+pub(crate) fn write_builtins(out: &mut String, names: &[&str]) -> Result<(), AllocError> {
+    out.push_str("builtins:")?;
+    for name in names {
         write!(out, " {name}")?;
     }
-    Ok(out)
+    Ok(())
 }
 
 /// Where the names stand that a text defines, or those that it calls.
@@ -34,14 +40,18 @@ fn places_of(alloc: Global, text: &str, defined: bool) -> Result<Vec<Span<'_>>, 
     Ok(places)
 }
 
+/// Writes the errors that a call answers.
+fn write_found(out: &mut String, found: Result<Vec<Error<Rule>>, Fault>) -> Result<(), Fault> {
+    write_errors(out, "", &found?)?;
+    Ok(())
+}
+
 /// What is said of the names of a text, a kind after the other.
-pub(crate) fn complaints(alloc: Global, text: &str) -> Result<String, Fault> {
+pub(crate) fn complaints(alloc: Global, text: &str, out: &mut String) -> Result<(), Fault> {
     let defined = places_of(alloc, text, true)?;
     let called = places_of(alloc, text, false)?;
-    let mut out = String::new(alloc);
-    write_errors(&mut out, &validate_rust_keywords(alloc, &defined)?)?;
-    write_errors(&mut out, &validate_pest_keywords(alloc, &defined)?)?;
-    write_errors(&mut out, &validate_already_defined(alloc, &defined)?)?;
-    write_errors(&mut out, &validate_undefined(alloc, &defined, &called)?)?;
-    Ok(out)
+    write_found(out, validate_rust_keywords(alloc, &defined))?;
+    write_found(out, validate_pest_keywords(alloc, &defined))?;
+    write_found(out, validate_already_defined(alloc, &defined))?;
+    write_found(out, validate_undefined(alloc, &defined, &called))
 }

@@ -40,19 +40,37 @@ fn add_ends(alloc: Global, node: ParserNode<'_>, ends: &mut Vec<usize>) -> Resul
     filter_internal(alloc, node, &mut end_of, ends)
 }
 
+/// Writes where a node and each one in it stand.
+fn write_places(alloc: Global, node: ParserNode<'_>, out: &mut String) -> Result<(), Fault> {
+    let places = places_of(alloc, node)?;
+    Ok(write!(out, "places {places:?}\n")?)
+}
+
+/// Writes where the names in a node begin.
+fn write_names(alloc: Global, node: ParserNode<'_>, out: &mut String) -> Result<(), Fault> {
+    let names = names_of(alloc, node)?;
+    Ok(write!(out, "names {names:?}\n")?)
+}
+
 /// Of the bodies of a text where their nodes stand, each before what is in it, where their names begin, and
 /// the ends of all nodes so far.
-pub(crate) fn walked(alloc: Global, text: &str) -> Result<String, Fault> {
-    let mut out = String::new(alloc);
+pub(crate) fn walked(alloc: Global, text: &str, out: &mut String) -> Result<(), Fault> {
     let mut ends = Vec::new(alloc);
-    for rule in rules_of(alloc, text)? {
-        let places = places_of(alloc, rule.node.clone()?)?;
-        let names = names_of(alloc, rule.node.clone()?)?;
-        add_ends(alloc, rule.node, &mut ends)?;
-        write!(
-            out,
-            "places {places:?}\nnames {names:?}\nends so far {ends:?}\n"
-        )?;
+    for rule in &rules_of(alloc, text)? {
+        write_walked(alloc, &rule.node, &mut ends, out)?;
     }
-    Ok(out)
+    Ok(())
+}
+
+/// Writes of a node what `walked` says of a body.
+fn write_walked(
+    alloc: Global,
+    node: &ParserNode<'_>,
+    ends: &mut Vec<usize>,
+    out: &mut String,
+) -> Result<(), Fault> {
+    write_places(alloc, node.clone()?, out)?;
+    write_names(alloc, node.clone()?, out)?;
+    add_ends(alloc, node.clone()?, ends)?;
+    Ok(write!(out, "ends so far {ends:?}\n")?)
 }

@@ -1,5 +1,5 @@
 //! What the passes make of the rules of a text, which nobody has validated.
-use crate::reading::erased_rules;
+use crate::reading::{erased_rules, write_rule};
 use meta_ast::ast::{Expr, Rule};
 use meta_base::runtime::Fault;
 use meta_optimizer::{
@@ -40,53 +40,82 @@ fn passed(
 fn bodies_of(alloc: Global, rules: &[Rule]) -> Result<HashMap<String, Expr>, AllocError> {
     let mut bodies = HashMap::new(alloc);
     for rule in rules {
-        let _ = bodies.insert(rule.name.clone()?, rule.expr.clone()?)?;
+        add_body(&mut bodies, &rule.name, &rule.expr)?;
     }
     Ok(bodies)
 }
 
+/// Adds a copy of a body under the name of its rule.
+pub(crate) fn add_body<E: Clone + Drop>(
+    bodies: &mut HashMap<String, E>,
+    name: &String,
+    expr: &E,
+) -> Result<(), AllocError> {
+    let _ = bodies.insert(name.clone()?, expr.clone()?)?;
+    Ok(())
+}
+
 /// The rules of a text behind one pass.
-pub(crate) fn after(alloc: Global, pass: Pass, text: &str) -> Result<String, Fault> {
+pub(crate) fn after(alloc: Global, pass: Pass, text: &str, out: &mut String) -> Result<(), Fault> {
     let rules = erased_rules(alloc, text)?;
     let bodies = bodies_of(alloc, &rules)?;
-    let mut out = String::new(alloc);
     for rule in rules {
-        let rule = passed(alloc, pass, rule, &bodies)?;
-        write!(out, "{} {:?} {:?}\n", rule.name, rule.ty, rule.expr)?;
+        write_passed(alloc, pass, rule, &bodies, out)?;
     }
-    Ok(out)
+    Ok(())
+}
+
+/// Writes a rule behind a pass.
+fn write_passed(
+    alloc: Global,
+    pass: Pass,
+    rule: Rule,
+    bodies: &HashMap<String, Expr>,
+    out: &mut String,
+) -> Result<(), Fault> {
+    let rule = passed(alloc, pass, rule, bodies)?;
+    Ok(write_rule(out, rule.name.as_str(), rule.ty, &rule.expr)?)
 }
 
 /// The rules of a text behind all passes.
-pub(crate) fn optimized(alloc: Global, text: &str) -> Result<String, Fault> {
+pub(crate) fn optimized(alloc: Global, text: &str, out: &mut String) -> Result<(), Fault> {
     let rules = erased_rules(alloc, text)?;
-    let mut out = String::new(alloc);
     if !counts_are_readable(&rules) {
-        out.push_str("counts are not readable")?;
-        return Ok(out);
+        return Ok(out.push_str("counts are not readable")?);
     }
-    for rule in &optimize(alloc, rules)? {
-        write_optimized(&mut out, rule)?;
-    }
-    Ok(out)
+    write_optimized(out, &optimize(alloc, rules)?)?;
+    Ok(())
 }
 
 /// How many bytes the bodies of a text have as they are printed, and how many behind `rotate`, which nests
 /// them to the right.
-pub(crate) fn lengths(alloc: Global, text: &str) -> Result<String, Fault> {
-    let mut out = String::new(alloc);
+pub(crate) fn lengths(alloc: Global, text: &str, out: &mut String) -> Result<(), Fault> {
     for rule in erased_rules(alloc, text)? {
-        let read = rule.expr.to_string(alloc)?.len();
-        let rule = rotate(alloc, rule)?;
-        let rotated = rule.expr.to_string(alloc)?.len();
-        rule.expr.release();
+        let read = length(alloc, &rule.expr)?;
+        let rotated = rotated_length(alloc, rule)?;
         write!(out, "{read} bytes, {rotated} rotated\n")?;
     }
-    Ok(out)
+    Ok(())
 }
 
-/// Writes an optimized rule, and below it how its body is printed.
-pub(crate) fn write_optimized(out: &mut String, rule: &OptimizedRule) -> Result<(), AllocError> {
-    write!(out, "{} {:?} {:?}\n", rule.name, rule.ty, rule.expr)?;
-    write!(out, "    printed {}\n", rule.expr)
+/// How many bytes an expression has as it is printed.
+fn length(alloc: Global, expr: &Expr) -> Result<usize, AllocError> {
+    Ok(expr.to_string(alloc)?.len())
+}
+
+/// How many bytes the body of a rule has behind `rotate`.
+fn rotated_length(alloc: Global, rule: Rule) -> Result<usize, Fault> {
+    let rule = rotate(alloc, rule)?;
+    let length = length(alloc, &rule.expr);
+    rule.expr.release();
+    length.map_err(Fault::Memory)
+}
+
+/// Writes optimized rules, each with a line for how its body is printed.
+pub(crate) fn write_optimized(out: &mut String, rules: &[OptimizedRule]) -> Result<(), AllocError> {
+    for rule in rules {
+        write_rule(out, rule.name.as_str(), rule.ty, &rule.expr)?;
+        write!(out, "    printed {}\n", rule.expr)?;
+    }
+    Ok(())
 }

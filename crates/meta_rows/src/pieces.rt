@@ -22,19 +22,37 @@ static PLACES: [(&str, usize, &str); 4] = [
     ("a b", 1, "m"),
 ];
 
+/// A span, and the same between positions at its ends.
+fn spans_at(
+    text: &'static str,
+    start: usize,
+    end: usize,
+) -> Option<(Span<'static>, Span<'static>)> {
+    let span = Span::new(text, start, end)?;
+    let position = Position::new(text, start)?;
+    Some((span, position.span(&span.end_pos())))
+}
+
 /// How spans equal those between positions at their ends.
 fn write_spans(alloc: Global, out: &mut String) -> Result<(), AllocError> {
     let mut spans = Vec::new(alloc);
     let mut copies = Vec::new(alloc);
     for (text, start, end) in &SPANS {
-        if let Some(span) = Span::new(text, *start, *end) {
-            if let Some(position) = Position::new(text, *start) {
-                copies.push(position.span(&span.end_pos()))?;
-                spans.push(span)?;
-            }
+        if let Some((span, copy)) = spans_at(text, *start, *end) {
+            spans.push(span)?;
+            copies.push(copy)?;
         }
     }
     write_equalities(out, "spans", &spans, &copies)
+}
+
+/// A position, and the end of a span there.
+fn positions_at(
+    text: &'static str,
+    place: usize,
+) -> Option<(Position<'static>, Position<'static>)> {
+    let span = Span::new(text, 0, place)?;
+    Some((Position::new(text, place)?, span.end_pos()))
 }
 
 /// How positions equal the ends of spans there.
@@ -42,16 +60,21 @@ fn write_positions(alloc: Global, out: &mut String) -> Result<(), AllocError> {
     let mut positions = Vec::new(alloc);
     let mut copies = Vec::new(alloc);
     for (text, place, message) in &PLACES {
-        if let Some(span) = Span::new(text, 0, *place) {
-            if let Some(position) = Position::new(text, *place) {
-                if message.is_empty() {
-                    copies.push(span.end_pos())?;
-                    positions.push(position)?;
-                }
-            }
+        if let (true, Some((position, copy))) = (message.is_empty(), positions_at(text, *place)) {
+            positions.push(position)?;
+            copies.push(copy)?;
         }
     }
     write_equalities(out, "positions", &positions, &copies)
+}
+
+/// The error of a place, with a message where there is one.
+fn error_at(alloc: Global, position: Position<'_>, message: &str) -> Result<Error<Rule>, Fault> {
+    if message.is_empty() {
+        return Error::new_from_pos(alloc, ErrorVariant::ParsingError, position);
+    }
+    let message = String::from_str(alloc, message)?;
+    Error::new_from_pos(alloc, ErrorVariant::CustomError { message }, position)
 }
 
 /// The errors of all places.
@@ -59,25 +82,18 @@ fn errors(alloc: Global) -> Result<Vec<Error<Rule>>, Fault> {
     let mut errors = Vec::new(alloc);
     for (text, place, message) in &PLACES {
         if let Some(position) = Position::new(text, *place) {
-            let variant = if message.is_empty() {
-                ErrorVariant::ParsingError
-            } else {
-                let message = String::from_str(alloc, message)?;
-                ErrorVariant::CustomError { message }
-            };
-            errors.push(Error::new_from_pos(alloc, variant, position)?)?;
+            errors.push(error_at(alloc, position, message)?)?;
         }
     }
     Ok(errors)
 }
 
 /// How spans, positions and errors equal others of the same parts.
-pub(crate) fn equal_places(alloc: Global) -> Result<String, Fault> {
-    let mut out = String::new(alloc);
-    write_spans(alloc, &mut out)?;
-    write_positions(alloc, &mut out)?;
-    write_equalities(&mut out, "errors", &errors(alloc)?, &errors(alloc)?)?;
-    Ok(out)
+pub(crate) fn equal_places(alloc: Global, out: &mut String) -> Result<(), Fault> {
+    write_spans(alloc, out)?;
+    write_positions(alloc, out)?;
+    write_equalities(out, "errors", &errors(alloc)?, &errors(alloc)?)?;
+    Ok(())
 }
 
 /// A pair of `a b` with one of `a` and one of `b` inside it, and one of the empty text after it.
@@ -100,21 +116,20 @@ fn write_flat(alloc: Global, pairs: Pairs<'_, Rule>, out: &mut String) -> Result
 }
 
 /// Pairs that are made by hand: where they stand, and their texts, and those of a copy, in preorder.
-pub(crate) fn made_pairs(alloc: Global) -> Result<String, Fault> {
-    let mut out = String::new(alloc);
+pub(crate) fn made_pairs(alloc: Global, out: &mut String) -> Result<(), Fault> {
+    write_pairs(sample(alloc)?, LEVELS, ("", ""), out)?;
+    out.push_str("\ntexts")?;
     let pairs = sample(alloc)?;
     let copy = pairs.clone()?;
-    write_pairs(sample(alloc)?, LEVELS, &mut out)?;
-    out.push_str("\ntexts")?;
-    write_flat(alloc, pairs, &mut out)?;
+    write_flat(alloc, pairs, out)?;
     out.push_str("\ncopied")?;
-    write_flat(alloc, copy, &mut out)?;
-    Ok(out)
+    write_flat(alloc, copy, out)
 }
 
 /// What faults print.
-pub(crate) fn faults(alloc: Global) -> Result<String, Fault> {
+pub(crate) fn faults(alloc: Global, out: &mut String) -> Result<(), Fault> {
     let memory = Fault::from(AllocError);
     let grammar = Fault::Grammar(Vec::new(alloc));
-    Ok(format!(in alloc; "{memory}\n{grammar}")?)
+    write!(out, "{memory}\n{grammar}")?;
+    Ok(())
 }

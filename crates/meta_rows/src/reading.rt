@@ -1,9 +1,10 @@
 //! What texts are read as.
-use meta_ast::ast::Rule;
+use meta_ast::ast::{Rule, RuleType};
 use meta_base::runtime::Fault;
 use meta_nodes::erase_spans;
 use meta_reader::parser::{ParserExpr, ParserNode, ParserRule, consume_rules_with_spans, parse};
 use std::alloc::{AllocError, Global};
+use std::fmt;
 
 /// The rules of a text, which nobody has looked at but the reader.
 pub(crate) fn rules_of(alloc: Global, text: &str) -> Result<Vec<ParserRule<'_>>, Fault> {
@@ -17,45 +18,48 @@ pub(crate) fn erased_rules(alloc: Global, text: &str) -> Result<Vec<Rule>, Fault
 }
 
 /// The rules of a text as they are printed.
-pub(crate) fn erased(alloc: Global, text: &str) -> Result<String, Fault> {
-    let mut out = String::new(alloc);
+pub(crate) fn erased(alloc: Global, text: &str, out: &mut String) -> Result<(), Fault> {
     for rule in &erased_rules(alloc, text)? {
         write!(out, "{} {:?} {}\n", rule.name, rule.ty, rule.expr)?;
     }
-    Ok(out)
+    Ok(())
+}
+
+/// Writes a rule of before the passes or behind them: its name, its type and its body.
+pub(crate) fn write_rule<E: fmt::Debug>(
+    out: &mut String,
+    name: &str,
+    ty: RuleType,
+    expr: &E,
+) -> Result<(), AllocError> {
+    write!(out, "{name} {ty:?} {expr:?}\n")
 }
 
 /// The rules of a text with their spans, in bytes.
-pub(crate) fn read(alloc: Global, text: &str) -> Result<String, Fault> {
-    let mut out = String::new(alloc);
+pub(crate) fn read(alloc: Global, text: &str, out: &mut String) -> Result<(), Fault> {
     for rule in &rules_of(alloc, text)? {
-        let (start, end) = (rule.span.start(), rule.span.end());
-        write!(out, "{} {:?} {start}-{end}", rule.name, rule.ty)?;
-        write_node(&rule.node, &mut out)?;
-        out.push('\n')?;
+        write_read(rule, out)?;
     }
     if out.is_empty() {
         out.push_str("no rules")?;
     }
-    Ok(out)
+    Ok(())
+}
+
+/// Writes a rule with its spans.
+fn write_read(rule: &ParserRule<'_>, out: &mut String) -> Result<(), AllocError> {
+    let (start, end) = (rule.span.start(), rule.span.end());
+    write!(out, "{} {:?} {start}-{end}", rule.name, rule.ty)?;
+    write_node(&rule.node, out)?;
+    out.push('\n')
 }
 
 /// Writes a node: what it is, from where to where in bytes, and the nodes in it.
 fn write_node(node: &ParserNode<'_>, out: &mut String) -> Result<(), AllocError> {
-    let (start, end) = (node.span.start(), node.span.end());
+    write_sign(&node.expr, out)?;
+    write!(out, " {}-{}", node.span.start(), node.span.end())?;
     match &node.expr {
-        ParserExpr::Str(text) => write!(out, " Str {text:?} {start}-{end}"),
-        ParserExpr::Insens(text) => write!(out, " Insens {text:?} {start}-{end}"),
-        ParserExpr::Range(low, high) => write!(out, " Range {low:?} {high:?} {start}-{end}"),
-        ParserExpr::Ident(name) => write!(out, " Ident {name} {start}-{end}"),
-        ParserExpr::PeekSlice(from, to) => write!(out, " PeekSlice {from} {to:?} {start}-{end}"),
-        ParserExpr::Seq(left, right) => {
-            write!(out, " Seq {start}-{end}")?;
-            write_node(left, out)?;
-            write_node(right, out)
-        }
-        ParserExpr::Choice(left, right) => {
-            write!(out, " Choice {start}-{end}")?;
+        ParserExpr::Seq(left, right) | ParserExpr::Choice(left, right) => {
             write_node(left, out)?;
             write_node(right, out)
         }
@@ -68,17 +72,21 @@ fn write_node(node: &ParserNode<'_>, out: &mut String) -> Result<(), AllocError>
         | ParserExpr::RepMin(inner, _)
         | ParserExpr::RepMax(inner, _)
         | ParserExpr::RepMinMax(inner, _, _)
-        | ParserExpr::Push(inner) => {
-            write_sign(&node.expr, out)?;
-            write!(out, " {start}-{end}")?;
-            write_node(inner, out)
-        }
+        | ParserExpr::Push(inner) => write_node(inner, out),
+        _ => Ok(()),
     }
 }
 
-/// Writes what stands round one operand.
+/// Writes what an expression is, and what stands in it beside its operands.
 fn write_sign(expr: &ParserExpr<'_>, out: &mut String) -> Result<(), AllocError> {
     match expr {
+        ParserExpr::Str(text) => write!(out, " Str {text:?}"),
+        ParserExpr::Insens(text) => write!(out, " Insens {text:?}"),
+        ParserExpr::Range(low, high) => write!(out, " Range {low:?} {high:?}"),
+        ParserExpr::Ident(name) => write!(out, " Ident {name}"),
+        ParserExpr::PeekSlice(from, to) => write!(out, " PeekSlice {from} {to:?}"),
+        ParserExpr::Seq(_, _) => out.push_str(" Seq"),
+        ParserExpr::Choice(_, _) => out.push_str(" Choice"),
         ParserExpr::PosPred(_) => out.push_str(" PosPred"),
         ParserExpr::NegPred(_) => out.push_str(" NegPred"),
         ParserExpr::Opt(_) => out.push_str(" Opt"),
@@ -89,6 +97,5 @@ fn write_sign(expr: &ParserExpr<'_>, out: &mut String) -> Result<(), AllocError>
         ParserExpr::RepMax(_, most) => write!(out, " RepMax {most}"),
         ParserExpr::RepMinMax(_, least, most) => write!(out, " RepMinMax {least} {most}"),
         ParserExpr::Push(_) => out.push_str(" Push"),
-        _ => Ok(()),
     }
 }

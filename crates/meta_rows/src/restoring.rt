@@ -1,7 +1,8 @@
 //! What restores the stack round what may fail. A text says optimized rules just as they stand here: no pass
 //! is done, `+` stands for what restores the stack, and counts are left out.
-use crate::reading::erased_rules;
-use meta_ast::ast::Expr;
+use crate::passes::add_body;
+use crate::reading::{erased_rules, write_rule};
+use meta_ast::ast::{Expr, Rule};
 use meta_base::runtime::Fault;
 use meta_optimizer::{OptimizedExpr, OptimizedRule, child_modifies_state, restore_on_err};
 use std::alloc::{AllocError, Global};
@@ -16,27 +17,63 @@ fn boxed(alloc: Global, expr: &Expr) -> Result<Box<OptimizedExpr>, AllocError> {
 /// The optimized expression that an expression stands for.
 #[cycle(optimized)]
 fn optimized(alloc: Global, expr: &Expr) -> Result<OptimizedExpr, AllocError> {
+    match expr {
+        Expr::Seq(left, right) | Expr::Choice(left, right) => {
+            let left = boxed(alloc, left)?;
+            Ok(joined(expr, left, boxed(alloc, right)?))
+        }
+        Expr::PosPred(inner)
+        | Expr::NegPred(inner)
+        | Expr::Opt(inner)
+        | Expr::Rep(inner)
+        | Expr::RepOnce(inner)
+        | Expr::Push(inner) => Ok(around(expr, boxed(alloc, inner)?)),
+        Expr::RepExact(inner, _)
+        | Expr::RepMin(inner, _)
+        | Expr::RepMax(inner, _)
+        | Expr::RepMinMax(inner, _, _) => optimized(alloc, inner),
+        _ => leaf(alloc, expr),
+    }
+}
+
+/// The sequence or the choice of two operands that an expression stands for.
+fn joined(expr: &Expr, left: Box<OptimizedExpr>, right: Box<OptimizedExpr>) -> OptimizedExpr {
+    match expr {
+        Expr::Seq(_, _) => OptimizedExpr::Seq(left, right),
+        _ => OptimizedExpr::Choice(left, right),
+    }
+}
+
+/// What an expression of one operand stands for.
+fn around(expr: &Expr, inner: Box<OptimizedExpr>) -> OptimizedExpr {
+    match expr {
+        Expr::PosPred(_) => OptimizedExpr::PosPred(inner),
+        Expr::NegPred(_) => OptimizedExpr::NegPred(inner),
+        Expr::Opt(_) => OptimizedExpr::Opt(inner),
+        Expr::Rep(_) => OptimizedExpr::Rep(inner),
+        Expr::Push(_) => OptimizedExpr::Push(inner),
+        _ => OptimizedExpr::RestoreOnErr(inner),
+    }
+}
+
+/// What an expression without operands stands for.
+fn leaf(alloc: Global, expr: &Expr) -> Result<OptimizedExpr, AllocError> {
     Ok(match expr {
         Expr::Str(text) => OptimizedExpr::Str(text.clone()?),
         Expr::Insens(text) => OptimizedExpr::Insens(text.clone()?),
         Expr::Range(low, high) => OptimizedExpr::Range(low.clone()?, high.clone()?),
         Expr::Ident(name) => OptimizedExpr::Ident(name.clone()?),
         Expr::PeekSlice(from, to) => OptimizedExpr::PeekSlice(*from, *to),
-        Expr::PosPred(inner) => OptimizedExpr::PosPred(boxed(alloc, inner)?),
-        Expr::NegPred(inner) => OptimizedExpr::NegPred(boxed(alloc, inner)?),
-        Expr::Seq(left, right) => { OptimizedExpr::Seq(boxed(alloc, left)?, boxed(alloc, right)?) }
-        Expr::Choice(left, right) => {
-            OptimizedExpr::Choice(boxed(alloc, left)?, boxed(alloc, right)?)
-        }
-        Expr::Opt(inner) => OptimizedExpr::Opt(boxed(alloc, inner)?),
-        Expr::Rep(inner) => OptimizedExpr::Rep(boxed(alloc, inner)?),
-        Expr::RepOnce(inner) => OptimizedExpr::RestoreOnErr(boxed(alloc, inner)?),
-        Expr::RepExact(inner, _)
-        | Expr::RepMin(inner, _)
-        | Expr::RepMax(inner, _)
-        | Expr::RepMinMax(inner, _, _) => optimized(alloc, inner)?,
-        Expr::Skip(_) => OptimizedExpr::Skip(Vec::new(alloc)),
-        Expr::Push(inner) => OptimizedExpr::Push(boxed(alloc, inner)?),
+        _ => OptimizedExpr::Skip(Vec::new(alloc)),
+    })
+}
+
+/// The optimized rule that a rule says.
+fn optimized_rule(alloc: Global, rule: Rule) -> Result<OptimizedRule, AllocError> {
+    Ok(OptimizedRule {
+        expr: optimized(alloc, &rule.expr)?,
+        name: rule.name,
+        ty: rule.ty,
     })
 }
 
@@ -44,12 +81,7 @@ fn optimized(alloc: Global, expr: &Expr) -> Result<OptimizedExpr, AllocError> {
 pub(crate) fn optimized_rules(alloc: Global, text: &str) -> Result<Vec<OptimizedRule>, Fault> {
     let mut rules = Vec::new(alloc);
     for rule in erased_rules(alloc, text)? {
-        let expr = optimized(alloc, &rule.expr)?;
-        rules.push(OptimizedRule {
-            name: rule.name,
-            ty: rule.ty,
-            expr,
-        })?;
+        rules.push(optimized_rule(alloc, rule)?)?;
     }
     Ok(rules)
 }
@@ -61,31 +93,49 @@ fn bodies_of(
 ) -> Result<HashMap<String, OptimizedExpr>, AllocError> {
     let mut bodies = HashMap::new(alloc);
     for rule in rules {
-        let _ = bodies.insert(rule.name.clone()?, rule.expr.clone()?)?;
+        add_body(&mut bodies, &rule.name, &rule.expr)?;
     }
     Ok(bodies)
 }
 
 /// The rules of a text with what restores the stack.
-pub(crate) fn restored(alloc: Global, text: &str) -> Result<String, Fault> {
+pub(crate) fn restored(alloc: Global, text: &str, out: &mut String) -> Result<(), Fault> {
     let rules = optimized_rules(alloc, text)?;
     let bodies = bodies_of(alloc, &rules)?;
-    let mut out = String::new(alloc);
     for rule in rules {
-        let rule = restore_on_err(alloc, rule, &bodies)?;
-        write!(out, "{} {:?} {:?}\n", rule.name, rule.ty, rule.expr)?;
+        write_restored(alloc, rule, &bodies, out)?;
     }
-    Ok(out)
+    Ok(())
+}
+
+/// Writes a rule with what restores the stack.
+fn write_restored(
+    alloc: Global,
+    rule: OptimizedRule,
+    bodies: &HashMap<String, OptimizedExpr>,
+    out: &mut String,
+) -> Result<(), Fault> {
+    let rule = restore_on_err(alloc, rule, bodies)?;
+    Ok(write_rule(out, rule.name.as_str(), rule.ty, &rule.expr)?)
 }
 
 /// Of each body of a text whether it changes the stack.
-pub(crate) fn changes(alloc: Global, text: &str) -> Result<String, Fault> {
+pub(crate) fn changes(alloc: Global, text: &str, out: &mut String) -> Result<(), Fault> {
     let rules = optimized_rules(alloc, text)?;
     let bodies = bodies_of(alloc, &rules)?;
-    let mut out = String::new(alloc);
     for rule in &rules {
-        let changes = child_modifies_state(alloc, &rule.expr, &bodies)?;
-        write!(out, "{}: {changes}\n", rule.name)?;
+        write_change(alloc, rule, &bodies, out)?;
     }
-    Ok(out)
+    Ok(())
+}
+
+/// Writes whether the body of a rule changes the stack.
+fn write_change(
+    alloc: Global,
+    rule: &OptimizedRule,
+    bodies: &HashMap<String, OptimizedExpr>,
+    out: &mut String,
+) -> Result<(), Fault> {
+    let changes = child_modifies_state(alloc, &rule.expr, bodies)?;
+    Ok(write!(out, "{}: {changes}\n", rule.name)?)
 }

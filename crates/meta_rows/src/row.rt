@@ -9,14 +9,15 @@ pub(crate) fn answer(alloc: Global, row: &str) -> Result<String, AllocError> {
     let Some((head, written)) = row.split_once('|') else {
         return String::from_str(alloc, "no row: there is no bar");
     };
-    let text = text_of(alloc, written.strip_prefix(' ').unwrap_or(written))?;
     let head = head.trim();
     let (name, argument) = head.split_once(' ').unwrap_or((head, ""));
     let Some(call) = call_of(name) else {
         return String::from_str(alloc, "no row: there is no such call");
     };
-    match answered(alloc, call, argument, text.as_str()) {
-        Ok(answer) => Ok(answer),
+    let text = text_of(alloc, written.strip_prefix(' ').unwrap_or(written))?;
+    let mut out = String::new(alloc);
+    match answered(alloc, call, argument, text.as_str(), &mut out) {
+        Ok(()) => Ok(out),
         Err(Fault::Grammar(errors)) => refusal(alloc, &errors),
         Err(Fault::Memory(error)) => Err(error),
     }
@@ -26,15 +27,16 @@ pub(crate) fn answer(alloc: Global, row: &str) -> Result<String, AllocError> {
 fn text_of(alloc: Global, written: &str) -> Result<String, AllocError> {
     let mut text = String::new(alloc);
     for piece in written.split('«') {
-        match piece.split_once('»') {
-            Some((turns, rest)) => {
-                push_turns(&mut text, turns)?;
-                push_written(&mut text, rest, 0)?;
-            }
-            None => push_written(&mut text, piece, 0)?,
-        }
+        push_piece(&mut text, piece)?;
     }
     Ok(text)
+}
+
+/// Adds a piece between two `«`: its turns where it has some, and what is written behind them.
+fn push_piece(text: &mut String, piece: &str) -> Result<(), AllocError> {
+    let (turns, rest) = piece.split_once('»').unwrap_or(("", piece));
+    push_turns(text, turns)?;
+    push_written(text, rest, 0)
 }
 
 /// Adds `a` three times, where `3 a` is written.
@@ -46,19 +48,23 @@ fn push_turns(text: &mut String, turns: &str) -> Result<(), AllocError> {
     Ok(())
 }
 
-/// Adds what is written. `⏎` is a line feed, `␍` a carriage return, `␉` a tab, `№` the number of the turn,
-/// from 0, and
-/// `↑` the number of the next one.
+/// Adds what is written.
 fn push_written(text: &mut String, written: &str, turn: u32) -> Result<(), AllocError> {
     for character in written.chars() {
-        match character {
-            '⏎' => text.push('\n')?,
-            '␍' => text.push('\r')?,
-            '␉' => text.push('\t')?,
-            '№' => write!(text, "{turn}")?,
-            '↑' => write!(text, "{}", turn.saturating_add(1))?,
-            other => text.push(other)?,
-        }
+        push_sign(text, character, turn)?;
     }
     Ok(())
+}
+
+/// Adds what a character stands for. `⏎` is a line feed, `␍` a carriage return, `␉` a tab, `№` the number of
+/// the turn, from 0, and `↑` the number of the next one.
+fn push_sign(text: &mut String, character: char, turn: u32) -> Result<(), AllocError> {
+    match character {
+        '⏎' => text.push('\n'),
+        '␍' => text.push('\r'),
+        '␉' => text.push('\t'),
+        '№' => write!(text, "{turn}"),
+        '↑' => write!(text, "{}", turn.saturating_add(1)),
+        other => text.push(other),
+    }
 }

@@ -1,6 +1,6 @@
 //! What texts spell for the rules of the meta-grammar.
 use meta_base::grammar::Rule;
-use meta_base::runtime::{Fault, Pairs};
+use meta_base::runtime::{Error, Fault, Pairs, Span};
 use meta_syntax::grammar::PestParser;
 use pest_meta::parser::rename_meta_rule;
 use std::alloc::{AllocError, Global};
@@ -18,104 +18,124 @@ fn rule_of(alloc: Global, name: &str) -> Result<Rule, AllocError> {
     Ok(Rule::EOI)
 }
 
-/// The pairs that a text spells for a rule.
-pub(crate) fn pairs(alloc: Global, rule: &str, text: &str) -> Result<String, Fault> {
-    let pairs = PestParser::parse(alloc, rule_of(alloc, rule)?, text)?;
-    let mut out = String::new(alloc);
-    if pairs.trees().is_empty() {
-        out.push_str("no pairs")?;
-    }
-    write_pairs(pairs, LEVELS, &mut out)?;
-    Ok(out)
+/// The pairs that a text spells for the rule of a name.
+fn parsed<'i>(alloc: Global, rule: &str, text: &'i str) -> Result<Pairs<'i, Rule>, Fault> {
+    PestParser::parse(alloc, rule_of(alloc, rule)?, text)
 }
 
-/// Writes each pair as its rule, its start and its end, and the pairs inside it in brackets, as in
-/// `repeat_exact 0..3 [opening_brace 0..1, number 1..2, closing_brace 2..3]`. Below so many levels
-/// nothing is written.
-pub(crate) fn write_pairs(
-    pairs: Pairs<'_, Rule>,
-    levels: u32,
-    out: &mut String,
-) -> Result<(), AllocError> {
-    if levels == 0 {
-        return Ok(());
-    }
-    let mut separator = "";
-    for pair in pairs {
-        let span = pair.as_span();
-        write!(
-            out,
-            "{separator}{:?} {}..{}",
-            pair.as_rule(),
-            span.start(),
-            span.end()
-        )?;
-        separator = ", ";
-        let inner = pair.into_inner();
-        if !inner.trees().is_empty() {
-            out.push_str(" [")?;
-            write_pairs(inner, levels - 1, out)?;
-            out.push_str("]")?;
-        }
+/// The pairs that a text spells for a rule.
+pub(crate) fn pairs(alloc: Global, rule: &str, text: &str, out: &mut String) -> Result<(), Fault> {
+    write_pairs(parsed(alloc, rule, text)?, LEVELS, ("", ""), out)?;
+    if out.is_empty() {
+        out.push_str("no pairs")?;
     }
     Ok(())
 }
 
+/// Writes each pair as its rule, its start and its end, and the pairs inside it in brackets, as in
+/// `repeat_exact 0..3 [opening_brace 0..1, number 1..2, closing_brace 2..3]`. Where there are pairs, the
+/// brackets that are given stand round them. Below so many levels nothing is written.
+pub(crate) fn write_pairs(
+    pairs: Pairs<'_, Rule>,
+    levels: u32,
+    brackets: (&str, &str),
+    out: &mut String,
+) -> Result<(), AllocError> {
+    if levels == 0 || pairs.trees().is_empty() {
+        return Ok(());
+    }
+    let (mut separator, close) = brackets;
+    for pair in pairs {
+        write_pair(out, separator, pair.as_rule(), pair.as_span())?;
+        separator = ", ";
+        write_pairs(pair.into_inner(), levels - 1, (" [", "]"), out)?;
+    }
+    out.push_str(close)
+}
+
+/// Writes a pair behind what separates it from the one before.
+fn write_pair(
+    out: &mut String,
+    separator: &str,
+    rule: Rule,
+    span: Span<'_>,
+) -> Result<(), AllocError> {
+    let (start, end) = (span.start(), span.end());
+    write!(out, "{separator}{rule:?} {start}..{end}")
+}
+
 /// The entries of the flat list.
-pub(crate) fn entries(alloc: Global, rule: &str, text: &str) -> Result<String, Fault> {
-    let mut out = String::new(alloc);
+pub(crate) fn entries(
+    alloc: Global,
+    rule: &str,
+    text: &str,
+    out: &mut String,
+) -> Result<(), Fault> {
     for entry in &PestParser::tokens(alloc, rule_of(alloc, rule)?, text)? {
         write!(out, "{entry:?}\n")?;
     }
-    Ok(out)
+    Ok(())
 }
 
 /// The pairs, each before those inside it.
-pub(crate) fn flattened(alloc: Global, rule: &str, text: &str) -> Result<String, Fault> {
-    let mut out = String::new(alloc);
-    let pairs = PestParser::parse(alloc, rule_of(alloc, rule)?, text)?;
-    for pair in pairs.flatten(alloc)? {
+pub(crate) fn flattened(
+    alloc: Global,
+    rule: &str,
+    text: &str,
+    out: &mut String,
+) -> Result<(), Fault> {
+    for pair in parsed(alloc, rule, text)?.flatten(alloc)? {
         let pair = pair?;
-        let span = pair.as_span();
-        write!(
-            out,
-            "{:?} {}..{}\n",
-            pair.as_rule(),
-            span.start(),
-            span.end()
-        )?;
+        write_pair(out, "", pair.as_rule(), pair.as_span())?;
+        out.push('\n')?;
     }
-    Ok(out)
+    Ok(())
 }
 
 /// How many pairs there are, and how many with those inside them.
-pub(crate) fn count(alloc: Global, rule: &str, text: &str) -> Result<String, Fault> {
-    let pairs = PestParser::parse(alloc, rule_of(alloc, rule)?, text)?;
+pub(crate) fn count(alloc: Global, rule: &str, text: &str, out: &mut String) -> Result<(), Fault> {
+    let pairs = parsed(alloc, rule, text)?;
     let outer = pairs.clone()?.count();
+    let all = count_of_all(alloc, pairs)?;
+    write!(out, "{outer} pairs, {all} with those inside them")?;
+    Ok(())
+}
+
+/// How many pairs there are, with those inside them.
+fn count_of_all(alloc: Global, pairs: Pairs<'_, Rule>) -> Result<u32, Fault> {
     let mut all = 0u32;
     for pair in pairs.flatten(alloc)? {
         let _ = pair?;
         all = all.saturating_add(1);
     }
-    Ok(format!(in alloc; "{outer} pairs, {all} with those inside them")?)
+    Ok(all)
 }
 
 /// The errors of a text that is refused, as they are printed.
-pub(crate) fn printed(alloc: Global, rule: &str, text: &str) -> Result<String, Fault> {
-    match PestParser::parse(alloc, rule_of(alloc, rule)?, text) {
-        Ok(_) => Ok(String::from_str(alloc, "pairs")?),
-        Err(Fault::Grammar(errors)) => {
-            let mut out = String::new(alloc);
-            for error in &errors {
-                write!(out, "{error}\n")?;
-            }
-            Ok(out)
-        }
+pub(crate) fn printed(
+    alloc: Global,
+    rule: &str,
+    text: &str,
+    out: &mut String,
+) -> Result<(), Fault> {
+    match parsed(alloc, rule, text) {
+        Ok(_) => Ok(out.push_str("pairs")?),
+        Err(Fault::Grammar(errors)) => Ok(write_printed(out, &errors)?),
         Err(fault) => Err(fault),
     }
 }
 
+/// Writes each error as it is printed.
+fn write_printed(out: &mut String, errors: &[Error<Rule>]) -> Result<(), AllocError> {
+    for error in errors {
+        write!(out, "{error}\n")?;
+    }
+    Ok(())
+}
+
 /// What errors call a rule.
-pub(crate) fn renamed(alloc: Global, rule: &str) -> Result<String, Fault> {
-    rename_meta_rule(alloc, &rule_of(alloc, rule)?)
+pub(crate) fn renamed(alloc: Global, rule: &str, out: &mut String) -> Result<(), Fault> {
+    let renamed = rename_meta_rule(alloc, &rule_of(alloc, rule)?)?;
+    out.push_str(renamed.as_str())?;
+    Ok(())
 }

@@ -2,11 +2,10 @@
 use meta_base::grammar::Rule;
 use meta_base::runtime::Fault;
 use meta_names::unicode_property_names;
-use std::alloc::Global;
 
 /// How many rules the meta-grammar has, which is their last, and whether they stand in order behind `EOI`;
 /// and how many names of properties there are, and which are the first and the last.
-pub(crate) fn tables(alloc: Global) -> Result<String, Fault> {
+pub(crate) fn tables(out: &mut String) -> Result<(), Fault> {
     let mut are_in_order = true;
     let mut last = Rule::EOI;
     for rule in Rule::all_rules() {
@@ -14,11 +13,13 @@ pub(crate) fn tables(alloc: Global) -> Result<String, Fault> {
         last = *rule;
     }
     let names = unicode_property_names();
-    Ok(format!(in alloc;
+    write!(
+        out,
         "{} rules, in order {are_in_order}, the last {last:?}\n{} names of properties, {} to {}",
         Rule::all_rules().len(),
         names.len(),
         names.first().copied().unwrap_or("none"),
         names.last().copied().unwrap_or("none")
-    )?)
+    )?;
+    Ok(())
 }

@@ -13,62 +13,60 @@ pub(crate) fn write_equalities<T: PartialEq>(
     values: &[T],
     copies: &[T],
 ) -> Result<(), AllocError> {
-    write!(
-        out,
-        "{} {name}, each equal to its copy alone\n",
-        values.len()
-    )?;
-    for (i, value) in values.iter().enumerate() {
-        for (j, copy) in copies.iter().enumerate() {
-            if (*value == *copy) != (i == j) {
-                write!(out, "but not {i} and {j}\n")?;
-            }
+    let count = values.len();
+    write!(out, "{count} {name}, each equal to its copy alone\n")?;
+    for (number, value) in values.iter().enumerate() {
+        write_unlike(out, number, value, copies)?;
+    }
+    Ok(())
+}
+
+/// Writes the numbers of a value and of its copy, where these are unlike, and of copies of others that it is
+/// like.
+fn write_unlike<T: PartialEq>(
+    out: &mut String,
+    number: usize,
+    value: &T,
+    copies: &[T],
+) -> Result<(), AllocError> {
+    for (other, copy) in copies.iter().enumerate() {
+        if (*value == *copy) != (number == other) {
+            write!(out, "but not {number} and {other}\n")?;
         }
     }
     Ok(())
 }
 
 /// The rules of a text with their spans, without them, and behind all passes: how they equal their copies.
-pub(crate) fn copies(alloc: Global, text: &str) -> Result<String, Fault> {
-    let mut out = String::new(alloc);
-    with_spans(alloc, text, &mut out)?;
-    without_spans(alloc, text, &mut out)?;
-    behind_passes(alloc, text, &mut out)?;
-    Ok(out)
+pub(crate) fn copies(alloc: Global, text: &str, out: &mut String) -> Result<(), Fault> {
+    with_spans(alloc, text, out)?;
+    without_spans(alloc, text, out)?;
+    behind_passes(alloc, text, out)
 }
 
 fn with_spans(alloc: Global, text: &str, out: &mut String) -> Result<(), Fault> {
     let rules = rules_of(alloc, text)?;
-    let mut copies = Vec::new(alloc);
-    for rule in &rules {
-        copies.push(rule.clone()?)?;
-    }
-    write_equalities(out, "rules with spans", &rules, &copies)?;
+    let copies = rules.clone()?;
+    let written = write_equalities(out, "rules with spans", &rules, &copies);
     meta_nodes::release(rules);
     meta_nodes::release(copies);
-    Ok(())
+    written.map_err(Fault::Memory)
 }
 
 fn without_spans(alloc: Global, text: &str, out: &mut String) -> Result<(), Fault> {
     let rules = erased_rules(alloc, text)?;
-    let mut copies = Vec::new(alloc);
-    for rule in &rules {
-        copies.push(rule.clone()?)?;
-    }
-    write_equalities(out, "rules", &rules, &copies)?;
+    let copies = rules.clone()?;
+    let written = write_equalities(out, "rules", &rules, &copies);
     ast::release(rules);
     ast::release(copies);
-    Ok(())
+    written.map_err(Fault::Memory)
 }
 
 fn behind_passes(alloc: Global, text: &str, out: &mut String) -> Result<(), Fault> {
     let rules = optimize(alloc, erased_rules(alloc, text)?)?;
-    let mut copies = Vec::new(alloc);
-    for rule in &rules {
-        copies.push(rule.clone()?)?;
-    }
-    write_equalities(out, "optimized rules", &rules, &copies)?;
+    let copies = rules.clone()?;
+    let written = write_equalities(out, "optimized rules", &rules, &copies);
     optimized::release(rules);
     optimized::release(copies);
-    Ok(())
+    written.map_err(Fault::Memory)
 }

@@ -11,39 +11,59 @@ use meta_optimizer::OptimizedExpr;
 use std::alloc::{AllocError, Global};
 
 /// All that stands in the bodies of a text, from the top down.
-pub(crate) fn items(alloc: Global, text: &str) -> Result<String, Fault> {
-    let mut out = String::new(alloc);
+pub(crate) fn items(alloc: Global, text: &str, out: &mut String) -> Result<(), Fault> {
     for rule in &erased_rules(alloc, text)? {
-        for item in rule.expr.iter_top_down(alloc)? {
-            write!(out, "{:?}\n", item?)?;
-        }
+        write_items(alloc, &rule.expr, out)?;
     }
-    Ok(out)
+    Ok(())
+}
+
+/// Writes all that stands in an expression.
+fn write_items(alloc: Global, expr: &Expr, out: &mut String) -> Result<(), Fault> {
+    for item in expr.iter_top_down(alloc)? {
+        write!(out, "{:?}\n", item?)?;
+    }
+    Ok(())
 }
 
 /// The same of optimized rules.
-pub(crate) fn optimized_items(alloc: Global, text: &str) -> Result<String, Fault> {
-    let mut out = String::new(alloc);
+pub(crate) fn optimized_items(alloc: Global, text: &str, out: &mut String) -> Result<(), Fault> {
     for rule in &optimized_rules(alloc, text)? {
-        for item in rule.expr.iter_top_down(alloc)? {
-            write!(out, "{:?}\n", item?)?;
-        }
+        write_optimized_items(alloc, &rule.expr, out)?;
     }
-    Ok(out)
+    Ok(())
 }
 
-/// Whether maps that change nothing give the same expression.
-fn is_kept(alloc: Global, expr: &Expr) -> Result<bool, Fault> {
-    let down = expr.clone()?.map_top_down(alloc, |e| Ok(e))?;
-    let up = expr.clone()?.map_bottom_up(alloc, |e| Ok(e))?;
-    Ok(down == *expr && up == *expr)
+/// Writes all that stands in an optimized expression.
+fn write_optimized_items(
+    alloc: Global,
+    expr: &OptimizedExpr,
+    out: &mut String,
+) -> Result<(), Fault> {
+    for item in expr.iter_top_down(alloc)? {
+        write!(out, "{:?}\n", item?)?;
+    }
+    Ok(())
 }
 
-/// The same of an optimized expression.
-fn is_kept_optimized(alloc: Global, expr: &OptimizedExpr) -> Result<bool, Fault> {
-    let down = expr.clone()?.map_top_down(alloc, |e| Ok(e))?;
-    let up = expr.clone()?.map_bottom_up(alloc, |e| Ok(e))?;
-    Ok(down == *expr && up == *expr)
+/// Whether a map from the top down that changes nothing gives the same expression.
+fn is_kept_down(alloc: Global, expr: &Expr) -> Result<bool, Fault> {
+    Ok(expr.clone()?.map_top_down(alloc, |e| Ok(e))? == *expr)
+}
+
+/// Whether one from the bottom up does.
+fn is_kept_up(alloc: Global, expr: &Expr) -> Result<bool, Fault> {
+    Ok(expr.clone()?.map_bottom_up(alloc, |e| Ok(e))? == *expr)
+}
+
+/// Whether a map from the top down that changes nothing gives the same optimized expression.
+fn is_optimized_kept_down(alloc: Global, expr: &OptimizedExpr) -> Result<bool, Fault> {
+    Ok(expr.clone()?.map_top_down(alloc, |e| Ok(e))? == *expr)
+}
+
+/// Whether one from the bottom up does.
+fn is_optimized_kept_up(alloc: Global, expr: &OptimizedExpr) -> Result<bool, Fault> {
+    Ok(expr.clone()?.map_bottom_up(alloc, |e| Ok(e))? == *expr)
 }
 
 /// `(a ~ b) ~ c` as `a ~ (b ~ c)`.
@@ -88,37 +108,49 @@ fn optional_up_optimized(alloc: Global, expr: OptimizedExpr) -> Result<Optimized
     })
 }
 
-/// The bodies of a text behind maps: whether those that change nothing keep it, how it is turned from the top
-/// down, and how each node is made optional from the bottom up.
-pub(crate) fn mapped(alloc: Global, text: &str) -> Result<String, Fault> {
-    let mut out = String::new(alloc);
+/// Writes an expression behind maps: whether those that change nothing keep it, how it is turned from the
+/// top down, and how each node is made optional from the bottom up.
+fn write_mapped(alloc: Global, expr: &Expr, out: &mut String) -> Result<(), Fault> {
+    let is_kept = is_kept_down(alloc, expr)? && is_kept_up(alloc, expr)?;
+    write!(out, "kept {is_kept}\n")?;
+    let turned = turned_down(alloc, expr.clone()?)?;
+    write!(out, "turned {turned:?}\n")?;
+    let optional = optional_up(alloc, expr.clone()?)?;
+    Ok(write!(out, "optional {optional:?}\n")?)
+}
+
+/// The bodies of a text behind maps.
+pub(crate) fn mapped(alloc: Global, text: &str, out: &mut String) -> Result<(), Fault> {
     for rule in &erased_rules(alloc, text)? {
-        let is_kept = is_kept(alloc, &rule.expr)?;
-        let turned = turned_down(alloc, rule.expr.clone()?)?;
-        let optional = optional_up(alloc, rule.expr.clone()?)?;
-        write!(
-            out,
-            "kept {is_kept}\nturned {turned:?}\noptional {optional:?}\n"
-        )?;
+        write_mapped(alloc, &rule.expr, out)?;
     }
-    Ok(out)
+    Ok(())
 }
 
-/// The bodies of a text as optimized ones behind maps: whether those that change nothing keep it, and how
-/// each node is made optional from the bottom up.
-pub(crate) fn optimized_mapped(alloc: Global, text: &str) -> Result<String, Fault> {
-    let mut out = String::new(alloc);
+/// Writes an optimized expression behind maps: whether those that change nothing keep it, and how each node
+/// is made optional from the bottom up.
+fn write_optimized_mapped(
+    alloc: Global,
+    expr: &OptimizedExpr,
+    out: &mut String,
+) -> Result<(), Fault> {
+    let is_kept = is_optimized_kept_down(alloc, expr)? && is_optimized_kept_up(alloc, expr)?;
+    write!(out, "kept {is_kept}\n")?;
+    let optional = optional_up_optimized(alloc, expr.clone()?)?;
+    Ok(write!(out, "optional {optional:?}\n")?)
+}
+
+/// The bodies of a text as optimized ones behind maps.
+pub(crate) fn optimized_mapped(alloc: Global, text: &str, out: &mut String) -> Result<(), Fault> {
     for rule in &optimized_rules(alloc, text)? {
-        let is_kept = is_kept_optimized(alloc, &rule.expr)?;
-        let optional = optional_up_optimized(alloc, rule.expr.clone()?)?;
-        write!(out, "kept {is_kept}\noptional {optional:?}\n")?;
+        write_optimized_mapped(alloc, &rule.expr, out)?;
     }
-    Ok(out)
+    Ok(())
 }
 
-/// Whether a map from the top down is refused whose closure refuses its call of that number, and how often
-/// the closure was called.
-fn refused_down(alloc: Global, expr: Expr, last: u32) -> Result<(bool, u32), Fault> {
+/// What a map from the top down answers whose closure refuses its call of that number, and how often the
+/// closure was called.
+fn refused_down(alloc: Global, expr: Expr, last: u32) -> (Result<Expr, Fault>, u32) {
     let mut calls = 0u32;
     let mapped = expr.map_top_down(
         alloc,
@@ -133,15 +165,11 @@ fn refused_down(alloc: Global, expr: Expr, last: u32) -> Result<(bool, u32), Fau
             }
         },
     );
-    match mapped {
-        Ok(_) => Ok((false, calls)),
-        Err(Fault::Grammar(_)) => Ok((true, calls)),
-        Err(fault) => Err(fault),
-    }
+    (mapped, calls)
 }
 
 /// The same of a map from the bottom up.
-fn refused_up(alloc: Global, expr: Expr, last: u32) -> Result<(bool, u32), Fault> {
+fn refused_up(alloc: Global, expr: Expr, last: u32) -> (Result<Expr, Fault>, u32) {
     let mut calls = 0u32;
     let mapped = expr.map_bottom_up(alloc, |e| {
         calls = calls.saturating_add(1);
@@ -151,26 +179,43 @@ fn refused_up(alloc: Global, expr: Expr, last: u32) -> Result<(bool, u32), Fault
             Ok(e)
         }
     });
-    match mapped {
-        Ok(_) => Ok((false, calls)),
-        Err(Fault::Grammar(_)) => Ok((true, calls)),
-        Err(fault) => Err(fault),
-    }
+    (mapped, calls)
+}
+
+/// Writes whether a map was refused, and how often its closure was called.
+fn write_refused(
+    out: &mut String,
+    way: &str,
+    mapped: Result<Expr, Fault>,
+    calls: u32,
+) -> Result<(), Fault> {
+    let is_refused = match mapped {
+        Ok(_) => false,
+        Err(Fault::Grammar(_)) => true,
+        Err(fault) => return Err(fault),
+    };
+    Ok(write!(out, "{way}: refused {is_refused}, {calls} calls\n")?)
+}
+
+/// Writes what `refusing` says of an expression.
+fn write_refusing(alloc: Global, expr: &Expr, last: u32, out: &mut String) -> Result<(), Fault> {
+    let (mapped, calls) = refused_down(alloc, expr.clone()?, last);
+    write_refused(out, "from the top down", mapped, calls)?;
+    let (mapped, calls) = refused_up(alloc, expr.clone()?, last);
+    write_refused(out, "from the bottom up", mapped, calls)
 }
 
 /// Of the bodies of a text whether maps are refused whose closures refuse their call of that number, and how
 /// often the closures were called.
-pub(crate) fn refusing(alloc: Global, number: &str, text: &str) -> Result<String, Fault> {
+pub(crate) fn refusing(
+    alloc: Global,
+    number: &str,
+    text: &str,
+    out: &mut String,
+) -> Result<(), Fault> {
     let last = number.parse::<u32>().unwrap_or(0);
-    let mut out = String::new(alloc);
     for rule in &erased_rules(alloc, text)? {
-        let (refused, calls) = refused_down(alloc, rule.expr.clone()?, last)?;
-        write!(out, "from the top down: refused {refused}, {calls} calls\n")?;
-        let (refused, calls) = refused_up(alloc, rule.expr.clone()?, last)?;
-        write!(
-            out,
-            "from the bottom up: refused {refused}, {calls} calls\n"
-        )?;
+        write_refusing(alloc, &rule.expr, last, out)?;
     }
-    Ok(out)
+    Ok(())
 }

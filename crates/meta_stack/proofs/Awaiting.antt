@@ -1,5 +1,7 @@
 -- Nodes that wait for the reading of an operand, and how much is left to do.
-use Rattle.std.proofs.Common.{◌≡◌, ◌∙◌, sym, ap, subst, refl, arith, ℕ, zero, suc, ◌+◌, ◌*◌, ◌<◌, ◌≤◌, List, [], ◌∷◌, ◌++◌, Bool, Option, Some, None, length, inl, inr}
+use Rattle.std.proofs.Common.{◌≡◌, ◌∙◌, sym, ap, subst, refl, arith, ℕ, zero, suc, ◌+◌, ◌*◌, ◌<◌, ◌≤◌, List, [], ◌∷◌, ◌++◌, Bool, Option, Some, None, Result, length, inl, inr}
+use Rattle.std.specs.Prelude.{IfOk}
+use Rattle.std.specs.declared.alloc.AllocError.{AllocError}
 use Rattle.std.proofs.Math.Nat.{mul-le-mul_right, mul_comm}
 use Rattle.std.proofs.lemmas.Nat.{mul-add-lt}
 use Rattle.meta_stacks.specs.Stack.{AbstractStack}
@@ -7,9 +9,9 @@ use Rattle.meta_stacks.specs.Reading as says
 use Rattle.meta_stacks.specs.Reading.{from}
 use Rattle.meta_stacks.specs.Views.{reading_of, stack_of, possible}
 use Rattle.meta_stacks.specs.Walks.{next_after}
-use Rattle.meta_stack.specs.Memory.{Meaning, IsRight, Reads}
-use Rattle.meta_stack.specs.Table.{IsMeaning, Inside, Called, level, nodes_of, node_reading, rank_at}
-use Rattle.meta_stack.specs.Waiting.{both_reading, whole_of, filled, Lead, at_hand, effort, effort_next, effort_awaited, effort_waiting, IsLow, IsNextLow, IsAwaitedLow, AreLow, GoesOn, IsPut}
+use Rattle.meta_stack.specs.Memory.{Meaning, IsRight, ReadsNode}
+use Rattle.meta_stack.specs.Table.{IsMeaning, Inside, Called, Lies, level, nodes_of, node_reading, rank_at}
+use Rattle.meta_stack.specs.Waiting.{both_reading, whole_of, filled, Lead, at_hand, effort, effort_next, effort_awaited, effort_waiting, IsLow, IsNextLow, IsAwaitedLow, AreLow, ReadsOn, IsPut}
 use Rattle.meta_stacks.specs.declared.reading.Reading.{Reading}
 use Rattle.meta_stacks.specs.declared.stack.Stack.{Stack}
 use Rattle.meta_stack.specs.declared.memory.Memory.{Memory}
@@ -23,6 +25,7 @@ use Rattle.meta_stack.specs.declared.waiting.Next.{Next}
 use Rattle.meta_stack.specs.declared.waiting.Next.TheVariants as next
 use Rattle.meta_stack.specs.declared.waiting.Waiting.{Waiting}
 use Rattle.meta_stack.proofs.RankLemmas.{last_or_before}
+use Rattle.meta_stack.proofs.Work.{where_ok}
 
 module _ (t : Table) (meaning : Meaning) where
   lead_push : (ws : List Waiting) (w : Waiting) (whole inner : says.Reading) → Lead t meaning ws whole (meaning w.node (stack_of w.stack))
@@ -79,7 +82,7 @@ level_called t i j h =
 -- the reading of a node is there
 pub done_at_once : (t : Table) (old new : Memory) (node : ℕ) (s : Stack) (ws : List Waiting) (r : Reading)
     → ((meaning : Meaning) → IsMeaning t meaning → IsRight meaning old → IsRight meaning new × (reading_of r ≡ meaning node (stack_of s)))
-    → GoesOn t old new (next.Read node s) ws ws (next.Done r)
+    → ReadsOn t old new (next.Read node s) ws ws (next.Done r)
 done_at_once t old new node s ws r f = record {
   right = λ meaning h i whole lead. let z = f meaning h i in (z.0, subst (Lead t meaning ws whole) (sym z.1) lead);
   less = let e = effort_some (level t node) in omega arith;
@@ -88,14 +91,14 @@ done_at_once t old new node s ws r f = record {
 
 -- a leaf tells its reading at once
 pub leaf_done : (t : Table) (m : Memory) (node : ℕ) (s : Stack) (ws : List Waiting) (k l : Kind) → ((meaning : Meaning) → IsMeaning t meaning → (a : AbstractStack) → meaning node a ≡ node_reading t meaning k a) → k ≡ l
-    → (r : Reading) → ((meaning : Meaning) → reading_of r ≡ node_reading t meaning l (stack_of s)) → GoesOn t m m (next.Read node s) ws ws (next.Done r)
+    → (r : Reading) → ((meaning : Meaning) → reading_of r ≡ node_reading t meaning l (stack_of s)) → ReadsOn t m m (next.Read node s) ws ws (next.Done r)
 leaf_done t m node s ws k l means is r e = done_at_once t m m node s ws r (λ meaning h i. (i, e meaning ∙ sym (means meaning h (stack_of s) ∙ ap (λ k. node_reading t meaning k (stack_of s)) is)))
 
 -- a node waits for an operand
 pub put_on : (t : Table) (m : Memory) (node : ℕ) (s : Stack) (k l : Kind) → ((meaning : Meaning) → IsMeaning t meaning → (a : AbstractStack) → meaning node a ≡ node_reading t meaning k a) → k ≡ l
     → (a : Awaited) (operand : ℕ) (ws vs : List Waiting) (q : Next) → ((meaning : Meaning) → filled t meaning a (stack_of s) (meaning operand (stack_of s)) ≡ node_reading t meaning l (stack_of s))
     → effort_awaited t a + effort (level t operand) < effort (level t node) → operand < length (nodes_of t) → level t operand < level t node → ((b : ℕ) → level t node ≤ b → IsAwaitedLow t b a)
-    → IsPut ws vs node s a operand q → GoesOn t m m (next.Read node s) ws vs q
+    → IsPut ws vs node s a operand q → ReadsOn t m m (next.Read node s) ws vs q
 put_on t m node s k l means is a operand ws vs q fits less within below low put =
     let w : Waiting = record { node = node; stack = s; awaited = a } in
     let at : (meaning : Meaning) → meaning operand (stack_of s) ≡ at_hand meaning q = λ meaning. sym (ap (at_hand meaning) put.next) in record {
@@ -113,14 +116,23 @@ put_on t m node s k l means is a operand ws vs q fits less within below low put 
 
 pub wait_last : (t : Table) (m : Memory) (node : ℕ) (s : Stack) (k l : Kind) → ((meaning : Meaning) → IsMeaning t meaning → (a : AbstractStack) → meaning node a ≡ node_reading t meaning k a) → k ≡ l
     → (h : How) (operand : ℕ) (ws vs : List Waiting) (q : Next) → ((meaning : Meaning) → filled t meaning (awaits.Last h) (stack_of s) (meaning operand (stack_of s)) ≡ node_reading t meaning l (stack_of s))
-    → operand < length (nodes_of t) → level t operand < level t node → IsPut ws vs node s (awaits.Last h) operand q → GoesOn t m m (next.Read node s) ws vs q
+    → operand < length (nodes_of t) → level t operand < level t node → IsPut ws vs node s (awaits.Last h) operand q → ReadsOn t m m (next.Read node s) ws vs q
 wait_last t m node s k l means is h operand ws vs q fits within below put =
     put_on t m node s k l means is (awaits.Last h) operand ws vs q fits (let e = effort_more (level t node) (level t operand) below in omega arith) within below (λ b p. tt) put
+
+-- a node waits for its only operand, which stands inside it
+pub wait_inside : (t : Table) (m : Memory) (node : ℕ) (s : Stack) (k l : Kind) → ((meaning : Meaning) → IsMeaning t meaning → (a : AbstractStack) → meaning node a ≡ node_reading t meaning k a) → k ≡ l
+    → Lies t node k → (h : How) (operand : ℕ) → (Lies t node l → Inside t node operand)
+    → ((meaning : Meaning) → filled t meaning (awaits.Last h) (stack_of s) (meaning operand (stack_of s)) ≡ node_reading t meaning l (stack_of s))
+    → (ws vs : List Waiting) (q : Result Next AllocError) → IfOk q (IsPut ws vs node s (awaits.Last h) operand) → IfOk q (ReadsOn t m m (next.Read node s) ws vs)
+wait_inside t m node s k l means is lies h operand inside fits ws vs q =
+    let below : Inside t node operand = inside (subst (Lies t node) is lies) in
+    where_ok q (λ n put. wait_last t m node s k l means is h operand ws vs n fits below.within (level_inside t node operand below) put)
 
 pub wait_first : (t : Table) (m : Memory) (node : ℕ) (s : Stack) (k l : Kind) → ((meaning : Meaning) → IsMeaning t meaning → (a : AbstractStack) → meaning node a ≡ node_reading t meaning k a) → k ≡ l
     → (first second : ℕ) (choice : Bool) (ws vs : List Waiting) (q : Next)
     → ((meaning : Meaning) → filled t meaning (awaits.First second choice) (stack_of s) (meaning first (stack_of s)) ≡ node_reading t meaning l (stack_of s))
-    → Inside t node first × Inside t node second → IsPut ws vs node s (awaits.First second choice) first q → GoesOn t m m (next.Read node s) ws vs q
+    → Inside t node first × Inside t node second → IsPut ws vs node s (awaits.First second choice) first q → ReadsOn t m m (next.Read node s) ws vs q
 wait_first t m node s k l means is first second choice ws vs q fits inside put =
     let b = level_inside t node first inside.0 in
     let c = level_inside t node second inside.1 in
@@ -132,7 +144,7 @@ wait_first t m node s k l means is first second choice ws vs q fits inside put =
 pub first_done : (t : Table) (m : Memory) (ws vs : List Waiting) (w : Waiting) (r : Reading) (second : ℕ) (choice : Bool) (q : Next) → w.awaited ≡ awaits.First second choice
     → vs ≡ ws ++ record { node = w.node; stack = w.stack; awaited = awaits.Last (how.Both r choice) } ∷ []
     → ((meaning : Meaning) → at_hand meaning q ≡ from (next_after choice (reading_of r) (stack_of w.stack)) (meaning second)) → effort_next t q ≤ effort (level t second) → ((l : ℕ) → IsLow t l second → IsNextLow t l q)
-    → GoesOn t m m (next.Done r) (ws ++ w ∷ []) vs q
+    → ReadsOn t m m (next.Done r) (ws ++ w ∷ []) vs q
 first_done t m ws vs w r second choice q is items at less low =
     let v : Waiting = record { node = w.node; stack = w.stack; awaited = awaits.Last (how.Both r choice) } in
     let a = stack_of w.stack in record {
@@ -149,19 +161,19 @@ first_done t m ws vs w r second choice q is items at less low =
 
 pub first_then_second : (t : Table) (m : Memory) (ws vs : List Waiting) (w : Waiting) (r : Reading) (second : ℕ) (choice : Bool) (o : Option Stack) (s : Stack) → w.awaited ≡ awaits.First second choice
     → vs ≡ ws ++ record { node = w.node; stack = w.stack; awaited = awaits.Last (how.Both r choice) } ∷ [] → possible o ≡ next_after choice (reading_of r) (stack_of w.stack) → o ≡ Some s
-    → GoesOn t m m (next.Done r) (ws ++ w ∷ []) vs (next.Read second s)
+    → ReadsOn t m m (next.Done r) (ws ++ w ∷ []) vs (next.Read second s)
 first_then_second t m ws vs w r second choice o s is items after some =
     first_done t m ws vs w r second choice (next.Read second s) is items (λ meaning. ap (λ x. from x (meaning second)) (sym (ap possible some) ∙ after)) (omega arith) (λ l h. h)
 
 pub first_then_none : (t : Table) (m : Memory) (ws vs : List Waiting) (w : Waiting) (r p : Reading) (second : ℕ) (choice : Bool) (o : Option Stack) → w.awaited ≡ awaits.First second choice
     → vs ≡ ws ++ record { node = w.node; stack = w.stack; awaited = awaits.Last (how.Both r choice) } ∷ [] → possible o ≡ next_after choice (reading_of r) (stack_of w.stack) → o ≡ None
-    → reading_of p ≡ says.impossible → GoesOn t m m (next.Done r) (ws ++ w ∷ []) vs (next.Done p)
+    → reading_of p ≡ says.impossible → ReadsOn t m m (next.Done r) (ws ++ w ∷ []) vs (next.Done p)
 first_then_none t m ws vs w r p second choice o is items after none never =
     first_done t m ws vs w r second choice (next.Done p) is items (λ meaning. never ∙ ap (λ x. from x (meaning second)) (sym (ap possible none) ∙ after)) (omega arith) (λ l h. tt)
 
 -- the last operand is read
 pub last_done : (t : Table) (old new : Memory) (ws : List Waiting) (w : Waiting) (r q : Reading) (h : How) → w.awaited ≡ awaits.Last h → reading_of q ≡ whole_of h t.skips (stack_of w.stack) (reading_of r)
-    → ((meaning : Meaning) → IsRight meaning old → reading_of q ≡ meaning w.node (stack_of w.stack) → IsRight meaning new) → GoesOn t old new (next.Done r) (ws ++ w ∷ []) ws (next.Done q)
+    → ((meaning : Meaning) → IsRight meaning old → reading_of q ≡ meaning w.node (stack_of w.stack) → IsRight meaning new) → ReadsOn t old new (next.Done r) (ws ++ w ∷ []) ws (next.Done q)
 last_done t old new ws w r q h is made keep = record {
   right = λ meaning m i whole lead.
       let z = lead_pop t meaning ws w whole (reading_of r) lead in
@@ -184,14 +196,14 @@ read_begun t m node s ws e within = record {
   low = subst (AreLow t (level t node)) (sym e) tt;
 }
 
-pub read_on : (t : Table) (old now new : Memory) (node : ℕ) (s : Stack) (p q : Next) (ws vs : List Waiting) → ReadSoFar t old now node s p ws → GoesOn t now new p ws vs q → ReadSoFar t old new node s q vs
+pub read_on : (t : Table) (old now new : Memory) (node : ℕ) (s : Stack) (p q : Next) (ws vs : List Waiting) → ReadSoFar t old now node s p ws → ReadsOn t now new p ws vs q → ReadSoFar t old new node s q vs
 read_on t old now new node s p q ws vs so on = record {
   right = λ meaning h i. let z = so.right meaning h i in on.right meaning h z.0 (meaning node (stack_of s)) z.1;
   next_low = (on.low (level t node) so.next_low so.low).0;
   low = (on.low (level t node) so.next_low so.low).1;
 }
 
-pub read_done : (t : Table) (old now : Memory) (node : ℕ) (s : Stack) (p : Next) (ws : List Waiting) (r : Reading) → ReadSoFar t old now node s p ws → p ≡ next.Done r → ws ≡ [] → Reads t old now node (stack_of s) r
+pub read_done : (t : Table) (old now : Memory) (node : ℕ) (s : Stack) (p : Next) (ws : List Waiting) (r : Reading) → ReadSoFar t old now node s p ws → p ≡ next.Done r → ws ≡ [] → ReadsNode t old now node (stack_of s) r
 read_done t old now node s p ws r so is none = record {
   value = λ meaning h i.
       let l = (so.right meaning h i).1 in

@@ -3,7 +3,7 @@ use Rattle.std.proofs.Common.{◌≡◌, ℕ, zero, suc, ◌⊎◌, ◌+◌, inl
 use Rattle.std.proofs.Math.ListN.{set}
 use Rattle.std.proofs.lemmas.List.{length_push}
 use Rattle.meta_stack.specs.Flags.{is_set_at}
-use Rattle.meta_stack.specs.Leading.{IsOperand, LeadsToCall, to_call, by_body, by_operand, LeadsFrom, LeadsBack, Owns, AreOwned, AreLinks, AreLed, IsOnward, owner_in, leader_in, turned}
+use Rattle.meta_stack.specs.Leading.{IsOperandOf, LeadsToCall, to_call, by_body, by_operand, LeadsFrom, LeadsBack, Owns, AreOwned, AreLinks, AreLed, IsOnward, owner_in, leader_in, turned}
 use Rattle.meta_stack.specs.Table.{called_by, parts_of}
 use Rattle.meta_stack.specs.declared.calls.Link.{Link}
 use Rattle.meta_stack.specs.declared.table.Node.{Node}
@@ -48,11 +48,11 @@ module _ (ns : List Node) (roots : List ℕ) where
   pub root_owned : (r j : ℕ) → slice_get roots r ≡ Some j → Owns ns roots r j
   root_owned r j root s l = (j, root, l)
 
-  part_owned : (r i j : ℕ) (n : Node) → slice_get ns i ≡ Some n → IsOperand j (parts_of n.kind) → Owns ns roots r i → Owns ns roots r j
+  part_owned : (r i j : ℕ) (n : Node) → slice_get ns i ≡ Some n → IsOperandOf j (parts_of n.kind) → Owns ns roots r i → Owns ns roots r j
   part_owned r i j n at o own s l = own s (by_operand at o l)
 
-  pub parts_owned : (owners : List (Option ℕ)) (i r : ℕ) (n : Node) (ps : Parts) → AreOwned ns roots owners → owner_in owners i ≡ Some r → slice_get ns i ≡ Some n → parts_of n.kind ≡ ps → (j : ℕ) → IsOperand j ps → Owns ns roots r j
-  parts_owned owners i r n ps all o at e j h = part_owned r i j n at (subst (IsOperand j) (sym e) h) (all i r o)
+  pub parts_owned : (owners : List (Option ℕ)) (i r : ℕ) (n : Node) (ps : Parts) → AreOwned ns roots owners → owner_in owners i ≡ Some r → slice_get ns i ≡ Some n → parts_of n.kind ≡ ps → (j : ℕ) → IsOperandOf j ps → Owns ns roots r j
+  parts_owned owners i r n ps all o at e j h = part_owned r i j n at (subst (IsOperandOf j) (sym e) h) (all i r o)
 
   pub owned_link : (owners : List (Option ℕ)) (i r s : ℕ) (n : Node) → AreOwned ns roots owners → slice_get ns i ≡ Some n → owner_in owners i ≡ Some r → called_by n.kind ≡ Some s → LeadsFrom ns roots r s
   owned_link owners i r s n all at o c = all i r o s (to_call at (call_kind n.kind s c))

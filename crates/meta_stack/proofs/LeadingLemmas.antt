@@ -4,7 +4,7 @@ use Rattle.std.specs.Cmp.{unsigned_Decides}
 use Rattle.meta_nodes.specs.Spanned.{Unary, PosPred, NegPred, Opt, Rep, RepOnce, RepExact, RepMin, RepMax, RepMinMax, Push, Binary, Seq, Choice}
 use Rattle.meta_stack.specs.Answers.{answer, at_place, leading, some_part, Holds, holds, AreSound, AreClosed}
 use Rattle.meta_stack.specs.Flags.{is_set_at}
-use Rattle.meta_stack.specs.Leading.{IsOperand, LeadsToCall, to_call, by_body, by_operand, LeadsBack}
+use Rattle.meta_stack.specs.Leading.{IsOperandOf, LeadsToCall, to_call, by_body, by_operand, LeadsBack}
 use Rattle.meta_stack.specs.Numbering.{wrap_of, wrap_kind, both_kind, choice_of}
 use Rattle.meta_stack.specs.Table.{called_by, parts_of}
 use Rattle.meta_stack.specs.declared.facts.Question.TheVariants as asks
@@ -44,7 +44,7 @@ call_kind (is.Choice j k) r h = cc
 call_kind (is.Repeat j required optional endless) r h = cc
 
 -- a node with operands calls nothing itself
-pub no_call : (k : Kind) (j : ℕ) → IsOperand j (parts_of k) → called_by k ≡ None
+pub no_call : (k : Kind) (j : ℕ) → IsOperandOf j (parts_of k) → called_by k ≡ None
 no_call (is.Call s) j h = absurd h
 no_call is.Still j h = refl
 no_call is.Leaf j h = refl
@@ -65,19 +65,19 @@ pub set_place : (p : ℕ → Bool) (o : Option ℕ) → at_place p o ≡ true �
 set_place p None h = cc
 set_place p (Some j) h = (j, refl, h)
 
-set_part : (p : ℕ → Bool) (ps : Parts) → some_part p ps ≡ true → (j : ℕ) × IsOperand j ps × (p j ≡ true)
+set_part : (p : ℕ → Bool) (ps : Parts) → some_part p ps ≡ true → (j : ℕ) × IsOperandOf j ps × (p j ≡ true)
 set_part p parts.Nothing h = cc
 set_part p (parts.Inside j required optional endless) h = (j, refl, h)
 set_part p (parts.Both j k choice) h = elim (either (p j) (p k) h) [ inl a ↦ (j, inl refl, a) | inr b ↦ (k, inr refl, b) ]
 
-part_set : (p : ℕ → Bool) (ps : Parts) (j : ℕ) → IsOperand j ps → p j ≡ true → some_part p ps ≡ true
+part_set : (p : ℕ → Bool) (ps : Parts) (j : ℕ) → IsOperandOf j ps → p j ≡ true → some_part p ps ≡ true
 part_set p parts.Nothing j h e = absurd h
 part_set p (parts.Inside k required optional endless) j h e = ap p (sym h) ∙ e
 part_set p (parts.Both k l choice) j (inl h) e = first_on (p k) (p l) (ap p (sym h) ∙ e)
 part_set p (parts.Both k l choice) j (inr h) e = second_on (p k) (p l) (ap p (sym h) ∙ e)
 
 -- the operands of nodes
-pub wrap_operand : (j : ℕ) (f : Unary) → IsOperand j (parts_of (wrap_kind (wrap_of f) j))
+pub wrap_operand : (j : ℕ) (f : Unary) → IsOperandOf j (parts_of (wrap_kind (wrap_of f) j))
 wrap_operand j PosPred = refl
 wrap_operand j NegPred = refl
 wrap_operand j Opt = refl
@@ -89,7 +89,7 @@ wrap_operand j (RepMin n) = refl
 wrap_operand j (RepMax n) = refl
 wrap_operand j (RepMinMax m n) = refl
 
-pub both_operands : (j k : ℕ) (f : Binary) → IsOperand j (parts_of (both_kind (choice_of f) j k)) × IsOperand k (parts_of (both_kind (choice_of f) j k))
+pub both_operands : (j k : ℕ) (f : Binary) → IsOperandOf j (parts_of (both_kind (choice_of f) j k)) × IsOperandOf k (parts_of (both_kind (choice_of f) j k))
 both_operands j k Seq = (inl refl, inr refl)
 both_operands j k Choice = (inl refl, inr refl)
 

@@ -8,7 +8,7 @@ use Rattle.meta_stacks.specs.Reported.{ReportedIn}
 use Rattle.meta_stack.specs.Table.{HasParts, Inside, copies, level, nodes_of}
 use Rattle.meta_stack.specs.Memory.{Meaning}
 use Rattle.meta_stack.specs.Following.{seen_stacks}
-use Rattle.meta_stack.specs.Visiting.{Collects, IsAfter, IsStartOf, IsReport, FindsIn, StandsFor, LeftStand, ReportedLeft, AreLeftLow, Visits, VisitsOn, effort_left}
+use Rattle.meta_stack.specs.Visiting.{Collects, IsAfter, IsStartOf, IsReportedWhereItLoops, FindsIn, StandsFor, LeftStand, ReportedLeft, AreLeftLow, VisitsNodes, VisitsOn, effort_left}
 use Rattle.meta_stack.specs.Waiting.{IsLow, effort}
 use Rattle.meta_stack.specs.declared.table.Parts.TheVariants as parts
 use Rattle.meta_stack.specs.declared.table.Table.{Table}
@@ -127,7 +127,7 @@ visits_both t a b ws vs v w u choice found has n same inside items = record {
 
 -- a node with one operand
 pub visits_inside : (t : Table) (a b c : Memory) (ws vs : List Pending) (v w : Pending) (required optional : ℕ) (endless : Bool) (before after : List code_span.Span)
-    → HasParts t v.node (parts.Inside w.node required optional endless) → IsReport t a b v.node w.node endless v.stacks.items before after
+    → HasParts t v.node (parts.Inside w.node required optional endless) → IsReportedWhereItLoops t a b v.node w.node endless v.stacks.items before after
     → Collects t b c (λ meaning. IsStartOf t.limit (meaning w.node) (copies required optional endless)) v.stacks.items w.stacks.items → Inside t v.node w.node
     → vs ≡ ws ++ w ∷ [] → VisitsOn t a c (ws ++ v ∷ []) before vs after
 visits_inside t a b c ws vs v w required optional endless before after has l n inside items = record {
@@ -156,12 +156,12 @@ visits_inside t a b c ws vs v w required optional endless before after has l n i
 
 -- a node is visited so far
 pub record VisitedSoFar (t : Table) (old now : Memory) (v : Pending) (before : List code_span.Span) (ws : List Pending) (found : List code_span.Span) : Type 0 where
-  pub visits : Visits t old now (v ∷ []) before ws found
+  pub visits : VisitsNodes t old now (v ∷ []) before ws found
   pub low : AreLeftLow t (level t v.node) ws
 
 pub visit_begun : (t : Table) (m : Memory) (v : Pending) (found : List code_span.Span) (ws : List Pending) → ws ≡ v ∷ [] → v.node < length (nodes_of t) → VisitedSoFar t m m v found ws found
 visit_begun t m v found ws e within = record {
-  visits = subst (λ l. Visits t m m (v ∷ []) found l found) (sym e) (record { kept = λ meaning h i. i; value = λ meaning h i read nullable xs st. (xs, st, λ us r. (us, r, refl)) });
+  visits = subst (λ l. VisitsNodes t m m (v ∷ []) found l found) (sym e) (record { kept = λ meaning h i. i; value = λ meaning h i read nullable xs st. (xs, st, λ us r. (us, r, refl)) });
   low = subst (AreLeftLow t (level t v.node)) (sym e) (record { within = within; low = omega arith }, tt);
 }
 

@@ -10,7 +10,7 @@ use Rattle.meta_nodes.specs.Spanned as spanned
 use Rattle.meta_nodes.specs.Spanned.{Spanned, Leaf, Unary, PosPred, NegPred, Opt, Rep, RepOnce, RepExact, RepMin, RepMax, RepMinMax, Push, Binary, Seq, Choice}
 use Rattle.meta_nodes.specs.declared.node.ParserRule.{ParserRule}
 use Rattle.meta_stack.specs.Flags.{is_set_at}
-use Rattle.meta_stack.specs.Leading.{AreRanked, IsOperand}
+use Rattle.meta_stack.specs.Leading.{AreRanked, IsOperandOf}
 use Rattle.meta_stack.specs.Names.{grammar_of, kind_in, name_kind, last_place}
 use Rattle.meta_stack.specs.Numbering.{AreTabled, Fits, IsSimple, all_nodes, leaf_kind, text_kind, slice_kind, wrap_of, wrap_kind, both_kind, choice_of}
 use Rattle.meta_stack.specs.Table.{AreInside, IsOrdered, Inside, LeadsTo, Lies, followed_at, nodes_of, parts_of}
@@ -32,7 +32,7 @@ bodies_inside rules kind_of t h r i e =
 
 module _ (rules : List ParserRule) (t : Table) (tabled : AreTabled rules (kind_in (grammar_of rules)) (nodes_of t) t.roots.items)
     (ranked : AreRanked (nodes_of t) t.roots.items t.recursive.items t.ranks.items) where
-  inside : (i j : ℕ) (n : Node) → slice_get (nodes_of t) i ≡ Some n → j < i → IsOperand j (parts_of n.kind) → Inside t i j
+  inside : (i j : ℕ) (n : Node) → slice_get (nodes_of t) i ≡ Some n → j < i → IsOperandOf j (parts_of n.kind) → Inside t i j
   inside i j n e l o = record {
     below = l;
     within = (let w = slice_get_within (nodes_of t) i n e in omega arith);
@@ -111,10 +111,10 @@ module _ (rules : List ParserRule) (t : Table) (tabled : AreTabled rules (kind_i
 
   fit_lies : (i : ℕ) (n : Node) (x : Spanned) → slice_get (nodes_of t) i ≡ Some n → Fits (kind_in (grammar_of rules)) (all_nodes rules) i n.kind x → Lies t i n.kind
   fit_lies i n (Leaf s e) at f = subst (Lies t i) (sym f.1) (leaf_lies i n at e f.0 f.1)
-  fit_lies i n (spanned.One s g x) at f = subst (Lies t i) (sym f.3) (wrap_lies i f.0 g (inside i f.0 n at f.1 (subst (λ k. IsOperand f.0 (parts_of k)) (sym f.3) (wrap_operand f.0 g))))
+  fit_lies i n (spanned.One s g x) at f = subst (Lies t i) (sym f.3) (wrap_lies i f.0 g (inside i f.0 n at f.1 (subst (λ k. IsOperandOf f.0 (parts_of k)) (sym f.3) (wrap_operand f.0 g))))
   fit_lies i n (spanned.Two s g x y) at f =
       let both = both_operands f.0 f.1 g in
-      let there = λ (j : ℕ) (o : IsOperand j (parts_of (both_kind (choice_of g) f.0 f.1))). subst (λ k. IsOperand j (parts_of k)) (sym f.6) o in
+      let there = λ (j : ℕ) (o : IsOperandOf j (parts_of (both_kind (choice_of g) f.0 f.1))). subst (λ k. IsOperandOf j (parts_of k)) (sym f.6) o in
       subst (Lies t i) (sym f.6) (both_lies i f.0 f.1 g (inside i f.0 n at f.2 (there f.0 both.0)) (inside i f.1 n at f.3 (there f.1 both.1)))
 
   pub in_order : IsOrdered t

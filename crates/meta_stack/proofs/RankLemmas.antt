@@ -2,7 +2,7 @@
 use Rattle.std.proofs.Common.{◌≡◌, ◌↔◌, ℕ, zero, suc, ◌+◌, ◌<◌, ◌≤◌, ◌⊎◌, inl, inr, List, [], ◌∷◌, ◌++◌, Option, Some, None, Bool, true, false, slice_get, length, unwrap_or, replicate, refl, sym, ◌∙◌, ap, subst, arith}
 use Rattle.std.proofs.lemmas.Option.{slice_get_within, slice_get_past}
 use Rattle.meta_stack.specs.Flags.{is_set_at}
-use Rattle.meta_stack.specs.Leading.{IsOperand, LeadsToCall, to_call, by_body, by_operand, LeadsBack, rank_in, PartsFall, BodyFalls, CallFalls, AreRanked, AreCalls, AreRaised, bit}
+use Rattle.meta_stack.specs.Leading.{IsOperandOf, LeadsToCall, to_call, by_body, by_operand, LeadsBack, rank_in, PartsFall, BodyFalls, CallFalls, AreRanked, AreCalls, AreRaised, bit}
 use Rattle.meta_stack.specs.Table.{called_by, parts_of}
 use Rattle.meta_stack.specs.declared.table.Node.{Node}
 use Rattle.meta_stack.specs.declared.table.Parts.{Parts}
@@ -10,7 +10,7 @@ use Rattle.meta_stack.specs.declared.table.Parts.TheVariants as parts
 use Rattle.meta_stack.specs.declared.table.Kind.TheVariants as is
 use Rattle.meta_stack.proofs.LeadingLemmas.{call_kind}
 
-pub operand_falls : (ranks : List ℕ) (i : ℕ) (ps : Parts) → PartsFall ranks i ps → (j : ℕ) → IsOperand j ps → rank_in ranks j ≤ rank_in ranks i
+pub operand_falls : (ranks : List ℕ) (i : ℕ) (ps : Parts) → PartsFall ranks i ps → (j : ℕ) → IsOperandOf j ps → rank_in ranks j ≤ rank_in ranks i
 operand_falls ranks i parts.Nothing h j o = absurd o
 operand_falls ranks i (parts.Inside k required optional endless) h j o = subst (λ m. rank_in ranks m ≤ rank_in ranks i) (sym o) h
 operand_falls ranks i (parts.Both k l choice) h j (inl o) = subst (λ m. rank_in ranks m ≤ rank_in ranks i) (sym o) h.0
@@ -153,7 +153,7 @@ all_sought ns roots recursive ranks s = record {
     none_past : (r : ℕ) → length roots ≤ r → is_set_at recursive r ≡ true → ⊥
     none_past r w h = let e = ap (λ (o : Option Bool). unwrap_or o false) (slice_get_past recursive r (let t = s.told in omega arith)) in let f = sym e ∙ h in cc
 
-    operands : (i : ℕ) (ps : Parts) → ((j : ℕ) → IsOperand j ps → rank_in ranks j ≤ rank_in ranks i) → PartsFall ranks i ps
+    operands : (i : ℕ) (ps : Parts) → ((j : ℕ) → IsOperandOf j ps → rank_in ranks j ≤ rank_in ranks i) → PartsFall ranks i ps
     operands i parts.Nothing f = tt
     operands i (parts.Inside j required optional endless) f = f j refl
     operands i (parts.Both j k choice) f = (f j (inl refl), f k (inr refl))

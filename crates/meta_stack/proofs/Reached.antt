@@ -14,7 +14,7 @@ use Rattle.meta_stacks.specs.Recursion.{ReachesByCalls, by_call, by_calls}
 use Rattle.meta_stack.specs.Answers.{at_place}
 use Rattle.meta_stack.specs.Certain.{IsTableOf}
 use Rattle.meta_stack.specs.Flags.{is_set_at}
-use Rattle.meta_stack.specs.Leading.{IsOperand, LeadsToCall, to_call, by_body, by_operand, LeadsBack}
+use Rattle.meta_stack.specs.Leading.{IsOperandOf, LeadsToCall, to_call, by_body, by_operand, LeadsBack}
 use Rattle.meta_stack.specs.Names.{grammar_of, rule_said, last_place, kind_in, name_kind}
 use Rattle.meta_stack.specs.Numbering.{AreTabled, Fits, IsSimple, all_nodes, leaf_kind, text_kind, slice_kind, wrap_of, wrap_kind, both_kind, choice_of}
 use Rattle.meta_stack.specs.Table.{called_by, nodes_of, parts_of}
@@ -101,7 +101,7 @@ both_called Choice j k = refl
 not_called : (o : Option ℕ) (r : ℕ) → o ≡ None → o ≡ Some r → ⊥
 not_called o r e h = let f : None ≡ Some r = sym e ∙ h in cc
 
-pub only_operand : (f : Unary) (j k : ℕ) → IsOperand k (parts_of (wrap_kind (wrap_of f) j)) → k ≡ j
+pub only_operand : (f : Unary) (j k : ℕ) → IsOperandOf k (parts_of (wrap_kind (wrap_of f) j)) → k ≡ j
 only_operand PosPred j k h = h
 only_operand NegPred j k h = h
 only_operand Opt j k h = h
@@ -113,7 +113,7 @@ only_operand (RepMin n) j k h = h
 only_operand (RepMax n) j k h = h
 only_operand (RepMinMax m n) j k h = h
 
-pub either_operand : (f : Binary) (i j k : ℕ) → IsOperand k (parts_of (both_kind (choice_of f) i j)) → (k ≡ i) ⊎ (k ≡ j)
+pub either_operand : (f : Binary) (i j k : ℕ) → IsOperandOf k (parts_of (both_kind (choice_of f) i j)) → (k ≡ i) ⊎ (k ≡ j)
 either_operand Seq i j k h = h
 either_operand Choice i j k h = h
 
@@ -196,15 +196,15 @@ module _ (rules : List ParserRule) (ns : List Node) (roots : List ℕ) (tabled :
           ends_on c d (rule_said rule) s e p ends
   found (by_operand {i = i} {j = j} {s = s} {n = n} at o more) (Leaf t e) here =
       let f = fits_at i n (Leaf t e) at here in
-      absurd (subst (IsOperand j) (ap parts_of f.1 ∙ leaf_parts G e f.0) o)
+      absurd (subst (IsOperandOf j) (ap parts_of f.1 ∙ leaf_parts G e f.0) o)
   found (by_operand {i = i} {j = j} {s = s} {n = n} at o more) (spanned.One t g x) here =
       let f = fits_at i n (spanned.One t g x) at here in
-      let same = only_operand g f.0 j (subst (λ k. IsOperand j (parts_of k)) f.3 o) in
+      let same = only_operand g f.0 j (subst (λ k. IsOperandOf j (parts_of k)) f.3 o) in
       let (c, p, ends) = found more x (ap (slice_get all) same ∙ f.2) in
       (c, up_one g (without_spans x) c p, ends)
   found (by_operand {i = i} {j = j} {s = s} {n = n} at o more) (spanned.Two t g x y) here =
       let f = fits_at i n (spanned.Two t g x y) at here in
-      elim (either_operand g f.0 f.1 j (subst (λ k. IsOperand j (parts_of k)) f.6 o)) [
+      elim (either_operand g f.0 f.1 j (subst (λ k. IsOperandOf j (parts_of k)) f.6 o)) [
         | inl same ↦ let (c, p, ends) = found more x (ap (slice_get all) same ∙ f.4) in (c, up_first g (without_spans x) (without_spans y) c p, ends)
         | inr same ↦ let (c, p, ends) = found more y (ap (slice_get all) same ∙ f.5) in (c, up_second g (without_spans x) (without_spans y) c p, ends)
       ]
@@ -218,15 +218,15 @@ module _ (rules : List ParserRule) (ns : List Node) (roots : List ℕ) (tabled :
   reach (spanned.One t g x) i here c p s f =
       let (n, at, fit) = tabled.nodes.fit i (spanned.One t g x) here in
       let j = fit.fits.0 in
-      by_operand at (subst (λ k. IsOperand j (parts_of k)) (sym fit.fits.3) (wrap_operand j g)) (reach x j fit.fits.2 c (inner_part g (without_spans x) c p) s f)
+      by_operand at (subst (λ k. IsOperandOf j (parts_of k)) (sym fit.fits.3) (wrap_operand j g)) (reach x j fit.fits.2 c (inner_part g (without_spans x) c p) s f)
   reach (spanned.Two t g x y) i here c p s f =
       let (n, at, fit) = tabled.nodes.fit i (spanned.Two t g x y) here in
       let j = fit.fits.0 in
       let k = fit.fits.1 in
       let both = both_operands j k g in
       elim (side_part g (without_spans x) (without_spans y) c p) [
-        | inl q ↦ by_operand at (subst (λ z. IsOperand j (parts_of z)) (sym fit.fits.6) both.0) (reach x j fit.fits.4 c q s f)
-        | inr q ↦ by_operand at (subst (λ z. IsOperand k (parts_of z)) (sym fit.fits.6) both.1) (reach y k fit.fits.5 c q s f)
+        | inl q ↦ by_operand at (subst (λ z. IsOperandOf j (parts_of z)) (sym fit.fits.6) both.0) (reach x j fit.fits.4 c q s f)
+        | inr q ↦ by_operand at (subst (λ z. IsOperandOf k (parts_of z)) (sym fit.fits.6) both.1) (reach y k fit.fits.5 c q s f)
       ]
 
   starts : {n d : Text} → ReachesByCalls G n d → (q : Rule) × (rule_of G n ≡ Some q)

@@ -12,7 +12,7 @@ use Rattle.meta_stack.specs.Flags.{is_set_at}
 use Rattle.meta_stack.specs.Table.{IsMeaning, HasParts, copies, nodes_of, parts_of}
 use Rattle.meta_stack.specs.Memory.{Meaning, IsRight}
 use Rattle.meta_stack.specs.Following.{seen_stacks}
-use Rattle.meta_stack.specs.Visiting.{Collects, IsAfter, IsStartOf, IsReport, SomeLoops, StandsFor}
+use Rattle.meta_stack.specs.Visiting.{Collects, IsAfter, IsStartOf, IsReportedWhereItLoops, SomeLoops, StandsFor}
 use Rattle.meta_stacks.specs.declared.stack.Stack.{Stack}
 use Rattle.meta_stack.specs.declared.table.Node.{Node}
 use Rattle.meta_stack.specs.declared.table.Parts.{Parts}
@@ -78,7 +78,7 @@ module _ (t : Table) (node : ℕ) (ss : List Stack) (meaning : Meaning) (read : 
       )
 
   pub inside_reports : (a b c : Memory) (body required optional : ℕ) (endless : Bool) (next : List Stack) (before after : List code_span.Span)
-      → HasParts t node (parts.Inside body required optional endless) → IsReport t a b node body endless ss before after
+      → HasParts t node (parts.Inside body required optional endless) → IsReportedWhereItLoops t a b node body endless ss before after
       → Collects t b c (λ meaning. IsStartOf t.limit (meaning body) (copies required optional endless)) ss next → IsMeaning t meaning → IsRight meaning a
       → (x : Spanned) → StandsFor t meaning read nullable node x
       → (y : Spanned) × StandsFor t meaning read nullable body y

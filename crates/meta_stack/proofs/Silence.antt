@@ -17,7 +17,7 @@ use Rattle.meta_stacks.specs.Reported.{ReportedIn, is_endless, is_choice}
 use Rattle.meta_stacks.specs.Reports.{reading_in, skips_in}
 use Rattle.meta_stack.specs.Answers.{AreAnswers, at_place, some_part, still_kind}
 use Rattle.meta_stack.specs.Flags.{is_set_at}
-use Rattle.meta_stack.specs.Leading.{IsOperand}
+use Rattle.meta_stack.specs.Leading.{IsOperandOf}
 use Rattle.meta_stack.specs.Names.{grammar_of, rule_said, last_place, kind_in, name_kind}
 use Rattle.meta_stack.specs.Numbering.{AreTabled, Fits, IsSimple, all_nodes, is_empty_text, leaf_kind, text_kind, slice_kind, wrap_of, wrap_kind, both_kind, choice_of}
 use Rattle.meta_stack.specs.Reportable.{AreBehind, AreReportable, AreSilent, may_be_still, may_loop, slice_may_be_still, TellLoops}
@@ -58,7 +58,7 @@ set_last [] b (suc j) h = absurd (omega arith)
 set_last (a ∷ flags) b zero h = absurd (omega arith)
 set_last (a ∷ flags) b (suc j) h = set_last flags b j (omega arith)
 
-same_parts : (p q : ℕ → Bool) (ps : Parts) → ((j : ℕ) → IsOperand j ps → p j ≡ q j) → some_part p ps ≡ some_part q ps
+same_parts : (p q : ℕ → Bool) (ps : Parts) → ((j : ℕ) → IsOperandOf j ps → p j ≡ q j) → some_part p ps ≡ some_part q ps
 same_parts p q parts.Nothing f = refl
 same_parts p q (parts.Inside j required optional endless) f = f j refl
 same_parts p q (parts.Both j k choice) f = ap₂ (λ y z. y || z) (f j (inl refl)) (f k (inr refl))
@@ -89,16 +89,16 @@ module _ (rules : List ParserRule) (ns : List Node) (roots : List ℕ) (tabled :
       let (m, is, fit) = tabled.nodes.fit i x here in
       subst (λ z. Fits (kind_in G) all i z.kind x) (same_item (slice_get ns i) m n is at) fit.fits
 
-  below : (i : ℕ) (n : Node) (x : Spanned) → slice_get ns i ≡ Some n → slice_get all i ≡ Some x → (j : ℕ) → IsOperand j (parts_of n.kind) → j < i
+  below : (i : ℕ) (n : Node) (x : Spanned) → slice_get ns i ≡ Some n → slice_get all i ≡ Some x → (j : ℕ) → IsOperandOf j (parts_of n.kind) → j < i
   below i n (Leaf s e) at here j o =
       let f = fits_at i n (Leaf s e) at here in
-      absurd (subst (IsOperand j) (ap parts_of f.1 ∙ leaf_parts G e f.0) o)
+      absurd (subst (IsOperandOf j) (ap parts_of f.1 ∙ leaf_parts G e f.0) o)
   below i n (spanned.One s g x) at here j o =
       let f = fits_at i n (spanned.One s g x) at here in
-      subst (λ k. k < i) (sym (only_operand g f.0 j (subst (λ k. IsOperand j (parts_of k)) f.3 o))) f.1
+      subst (λ k. k < i) (sym (only_operand g f.0 j (subst (λ k. IsOperandOf j (parts_of k)) f.3 o))) f.1
   below i n (spanned.Two s g x y) at here j o =
       let f = fits_at i n (spanned.Two s g x y) at here in
-      elim (either_operand g f.0 f.1 j (subst (λ k. IsOperand j (parts_of k)) f.6 o)) [
+      elim (either_operand g f.0 f.1 j (subst (λ k. IsOperandOf j (parts_of k)) f.6 o)) [
         | inl e ↦ subst (λ k. k < i) (sym e) f.2
         | inr e ↦ subst (λ k. k < i) (sym e) f.3
       ]

@@ -23,7 +23,7 @@ use Rattle.meta_stack.specs.Names.{grammar_of, rule_said, last_place, kind_in, n
 use Rattle.meta_stack.specs.Numbering.{AreTabled, IsNode, Fits, IsSimple, all_nodes, leaf_kind, text_kind, slice_kind, wrap_of, wrap_kind, both_kind, choice_of}
 use Rattle.meta_stack.specs.Table.{IsMeaning, IsOrdered, Lies, LeadsTo, Called, Inside, node_reading, call_reading, followed_at, nodes_of, parts_of, copies, rank_at}
 use Rattle.meta_stack.specs.Told.{is_flagged}
-use Rattle.meta_stack.specs.Visiting.{StandsFor, Does}
+use Rattle.meta_stack.specs.Visiting.{StandsFor, DoesTheSame}
 use Rattle.meta_stack.specs.declared.table.Kind.{Kind}
 use Rattle.meta_stack.specs.declared.table.Kind.TheVariants as is
 use Rattle.meta_stack.specs.declared.table.Node.{Node}
@@ -258,12 +258,12 @@ module _ (rules : List ParserRule) (t : Table) (tabled : AreTabled rules (kind_i
   as_rule (suc k) n a = refl
 
   -- how a name is read: as a builtin, as one that isn't followed, or as the body of a rule
-  pub data Reads (n : Text) : Type 0 where
-    as_builtin : rule_of G n ≡ None → last_place G n ≡ None → Reads n
-    as_any : {q : Rule} {r : ℕ} → rule_of G n ≡ Some q → last_place G n ≡ Some r → followed_at t r ≡ None → flagged n ≡ true → Reads n
-    as_body : {r j : ℕ} (rule : ParserRule) → rule_of G n ≡ Some (rule_said rule) → last_place G n ≡ Some r → followed_at t r ≡ Some j → flagged n ≡ false → slice_get all j ≡ Some (view rule.node) → Reads n
+  pub data ReadsNode (n : Text) : Type 0 where
+    as_builtin : rule_of G n ≡ None → last_place G n ≡ None → ReadsNode n
+    as_any : {q : Rule} {r : ℕ} → rule_of G n ≡ Some q → last_place G n ≡ Some r → followed_at t r ≡ None → flagged n ≡ true → ReadsNode n
+    as_body : {r j : ℕ} (rule : ParserRule) → rule_of G n ≡ Some (rule_said rule) → last_place G n ≡ Some r → followed_at t r ≡ Some j → flagged n ≡ false → slice_get all j ≡ Some (view rule.node) → ReadsNode n
 
-  reads_rule : (n : Text) (r : ℕ) (rule : ParserRule) → last_place G n ≡ Some r → slice_get rules r ≡ Some rule → rule_of G n ≡ Some (rule_said rule) → Reads n
+  reads_rule : (n : Text) (r : ℕ) (rule : ParserRule) → last_place G n ≡ Some r → slice_get rules r ≡ Some rule → rule_of G n ≡ Some (rule_said rule) → ReadsNode n
   reads_rule n r rule l at e =
       let (j, root) = got_like rules t.roots.items r rule at (sym tabled.roots.alike) in
       go (is_set_at t.recursive.items r) refl j root
@@ -271,14 +271,14 @@ module _ (rules : List ParserRule) (t : Table) (tabled : AreTabled rules (kind_i
       flag : flagged n ≡ is_set_at t.recursive.items r
       flag = ap (at_place (is_set_at t.recursive.items)) l
 
-      go : (b : Bool) → is_set_at t.recursive.items r ≡ b → (j : ℕ) → slice_get t.roots.items r ≡ Some j → Reads n
+      go : (b : Bool) → is_set_at t.recursive.items r ≡ b → (j : ℕ) → slice_get t.roots.items r ≡ Some j → ReadsNode n
       go true h j root = as_any e l (ap (λ b. if b then None else slice_get t.roots.items r) h) (flag ∙ h)
       go false h j root = as_body rule e l (ap (λ b. if b then None else slice_get t.roots.items r) h ∙ root) (flag ∙ h) (tabled.roots.lie r j rule at root)
 
-  pub reads_of : (n : Text) → Reads n
+  pub reads_of : (n : Text) → ReadsNode n
   reads_of n = go (last_place G n) refl (resolved rules n)
     where
-      go : (q : Option ℕ) → last_place G n ≡ q → Named rules n q → Reads n
+      go : (q : Option ℕ) → last_place G n ≡ q → Named rules n q → ReadsNode n
       go q l (absent e) = as_builtin e l
       go q l (named {r = r} rule at e) = reads_rule n r rule l at e
 
@@ -294,7 +294,7 @@ module _ (rules : List ParserRule) (t : Table) (tabled : AreTabled rules (kind_i
   -- names in a body are read alike at two depths, where those of lower ranks are
   agree_by : (rule : ParserRule) (j p q : ℕ) → slice_get all j ≡ Some (view rule.node) → rank_at t j ≤ p → rank_at t j ≤ q
       → ((c : Text) (other : ParserRule) (i : ℕ) → rule_of G c ≡ Some (rule_said other) → flagged c ≡ false → slice_get all i ≡ Some (view other.node) → rank_at t i < rank_at t j → At p c ≡ At q c)
-      → (c : Text) → Part (without_spans (view rule.node)) (Ident c) → Reads c → At p c ≡ At q c
+      → (c : Text) → Part (without_spans (view rule.node)) (Ident c) → ReadsNode c → At p c ≡ At q c
   agree_by rule j p q here l k f c w (as_builtin d z) = fun_ext (λ a. builtin_at p c d a ∙ sym (builtin_at q c d a))
   agree_by rule j p q here l k f c w (as_any {q = s} d z o g) = fun_ext (λ a. any_at p c s d g a ∙ sym (any_at q c s d g a))
   agree_by rule j p q here l k f c w (as_body {r = r} {j = i} other d z o g there) =
@@ -335,7 +335,7 @@ module _ (rules : List ParserRule) (t : Table) (tabled : AreTabled rules (kind_i
   name_means : (n : Text) (i : ℕ) → Lies t i (kind_in G n) → (a : AbstractStack) → node_reading t meaning (kind_in G n) a ≡ At deep n a
   name_means n i h a = go (reads_of n)
     where
-      go : Reads n → node_reading t meaning (kind_in G n) a ≡ At deep n a
+      go : ReadsNode n → node_reading t meaning (kind_in G n) a ≡ At deep n a
       go (as_builtin e l) =
           ap (λ q. node_reading t meaning (name_kind n q) a) l
           ∙ (ap (λ k. node_reading t meaning k a) (builtin_does n) ∙ (by_reads t meaning (builtin_of n) a ∙ sym (builtin_at deep n e a)))
@@ -387,7 +387,7 @@ module _ (rules : List ParserRule) (t : Table) (tabled : AreTabled rules (kind_i
 
   -- 4. each node of a body stands in the table for itself
   module _ (nullable : Spanned → Bool) (null_at : (i : ℕ) (x : Spanned) → slice_get all i ≡ Some x → is_set_at t.nullable.items i ≡ nullable x) where
-    does : (i : ℕ) (x : Spanned) → slice_get all i ≡ Some x → Does t meaning read nullable i x
+    does : (i : ℕ) (x : Spanned) → slice_get all i ≡ Some x → DoesTheSame t meaning read nullable i x
     does i x here = record { reads = meaning_is i x here; null = null_at i x here }
 
     pub stands : (x : Spanned) (i : ℕ) → slice_get all i ≡ Some x → StandsFor t meaning read nullable i x

@@ -5,11 +5,11 @@ use Rattle.std.proofs.lemmas.List.{map_push}
 use Rattle.std.proofs.lemmas.Option.{slice_get_within}
 use Rattle.meta_stacks.specs.Stack.{AbstractStack, In, is_among}
 use Rattle.meta_stack.specs.Table.{IsMeaning}
-use Rattle.meta_stack.specs.Memory.{Meaning, IsRight, Gives}
+use Rattle.meta_stack.specs.Memory.{Meaning, IsRight, AnswersRightly}
 use Rattle.meta_stack.specs.Searching.{itself}
 use Rattle.meta_stack.specs.Following.{seen_stacks}
 use Rattle.meta_stacks.specs.Reading.{loops}
-use Rattle.meta_stack.specs.Visiting.{Adds, AddsAll, AddsEach, AddsWhere, Collects, Tells}
+use Rattle.meta_stack.specs.Visiting.{AddsStack, AddsAll, AddsEach, AddsWhere, Collects, FindsLoop}
 use Rattle.meta_stacks.specs.Views.{stack_of, possible}
 use Rattle.meta_stacks.specs.declared.stack.Stack.{Stack}
 use Rattle.meta_stacks.specs.declared.reading.Walk.{Walk}
@@ -35,7 +35,7 @@ only_one : {A : Type 0} (x y : A) → In x (y ∷ []) → x ≡ y
 only_one x y (inl e) = e
 only_one x y (inr i) = absurd i
 
-pub adds_new : (old new : List Stack) (s : Stack) → new ≡ old ++ s ∷ [] → Adds old new (stack_of s)
+pub adds_new : (old new : List Stack) (s : Stack) → new ≡ old ++ s ∷ [] → AddsStack old new (stack_of s)
 adds_new old new s e =
     let m : seen_stacks new ≡ seen_stacks old ++ stack_of s ∷ [] = ap seen_stacks e ∙ map_push stack_of old s in record {
       kept = λ b i. subst (λ l. In b l) (sym m) (in_left b (seen_stacks old) (stack_of s ∷ []) i);
@@ -43,7 +43,7 @@ adds_new old new s e =
       others = λ b i. elim (in_either b (seen_stacks old) (stack_of s ∷ []) (subst (λ l. In b l) m i)) [ inl j ↦ inl j | inr j ↦ inr (only_one b (stack_of s) j) ];
     }
 
-pub adds_none : (ss : List Stack) (s : Stack) → is_among (seen_stacks ss) (stack_of s) ≡ true → Adds ss ss (stack_of s)
+pub adds_none : (ss : List Stack) (s : Stack) → is_among (seen_stacks ss) (stack_of s) ≡ true → AddsStack ss ss (stack_of s)
 adds_none ss s e = record { kept = λ b i. i; added = among (seen_stacks ss) (stack_of s) e; others = λ b i. inl i }
 
 pub in_at : (ss : List Stack) (j : ℕ) (s : Stack) → slice_get ss j ≡ Some s → In (stack_of s) (seen_stacks ss)
@@ -68,7 +68,7 @@ pub record AddsTo (n : ℕ) (old new : List Stack) (trace : List Walk) : Type 0 
   pub added : (j : ℕ) (w : Walk) (b : AbstractStack) → j < n → slice_get trace j ≡ Some w → possible w.here ≡ Some b → In b (seen_stacks new)
   pub others : (b : AbstractStack) → In b (seen_stacks new) → In b (seen_stacks old) ⊎ ((j : ℕ) × (w : Walk) × (slice_get trace j ≡ Some w) × (possible w.here ≡ Some b))
 
-pub walk_added : (n : ℕ) (old mid new : List Stack) (trace : List Walk) (w : Walk) (s : Stack) → AddsTo n old mid trace → slice_get trace n ≡ Some w → w.here ≡ Some s → Adds mid new (stack_of s) → AddsTo (n + 1) old new trace
+pub walk_added : (n : ℕ) (old mid new : List Stack) (trace : List Walk) (w : Walk) (s : Stack) → AddsTo n old mid trace → slice_get trace n ≡ Some w → w.here ≡ Some s → AddsStack mid new (stack_of s) → AddsTo (n + 1) old new trace
 walk_added n old mid new trace w s h g e a = record {
   kept = λ b i. a.kept b (h.kept b i);
   added = λ j v b l i k. elim (below_or_at j n l) [
@@ -100,7 +100,7 @@ pub record AddsUpTo (n : ℕ) (old new more : List Stack) : Type 0 where
   pub added : (j : ℕ) (s : Stack) → j < n → slice_get more j ≡ Some s → In (stack_of s) (seen_stacks new)
   pub others : (b : AbstractStack) → In b (seen_stacks new) → In b (seen_stacks old) ⊎ In b (seen_stacks more)
 
-pub stack_added : (n : ℕ) (old mid new more : List Stack) (s : Stack) → AddsUpTo n old mid more → slice_get more n ≡ Some s → Adds mid new (stack_of s) → AddsUpTo (n + 1) old new more
+pub stack_added : (n : ℕ) (old mid new more : List Stack) (s : Stack) → AddsUpTo n old mid more → slice_get more n ≡ Some s → AddsStack mid new (stack_of s) → AddsUpTo (n + 1) old new more
 stack_added n old mid new more s h g a = record {
   kept = λ b i. a.kept b (h.kept b i);
   added = λ j v l i. elim (below_or_at j n l) [
@@ -153,7 +153,7 @@ pub after_one : (t : Table) (old new : Memory) (P : Meaning → AbstractStack �
     → ((meaning : Meaning) → IsMeaning t meaning → IsRight meaning old → IsRight meaning new)
     → ((meaning : Meaning) → IsMeaning t meaning → IsRight meaning old → (b : AbstractStack) → P meaning b → possible q ≡ Some b)
     → ((meaning : Meaning) → IsMeaning t meaning → IsRight meaning old → (b : AbstractStack) → possible q ≡ Some b → P meaning b)
-    → ((s : Stack) → q ≡ Some s → Adds front back (stack_of s)) → (q ≡ None → back ≡ front) → AddsWhere t old new P front back
+    → ((s : Stack) → q ≡ Some s → AddsStack front back (stack_of s)) → (q ≡ None → back ≡ front) → AddsWhere t old new P front back
 after_one t old new P front back (Some s) k to of f g =
     let a = f s refl in record {
       kept = k;
@@ -175,14 +175,14 @@ pub record NoLoopTo (n : ℕ) (t : Table) (old new : Memory) (body : ℕ) (ss : 
   pub none : (meaning : Meaning) → IsMeaning t meaning → IsRight meaning old → (j : ℕ) (s : Stack) → j < n → slice_get ss j ≡ Some s → loops t.turns (meaning body) (stack_of s) ≡ false
 
 module _ (n : ℕ) (t : Table) (old mid new : Memory) (body : ℕ) (ss : List Stack) (s : Stack) (h : NoLoopTo n t old mid body ss) (g : slice_get ss n ≡ Some s) where
-  pub loop_found : (b : Bool) → Gives itself (λ meaning. loops t.turns (meaning body) (stack_of s)) t mid new b → b ≡ true → Tells t old new body ss true
+  pub loop_found : (b : Bool) → AnswersRightly itself (λ meaning. loops t.turns (meaning body) (stack_of s)) t mid new b → b ≡ true → FindsLoop t old new body ss true
   loop_found b v e = record {
     kept = λ meaning k i. v.kept meaning k (h.kept meaning k i);
     yes = λ meaning k i x. (stack_of s, in_at ss n s g, sym (v.value meaning k (h.kept meaning k i)) ∙ e);
     no = λ meaning k i x. cc;
   }
 
-  pub no_loop_more : (b : Bool) → Gives itself (λ meaning. loops t.turns (meaning body) (stack_of s)) t mid new b → b ≡ false → NoLoopTo (n + 1) t old new body ss
+  pub no_loop_more : (b : Bool) → AnswersRightly itself (λ meaning. loops t.turns (meaning body) (stack_of s)) t mid new b → b ≡ false → NoLoopTo (n + 1) t old new body ss
   no_loop_more b v e = record {
     kept = λ meaning k i. v.kept meaning k (h.kept meaning k i);
     none = λ meaning k i j u l x. elim (below_or_at j n l) [
@@ -192,7 +192,7 @@ module _ (n : ℕ) (t : Table) (old mid new : Memory) (body : ℕ) (ss : List St
     ];
   }
 
-pub no_loop_at_all : (n : ℕ) (t : Table) (old new : Memory) (body : ℕ) (ss : List Stack) → length ss ≤ n → NoLoopTo n t old new body ss → Tells t old new body ss false
+pub no_loop_at_all : (n : ℕ) (t : Table) (old new : Memory) (body : ℕ) (ss : List Stack) → length ss ≤ n → NoLoopTo n t old new body ss → FindsLoop t old new body ss false
 no_loop_at_all n t old new body ss l h = record {
   kept = h.kept;
   yes = λ meaning k i x. cc;

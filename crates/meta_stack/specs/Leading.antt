@@ -8,10 +8,10 @@ use Rattle.meta_stack.specs.declared.table.Node.{Node}
 use Rattle.meta_stack.specs.declared.table.Parts.{Parts}
 use Rattle.meta_stack.specs.declared.table.Parts.TheVariants as parts
 
-abbrev pub IsOperand : ℕ → Parts → Type 0
-IsOperand j parts.Nothing = ⊥
-IsOperand j (parts.Inside k required optional endless) = j ≡ k
-IsOperand j (parts.Both k l choice) = (j ≡ k) ⊎ (j ≡ l)
+abbrev pub IsOperandOf : ℕ → Parts → Type 0
+IsOperandOf j parts.Nothing = ⊥
+IsOperandOf j (parts.Inside k required optional endless) = j ≡ k
+IsOperandOf j (parts.Both k l choice) = (j ≡ k) ⊎ (j ≡ l)
 
 module _ (ns : List Node) (roots : List ℕ) where
   -- a rule is called in a node, or in a body that is called there
@@ -19,7 +19,7 @@ module _ (ns : List Node) (roots : List ℕ) where
     to_call : {i r : ℕ} {n : Node} → slice_get ns i ≡ Some n → n.kind ≡ is.Call r → LeadsToCall i r
     by_body : {i j r s : ℕ} {n : Node} → slice_get ns i ≡ Some n → n.kind ≡ is.Call r
         → slice_get roots r ≡ Some j → LeadsToCall j s → LeadsToCall i s
-    by_operand : {i j s : ℕ} {n : Node} → slice_get ns i ≡ Some n → IsOperand j (parts_of n.kind)
+    by_operand : {i j s : ℕ} {n : Node} → slice_get ns i ≡ Some n → IsOperandOf j (parts_of n.kind)
         → LeadsToCall j s → LeadsToCall i s
 
   -- the body of one rule leads to a call of another

@@ -23,14 +23,14 @@ IsRight meaning m = (k : ℕ) (r : Reading) → get nat_eq m.known k ≡ Some r 
     → key_of node s ≡ k → reading_of r ≡ meaning node (stack_of s)
 
 -- the answer is this, and what is remembered stays right
-pub record Gives {A B : Type 0} (view : A → B) (wanted : Meaning → B) (t : Table) (old new : Memory)
+pub record AnswersRightly {A B : Type 0} (view : A → B) (wanted : Meaning → B) (t : Table) (old new : Memory)
     (x : A) : Type 0 where
   pub value : (meaning : Meaning) → IsMeaning t meaning → IsRight meaning old → view x ≡ wanted meaning
   pub kept : (meaning : Meaning) → IsMeaning t meaning → IsRight meaning old → IsRight meaning new
 
 -- a node was read
-abbrev pub Reads : Table → Memory → Memory → ℕ → AbstractStack → Reading → Type 0
-Reads t old new node a r = Gives reading_of (λ meaning. meaning node a) t old new r
+abbrev pub ReadsNode : Table → Memory → Memory → ℕ → AbstractStack → Reading → Type 0
+ReadsNode t old new node a r = AnswersRightly reading_of (λ meaning. meaning node a) t old new r
 
 abbrev pub copy_of : Bool → Copy
 copy_of true = Required
@@ -38,5 +38,5 @@ copy_of false = Optional
 
 -- one copy was followed
 abbrev pub Steps : Table → Memory → Memory → ℕ → Bool → says.Walk → Walk → Type 0
-Steps t old new node required w v = Gives walk_of (λ meaning. onward t.limit (meaning node)
+Steps t old new node required w v = AnswersRightly walk_of (λ meaning. onward t.limit (meaning node)
     (copy_of required) w.here w) t old new v

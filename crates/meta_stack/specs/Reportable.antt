@@ -10,7 +10,7 @@ use Rattle.meta_nodes.specs.declared.node.ParserRule.{ParserRule}
 use Rattle.meta_stacks.specs.Reported.{ReportedFrom}
 use Rattle.meta_stack.specs.Answers.{AreAnswers, some_part}
 use Rattle.meta_stack.specs.Flags.{is_set_at}
-use Rattle.meta_stack.specs.Leading.{IsOperand}
+use Rattle.meta_stack.specs.Leading.{IsOperandOf}
 use Rattle.meta_stack.specs.Certain.{IsTableOf}
 use Rattle.meta_stack.specs.Memory.{Meaning, IsRight}
 use Rattle.meta_stack.specs.Names.{grammar_of}
@@ -61,7 +61,7 @@ may_loop p (parts.Both j k choice) = false
 
 -- the operands of each node stand before it
 abbrev pub AreBehind : List Node → Type 0
-AreBehind ns = (i : ℕ) (n : Node) → slice_get ns i ≡ Some n → (j : ℕ) → IsOperand j (parts_of n.kind) → j < i
+AreBehind ns = (i : ℕ) (n : Node) → slice_get ns i ≡ Some n → (j : ℕ) → IsOperandOf j (parts_of n.kind) → j < i
 
 -- each flag tells whether the node is such a repetition, or has one inside
 abbrev pub TellLoops : List Node → List Bool → List Bool → Type 0

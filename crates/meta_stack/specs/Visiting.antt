@@ -23,7 +23,7 @@ use Rattle.meta_stack.specs.declared.visits.Pending.{Pending}
 use Rattle.meta_base.specs.declared.runtime.places.Span as code_span
 
 -- a stack is added to others
-pub record Adds (old new : List Stack) (a : AbstractStack) : Type 0 where
+pub record AddsStack (old new : List Stack) (a : AbstractStack) : Type 0 where
   pub kept : (b : AbstractStack) → In b (seen_stacks old) → In b (seen_stacks new)
   pub added : In a (seen_stacks new)
   pub others : (b : AbstractStack) → In b (seen_stacks new) → In b (seen_stacks old) ⊎ (b ≡ a)
@@ -70,7 +70,7 @@ abbrev pub IsStartOf : ℕ → (AbstractStack → says.Reading) → List Copy �
 IsStartOf limit step cs a b = In b (starts limit step cs (Some a))
 
 -- whether the loop search finds one from some of the stacks
-pub record Tells (t : Table) (old new : Memory) (body : ℕ) (ss : List Stack) (found : Bool) : Type 0 where
+pub record FindsLoop (t : Table) (old new : Memory) (body : ℕ) (ss : List Stack) (found : Bool) : Type 0 where
   pub kept : (meaning : Meaning) → IsMeaning t meaning → IsRight meaning old → IsRight meaning new
   pub yes : (meaning : Meaning) → IsMeaning t meaning → IsRight meaning old → found ≡ true
       → (a : AbstractStack) × In a (seen_stacks ss) × (loops t.turns (meaning body) a ≡ true)
@@ -82,7 +82,7 @@ SomeLoops t meaning body ss = (a : AbstractStack) × In a (seen_stacks ss)
     × (loops t.turns (meaning body) a ≡ true)
 
 -- a repetition was reported, or not
-pub record IsReport (t : Table) (old new : Memory) (node body : ℕ) (endless : Bool) (ss : List Stack)
+pub record IsReportedWhereItLoops (t : Table) (old new : Memory) (node body : ℕ) (endless : Bool) (ss : List Stack)
     (before after : List code_span.Span) : Type 0 where
   pub kept : (meaning : Meaning) → IsMeaning t meaning → IsRight meaning old → IsRight meaning new
   pub value : (meaning : Meaning) → IsMeaning t meaning → IsRight meaning old → (n : Node)
@@ -95,7 +95,7 @@ pub record IsReport (t : Table) (old new : Memory) (node body : ℕ) (endless : 
 module _ (t : Table) (meaning : Meaning) (read : Spanned → AbstractStack → says.Reading)
     (nullable : Spanned → Bool) where
   -- a node of the table does what a node of an expression does
-  pub record Does (j : ℕ) (x : Spanned) : Type 0 where
+  pub record DoesTheSame (j : ℕ) (x : Spanned) : Type 0 where
     pub reads : meaning j ≡ read x
     pub null : is_set_at t.nullable.items j ≡ nullable x
 
@@ -105,10 +105,10 @@ module _ (t : Table) (meaning : Meaning) (read : Spanned → AbstractStack → s
       ≡ parts.Nothing)
   StandsFor i (One s f x) = (n : Node) × (j : ℕ) × (r : ℕ) × (o : ℕ) × (slice_get (nodes_of t) i ≡ Some n)
       × (parts_of n.kind ≡ parts.Inside j r o (is_endless f))
-      × (copies r o (is_endless f) ≡ copies_of f) × (piece_of n.span ≡ s) × Does j x × StandsFor j x
+      × (copies r o (is_endless f) ≡ copies_of f) × (piece_of n.span ≡ s) × DoesTheSame j x × StandsFor j x
   StandsFor i (Two s f x y) = (n : Node) × (j : ℕ) × (k : ℕ) × (slice_get (nodes_of t) i ≡ Some n)
       × (parts_of n.kind ≡ parts.Both j k (is_choice f))
-      × Does j x × StandsFor j x × StandsFor k y
+      × DoesTheSame j x × StandsFor j x × StandsFor k y
 
   -- nodes of the table stand for these nodes of expressions
   abbrev pub RootsStand : List ℕ → List Spanned → Type 0
@@ -172,7 +172,7 @@ AreLeftLow t l (v ∷ vs) = IsLow t l v.node × AreLeftLow t l vs
 
 -- nodes were visited: the reports in what is left now follow those that were found, and with these they are the
 -- reports in what was left before
-pub record Visits (t : Table) (old new : Memory) (ws : List Pending) (before : List code_span.Span)
+pub record VisitsNodes (t : Table) (old new : Memory) (ws : List Pending) (before : List code_span.Span)
     (vs : List Pending) (after : List code_span.Span) : Type 0 where
   pub kept : (meaning : Meaning) → IsMeaning t meaning → IsRight meaning old → IsRight meaning new
   pub value : (meaning : Meaning) → IsMeaning t meaning → IsRight meaning old
@@ -186,6 +186,6 @@ pub record Visits (t : Table) (old new : Memory) (ws : List Pending) (before : L
 -- one of them was
 pub record VisitsOn (t : Table) (old new : Memory) (ws : List Pending) (before : List code_span.Span)
     (vs : List Pending) (after : List code_span.Span) : Type 0 where
-  pub visits : Visits t old new ws before vs after
+  pub visits : VisitsNodes t old new ws before vs after
   pub less : effort_left t vs < effort_left t ws
   pub low : (l : ℕ) → AreLeftLow t l ws → AreLeftLow t l vs

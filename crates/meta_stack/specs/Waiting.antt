@@ -86,7 +86,7 @@ AreLow t l [] = ⊤
 AreLow t l (w ∷ ws) = IsAwaitedLow t l w.awaited × AreLow t l ws
 
 -- one thing was done: what is at hand leads to the same reading of the whole, and less is left to do
-pub record GoesOn (t : Table) (old new : Memory) (p : Next) (ws vs : List Waiting) (q : Next) : Type 0 where
+pub record ReadsOn (t : Table) (old new : Memory) (p : Next) (ws vs : List Waiting) (q : Next) : Type 0 where
   pub right : (meaning : Meaning) → IsMeaning t meaning → IsRight meaning old → (whole : says.Reading)
       → Lead t meaning ws whole (at_hand meaning p)
       → IsRight meaning new × Lead t meaning vs whole (at_hand meaning q)

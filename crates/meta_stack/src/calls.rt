@@ -1,4 +1,7 @@
 //! A guess how rules hang together by calls: what is promised of them is found out behind it.
+ghost use Rattle.std.specs.Prelude.{◌≡◌};
+ghost use Rattle.meta_stack.specs.Leading as spec;
+
 use std::alloc::{AllocError, Global};
 
 /// Of one rule to another: its body leads to a call of that one.
@@ -11,6 +14,8 @@ pub struct Link {
 /// For each rule the links that begin there, as a chain: the first one, and behind each link the next.
 #[derive(Drop)]
 struct Chains {
+    /// Whether links are taken as they are, and not from their targets to their sources.
+    down: bool,
     heads: Vec<Option<usize>>,
     nexts: Vec<Option<usize>>,
 }
@@ -18,7 +23,7 @@ struct Chains {
 /// What a search along links has found.
 #[derive(Drop)]
 struct Search {
-    /// For each rule the one from which it was found first, none before.
+    /// For each rule in which place of the order that rule stands from which it was found first, none before.
     origins: Vec<Option<usize>>,
     /// The links by which rules were found, in that order.
     steps: Vec<usize>,
@@ -34,11 +39,25 @@ pub struct Groups {
     /// For each rule one that stands for all that reach it, and are reached by it.
     pub leaders: Vec<usize>,
     /// For each rule a number: where it calls a rule of another group, that one's is lower.
-    pub ranks: Vec<usize>,
+    pub ranks: Vec<Option<usize>>,
     /// Links, by their places, that lead from the leaders to the others, each behind what leads to it.
     pub down: Vec<usize>,
     /// Links that lead from the others to the leaders, each behind what leads on.
     pub up: Vec<usize>,
+}
+
+/// The link, or the same from its target to its source.
+pub(crate) fn turned(link: Link, down: bool) -> Link
+    ensures { result ≡ spec.turned down link }
+{
+    if down {
+        link
+    } else {
+        Link {
+            source: link.target,
+            target: link.source,
+        }
+    }
 }
 
 /// Puts a link at the head of a chain.
@@ -53,13 +72,19 @@ fn put(chains: &mut Chains, place: usize, link: Link) -> Result<(), AllocError> 
 }
 
 /// The links of each rule.
-fn chains_of(alloc: Global, links: &[Link], count: usize) -> Result<Chains, AllocError> {
+fn chains_of(
+    alloc: Global,
+    links: &[Link],
+    down: bool,
+    count: usize,
+) -> Result<Chains, AllocError> {
     let mut chains = Chains {
+        down,
         heads: vec![in alloc; None; count]?,
         nexts: Vec::with_capacity(alloc, links.len())?,
     };
     for (place, link) in links.iter().enumerate() {
-        put(&mut chains, place, *link)?;
+        put(&mut chains, place, turned(*link, down))?;
     }
     Ok(chains)
 }
@@ -102,7 +127,7 @@ fn step(
         return Ok(());
     };
     if let Some(link) = links.get(place) {
-        if find(search, link.target, origin)? {
+        if find(search, turned(*link, chains.down).target, origin)? {
             search.steps.push(place)?;
         }
     }
@@ -114,9 +139,10 @@ fn search_from(
     links: &[Link],
     chains: &mut Chains,
     search: &mut Search,
+    rule: usize,
     origin: usize,
 ) -> Result<(), AllocError> {
-    find(search, origin, origin)?;
+    find(search, rule, origin)?;
     let most = links.len().saturating_add(search.origins.len());
     for _ in 0..most {
         let Some(rule) = search.waiting.last().copied() else {
@@ -131,36 +157,26 @@ fn search_from(
 fn searched(
     alloc: Global,
     links: &[Link],
+    down: bool,
     count: usize,
     order: &[usize],
 ) -> Result<Search, AllocError> {
-    let mut chains = chains_of(alloc, links, count)?;
+    let mut chains = chains_of(alloc, links, down, count)?;
     let mut search = Search {
         origins: vec![in alloc; None; count]?,
         steps: Vec::new(alloc),
         waiting: Vec::new(alloc),
         finished: Vec::with_capacity(alloc, count)?,
     };
-    for origin in order.iter().rev() {
-        search_from(links, &mut chains, &mut search, *origin)?;
+    for done in 0..order.len() {
+        let origin = order.len() - 1 - done;
+        search_from(links, &mut chains, &mut search, order[origin], origin)?;
     }
     Ok(search)
 }
 
-/// The same links, the other way.
-fn turned(alloc: Global, links: &[Link]) -> Result<Vec<Link>, AllocError> {
-    let mut found = Vec::with_capacity(alloc, links.len())?;
-    for link in links {
-        found.push(Link {
-            source: link.target,
-            target: link.source,
-        })?;
-    }
-    Ok(found)
-}
-
 /// So many numbers, from zero on.
-fn numbers(alloc: Global, count: usize) -> Result<Vec<usize>, AllocError> {
+pub(crate) fn numbers(alloc: Global, count: usize) -> Result<Vec<usize>, AllocError> {
     let mut found = Vec::with_capacity(alloc, count)?;
     for number in 0..count {
         found.push(number)?;
@@ -168,48 +184,34 @@ fn numbers(alloc: Global, count: usize) -> Result<Vec<usize>, AllocError> {
     Ok(found)
 }
 
-/// For each rule its place in an order.
-fn places_in(alloc: Global, order: &[usize], count: usize) -> Result<Vec<usize>, AllocError> {
-    let mut places = vec![in alloc; 0; count]?;
-    for (place, rule) in order.iter().enumerate() {
-        if let Some(own) = places.get_mut(*rule) {
-            *own = place;
-        }
-    }
-    Ok(places)
-}
-
-/// For each rule its leader, by from where it was found.
-fn leaders_of(alloc: Global, origins: &[Option<usize>]) -> Result<Vec<usize>, AllocError> {
+/// For each rule its leader: from which rule it was found.
+fn leaders_of(
+    alloc: Global,
+    order: &[usize],
+    origins: &[Option<usize>],
+) -> Result<Vec<usize>, AllocError> {
     let mut leaders = Vec::with_capacity(alloc, origins.len())?;
     for (rule, origin) in origins.iter().enumerate() {
-        leaders.push(origin.unwrap_or(rule))?;
+        let leader = match origin {
+            Some(place) => order.get(*place).copied(),
+            None => None,
+        };
+        leaders.push(leader.unwrap_or(rule))?;
     }
     Ok(leaders)
-}
-
-/// For each rule the number of its leader.
-fn ranks_of(alloc: Global, leaders: &[usize], places: &[usize]) -> Result<Vec<usize>, AllocError> {
-    let mut ranks = Vec::with_capacity(alloc, leaders.len())?;
-    for leader in leaders {
-        ranks.push(places.get(*leader).copied().unwrap_or(0))?;
-    }
-    Ok(ranks)
 }
 
 /// How so many rules hang together by these links. All rules are searched in depth; then against the links,
 /// those first from which most was found: what is found together then is a group.
 pub(crate) fn groups_of(alloc: Global, links: &[Link], count: usize) -> Result<Groups, AllocError> {
-    let first = searched(alloc, links, count, numbers(alloc, count)?.as_slice())?;
-    let against = turned(alloc, links)?;
+    let rules = numbers(alloc, count)?;
+    let first = searched(alloc, links, true, count, rules.as_slice())?;
     let order = first.finished.as_slice();
-    let second = searched(alloc, against.as_slice(), count, order)?;
-    let leaders = leaders_of(alloc, second.origins.as_slice())?;
-    let places = places_in(alloc, order, count)?;
-    let ranks = ranks_of(alloc, leaders.as_slice(), places.as_slice())?;
+    let second = searched(alloc, links, false, count, order)?;
+    let leaders = leaders_of(alloc, order, second.origins.as_slice())?;
     Ok(Groups {
         leaders,
-        ranks,
+        ranks: second.origins,
         down: first.steps,
         up: second.steps,
     })

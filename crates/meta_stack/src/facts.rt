@@ -12,7 +12,7 @@ use crate::table::{Kind, Node, Parts, is_set};
 use std::alloc::{AllocError, Global};
 
 /// What is asked of each node.
-#[derive(Clone, Copy, Debug, PartialEq, Eq)]
+#[derive(Clone, Copy)]
 pub enum Question {
     /// Whether it may succeed without taking anything.
     TakesNothing,

@@ -1,8 +1,8 @@
 //! Which rules certainly reach themselves: those that are reached from a leader from which they are reached.
 ghost use Rattle.std.specs.Prelude.{◌≡◌, ℕ, IfOk, Some, false, true, slice_get};
-ghost use Rattle.meta_stack.specs.Leading.{AreLed, AreLinks, IsOnward, LeadsBack, leader_in, turned};
+ghost use Rattle.meta_stack.specs.Leading.{AreLed, AreLinks, IsOnward, LeadsBack, leader_in};
 
-use crate::calls::{Groups, Link};
+use crate::calls::{Groups, Link, turned};
 use crate::table::{Node, is_set};
 use std::alloc::{AllocError, Global};
 
@@ -22,20 +22,6 @@ fn leads_on(leaders: &[usize], flags: &[bool], first: usize, second: usize) -> b
 {
     let leader = leader_of(leaders, second);
     leader_of(leaders, first) == leader && (first == leader || is_set(flags, first))
-}
-
-/// The link, or the same from its target to its source.
-fn turned(link: Link, down: bool) -> Link
-    ensures { result ≡ turned down link }
-{
-    if down {
-        link
-    } else {
-        Link {
-            source: link.target,
-            target: link.source,
-        }
-    }
 }
 
 /// Sets the flag of the rule at the end of a link, if the one at its beginning is the leader of both or has

@@ -3,7 +3,7 @@ ghost use Rattle.std.specs.Prelude.{◌≡◌, ◌<◌, IfOk, IfSome, OnOk};
 ghost use Rattle.meta_stacks.specs.Stack as is;
 ghost use Rattle.meta_stacks.specs.Reading as says;
 ghost use Rattle.meta_stack.specs.Table.{IsOrdered};
-ghost use Rattle.meta_stack.specs.Memory.{Gives};
+ghost use Rattle.meta_stack.specs.Memory.{AnswersRightly};
 ghost use Rattle.meta_stack.specs.Searching.{itself, marks_in};
 ghost use Rattle.meta_stacks.specs.Views.{stack_of};
 
@@ -39,7 +39,7 @@ pub fn loops(
 ) -> Result<bool, AllocError>
     requires inside { body < table.now.nodes.len }
     requires ordered { IsOrdered table.now }
-    ensures { IfOk result (Gives itself (λ meaning. says.loops turns (meaning body)
+    ensures { IfOk result (AnswersRightly itself (λ meaning. says.loops turns (meaning body)
         (stack_of stack)) table.now memory.old memory.new) }
 {
     let mut start = stack.made_intact();

@@ -16,7 +16,7 @@ use meta_nodes::{ParserExpr, ParserNode, ParserRule};
 use std::alloc::{AllocError, Global};
 
 /// What stands round one operand.
-#[derive(Clone, Copy, Debug, PartialEq, Eq)]
+#[derive(Clone, Copy)]
 pub enum Wrap {
     Ahead,
     NotAhead,

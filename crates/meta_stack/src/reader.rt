@@ -3,9 +3,9 @@ ghost use Rattle.std.specs.Prelude.{◌≡◌, ◌<◌, [], IfOk, IfSome, not, �
 ghost use Rattle.meta_stacks.specs.Stack as is;
 ghost use Rattle.meta_stacks.specs.Reading as says;
 ghost use Rattle.meta_stack.specs.Table.{IsOrdered, copies};
-ghost use Rattle.meta_stack.specs.Memory.{Gives, Reads, Steps};
+ghost use Rattle.meta_stack.specs.Memory.{AnswersRightly, ReadsNode, Steps};
 ghost use Rattle.meta_stack.specs.Following.{Comes, Follows, Turned, seen_stacks};
-ghost use Rattle.meta_stack.specs.Waiting.{GoesOn};
+ghost use Rattle.meta_stack.specs.Waiting.{ReadsOn};
 ghost use Rattle.meta_stacks.specs.Views.{reading_of, stack_of, walk_of};
 
 use crate::memory::Memory;
@@ -57,7 +57,7 @@ pub fn read(
 ) -> Result<Reading, AllocError>
     requires inside { node < table.now.nodes.len }
     requires ordered { IsOrdered table.now }
-    ensures { IfOk result (Reads table.now memory.old memory.new node (stack_of stack)) }
+    ensures { IfOk result (ReadsNode table.now memory.old memory.new node (stack_of stack)) }
 {
     let mut waiting = Vec::new(alloc);
     let mut next = Next::Read(node, stack);
@@ -86,7 +86,7 @@ fn begin(
 ) -> Result<Next, AllocError>
     requires inside { node < table.now.nodes.len }
     requires ordered { IsOrdered table.now }
-    ensures { IfOk result (GoesOn table.now memory.old memory.new (Next.Read node stack)
+    ensures { IfOk result (ReadsOn table.now memory.old memory.new (Next.Read node stack)
         waiting.old.items waiting.new.items) }
 {
     if let Some(reading) = memory.recalled(node, stack) {
@@ -138,7 +138,7 @@ fn repeat(
 ) -> Result<Reading, AllocError>
     requires inside { body < table.now.nodes.len }
     requires ordered { IsOrdered table.now }
-    ensures { IfOk result (Gives reading_of
+    ensures { IfOk result (AnswersRightly reading_of
         (λ meaning. says.walked table.now.limit (meaning body) table.now.skips (stack_of stack)
         (copies required optional endless)) table.now memory.old memory.new) }
 {

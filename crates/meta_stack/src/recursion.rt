@@ -140,11 +140,15 @@ fn sought<'i>(alloc: Global, roots: &[usize], nodes: &[Node<'i>]) -> Result<Call
 fn of_nodes<'i>(
     alloc: Global,
     nodes: &[Node<'i>],
-    ranks: &[usize],
+    ranks: &[Option<usize>],
 ) -> Result<Vec<usize>, AllocError> {
     let mut found = Vec::with_capacity(alloc, nodes.len())?;
     for node in nodes {
-        found.push(ranks.get(node.rule).copied().unwrap_or(0))?;
+        let rank = match ranks.get(node.rule) {
+            Some(Some(rank)) => *rank,
+            _ => 0,
+        };
+        found.push(rank)?;
     }
     Ok(found)
 }

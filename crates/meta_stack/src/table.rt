@@ -7,7 +7,7 @@ ghost use Rattle.meta_stack.specs.Flags.{is_set_at};
 use meta_base::runtime::Span;
 
 /// What a node does, its operands by their numbers.
-#[derive(Clone, Copy, Debug, PartialEq, Eq)]
+#[derive(Clone, Copy)]
 pub enum Kind {
     /// It takes nothing, and cannot fail.
     Still,
@@ -32,7 +32,7 @@ pub enum Kind {
 }
 
 /// The operands of a node, as they are visited.
-#[derive(Clone, Copy, Debug, PartialEq, Eq)]
+#[derive(Clone, Copy)]
 pub enum Parts {
     Nothing,
     /// One, as often as the copies of a repetition are followed.
@@ -94,7 +94,7 @@ impl Kind {
 }
 
 /// A node.
-#[derive(Clone, Copy, Debug, PartialEq, Eq)]
+#[derive(Clone, Copy)]
 pub struct Node<'i> {
     pub kind: Kind,
     /// The number of the rule that it stands in.

@@ -15,6 +15,7 @@ ghost use Rattle.meta_stack.specs.Table.{AreInside, IsOrdered};
 ghost use Rattle.meta_stack.specs.Reportable.{FindsMore, IsToVisit};
 ghost use Rattle.meta_stack.specs.Visiting.{FindsAll, Keeps};
 
+use crate::calls::numbers;
 use crate::facts::{Question, answers, is_root_set, nodes_of_rule};
 use crate::memory::Memory;
 use crate::names::{Names, names_of};
@@ -142,10 +143,7 @@ fn to_visit_in<'i>(
 
 /// The rules by their ranks, the lowest first.
 fn by_rank<'i>(alloc: Global, table: &Table<'i>) -> Result<Vec<usize>, AllocError> {
-    let mut order = Vec::new(alloc);
-    for rule in 0..table.roots.len() {
-        order.push(rule)?;
-    }
+    let mut order = numbers(alloc, table.roots.len())?;
     order.sort_by_key(|rule| table.rank_of_rule(*rule))?;
     Ok(order)
 }

@@ -1,7 +1,7 @@
 //! The stacks from which the nodes of a rule's body are visited, and what is reported.
 ghost use Rattle.std.specs.Prelude.{◌≡◌, ◌<◌, [], ◌∷◌, ◌++◌, IfOk, OnOk};
 ghost use Rattle.meta_stack.specs.Table.{IsOrdered, copies};
-ghost use Rattle.meta_stack.specs.Visiting.{Adds, AddsAll, AddsEach, AddsWhere, Collects, IsAfter, IsReport, IsStartOf, Tells, FindsIn, VisitsOn};
+ghost use Rattle.meta_stack.specs.Visiting.{AddsStack, AddsAll, AddsEach, AddsWhere, Collects, IsAfter, IsReportedWhereItLoops, IsStartOf, FindsLoop, FindsIn, VisitsOn};
 ghost use Rattle.meta_stacks.specs.Views.{stack_of};
 
 use crate::loops::loops;
@@ -14,7 +14,7 @@ use std::alloc::{AllocError, Global};
 
 /// Adds a stack to others, if it is not among them.
 fn add(stacks: &mut Vec<Stack>, stack: Stack) -> Result<(), AllocError>
-    ensures { OnOk result (Adds stacks.old.items stacks.new.items (stack_of stack)) }
+    ensures { OnOk result (AddsStack stacks.old.items stacks.new.items (stack_of stack)) }
 {
     if !is_among(stacks, stack) {
         stacks.push(stack)?;
@@ -166,7 +166,7 @@ fn some_loops(
 ) -> Result<bool, AllocError>
     requires inside { body < table.now.nodes.len }
     requires ordered { IsOrdered table.now }
-    ensures { IfOk result (Tells table.now memory.old memory.new body stacks.now) }
+    ensures { IfOk result (FindsLoop table.now memory.old memory.new body stacks.now) }
 {
     for stack in stacks {
         if loops(alloc, table, memory, body, *stack, table.turns)? {
@@ -192,7 +192,7 @@ fn report<'i>(
     requires body_inside { body < table.now.nodes.len }
     requires ordered { IsOrdered table.now }
     ensures { OnOk result
-        (IsReport table.now memory.old memory.new node body endless stacks.now
+        (IsReportedWhereItLoops table.now memory.old memory.new node body endless stacks.now
         found.old.items found.new.items) }
 {
     if !endless {

@@ -1,6 +1,6 @@
 //! Nodes that wait for the reading of an operand, and what they make of it.
 ghost use Rattle.std.specs.Prelude.{◌≡◌, [], ◌∷◌, ◌++◌, IfOk};
-ghost use Rattle.meta_stack.specs.Waiting.{GoesOn, IsPut, whole_of};
+ghost use Rattle.meta_stack.specs.Waiting.{ReadsOn, IsPut, whole_of};
 ghost use Rattle.meta_stacks.specs.Views.{reading_of, stack_of};
 
 use crate::memory::Memory;
@@ -89,7 +89,7 @@ pub fn go_on(
     last: Waiting,
     reading: Reading,
 ) -> Result<Next, AllocError>
-    ensures { IfOk result (GoesOn table.now memory.old memory.new (Next.Done reading)
+    ensures { IfOk result (ReadsOn table.now memory.old memory.new (Next.Done reading)
         (waiting.old.items ++ last ∷ []) waiting.new.items) }
 {
     match last.awaited {

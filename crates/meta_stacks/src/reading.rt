@@ -9,7 +9,7 @@ use crate::stack::{Base, Stack};
 
 /// The stack after a success and after a failure, where they are possible, and whether a success
 /// takes nothing.
-#[derive(Clone, Copy, Debug, PartialEq, Eq)]
+#[derive(Clone, Copy)]
 pub struct Reading {
     pub ok: Option<Stack>,
     pub err: Option<Stack>,
@@ -17,7 +17,7 @@ pub struct Reading {
 }
 
 /// How far the copies of a repetition have been followed.
-#[derive(Clone, Copy, Debug, PartialEq, Eq)]
+#[derive(Clone, Copy)]
 pub struct Walk {
     pub here: Option<Stack>,
     pub failing: bool,

@@ -7,7 +7,7 @@ use crate::stack::marks::{are_blank, both, pushed, same};
 mod marks;
 
 /// The entries below the marks: none, empty texts alone, any.
-#[derive(Clone, Copy, Debug, PartialEq, Eq)]
+#[derive(Clone, Copy)]
 pub enum Base {
     Empty,
     Blank,
@@ -15,7 +15,7 @@ pub enum Base {
 }
 
 /// A base, and up to eight marks above it, each of which says whether the entry is the empty text.
-#[derive(Clone, Copy, Debug, PartialEq, Eq)]
+#[derive(Clone, Copy)]
 pub struct Stack {
     pub base: Base,
     /// How many marks there are.

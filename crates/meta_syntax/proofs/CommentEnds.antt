@@ -19,7 +19,7 @@ use Rattle.meta_syntax.specs.declared.sets.Set.TheVariants as set
 use Rattle.meta_syntax.specs.CommentEnds.{AreEnds, GoesOnTo, IsEnd, IsPlain, left_of}
 use Rattle.meta_syntax.specs.Entries.{named_entries}
 use Rattle.meta_syntax.specs.MetaGrammar.{meta_grammar, body_of, any, rule_at}
-use Rattle.meta_syntax.specs.Runs.{Fails, Gives, IsLeft, at, leaving}
+use Rattle.meta_syntax.specs.Runs.{Fails, FailsOrFinds, IsLeft, at, leaving}
 use Rattle.meta_syntax.specs.Sets.{IsBefore, spelled_by}
 use Rattle.meta_syntax.proofs.EntryLists.{not_grown}
 use Rattle.meta_syntax.proofs.LeafLemmas.{begins-gives}
@@ -141,7 +141,7 @@ module _ {text from : List ℕ} where
     }
 
 -- what the loop, or the list of ends, has found of a comment is what its rule does
-pub comment_gives : (text from inside : List ℕ) (es : List Entry) (p : ℕ) (o : Option (Bor (List ℕ))) → Success (at text inside) None' ≡ text_outcome nat_eq (codes "/*") (at text from) → ((classes : Classes) → GoesOnTo classes (at text inside) (leaving text o) p) → Gives (Run AtomicMode (body_of is.block_comment)) text from es es p p o
+pub comment_gives : (text from inside : List ℕ) (es : List Entry) (p : ℕ) (o : Option (Bor (List ℕ))) → Success (at text inside) None' ≡ text_outcome nat_eq (codes "/*") (at text from) → ((classes : Classes) → GoesOnTo classes (at text inside) (leaving text o) p) → FailsOrFinds (Run AtomicMode (body_of is.block_comment)) text from es es p p o
 comment_gives text from inside es p None e g = record { kept = refl; ran = λ classes. whole_comment (ran_str e) (g classes) }
 comment_gives text from inside es p (Some after) e g = record { trees = None'; added = not_grown (named_entries es); ran = λ classes. whole_comment (ran_str e) (g classes) }
 

@@ -6,7 +6,7 @@ use Rattle.std.proofs.lemmas.List.{length-append}
 use Rattle.meta_base.specs.Language.Text.{Text}
 use Rattle.meta_base.specs.Language.State.{Trees, None', Tree, joined}
 use Rattle.meta_syntax.specs.declared.entries.Entry as code
-use Rattle.meta_syntax.specs.Entries.{Entry, Starts, Ends, entries_of, entry_count, named_entries, Adds, Closes, IsWhole, nothing, pair, open_start, token}
+use Rattle.meta_syntax.specs.Entries.{Entry, Starts, Ends, entries_of, entry_count, named_entries, AddsEntries, Closes, IsWhole, nothing, pair, open_start, token}
 
 pub length-entries : (n : ℕ) (us : Trees) → length (entries_of n us) ≡ entry_count us
 length-entries n None' = refl
@@ -64,10 +64,10 @@ closed gives r i j first last before now pushed us g f e p l = rw g (closed_tree
         rw (p, n, append_assoc before (Starts r i 0 ∷ entries_of (first + 1) us) (Ends j first ∷ []), ← f, set-append_seam before (Starts r i 0) (entries_of (length before + 1) us ++ Ends j (length before) ∷ []) (Starts r i last), m) (rw f refl)
 
 -- a tree that was closed behind a list
-pub adds_tree : (gives : Bool) (r : Text) (i j first : ℕ) (old start inner now : List code.Entry) (us : Trees) → named_entries start ≡ named_entries old ++ open_start gives r i → Adds start inner us → first ≡ length (named_entries old) → Closes gives r i j first inner now → Adds old now (token gives r i j us)
+pub adds_tree : (gives : Bool) (r : Text) (i j first : ℕ) (old start inner now : List code.Entry) (us : Trees) → named_entries start ≡ named_entries old ++ open_start gives r i → AddsEntries start inner us → first ≡ length (named_entries old) → Closes gives r i j first inner now → AddsEntries old now (token gives r i j us)
 adds_tree gives r i j first old start inner now us o w f c =
     let x = c (named_entries old) us (sym f) (rw (← o) w) in
     rw f at x
 
-pub adds_more : (old middle now : List code.Entry) (us vs : Trees) → Adds old middle us → Adds middle now vs → Adds old now (joined us vs)
+pub adds_more : (old middle now : List code.Entry) (us vs : Trees) → AddsEntries old middle us → AddsEntries middle now vs → AddsEntries old now (joined us vs)
 adds_more old middle now us vs e f = grown (named_entries old) (named_entries middle) (named_entries now) us vs e f

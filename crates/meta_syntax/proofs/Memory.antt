@@ -14,7 +14,7 @@ use Rattle.meta_syntax.specs.declared.modes.Mode as mode
 use Rattle.meta_syntax.specs.declared.recognize.Recognizer.{Recognizer}
 use Rattle.meta_base.specs.Language.Ran.{Ran}
 use Rattle.meta_syntax.specs.MetaGrammar.{meta_grammar}
-use Rattle.meta_syntax.specs.Remembering.{FailsWithin, IsSound, Remembers}
+use Rattle.meta_syntax.specs.Remembering.{FailsWithin, RemembersTruly, Remembers}
 use Rattle.meta_syntax.specs.Runs.{Fails, IsLeft, at, mode_of}
 
 module _ (m : Mode) (text rest : List ℕ) (bound : ℕ) (places : HashSet ℕ (BuildHasherDefault FoldHasher)) (rule : Rule) (in_mode : mode.Mode) (is_comment : rule ≡ is.block_comment) (same_mode : mode_of in_mode ≡ m) (left : IsLeft text rest) (known : Remembers m text bound places) where
@@ -45,5 +45,5 @@ pub fails_again : (rule : Rule) (m : Mode) (text rest : List ℕ) (es : List Ent
 fails_again rule m text rest es p f = record { kept = refl; ran = λ classes. let x = f classes in let y = x.1 in record { found = x.0; noted = omega arith } }
 
 -- what is remembered holds when failures further on are noted
-pub sound_on : (text : List ℕ) (r : Recognizer) (q : ℕ) → IsSound text r → r.furthest ≤ q → IsSound text (record r { furthest = q })
-sound_on text r q s h = record { failed = remembers_on _ text r.furthest q r.failed h s.failed; known = s.known }
+pub remembers_truly_on : (text : List ℕ) (r : Recognizer) (q : ℕ) → RemembersTruly text r → r.furthest ≤ q → RemembersTruly text (record r { furthest = q })
+remembers_truly_on text r q s h = record { failed = remembers_on _ text r.furthest q r.failed h s.failed; known = s.known }

@@ -19,23 +19,23 @@ use Rattle.meta_syntax.specs.declared.entries.Entry.{Entry}
 use Rattle.meta_syntax.specs.declared.modes.Mode as mode
 use Rattle.meta_syntax.specs.declared.modes.Mode.TheVariants as in_mode
 use Rattle.meta_syntax.specs.Entries.{Entry as NamedEntry}
-use Rattle.meta_syntax.specs.Entries.{named_entries, token, entries_of, Adds}
+use Rattle.meta_syntax.specs.Entries.{named_entries, token, entries_of, AddsEntries}
 use Rattle.meta_syntax.specs.MetaGrammar.{meta_grammar, rule_at, type_of_rule, body_of}
 use Rattle.meta_syntax.specs.Rows.{is_defined}
-use Rattle.meta_syntax.specs.Runs.{Fails, Finds, Gives, IsLeft, at, leaving, mode_of}
+use Rattle.meta_syntax.specs.Runs.{Fails, Finds, FailsOrFinds, IsLeft, at, leaving, mode_of}
 use Rattle.meta_syntax.proofs.EntryLists.{adds_more, not_grown, cut_back}
 use Rattle.meta_syntax.proofs.Lookup.{defined_rule, no_any, no_soi, no_eoi, any_builtin, soi_builtin, eoi_builtin, whitespace_name, comment_name}
 
 -- a list that was added to, and was cut back to the length that it had
-pub cut_to : (start now cut : List Entry) (n : ℕ) (us : Trees) → Adds start now us → named_entries cut ≡ take n (named_entries now) → n ≡ length (named_entries start) → named_entries cut ≡ named_entries start
+pub cut_to : (start now cut : List Entry) (n : ℕ) (us : Trees) → AddsEntries start now us → named_entries cut ≡ take n (named_entries now) → n ≡ length (named_entries start) → named_entries cut ≡ named_entries start
 cut_to start now cut n us a c e = c ∙ (ap (take n) a ∙ cut_back (named_entries start) (entries_of (length (named_entries start)) us) n e)
 
 -- the same, where a failure came last
-pub cut_past : (start middle now cut : List Entry) (n : ℕ) (us : Trees) → Adds start middle us → named_entries now ≡ named_entries middle → named_entries cut ≡ take n (named_entries now) → n ≡ length (named_entries start) → named_entries cut ≡ named_entries start
+pub cut_past : (start middle now cut : List Entry) (n : ℕ) (us : Trees) → AddsEntries start middle us → named_entries now ≡ named_entries middle → named_entries cut ≡ take n (named_entries now) → n ≡ length (named_entries start) → named_entries cut ≡ named_entries start
 cut_past start middle now cut n us a k c e = cut_to start middle cut n us a (c ∙ ap (take n) k) e
 
 -- entries that are what they were, and then were added to
-pub adds_on : (start middle now : List Entry) (us : Trees) → named_entries middle ≡ named_entries start → Adds middle now us → Adds start now us
+pub adds_on : (start middle now : List Entry) (us : Trees) → named_entries middle ≡ named_entries start → AddsEntries middle now us → AddsEntries start now us
 adds_on start middle now us k a = rw k at a
 
 -- what a builtin's name does in a mode of the code
@@ -86,7 +86,7 @@ module _ {classes : Classes} where
     call_failed counts x h e = called x (rw (← same_kind, ← h) e)
 
 -- forms without tokens
-pub gives_leaving : (k : Task) (text rest : List ℕ) (es : List Entry) (p : ℕ) (o : Option (Bor (List ℕ))) → ((classes : Classes) → Ran meta_grammar classes k (at text rest) (leaving text o) p p) → Gives k text rest es es p p o
+pub gives_leaving : (k : Task) (text rest : List ℕ) (es : List Entry) (p : ℕ) (o : Option (Bor (List ℕ))) → ((classes : Classes) → Ran meta_grammar classes k (at text rest) (leaving text o) p p) → FailsOrFinds k text rest es es p p o
 gives_leaving k text rest es p None h = record { kept = refl; ran = h }
 gives_leaving k text rest es p (Some after) h = record { trees = None'; added = not_grown (named_entries es); ran = h }
 
@@ -122,7 +122,7 @@ module _ {m : Mode} {a b : Expression} {text rest : List ℕ} where
   pub finds_left : {es fs : List Entry} {p q : ℕ} {s : List ℕ} → Finds (Run m a) text rest es fs p q s → Finds (Run m (Choice a b)) text rest es fs p q s
   finds_left x = record { trees = x.trees; added = x.added; ran = λ classes. ran_left (x.ran classes) }
 
-gives_right : (m : Mode) (a b : Expression) (text rest : List ℕ) (es fs gs : List Entry) (p q r : ℕ) (o : Option (Bor (List ℕ))) → Fails (Run m a) text rest es fs p q → Gives (Run m b) text rest fs gs q r o → Gives (Run m (Choice a b)) text rest es gs p r o
+gives_right : (m : Mode) (a b : Expression) (text rest : List ℕ) (es fs gs : List Entry) (p q r : ℕ) (o : Option (Bor (List ℕ))) → Fails (Run m a) text rest es fs p q → FailsOrFinds (Run m b) text rest fs gs q r o → FailsOrFinds (Run m (Choice a b)) text rest es gs p r o
 gives_right m a b text rest es fs gs p q r None x y = record { kept = y.kept ∙ x.kept; ran = λ classes. ran_right (x.ran classes) (y.ran classes) }
 gives_right m a b text rest es fs gs p q r (Some s) x y = record { trees = y.trees; added = adds_on es fs gs _ x.kept y.added; ran = λ classes. ran_right (x.ran classes) (y.ran classes) }
 
@@ -133,16 +133,16 @@ pub fails_right : {m : Mode} {a b : Expression} {text rest : List ℕ} {es fs gs
 fails_right x y = record { kept = y.kept ∙ x.kept; ran = λ classes. ran_right (x.ran classes) (y.ran classes) }
 
 -- the answer of the second alternative
-pub right_if_ok : (m : Mode) (a b : Expression) (text rest : List ℕ) (es fs gs : List Entry) (p q r : ℕ) (answer : Result (Option (Bor (List ℕ))) AllocError) → Fails (Run m a) text rest es fs p q → IfOk answer (λ o. Gives (Run m b) text rest fs gs q r o) → IfOk answer (λ o. Gives (Run m (Choice a b)) text rest es gs p r o)
+pub right_if_ok : (m : Mode) (a b : Expression) (text rest : List ℕ) (es fs gs : List Entry) (p q r : ℕ) (answer : Result (Option (Bor (List ℕ))) AllocError) → Fails (Run m a) text rest es fs p q → IfOk answer (λ o. FailsOrFinds (Run m b) text rest fs gs q r o) → IfOk answer (λ o. FailsOrFinds (Run m (Choice a b)) text rest es gs p r o)
 right_if_ok m a b text rest es fs gs p q r (Ok o) x y = gives_right m a b text rest es fs gs p q r o x y
 right_if_ok m a b text rest es fs gs p q r (Err e) x y = tt
 
 -- the answer of the copies that a count means
-copies_gives : (m : Mode) (e : Expression) (i j : ℕ) (text rest : List ℕ) (es fs : List Entry) (p q : ℕ) (o : Option (Bor (List ℕ))) → Gives (Run m (from_to e i j)) text rest es fs p q o → Gives (Run m (RepMinMax e i j)) text rest es fs p q o
+copies_gives : (m : Mode) (e : Expression) (i j : ℕ) (text rest : List ℕ) (es fs : List Entry) (p q : ℕ) (o : Option (Bor (List ℕ))) → FailsOrFinds (Run m (from_to e i j)) text rest es fs p q o → FailsOrFinds (Run m (RepMinMax e i j)) text rest es fs p q o
 copies_gives m e i j text rest es fs p q None x = fails_as (λ classes o r. ran_rep_min_max r) x
 copies_gives m e i j text rest es fs p q (Some s) x = finds_as (λ classes o r. ran_rep_min_max r) x
 
-pub copies_if_ok : (m : Mode) (e copies : Expression) (i j : ℕ) (text rest : List ℕ) (es fs : List Entry) (p q : ℕ) (answer : Result (Option (Bor (List ℕ))) AllocError) → copies ≡ from_to e i j → IfOk answer (λ o. Gives (Run m copies) text rest es fs p q o) → IfOk answer (λ o. Gives (Run m (RepMinMax e i j)) text rest es fs p q o)
+pub copies_if_ok : (m : Mode) (e copies : Expression) (i j : ℕ) (text rest : List ℕ) (es fs : List Entry) (p q : ℕ) (answer : Result (Option (Bor (List ℕ))) AllocError) → copies ≡ from_to e i j → IfOk answer (λ o. FailsOrFinds (Run m copies) text rest es fs p q o) → IfOk answer (λ o. FailsOrFinds (Run m (RepMinMax e i j)) text rest es fs p q o)
 copies_if_ok m e copies i j text rest es fs p q (Ok o) h x = let y = rw h at x in copies_gives m e i j text rest es fs p q o y
 copies_if_ok m e copies i j text rest es fs p q (Err d) h x = tt
 
@@ -178,7 +178,7 @@ module _ {m : Mode} {a : Expression} {text rest : List ℕ} where
 -- what a loop has done so far: whatever the task does from here on, it does from its start with these trees before it
 pub record SoFar (k : Task) (text from : List ℕ) (es : List Entry) (p : ℕ) (rest : List ℕ) (fs : List Entry) (q : ℕ) : Type 0 where
   pub trees : Trees
-  pub added : Adds es fs trees
+  pub added : AddsEntries es fs trees
   pub goes_on : (classes : Classes) (o : Outcome) (z : ℕ) → Ran meta_grammar classes k (at text rest) o q z → Ran meta_grammar classes k (at text from) (after_trees trees o) p z
 
 pub so_far_nothing : (k : Task) (text from : List ℕ) (es : List Entry) (p : ℕ) → SoFar k text from es p from es p

@@ -26,32 +26,32 @@ use Rattle.meta_syntax.proofs.Taken.{takes}
 use Rattle.meta_syntax.proofs.Yields.{IsNone, none, Both, both, Many, no_more, also, IsMark, mark, is_dark, Holds, Named, Yields, Inside, Stretches}
 
 -- the trees of a success are P
-abbrev pub Gives : (Trees → Type 0) → Outcome → Type 0
-Gives P Failure = Unit {0}
-Gives P (Success t us) = P us
+abbrev pub IfSuccess : (Trees → Type 0) → Outcome → Type 0
+IfSuccess P Failure = Unit {0}
+IfSuccess P (Success t us) = P us
 
 abbrev IsSeen : Task → Type 0
 IsSeen (Run m e) = seen_from m ≡ true
 IsSeen (Turns m e) = seen_from m ≡ true
 IsSeen (Skipping m) = seen_from m ≡ true
 
-gives_along : (P Q : Trees → Type 0) → ((us : Trees) → P us → Q us) → (o : Outcome) → Gives P o → Gives Q o
+gives_along : (P Q : Trees → Type 0) → ((us : Trees) → P us → Q us) → (o : Outcome) → IfSuccess P o → IfSuccess Q o
 gives_along P Q f Failure h = tt
 gives_along P Q f (Success t us) h = f us h
 
-anything : (o : Outcome) → Gives (λ _. Unit {0}) o
+anything : (o : Outcome) → IfSuccess (λ _. Unit {0}) o
 anything Failure = tt
 anything (Success t us) = tt
 
-none_if : (b : Bool) (t : State) → Gives IsNone (if b then Success t None' else Failure)
+none_if : (b : Bool) (t : State) → IfSuccess IsNone (if b then Success t None' else Failure)
 none_if true t = none
 none_if false t = tt
 
-none_not_ahead : (s : State) (o : Outcome) → Gives IsNone (not_ahead s o)
+none_not_ahead : (s : State) (o : Outcome) → IfSuccess IsNone (not_ahead s o)
 none_not_ahead s Failure = none
 none_not_ahead s (Success t us) = tt
 
-along : (P : Trees → Type 0) (o p : Outcome) → Some o ≡ Some p → Gives P o → Gives P p
+along : (P : Trees → Type 0) (o p : Outcome) → Some o ≡ Some p → IfSuccess P o → IfSuccess P p
 along P o p e x = let q : o ≡ p = cc in rw (← q) x
 
 is_none : {us : Trees} → us ≡ None' → IsNone us
@@ -123,20 +123,20 @@ the_end : (r : Rule) → is_defined r ≡ false → r ≡ is.EOI
 the_end is.EOI h = refl
 the_end _ h = cc
 
-end_gives : (m : Mode) (v : Text) (s : State) → seen_from m ≡ true → Gives (IsMark (codes "EOI")) (end_outcome m v s)
+end_gives : (m : Mode) (v : Text) (s : State) → seen_from m ≡ true → IfSuccess (IsMark (codes "EOI")) (end_outcome m v s)
 end_gives NonAtomicMode [] s h = mark
 end_gives AtomicMode [] s h = cc
 end_gives CompoundAtomicMode [] s h = mark
 end_gives Between [] s h = mark
 end_gives m (c ∷ v) s h = tt
 
-eoi_gives : (classes : Classes) (m : Mode) (s : State) (o : Outcome) → seen_from m ≡ true → other_outcome classes m (codes "EOI") s ≡ Some o → Gives (IsMark (codes "EOI")) o
+eoi_gives : (classes : Classes) (m : Mode) (s : State) (o : Outcome) → seen_from m ≡ true → other_outcome classes m (codes "EOI") s ≡ Some o → IfSuccess (IsMark (codes "EOI")) o
 eoi_gives classes NonAtomicMode s o h e = along _ _ o (rw eoi_builtin at e) (end_gives NonAtomicMode s.rest s refl)
 eoi_gives classes AtomicMode s o h e = cc
 eoi_gives classes CompoundAtomicMode s o h e = along _ _ o (rw eoi_builtin at e) (end_gives CompoundAtomicMode s.rest s refl)
 eoi_gives classes Between s o h e = along _ Failure o e tt
 
-soi_gives : (classes : Classes) (m : Mode) (s : State) (o : Outcome) → seen_from m ≡ true → other_outcome classes m (codes "SOI") s ≡ Some o → Gives IsNone o
+soi_gives : (classes : Classes) (m : Mode) (s : State) (o : Outcome) → seen_from m ≡ true → other_outcome classes m (codes "SOI") s ≡ Some o → IfSuccess IsNone o
 soi_gives classes NonAtomicMode s o h e = along _ _ o (rw soi_builtin at e) (none_if (s.position == 0) s)
 soi_gives classes AtomicMode s o h e = cc
 soi_gives classes CompoundAtomicMode s o h e = along _ _ o (rw soi_builtin at e) (none_if (s.position == 0) s)
@@ -180,7 +180,7 @@ module _ (text : List ℕ) (utf8 : IsUtf8 text) (classes : Classes) where
   -- a call of a rule
   abbrev Calls : Text → spec.Rule → Type 0
   Calls n q = (m : Mode) (s : State) (o : Outcome) → seen_from m ≡ true → Stands (chars text) s → Does meta_grammar classes (Run (body_mode q m) q.body) s o
-      → (seen_from (body_mode q m) ≡ true → Gives (Yields text q.body) o) → Gives (Yields text (Ident n)) (with_token q m s o)
+      → (seen_from (body_mode q m) ≡ true → IfSuccess (Yields text q.body) o) → IfSuccess (Yields text (Ident n)) (with_token q m s o)
 
   calls_at : (r : Rule) → is_defined r ≡ true → Calls (name_of r) (rule_at r)
   calls_at r k m s Failure h w d f = tt
@@ -194,14 +194,14 @@ module _ (text : List ℕ) (utf8 : IsUtf8 text) (classes : Classes) where
 
   -- a name that is no rule's
   undefined_gives : (r : Rule) (b : Bool) (m : Mode) (s : State) (o : Outcome) → is_defined r ≡ b → seen_from m ≡ true
-      → rule_of meta_grammar (name_of r) ≡ None → other_outcome classes m (name_of r) s ≡ Some o → Gives (Holds text r) o
+      → rule_of meta_grammar (name_of r) ≡ None → other_outcome classes m (name_of r) s ≡ Some o → IfSuccess (Holds text r) o
   undefined_gives r true m s o k h e c = let d = defined_rule r k in cc
   undefined_gives r false m s o k h e c =
       let i = the_end r k in
       rw i (eoi_gives classes m s o h (rw i at c))
 
   others_give : (n : Text) (x : Option Rule) (m : Mode) (s : State) (o : Outcome) → rule_named n ≡ x → seen_from m ≡ true
-      → rule_of meta_grammar n ≡ None → other_outcome classes m n s ≡ Some o → Gives (Named text x n) o
+      → rule_of meta_grammar n ≡ None → other_outcome classes m n s ≡ Some o → IfSuccess (Named text x n) o
   others_give n (Some r) m s o i h e c = let k = name_of_named n r i in undefined_gives r (is_defined r) m s o refl h (rw k e) (rw k c)
   others_give n None m s Failure i h e c = tt
   others_give n None m s (Success t us) i h e c = λ k. soi_gives classes m s (Success t us) h (rw k at c)
@@ -219,7 +219,7 @@ module _ (text : List ℕ) (utf8 : IsUtf8 text) (classes : Classes) where
   unfolding whitespace comment rule_named
   blanks us (both a b) = none_both (all_none a) (all_blank b)
 
-  pub yields : {k : Task} {s : State} {o : Outcome} → Does meta_grammar classes k s o → IsSeen k → Stands (chars text) s → Gives (Yielded k) o
+  pub yields : {k : Task} {s : State} {o : Outcome} → Does meta_grammar classes k s o → IsSeen k → Stands (chars text) s → IfSuccess (Yielded k) o
   yields (str {t = t} {s = s}) h w = none_if (begins nat_eq t s.rest) _
   yields (insens {t = t} {s = s}) h w = anything _
   yields (range {a = a} {b = b} {s = s}) h w = none_if (starts_in (range_set a b) s.rest) _

@@ -33,8 +33,8 @@ entries_of n (Tree r i j inner others) =
     ++ Ends j n ∷ entries_of (n + 2 + entry_count inner) others
 
 -- the list has grown by the entries of trees
-abbrev pub Adds : List code.Entry → List code.Entry → Trees → Type 0
-Adds old new us = named_entries new ≡ named_entries old ++ entries_of (length (named_entries old)) us
+abbrev pub AddsEntries : List code.Entry → List code.Entry → Trees → Type 0
+AddsEntries old new us = named_entries new ≡ named_entries old ++ entries_of (length (named_entries old)) us
 
 -- whole pairs from the number n on: the partner of each start is an end further on, its partner is that
 -- start, and what stands between them is whole again

@@ -220,8 +220,8 @@ IsRunnable f = record {
 }
 
 -- a turn of a repetition can be run, takes input, and costs little enough
-abbrev pub IsTurn : Form → Type 0
-IsTurn f = record {
+abbrev pub IsRunnableTurn : Form → Type 0
+IsRunnableTurn f = record {
   runnable : IsRunnable f;
   consumes : null f ≡ false;
   below : cost f < 999;
@@ -230,7 +230,7 @@ IsTurn f = record {
 -- it is the turn that a set belongs to
 abbrev pub IsTurnOf : Set → Form → Type 0
 IsTurnOf s f = record {
-  turn : IsTurn f;
+  turn : IsRunnableTurn f;
   of_set : expression_of f ≡ spelled_by s;
 }
 

@@ -27,8 +27,8 @@ Remembers m text bound places = (n : ℕ) → contains nat_eq places n ≡ true
     → FailsWithin is.block_comment m text (drop (length text - n) text) bound
 
 -- what the recognizer remembers is so; where comments end it knows of all of the text, or of nothing yet
-abbrev pub IsSound : List ℕ → Recognizer → Type 0
-IsSound text r = record {
+abbrev pub RemembersTruly : List ℕ → Recognizer → Type 0
+RemembersTruly text r = record {
   failed : Remembers NonAtomicMode text r.furthest r.failed;
   known : (r.ends.items ≡ []) ⊎ AreAllEnds text r.ends.items;
 }
@@ -37,5 +37,5 @@ IsSound text r = record {
 abbrev pub IsReady : List ℕ → List ℕ → Recognizer → Type 0
 IsReady text rest r = record {
   left : IsLeft text rest;
-  sound : IsSound text r;
+  remembers : RemembersTruly text r;
 }

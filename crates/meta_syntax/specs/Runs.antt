@@ -10,7 +10,7 @@ use Rattle.meta_syntax.specs.declared.entries.Entry.{Entry}
 use Rattle.meta_syntax.specs.declared.modes.Mode as mode
 use Rattle.meta_syntax.specs.declared.modes.Mode.TheVariants as in_mode
 use Rattle.meta_syntax.specs.declared.recognize.Recognizer.{Recognizer}
-use Rattle.meta_syntax.specs.Entries.{Adds, named_entries}
+use Rattle.meta_syntax.specs.Entries.{AddsEntries, named_entries}
 use Rattle.meta_syntax.specs.MetaGrammar.{meta_grammar}
 
 -- the mode of a mode of the code
@@ -40,9 +40,10 @@ GoesOn text rest empty after = record {
   consumed : (length after < length rest) ⊎ (empty ≡ true);
 }
 
-abbrev pub Progress : List ℕ → List ℕ → Bool → Option (Bor (List ℕ)) → Type 0
-Progress text rest empty None = ⊤
-Progress text rest empty (Some after) = GoesOn text rest empty after.now
+-- so does what was found
+abbrev pub GoesOnIfFound : List ℕ → List ℕ → Bool → Option (Bor (List ℕ)) → Type 0
+GoesOnIfFound text rest empty None = ⊤
+GoesOnIfFound text rest empty (Some after) = GoesOn text rest empty after.now
 
 -- the task was found to fail, whatever the classes are; the entries are what they were
 pub record Fails (k : Task) (text rest : List ℕ) (old new : List Entry) (p q : ℕ) : Type 0 where
@@ -54,17 +55,20 @@ pub record Fails (k : Task) (text rest : List ℕ) (old new : List Entry) (p q :
 pub record Finds (k : Task) (text rest : List ℕ) (old new : List Entry) (p q : ℕ)
     (after : List ℕ) : Type 0 where
   pub trees : Trees
-  pub added : Adds old new trees
+  pub added : AddsEntries old new trees
   pub ran : (classes : Classes)
       → Ran meta_grammar classes k (at text rest) (Success (at text after) trees) p q
 
-abbrev pub Gives : Task → List ℕ → List ℕ → List Entry → List Entry → ℕ → ℕ → Option (Bor (List ℕ)) → Type 0
-Gives k text rest old new p q None = Fails k text rest old new p q
-Gives k text rest old new p q (Some after) = Finds k text rest old new p q after.now
+-- the task was found to fail, or to succeed
+abbrev pub FailsOrFinds : Task → List ℕ → List ℕ → List Entry → List Entry → ℕ → ℕ
+    → Option (Bor (List ℕ)) → Type 0
+FailsOrFinds k text rest old new p q None = Fails k text rest old new p q
+FailsOrFinds k text rest old new p q (Some after) = Finds k text rest old new p q after.now
 
 -- what a run answers, and what it makes of the entries and of the furthest failure
 abbrev pub Runs : Task → List ℕ → List ℕ → Recognizer → Recognizer → Option (Bor (List ℕ)) → Type 0
-Runs k text rest old new o = Gives k text rest old.entries.items new.entries.items old.furthest new.furthest o
+Runs k text rest old new o =
+    FailsOrFinds k text rest old.entries.items new.entries.items old.furthest new.furthest o
 
 -- the same of a run that cannot fail
 abbrev pub RunsTo : Task → List ℕ → List ℕ → Recognizer → Recognizer → List ℕ → Type 0

@@ -1,9 +1,9 @@
-//! Where comments end, in Atomic. A comment within another one is closed before it, or its characters are those
-//! of the comment around it: as in `/* /*/`, where the second opening closes the first one.
+//! Where comments end, in Atomic. A comment within another one is closed before it, or its characters are
+//! those of the comment around it: as in `/* /*/`, where the second opening closes the first one.
 ghost use Rattle.std.specs.Prelude.{◌≡◌, ℕ, ◌<◌, ◌≤◌, [], IfSome, IsUtf8, List, None, OnOk, length, false, slice_index_or};
 ghost use Rattle.meta_base.specs.Language.State.{Classes, None', Success};
 ghost use Rattle.meta_syntax.specs.CommentEnds.{AreAllEnds, AreEnds, GoesOnTo, IsEnd, IsPlain, left_of};
-ghost use Rattle.meta_syntax.specs.Runs.{IsLeft, Progress, at, leaving};
+ghost use Rattle.meta_syntax.specs.Runs.{IsLeft, GoesOnIfFound, at, leaving};
 
 use crate::leaves::{any, literal};
 use crate::sets::{Set, past};
@@ -12,7 +12,7 @@ use std::alloc::AllocError;
 /// What is left behind a comment whose text goes on here, where it and all that begin within it are closed.
 pub fn closed<'i>(from: &'i str) -> Option<&'i str>
     ensures goes_on { (text : List ℕ) → IsLeft text from.entry.now
-        → Progress text from.entry.now false result }
+        → GoesOnIfFound text from.entry.now false result }
     ensures closed { (text : List ℕ) (classes : Classes) (furthest : ℕ) → IsLeft text from.entry.now
         → IfSome result (λ after. GoesOnTo classes (at text from.entry.now)
         (Success (at text after.now) None') furthest) }
@@ -112,7 +112,7 @@ pub fn ends_of(text: &str, ends: &mut Vec<Option<usize>>) -> Result<(), AllocErr
 pub fn behind<'i>(text: &str, ends: &[Option<usize>], inside: &'i str) -> Option<&'i str>
     requires left { IsLeft text.now inside.now }
     requires known { AreAllEnds text.now ends.now }
-    ensures goes_on { Progress text.now inside.entry.now false result }
+    ensures goes_on { GoesOnIfFound text.now inside.entry.now false result }
     ensures means { (classes : Classes) (furthest : ℕ)
         → GoesOnTo classes (at text.now inside.entry.now) (leaving text.now result) furthest }
 {

@@ -2,7 +2,7 @@
 ghost use Rattle.std.specs.Prelude.{◌≡◌, ◌<◌, ◌++◌, OnOk, length, take, true};
 ghost use Rattle.meta_base.specs.Language.State.{None'};
 ghost use Rattle.meta_base.specs.Pieces.MetaRules.{name_of};
-ghost use Rattle.meta_syntax.specs.Entries.{Adds, Closes, open_start, named_entries, token};
+ghost use Rattle.meta_syntax.specs.Entries.{AddsEntries, Closes, open_start, named_entries, token};
 
 use meta_base::grammar::Rule;
 use std::alloc::{AllocError, Global};
@@ -77,7 +77,7 @@ pub(crate) fn close(
     Ok(())
 }
 
-/// Adds a tree with no trees inside it, if there is to be one.
+/// AddsEntries a tree with no trees inside it, if there is to be one.
 pub(crate) fn leaf(
     entries: &mut Vec<Entry>,
     gives: bool,
@@ -86,7 +86,7 @@ pub(crate) fn leaf(
     to: usize,
 ) -> Result<(), AllocError>
     ensures { OnOk result
-        (Adds entries.old.items entries.new.items (token gives (name_of rule) from to None')) }
+        (AddsEntries entries.old.items entries.new.items (token gives (name_of rule) from to None')) }
 {
     if gives {
         let first = entries.len();

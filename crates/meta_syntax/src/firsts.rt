@@ -11,7 +11,7 @@ use crate::modes::{Mode, is_seen_from};
 use meta_base::grammar::Rule;
 
 /// What the next character tells of a call.
-#[derive(Clone, Copy, Debug, PartialEq, Eq)]
+#[derive(Clone, Copy, PartialEq, Eq)]
 pub enum Lookahead {
     /// It fails.
     Fails,

@@ -41,5 +41,6 @@ pub fn each_rule_has_one_outcome()
 /// The trees of a text that is a grammar have their shape: which trees stand where, one behind
 /// another and inside one another, and digits where there are numbers.
 pub fn trees_of_a_grammar_have_their_shape()
-    ensures { (text : List ℕ) (us : Trees) → IsUtf8 text → Spells grammar_rules text us → AreGrammarTrees text us }
+    ensures { (text : List ℕ) (us : Trees) → IsUtf8 text → Spells grammar_rules text us
+        → AreGrammarTrees text us }
 {}

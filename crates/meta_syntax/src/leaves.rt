@@ -3,13 +3,13 @@
 ghost use Rattle.std.specs.Prelude.{◌≡◌, ℕ, [], ◌∷◌, List, length, true, false, nat_eq};
 ghost use Rattle.meta_base.specs.Language.Matching.{character_outcome, range_set, text_outcome};
 ghost use Rattle.meta_syntax.specs.Forms.{decoded};
-ghost use Rattle.meta_syntax.specs.Runs.{IsLeft, Progress, at, leaving};
+ghost use Rattle.meta_syntax.specs.Runs.{IsLeft, GoesOnIfFound, at, leaving};
 
 /// Matches the text itself.
 #[inline(always)]
 pub fn literal<'i>(text: &str, rest: &'i str) -> Option<&'i str>
     ensures goes_on { (whole : List ℕ) → IsLeft whole rest.entry.now
-        → Progress whole rest.entry.now (nat_eq (length text.now) 0) result }
+        → GoesOnIfFound whole rest.entry.now (nat_eq (length text.now) 0) result }
     ensures means { (whole : List ℕ) → IsLeft whole rest.entry.now
         → leaving whole result ≡ text_outcome nat_eq (decoded text.now) (at whole rest.entry.now) }
 {
@@ -20,7 +20,7 @@ pub fn literal<'i>(text: &str, rest: &'i str) -> Option<&'i str>
 #[inline(always)]
 pub fn sign<'i>(sign: char, rest: &'i str) -> Option<&'i str>
     ensures goes_on { (whole : List ℕ) → IsLeft whole rest.entry.now
-        → Progress whole rest.entry.now false result }
+        → GoesOnIfFound whole rest.entry.now false result }
     ensures means { (whole : List ℕ) → IsLeft whole rest.entry.now
         → leaving whole result ≡ text_outcome nat_eq (sign ∷ []) (at whole rest.entry.now) }
 {
@@ -41,7 +41,7 @@ pub fn sign<'i>(sign: char, rest: &'i str) -> Option<&'i str>
 #[inline(always)]
 pub fn character<'i>(low: char, high: char, rest: &'i str) -> Option<&'i str>
     ensures goes_on { (whole : List ℕ) → IsLeft whole rest.entry.now
-        → Progress whole rest.entry.now false result }
+        → GoesOnIfFound whole rest.entry.now false result }
     ensures means { (whole : List ℕ) → IsLeft whole rest.entry.now
         → leaving whole result
         ≡ character_outcome (range_set (low ∷ []) (high ∷ [])) (at whole rest.entry.now) }
@@ -63,7 +63,7 @@ pub fn character<'i>(low: char, high: char, rest: &'i str) -> Option<&'i str>
 #[inline(always)]
 pub fn any<'i>(rest: &'i str) -> Option<&'i str>
     ensures goes_on { (whole : List ℕ) → IsLeft whole rest.entry.now
-        → Progress whole rest.entry.now false result }
+        → GoesOnIfFound whole rest.entry.now false result }
     ensures means { (whole : List ℕ) → IsLeft whole rest.entry.now
         → leaving whole result ≡ character_outcome (λ _. true) (at whole rest.entry.now) }
 {

@@ -10,7 +10,7 @@ use meta_base::grammar::Rule;
 
 /// How the parts of an expression are put together: with white space and comments between them, or
 /// without; and whether their rules give tokens.
-#[derive(Clone, Copy, Debug, PartialEq, Eq)]
+#[derive(Clone, Copy)]
 pub enum Mode {
     NonAtomic,
     Atomic,

@@ -12,12 +12,12 @@ ghost use Rattle.meta_base.specs.Pieces.MetaRules.{name_of};
 ghost use Rattle.meta_base.specs.declared.grammar.Rule.TheVariants.{block_comment, inner_str};
 ghost use Rattle.meta_syntax.specs.CommentEnds.{AreAllEnds};
 ghost use Rattle.meta_syntax.specs.Entries.{named_entries};
-ghost use Rattle.meta_syntax.specs.Forms.{IsRunnable, IsTurn, IsTurnOf, SpellsOut, all_take, choice_among, cost, expression_of, followed, null, nullable};
+ghost use Rattle.meta_syntax.specs.Forms.{IsRunnable, IsRunnableTurn, IsTurnOf, SpellsOut, all_take, choice_among, cost, expression_of, followed, null, nullable};
 ghost use Rattle.meta_syntax.specs.MetaGrammar.{body_of};
 ghost use Rattle.meta_syntax.specs.Rows.{IsSign};
 ghost use Rattle.meta_syntax.specs.declared.sets.Set.{Set};
-ghost use Rattle.meta_syntax.specs.Remembering.{FailsWithin, IsReady, IsSound};
-ghost use Rattle.meta_syntax.specs.Runs.{GoesOn, IsLeft, Progress, RunsTo, Runs, mode_of};
+ghost use Rattle.meta_syntax.specs.Remembering.{FailsWithin, IsReady, RemembersTruly};
+ghost use Rattle.meta_syntax.specs.Runs.{GoesOn, IsLeft, GoesOnIfFound, RunsTo, Runs, mode_of};
 
 use crate::comments::{behind, closed, ends_of};
 use crate::entries::{Entry, close, count_of_entries, cut, leaf, open};
@@ -58,7 +58,7 @@ impl Recognizer {
     pub fn new(alloc: Global) -> Recognizer
         ensures entries { named_entries result.entries.items ≡ [] }
         ensures furthest { result.furthest ≡ 0 }
-        ensures sound { (text : List ℕ) → IsSound text result }
+        ensures remembers { (text : List ℕ) → RemembersTruly text result }
     {
         Recognizer {
             entries: Vec::new(alloc),
@@ -93,8 +93,8 @@ impl Recognizer {
         rest: &'i str,
     ) -> Option<Option<&'i str>>
         requires ready { IsReady text.now rest.now self.old }
-        ensures goes_on { IfSome result (Progress text.now rest.entry.now (nullable rule)) }
-        ensures sound { IsSound text.now self.new }
+        ensures goes_on { IfSome result (GoesOnIfFound text.now rest.entry.now (nullable rule)) }
+        ensures remembers { RemembersTruly text.now self.new }
         ensures means { MatchOption result (self.new ≡ self.old)
             (Runs (Run (mode_of mode) (Ident (name_of rule)))
             text.now rest.entry.now self.old self.new) }
@@ -115,7 +115,7 @@ impl Recognizer {
     /// Whether it is remembered that a call fails here. Nothing is then noted that was not noted
     /// before.
     fn has_failed(&self, rule: Rule, mode: Mode, rest: &str) -> bool
-        ensures { (text : List ℕ) → IsSound text self.now → IsLeft text rest.now → result ≡ true
+        ensures { (text : List ℕ) → RemembersTruly text self.now → IsLeft text rest.now → result ≡ true
             → FailsWithin rule (mode_of mode) text rest.now self.now.furthest }
     {
         if !begins_comment(rule, rest) {
@@ -131,9 +131,9 @@ impl Recognizer {
     fn remember(&mut self, rule: Rule, mode: Mode, rest: &str) -> Result<(), AllocError>
         ensures entries { OnOk result (self.new.entries ≡ self.old.entries) }
         ensures furthest { OnOk result (self.new.furthest ≡ self.old.furthest) }
-        ensures sound { (text : List ℕ) → IsSound text self.old → IsLeft text rest.now
+        ensures remembers { (text : List ℕ) → RemembersTruly text self.old → IsLeft text rest.now
             → FailsWithin rule (mode_of mode) text rest.now self.old.furthest
-            → OnOk result (IsSound text self.new) }
+            → OnOk result (RemembersTruly text self.new) }
     {
         if begins_comment(rule, rest) {
             match mode {
@@ -159,8 +159,8 @@ impl Recognizer {
     ) -> Result<Option<&'i str>, AllocError>
         requires sign { IsSign rule character }
         requires ready { IsReady text.now rest.now self.old }
-        ensures goes_on { IfOk result (Progress text.now rest.entry.now false) }
-        ensures sound { OnOk result (IsSound text.now self.new) }
+        ensures goes_on { IfOk result (GoesOnIfFound text.now rest.entry.now false) }
+        ensures remembers { OnOk result (RemembersTruly text.now self.new) }
         ensures means { IfOk result
             (Runs (Run (mode_of mode) (Ident (name_of rule)))
             text.now rest.entry.now self.old self.new) }
@@ -189,8 +189,8 @@ impl Recognizer {
         rest: &'i str,
     ) -> Result<Option<&'i str>, AllocError>
         requires ready { IsReady text.now rest.now self.old }
-        ensures goes_on { IfOk result (Progress text.now rest.entry.now true) }
-        ensures sound { OnOk result (IsSound text.now self.new) }
+        ensures goes_on { IfOk result (GoesOnIfFound text.now rest.entry.now true) }
+        ensures remembers { OnOk result (RemembersTruly text.now self.new) }
         ensures means { IfOk result
             (Runs (Run (mode_of mode) (Ident (codes "EOI")))
             text.now rest.entry.now self.old self.new) }
@@ -221,8 +221,8 @@ impl Recognizer {
     ) -> Result<Option<&'i str>, AllocError>
         requires form { IsRunnable form.now }
         requires ready { IsReady text.now rest.now self.old }
-        ensures goes_on { IfOk result (Progress text.now rest.entry.now (null form.now)) }
-        ensures sound { OnOk result (IsSound text.now self.new) }
+        ensures goes_on { IfOk result (GoesOnIfFound text.now rest.entry.now (null form.now)) }
+        ensures remembers { OnOk result (RemembersTruly text.now self.new) }
         ensures means { IfOk result
             (Runs (Run (mode_of mode) (expression_of form.now))
             text.now rest.entry.now self.old self.new) }
@@ -273,8 +273,8 @@ impl Recognizer {
     ) -> Result<Option<&'i str>, AllocError>
         requires spelled { IsRunnable spelled.now }
         requires ready { IsReady text.now rest.now self.old }
-        ensures goes_on { IfOk result (Progress text.now rest.entry.now (null spelled.now)) }
-        ensures sound { OnOk result (IsSound text.now self.new) }
+        ensures goes_on { IfOk result (GoesOnIfFound text.now rest.entry.now (null spelled.now)) }
+        ensures remembers { OnOk result (RemembersTruly text.now self.new) }
         ensures means { IfOk result
             (Runs (Run (mode_of mode) (expression_of spelled.now))
             text.now rest.entry.now self.old self.new) }
@@ -297,8 +297,8 @@ impl Recognizer {
         requires second { IsRunnable second.now }
         requires ready { IsReady text.now rest.now self.old }
         ensures goes_on { IfOk result
-            (Progress text.now rest.entry.now (null first.now || null second.now)) }
-        ensures sound { OnOk result (IsSound text.now self.new) }
+            (GoesOnIfFound text.now rest.entry.now (null first.now || null second.now)) }
+        ensures remembers { OnOk result (RemembersTruly text.now self.new) }
         ensures means { IfOk result
             (Runs (Run (mode_of mode) (Choice (expression_of first.now) (expression_of second.now)))
             text.now rest.entry.now self.old self.new) }
@@ -324,8 +324,8 @@ impl Recognizer {
         requires takes { nullable first ≡ false }
         requires others_take { all_take others.now ≡ true }
         requires ready { IsReady text.now rest.now self.old }
-        ensures goes_on { IfOk result (Progress text.now rest.entry.now false) }
-        ensures sound { OnOk result (IsSound text.now self.new) }
+        ensures goes_on { IfOk result (GoesOnIfFound text.now rest.entry.now false) }
+        ensures remembers { OnOk result (RemembersTruly text.now self.new) }
         ensures means { IfOk result
             (Runs (Run (mode_of mode) (choice_among (Ident (name_of first)) others.now))
             text.now rest.entry.now self.old self.new) }
@@ -353,8 +353,8 @@ impl Recognizer {
     ) -> Result<Option<&'i str>, AllocError>
         requires body { IsRunnable body.now }
         requires ready { IsReady text.now rest.now self.old }
-        ensures goes_on { IfOk result (Progress text.now rest.entry.now true) }
-        ensures sound { OnOk result (IsSound text.now self.new) }
+        ensures goes_on { IfOk result (GoesOnIfFound text.now rest.entry.now true) }
+        ensures remembers { OnOk result (RemembersTruly text.now self.new) }
         ensures means { IfOk result
             (Runs (Run (mode_of mode) (Opt (expression_of body.now)))
             text.now rest.entry.now self.old self.new) }
@@ -377,8 +377,8 @@ impl Recognizer {
     ) -> Result<Option<&'i str>, AllocError>
         requires body { IsRunnable body.now }
         requires ready { IsReady text.now rest.now self.old }
-        ensures goes_on { IfOk result (Progress text.now rest.entry.now true) }
-        ensures sound { OnOk result (IsSound text.now self.new) }
+        ensures goes_on { IfOk result (GoesOnIfFound text.now rest.entry.now true) }
+        ensures remembers { OnOk result (RemembersTruly text.now self.new) }
         ensures means { IfOk result
             (Runs (Run (mode_of mode) (NegPred (expression_of body.now)))
             text.now rest.entry.now self.old self.new) }
@@ -403,10 +403,10 @@ impl Recognizer {
         mode: Mode,
         rest: &'i str,
     ) -> Result<Option<&'i str>, AllocError>
-        requires turn { IsTurn body.now }
+        requires turn { IsRunnableTurn body.now }
         requires ready { IsReady text.now rest.now self.old }
-        ensures goes_on { IfOk result (Progress text.now rest.entry.now (null body.now)) }
-        ensures sound { OnOk result (IsSound text.now self.new) }
+        ensures goes_on { IfOk result (GoesOnIfFound text.now rest.entry.now (null body.now)) }
+        ensures remembers { OnOk result (RemembersTruly text.now self.new) }
         ensures means { IfOk result
             (Runs (Run (mode_of mode) (RepOnce (expression_of body.now)))
             text.now rest.entry.now self.old self.new) }
@@ -435,8 +435,8 @@ impl Recognizer {
         requires below { cost others.now < 1000 }
         requires ready { IsReady text.now from.now self.old }
         ensures goes_on { IfOk result
-            (Progress text.now from.entry.now (null first.now && null others.now)) }
-        ensures sound { OnOk result (IsSound text.now self.new) }
+            (GoesOnIfFound text.now from.entry.now (null first.now && null others.now)) }
+        ensures remembers { OnOk result (RemembersTruly text.now self.new) }
         ensures means { IfOk result
             (Runs (Run (mode_of mode) (followed (Some (expression_of first.now)) others.now))
             text.now from.entry.now self.old self.new) }
@@ -471,10 +471,10 @@ impl Recognizer {
         mode: Mode,
         rest: &'i str,
     ) -> Result<&'i str, AllocError>
-        requires turn { IsTurn body.now }
+        requires turn { IsRunnableTurn body.now }
         requires ready { IsReady text.now rest.now self.old }
         ensures goes_on { IfOk result (λ after. GoesOn text.now rest.entry.now true after.now) }
-        ensures sound { OnOk result (IsSound text.now self.new) }
+        ensures remembers { OnOk result (RemembersTruly text.now self.new) }
         ensures means { IfOk result
             (λ after. RunsTo (Run (mode_of mode) (Rep (expression_of body.now)))
             text.now rest.entry.now self.old self.new after.now) }
@@ -498,10 +498,10 @@ impl Recognizer {
         mode: Mode,
         from: &'i str,
     ) -> Result<&'i str, AllocError>
-        requires turn { IsTurn body.now }
+        requires turn { IsRunnableTurn body.now }
         requires ready { IsReady text.now from.now self.old }
         ensures goes_on { IfOk result (λ after. GoesOn text.now from.entry.now true after.now) }
-        ensures sound { OnOk result (IsSound text.now self.new) }
+        ensures remembers { OnOk result (RemembersTruly text.now self.new) }
         ensures means { IfOk result
             (λ after. RunsTo (Turns (mode_of mode) (expression_of body.now))
             text.now from.entry.now self.old self.new after.now) }
@@ -534,7 +534,7 @@ impl Recognizer {
         requires turn { IsTurnOf set body.now }
         requires ready { IsReady text.now from.now self.old }
         ensures goes_on { IfOk result (λ after. GoesOn text.now from.entry.now true after.now) }
-        ensures sound { OnOk result (IsSound text.now self.new) }
+        ensures remembers { OnOk result (RemembersTruly text.now self.new) }
         ensures means { IfOk result
             (λ after. RunsTo (Run (mode_of mode) (Rep (expression_of body.now)))
             text.now from.entry.now self.old self.new after.now) }
@@ -570,8 +570,8 @@ impl Recognizer {
         requires turn { IsTurnOf Set.Quoted body.now }
         requires whole { SpellsOut inner_str spelled.now }
         requires ready { IsReady text.now from.now self.old }
-        ensures goes_on { IfOk result (Progress text.now from.entry.now true) }
-        ensures sound { OnOk result (IsSound text.now self.new) }
+        ensures goes_on { IfOk result (GoesOnIfFound text.now from.entry.now true) }
+        ensures remembers { OnOk result (RemembersTruly text.now self.new) }
         ensures means { IfOk result
             (Runs (Run (mode_of mode) (body_of inner_str))
             text.now from.entry.now self.old self.new) }
@@ -591,10 +591,10 @@ impl Recognizer {
 
     /// Finds out where comments end, if that isn't known yet.
     fn find_ends(&mut self, text: &str) -> Result<(), AllocError>
-        requires sound { IsSound text.now self.old }
+        requires remembers { RemembersTruly text.now self.old }
         ensures entries { OnOk result (self.new.entries ≡ self.old.entries) }
         ensures furthest { OnOk result (self.new.furthest ≡ self.old.furthest) }
-        ensures sound { OnOk result (IsSound text.now self.new) }
+        ensures remembers { OnOk result (RemembersTruly text.now self.new) }
         ensures known { OnOk result (AreAllEnds text.now self.new.ends.items) }
     {
         if !self.ends.is_empty() {
@@ -603,9 +603,9 @@ impl Recognizer {
         ends_of(text, &mut self.ends)
     }
 
-    /// What `block_comment` matches. The rule calls itself where a comment begins within it. Where all of them
-    /// are closed one look over them tells where; where one is left open, it is found out once for the whole
-    /// text where comments end.
+    /// What `block_comment` matches. The rule calls itself where a comment begins within it. Where all of
+    /// them are closed one look over them tells where; where one is left open, it is found out once for the
+    /// whole text where comments end.
     #[inline(never)]
     #[cycle(recognize)]
     fn comment<'i>(
@@ -617,8 +617,8 @@ impl Recognizer {
     ) -> Result<Option<&'i str>, AllocError>
         requires whole { SpellsOut block_comment spelled.now }
         requires ready { IsReady text.now from.now self.old }
-        ensures goes_on { IfOk result (Progress text.now from.entry.now (null spelled.now)) }
-        ensures sound { OnOk result (IsSound text.now self.new) }
+        ensures goes_on { IfOk result (GoesOnIfFound text.now from.entry.now (null spelled.now)) }
+        ensures remembers { OnOk result (RemembersTruly text.now self.new) }
         ensures means { IfOk result
             (Runs (Run (mode_of mode) (body_of block_comment))
             text.now from.entry.now self.old self.new) }
@@ -650,8 +650,8 @@ impl Recognizer {
         rest: &'i str,
     ) -> Result<Option<&'i str>, AllocError>
         requires ready { IsReady text.now rest.now self.old }
-        ensures goes_on { IfOk result (Progress text.now rest.entry.now (nullable rule)) }
-        ensures sound { OnOk result (IsSound text.now self.new) }
+        ensures goes_on { IfOk result (GoesOnIfFound text.now rest.entry.now (nullable rule)) }
+        ensures remembers { OnOk result (RemembersTruly text.now self.new) }
         ensures means { IfOk result
             (Runs (Run (mode_of mode) (Ident (name_of rule)))
             text.now rest.entry.now self.old self.new) }
@@ -677,8 +677,8 @@ impl Recognizer {
         rest: &'i str,
     ) -> Result<Option<&'i str>, AllocError>
         requires ready { IsReady text.now rest.now self.old }
-        ensures goes_on { IfOk result (Progress text.now rest.entry.now (nullable rule)) }
-        ensures sound { OnOk result (IsSound text.now self.new) }
+        ensures goes_on { IfOk result (GoesOnIfFound text.now rest.entry.now (nullable rule)) }
+        ensures remembers { OnOk result (RemembersTruly text.now self.new) }
         ensures means { IfOk result
             (Runs (Run (mode_of mode) (Ident (name_of rule)))
             text.now rest.entry.now self.old self.new) }
@@ -716,7 +716,7 @@ impl Recognizer {
     fn skip<'i>(&mut self, text: &str, mode: Mode, from: &'i str) -> Result<&'i str, AllocError>
         requires ready { IsReady text.now from.now self.old }
         ensures goes_on { IfOk result (λ after. GoesOn text.now from.entry.now true after.now) }
-        ensures sound { OnOk result (IsSound text.now self.new) }
+        ensures remembers { OnOk result (RemembersTruly text.now self.new) }
         ensures means { IfOk result
             (λ after. RunsTo (Skipping (mode_of mode))
             text.now from.entry.now self.old self.new after.now) }
@@ -740,7 +740,7 @@ impl Recognizer {
     fn blanks<'i>(&mut self, text: &str, from: &'i str) -> Result<&'i str, AllocError>
         requires ready { IsReady text.now from.now self.old }
         ensures goes_on { IfOk result (λ after. GoesOn text.now from.entry.now true after.now) }
-        ensures sound { OnOk result (IsSound text.now self.new) }
+        ensures remembers { OnOk result (RemembersTruly text.now self.new) }
         ensures means { IfOk result
             (λ after. RunsTo (Run Between (Rep (Ident whitespace)))
             text.now from.entry.now self.old self.new after.now) }
@@ -760,7 +760,7 @@ impl Recognizer {
     fn comments<'i>(&mut self, text: &str, from: &'i str) -> Result<&'i str, AllocError>
         requires ready { IsReady text.now from.now self.old }
         ensures goes_on { IfOk result (λ after. GoesOn text.now from.entry.now true after.now) }
-        ensures sound { OnOk result (IsSound text.now self.new) }
+        ensures remembers { OnOk result (RemembersTruly text.now self.new) }
         ensures means { IfOk result
             (λ after. RunsTo (Run Between (Rep (Seq (Ident comment) (Rep (Ident whitespace)))))
             text.now from.entry.now self.old self.new after.now) }

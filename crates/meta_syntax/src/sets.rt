@@ -12,7 +12,7 @@ ghost use Rattle.meta_syntax.specs.Sets.{IsBefore, is_in, is_out, spelled_by};
 use crate::modes::Mode;
 
 /// What the body of a repetition takes, told by one character.
-#[derive(Clone, Copy, Debug, PartialEq, Eq)]
+#[derive(Clone, Copy)]
 pub enum Set {
     /// A name goes on with `_`, a letter or a digit of ASCII.
     Name,

@@ -8,7 +8,7 @@ use crate::sets::Set;
 use meta_base::grammar::Rule;
 
 /// What a rule does with the mode of its caller, and whether it gives a token.
-#[derive(Clone, Copy, Debug, PartialEq, Eq)]
+#[derive(Clone, Copy)]
 pub enum Kind {
     Normal,
     Silent,

@@ -10,7 +10,7 @@ use Rattle.meta_validator.specs.Names.{grammar_of, kind_in, rule_said, last_plac
 use Rattle.meta_validator.specs.Numbering.{Says, repeated, wrap_kind}
 use Rattle.meta_validator.specs.Facts.{AreFacts}
 use Rattle.meta_validator.specs.Table.{is_set_at}
-use Rattle.meta_validator.specs.Ends.{Ends, AllEnd, SkippedTake}
+use Rattle.meta_validator.specs.Taking.{RepeatedTakes, AllRepeatedTake, SkippedTake}
 use Rattle.meta_validator.specs.Findings.{is_skipped_name}
 use Rattle.meta_validator.specs.declared.facts.Facts.{Facts}
 use Rattle.meta_validator.specs.declared.numbering.Wrap.TheVariants as wraps
@@ -46,7 +46,7 @@ named_so (q ∷ g) n r e = go (rule_of g n) refl (bytes_eq q.name n) refl e (nam
     go None h true f e k = subst (λ z. bytes_eq z.name n ≡ true) (same_some e) f
     go None h false f e k = cc
 
-module _ (rules : List ParserRule) (facts : Facts) (right : AreFacts rules facts) (end : AllEnd facts) (skips : SkippedTake rules facts) (fall : (n : Text) → Leads (grammar_of rules) n n → ⊥) where
+module _ (rules : List ParserRule) (facts : Facts) (right : AreFacts rules facts) (takes : AllRepeatedTake facts) (skips : SkippedTake rules facts) (fall : (n : Text) → Leads (grammar_of rules) n n → ⊥) where
   abbrev G : Grammar
   G = grammar_of rules
 
@@ -96,10 +96,10 @@ module _ (rules : List ParserRule) (facts : Facts) (right : AreFacts rules facts
   null_at : (j : ℕ) (e : Expression) → Lies j e → IsNullable G e → is_set_at facts.nullable.items j ≡ true
   null_at j e s d = (right.nullable j e s).1 d
 
-  repeated_ends : (j n : ℕ) → Ends facts (wrap_kind (repeated n) j) → is_set_at facts.nullable.items j ≡ false
-  repeated_ends j n f = go (nat_eq n 0) f
+  repeated_takes : (j n : ℕ) → RepeatedTakes facts (wrap_kind (repeated n) j) → is_set_at facts.nullable.items j ≡ false
+  repeated_takes j n f = go (nat_eq n 0) f
     where
-      go : (b : Bool) → Ends facts (wrap_kind (if b then wraps.Again else wraps.OnceAgain) j) → is_set_at facts.nullable.items j ≡ false
+      go : (b : Bool) → RepeatedTakes facts (wrap_kind (if b then wraps.Again else wraps.OnceAgain) j) → is_set_at facts.nullable.items j ≡ false
       go true f = f
       go false f = f
 
@@ -111,9 +111,9 @@ module _ (rules : List ParserRule) (facts : Facts) (right : AreFacts rules facts
           clash _ (null_at i r.body lies d) (skips k rule i at got (ap is_skipped_name (ap (λ z. z.name) same ∙ (bytes_eq-Decides r.name n).0 (named_so G n r e)) ∙ skipped_name n s))
 
       again : (x e : Expression) → Repeats x e → InRules G x → IsNullable G e → ⊥
-      again x e repeats_any h d = let (k, s) = in_lies x h in clash _ (null_at s.0 e s.3 d) (end k _ s.2)
-      again x e repeats_once h d = let (k, s) = in_lies x h in clash _ (null_at s.0 e s.3 d) (end k _ s.2)
-      again x e (repeats_min {i = n}) h d = let (k, s) = in_lies x h in clash _ (null_at s.0 e s.3 d) (repeated_ends s.0 n (end k _ s.2))
+      again x e repeats_any h d = let (k, s) = in_lies x h in clash _ (null_at s.0 e s.3 d) (takes k _ s.2)
+      again x e repeats_once h d = let (k, s) = in_lies x h in clash _ (null_at s.0 e s.3 d) (takes k _ s.2)
+      again x e (repeats_min {i = n}) h d = let (k, s) = in_lies x h in clash _ (null_at s.0 e s.3 d) (repeated_takes s.0 n (takes k _ s.2))
 
       none : Reported G → ⊥
       none (endless {x = x} {e = e} r h (inl d)) = again x e r h (sure_null G e d)

@@ -9,7 +9,7 @@ use Rattle.meta_nodes.specs.Erasure.{without_spans}
 use Rattle.meta_nodes.specs.Nodes.{view, rule_view, rule_views}
 use Rattle.meta_nodes.specs.Spanned.{Span, Spanned, Leaf, One, Two, Unary, PosPred, NegPred, Opt, Rep, RepOnce, RepExact, RepMin, RepMax, RepMinMax, Push, Seq, Choice, SpannedRule}
 use Rattle.meta_nodes.specs.declared.node.ParserRule.{ParserRule}
-use Rattle.meta_validator.specs.Ends.{Ends, AllEnd, SkippedTake}
+use Rattle.meta_validator.specs.Taking.{RepeatedTakes, AllRepeatedTake, SkippedTake}
 use Rattle.meta_validator.specs.Facts.{AreFacts}
 use Rattle.meta_validator.specs.Findings.{Finding, Reports, reports_none, reports_at, OfRepeated, never_fails, takes_nothing, goes_on, OfRepetition, repetition, no_repetition, OfSkipped, skipped, not_skipped, is_endless, is_repetition, is_skipped_name}
 use Rattle.meta_validator.specs.Names.{grammar_of, kind_in}
@@ -64,44 +64,44 @@ module _ (rules : List ParserRule) (facts : Facts) (right : AreFacts rules facts
       go true h = absurd (f ((right.nullable j e s).0 h))
       go false h = refl
 
-  wrap_ends : (s : Span) (f : Unary) (y : Spanned) (j : ℕ) → slice_get (nodes_of rules) j ≡ Some y → OfRepetition G (One s f y) [] → Ends facts (wrap_kind (wrap_of f) j)
-  wrap_ends s PosPred y j e d = tt
-  wrap_ends s NegPred y j e d = tt
-  wrap_ends s Opt y j e d = tt
-  wrap_ends s Push y j e d = tt
-  wrap_ends s (RepMax n) y j e d = tt
-  wrap_ends s Rep y j e d = not_null j (without_spans y) (says_at rules facts right j y e) (none_repetition G d refl s Rep y refl refl)
-  wrap_ends s RepOnce y j e d = not_null j (without_spans y) (says_at rules facts right j y e) (none_repetition G d refl s RepOnce y refl refl)
-  wrap_ends s (RepExact n) y j e d = go (nat_eq n 0)
+  wrap_takes : (s : Span) (f : Unary) (y : Spanned) (j : ℕ) → slice_get (nodes_of rules) j ≡ Some y → OfRepetition G (One s f y) [] → RepeatedTakes facts (wrap_kind (wrap_of f) j)
+  wrap_takes s PosPred y j e d = tt
+  wrap_takes s NegPred y j e d = tt
+  wrap_takes s Opt y j e d = tt
+  wrap_takes s Push y j e d = tt
+  wrap_takes s (RepMax n) y j e d = tt
+  wrap_takes s Rep y j e d = not_null j (without_spans y) (says_at rules facts right j y e) (none_repetition G d refl s Rep y refl refl)
+  wrap_takes s RepOnce y j e d = not_null j (without_spans y) (says_at rules facts right j y e) (none_repetition G d refl s RepOnce y refl refl)
+  wrap_takes s (RepExact n) y j e d = go (nat_eq n 0)
     where
-      go : (b : Bool) → Ends facts (wrap_kind (if b then wraps.Free else wraps.Inside) j)
+      go : (b : Bool) → RepeatedTakes facts (wrap_kind (if b then wraps.Free else wraps.Inside) j)
       go true = tt
       go false = tt
-  wrap_ends s (RepMinMax m n) y j e d = go (nat_eq m 0)
+  wrap_takes s (RepMinMax m n) y j e d = go (nat_eq m 0)
     where
-      go : (b : Bool) → Ends facts (wrap_kind (if b then wraps.Free else wraps.Inside) j)
+      go : (b : Bool) → RepeatedTakes facts (wrap_kind (if b then wraps.Free else wraps.Inside) j)
       go true = tt
       go false = tt
-  wrap_ends s (RepMin n) y j e d = go (nat_eq n 0)
+  wrap_takes s (RepMin n) y j e d = go (nat_eq n 0)
     where
-      go : (b : Bool) → Ends facts (wrap_kind (if b then wraps.Again else wraps.OnceAgain) j)
+      go : (b : Bool) → RepeatedTakes facts (wrap_kind (if b then wraps.Again else wraps.OnceAgain) j)
       go true = not_null j (without_spans y) (says_at rules facts right j y e) (none_repetition G d refl s (RepMin n) y refl refl)
       go false = not_null j (without_spans y) (says_at rules facts right j y e) (none_repetition G d refl s (RepMin n) y refl refl)
 
-  kind_ends : (i : ℕ) (x : Spanned) (k : Kind) → Fits (kind_in G) (nodes_of rules) i k x → OfRepetition G x [] → Ends facts k
-  kind_ends i (Leaf s e) k fit d = subst (λ z. Ends facts z) (sym fit.1) (leaf_kinds (λ z. Ends facts z) tt tt tt (λ r. tt) (λ r. tt) G e)
-  kind_ends i (One s f y) k fit d = subst (λ z. Ends facts z) (sym fit.3) (wrap_ends s f y fit.0 fit.2 d)
-  kind_ends i (Two s Seq x y) k fit d = subst (λ z. Ends facts z) (sym fit.6) tt
-  kind_ends i (Two s Choice x y) k fit d = subst (λ z. Ends facts z) (sym fit.6) tt
+  kind_takes : (i : ℕ) (x : Spanned) (k : Kind) → Fits (kind_in G) (nodes_of rules) i k x → OfRepetition G x [] → RepeatedTakes facts k
+  kind_takes i (Leaf s e) k fit d = subst (λ z. RepeatedTakes facts z) (sym fit.1) (leaf_kinds (λ z. RepeatedTakes facts z) tt tt tt (λ r. tt) (λ r. tt) G e)
+  kind_takes i (One s f y) k fit d = subst (λ z. RepeatedTakes facts z) (sym fit.3) (wrap_takes s f y fit.0 fit.2 d)
+  kind_takes i (Two s Seq x y) k fit d = subst (λ z. RepeatedTakes facts z) (sym fit.6) tt
+  kind_takes i (Two s Choice x y) k fit d = subst (λ z. RepeatedTakes facts z) (sym fit.6) tt
 
-  all_end : {fs : List Finding} → Reports (OfRepetition G) (nodes_of rules) fs → fs ≡ [] → AllEnd facts
-  all_end h e i k at =
+  all_take : {fs : List Finding} → Reports (OfRepetition G) (nodes_of rules) fs → fs ≡ [] → AllRepeatedTake facts
+  all_take h e i k at =
       let w = slice_get_within facts.table.kinds.items i k at in
       let n = right.tabled.nodes.alike in
       let (x, here) = got_within (nodes_of rules) i (omega arith) in
       let (q, is_q, fit) = right.tabled.nodes.fit i x here in
       let same : q ≡ k = (let m = sym is_q ∙ at in cc) in
-      subst (λ z. Ends facts z) same (kind_ends i x q fit (reports_empty (OfRepetition G) h e i x here))
+      subst (λ z. RepeatedTakes facts z) same (kind_takes i x q fit (reports_empty (OfRepetition G) h e i x here))
 
   skipped_take : {fs : List Finding} → Reports (OfSkipped G) (rule_views rules) fs → fs ≡ [] → SkippedTake rules facts
   skipped_take h e r rule i at root name =
@@ -114,7 +114,7 @@ module _ (rules : List ParserRule) (facts : Facts) (right : AreFacts rules facts
   empty_well_formed fs gs hs ks a c d e =
       let u = empty_second fs (gs ++ (hs ++ ks)) e in
       let v = empty_second gs (hs ++ ks) u in
-      well_formed rules facts right (all_end a (empty_first fs (gs ++ (hs ++ ks)) e)) (skipped_take c (empty_first hs ks v)) (d (empty_second hs ks v))
+      well_formed rules facts right (all_take a (empty_first fs (gs ++ (hs ++ ks)) e)) (skipped_take c (empty_first hs ks v)) (d (empty_second hs ks v))
 
 starts : {g : Grammar} {n k : Text} → Leads g n k → (r : Rule) × (rule_of g n ≡ Some r)
 starts (at_once {r = r} e l) = (r, e)

@@ -9,7 +9,7 @@ pub mod Layout
 pub mod Facts
 pub mod Cycles
 pub mod Without
-pub mod Ends
+pub mod Taking
 pub mod Findings
 pub mod Reporting
 pub mod Reported

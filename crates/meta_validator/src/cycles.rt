@@ -15,7 +15,7 @@ use meta_nodes::ParserRule;
 use std::alloc::{AllocError, Global};
 
 /// What is to be done with a node.
-#[derive(Clone, Copy, Debug, PartialEq, Eq)]
+#[derive(Clone, Copy)]
 pub enum Step {
     Enter(usize),
     Leave(usize),
@@ -161,17 +161,14 @@ fn falls(facts: &Facts, order: &[usize], node: usize, kind: Kind) -> bool
     ensures { result ≡ true → Falls facts.now order.now node kind }
 {
     match kind {
-        Kind::Taking => true,
-        Kind::Still => true,
-        Kind::End => true,
-        Kind::Call(rule) => is_root_below(facts, order, rule, node),
-        Kind::EndCall(rule) => is_root_below(facts, order, rule, node),
-        Kind::Ahead(body) => is_below(order, body, node),
-        Kind::NotAhead(body) => is_below(order, body, node),
-        Kind::Free(body) => is_below(order, body, node),
-        Kind::Inside(body) => is_below(order, body, node),
-        Kind::Again(body) => is_below(order, body, node),
-        Kind::OnceAgain(body) => is_below(order, body, node),
+        Kind::Taking | Kind::Still | Kind::End => true,
+        Kind::Call(rule) | Kind::EndCall(rule) => is_root_below(facts, order, rule, node),
+        Kind::Ahead(body)
+        | Kind::NotAhead(body)
+        | Kind::Free(body)
+        | Kind::Inside(body)
+        | Kind::Again(body)
+        | Kind::OnceAgain(body) => is_below(order, body, node),
         Kind::Seq(first, second) => {
             is_below(order, first, node)
                 && (!is_set(facts.nullable.as_slice(), first) || is_below(order, second, node))

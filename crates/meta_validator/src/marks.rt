@@ -56,13 +56,12 @@ fn count(counts: &mut [usize], node: Option<usize>) {
 
 /// How many listen to each node; and one number more.
 fn counts_of(alloc: Global, table: &Table) -> Result<Vec<usize>, AllocError> {
-    let mut counts = vec![in alloc; 0; table.kinds.len()]?;
+    let mut counts = vec![in alloc; 0; table.kinds.len().saturating_add(1)]?;
     for kind in &table.kinds {
         let (first, second) = listened_to(table, *kind);
         count(&mut counts, first);
         count(&mut counts, second);
     }
-    counts.push(0)?;
     Ok(counts)
 }
 

@@ -18,7 +18,7 @@ use meta_nodes::{ParserExpr, ParserNode, ParserRule};
 use std::alloc::{AllocError, Global};
 
 /// What stands round one operand.
-#[derive(Clone, Copy, Debug, PartialEq, Eq)]
+#[derive(Clone, Copy)]
 pub enum Wrap {
     Ahead,
     NotAhead,
@@ -149,7 +149,7 @@ fn start_at(starts: &[usize], node: usize) -> usize
 }
 
 /// What the node of a number does, and the number of the first node inside it.
-#[derive(Clone, Copy, Debug, PartialEq, Eq)]
+#[derive(Clone, Copy)]
 pub struct Placed {
     pub kind: Kind,
     pub start: usize,

@@ -29,7 +29,7 @@ use std::alloc::{AllocError, Global};
 use std::mem;
 
 /// What is to be done.
-#[derive(Clone, Copy, Debug, PartialEq, Eq)]
+#[derive(Clone, Copy)]
 pub enum Task {
     /// Walk over a node.
     Visit(usize),
@@ -109,12 +109,10 @@ fn push_inside(
     ensures { OnOk result (tasks.new.items ≡ tasks.old.items ++ inside_of passing.now kind) }
 {
     match kind {
-        Some(Kind::Ahead(body)) => push_node(tasks, body),
-        Some(Kind::NotAhead(body)) => push_node(tasks, body),
-        Some(Kind::Free(body)) => push_node(tasks, body),
-        Some(Kind::Inside(body)) => push_node(tasks, body),
-        Some(Kind::Again(body)) => push_node(tasks, body),
-        Some(Kind::OnceAgain(body)) => push_node(tasks, body),
+        Some(Kind::Ahead(body) | Kind::NotAhead(body) | Kind::Free(body)) => push_node(tasks, body),
+        Some(Kind::Inside(body) | Kind::Again(body) | Kind::OnceAgain(body)) => push_node(
+            tasks, body,
+        ),
         Some(Kind::Seq(first, second)) => {
             if is_set(passing, first) {
                 push_nodes(tasks, first, second)

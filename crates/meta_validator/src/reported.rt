@@ -1,5 +1,5 @@
 //! All that is found in rules, as errors.
-ghost use Rattle.std.specs.Prelude.{◌≡◌, [], IfOk, IfErr, OnOk, alloc_error, map};
+ghost use Rattle.std.specs.Prelude.{◌≡◌, ◌++◌, [], IfOk, IfErr, OnOk, alloc_error, map};
 ghost use Rattle.meta_base.specs.Pieces.Saying.{SaysAt, Tell};
 ghost use Rattle.meta_base.specs.Language.WellFormed.{IsWellFormed};
 ghost use Rattle.meta_nodes.specs.Nodes.{piece_of, rule_views};
@@ -46,16 +46,30 @@ fn all_findings<'i>(
 {
     let facts = facts_of(alloc, rules)?;
     let spans = spans_of(alloc, rules)?;
-    let mut found = repetitions(alloc, rules, &facts, spans.as_slice())?;
-    let mut endless = endless_findings(alloc, endless)?;
-    let mut choices = choices(alloc, rules, &facts, spans.as_slice())?;
-    let mut skips = skips(alloc, rules, &facts)?;
-    let mut recursions = recursions(alloc, rules, &facts, spans.as_slice())?;
-    skips.append(&mut recursions)?;
-    choices.append(&mut skips)?;
-    endless.append(&mut choices)?;
-    found.append(&mut endless)?;
+    let found = repetitions(alloc, rules, &facts, spans.as_slice())?;
+    let known = endless_findings(alloc, endless)?;
+    let found = with_others(found, known)?;
+    let choices = choices(alloc, rules, &facts, spans.as_slice())?;
+    let found = with_others(found, choices)?;
+    let skips = skips(alloc, rules, &facts)?;
+    let found = with_others(found, skips)?;
+    let recursions = recursions(alloc, rules, &facts, spans.as_slice())?;
+    let found = with_others(found, recursions)?;
     Ok(found)
+}
+
+/// Findings, and others behind them.
+fn with_others<'i>(
+    found: Vec<Finding<'i>>,
+    others: Vec<Finding<'i>>,
+) -> Result<Vec<Finding<'i>>, AllocError>
+    ensures { IfOk result (λ all.
+        findings_of all.items ≡ findings_of found.entry.items ++ findings_of others.entry.items) }
+{
+    let mut all = found;
+    let mut others = others;
+    all.append(&mut others)?;
+    Ok(all)
 }
 
 /// Puts findings in the order of their places.

@@ -3,7 +3,7 @@ ghost use Rattle.std.specs.Prelude.{◌≡◌, ◌<◌, slice_get};
 ghost use Rattle.meta_validator.specs.Table.{fires, is_set_at, at_root};
 
 /// What a node does, its operands by their numbers.
-#[derive(Clone, Copy, Debug, PartialEq, Eq)]
+#[derive(Clone, Copy)]
 pub enum Kind {
     /// It takes something, or fails.
     Taking,
@@ -32,7 +32,7 @@ pub enum Kind {
 }
 
 /// What is asked of each node.
-#[derive(Clone, Copy, Debug, PartialEq, Eq)]
+#[derive(Clone, Copy)]
 pub enum Question {
     /// Whether it may succeed without taking anything.
     TakesNothing,
@@ -91,16 +91,12 @@ impl Table {
     {
         match kind {
             Kind::Taking => false,
-            Kind::Still => true,
-            Kind::End => question.is_of_taking(),
+            Kind::Still | Kind::Free(_) | Kind::Again(_) => true,
+            Kind::End | Kind::NotAhead(_) => question.is_of_taking(),
             Kind::Call(rule) => self.is_root_set(marks, rule),
             Kind::EndCall(rule) => question.is_of_taking() || self.is_root_set(marks, rule),
             Kind::Ahead(body) => question.is_of_taking() || is_set(marks, body),
-            Kind::NotAhead(_) => question.is_of_taking(),
-            Kind::Free(_) => true,
-            Kind::Inside(body) => is_set(marks, body),
-            Kind::Again(_) => true,
-            Kind::OnceAgain(body) => is_set(marks, body),
+            Kind::Inside(body) | Kind::OnceAgain(body) => is_set(marks, body),
             Kind::Seq(first, second) => is_set(marks, first) && is_set(marks, second),
             Kind::Choice(first, second) => is_set(marks, first) || is_set(marks, second),
         }

@@ -30,9 +30,26 @@ impl Clone for Expr {
     }
 }
 
-// What stands around an operand while that is copied.
+// The same expression again.
+fn copy(expr: &Expr) -> Result<Expr, AllocError>
+    ensures { IfOk result (λ copy. expression_of copy ≡ expression_of expr.now) }
+{
+    match Around::open(expr)? {
+        Step::Made(copy) => Ok(copy),
+        Step::Inside(around, _) => rebuilt::<Around<'_>>(*Box::allocator(around.operand), expr),
+    }
+}
+
+// An operand that is copied, and what it stands under.
 #[derive(Drop)]
-enum Around<'a> {
+struct Around<'a> {
+    operand: &'a Box<Expr>,
+    sign: Sign<'a>,
+}
+
+// What an operand stands under while it is copied.
+#[derive(Drop)]
+enum Sign<'a> {
     PosPred,
     NegPred,
     Opt,
@@ -44,8 +61,8 @@ enum Around<'a> {
     RepMinMax(u32, u32),
     Push,
     // A `~` or a `|` whose left side is copied, with the right one; and with the copy of the left one.
-    FirstOfSeq(&'a Expr),
-    FirstOfChoice(&'a Expr),
+    FirstOfSeq(&'a Box<Expr>),
+    FirstOfChoice(&'a Box<Expr>),
     SecondOfSeq(Box<Expr>),
     SecondOfChoice(Box<Expr>),
 }
@@ -61,7 +78,7 @@ impl<'a> Rebuild for Around<'a> {
 
     ghost made = { λ expr. expression_of expr };
 
-    ghost fills = { λ around operand. with_operand around operand };
+    ghost fills = { λ around operand. with_operand around.sign operand };
 
     ghost is_right = { λ _. ⊤ };
 
@@ -69,85 +86,63 @@ impl<'a> Rebuild for Around<'a> {
 
     ghost size = { λ expr. 4 * weight (expression_of expr.now) };
 
-    ghost waits = { λ around. waits_of around };
+    ghost waits = { λ around. waits_of around.sign };
 
     fn open(expr: &'a Expr) -> Result<Step<&'a Expr, Around<'a>, Expr>, AllocError> {
-        match expr {
-            Expr::Str(text) => Ok(Step::Made(Expr::Str(text.clone()?))),
-            Expr::Insens(text) => Ok(Step::Made(Expr::Insens(text.clone()?))),
-            Expr::Range(first, last) => Ok(Step::Made(Expr::Range(first.clone()?, last.clone()?))),
-            Expr::Ident(name) => Ok(Step::Made(Expr::Ident(name.clone()?))),
-            Expr::PeekSlice(start, end) => Ok(Step::Made(Expr::PeekSlice(*start, *end))),
-            Expr::Skip(texts) => Ok(Step::Made(Expr::Skip(copy_texts(texts)?))),
-            Expr::PosPred(inner) => Ok(Step::Inside(Around::PosPred, inner)),
-            Expr::NegPred(inner) => Ok(Step::Inside(Around::NegPred, inner)),
-            Expr::Opt(inner) => Ok(Step::Inside(Around::Opt, inner)),
-            Expr::Rep(inner) => Ok(Step::Inside(Around::Rep, inner)),
-            Expr::RepOnce(inner) => Ok(Step::Inside(Around::RepOnce, inner)),
-            Expr::RepExact(inner, count) => Ok(Step::Inside(Around::RepExact(*count), inner)),
-            Expr::RepMin(inner, least) => Ok(Step::Inside(Around::RepMin(*least), inner)),
-            Expr::RepMax(inner, greatest) => Ok(Step::Inside(Around::RepMax(*greatest), inner)),
-            Expr::RepMinMax(inner, least, greatest) => Ok(Step::Inside(
-                Around::RepMinMax(*least, *greatest),
-                inner,
-            )),
-            Expr::Push(inner) => Ok(Step::Inside(Around::Push, inner)),
-            Expr::Seq(left, right) => Ok(Step::Inside(Around::FirstOfSeq(right), left)),
-            Expr::Choice(left, right) => Ok(Step::Inside(Around::FirstOfChoice(right), left)),
-        }
+        use Expr as E;
+        let (sign, operand) = match expr {
+            E::Str(text) => return Ok(Step::Made(E::Str(text.clone()?))),
+            E::Insens(text) => return Ok(Step::Made(E::Insens(text.clone()?))),
+            E::Range(first, last) => {
+                return Ok(Step::Made(E::Range(first.clone()?, last.clone()?)));
+            }
+            E::Ident(name) => return Ok(Step::Made(E::Ident(name.clone()?))),
+            E::PeekSlice(start, end) => return Ok(Step::Made(E::PeekSlice(*start, *end))),
+            E::Skip(texts) => return Ok(Step::Made(E::Skip(copy_texts(texts)?))),
+            E::PosPred(inner) => (Sign::PosPred, inner),
+            E::NegPred(inner) => (Sign::NegPred, inner),
+            E::Opt(inner) => (Sign::Opt, inner),
+            E::Rep(inner) => (Sign::Rep, inner),
+            E::RepOnce(inner) => (Sign::RepOnce, inner),
+            E::RepExact(inner, count) => (Sign::RepExact(*count), inner),
+            E::RepMin(inner, least) => (Sign::RepMin(*least), inner),
+            E::RepMax(inner, greatest) => (Sign::RepMax(*greatest), inner),
+            E::RepMinMax(inner, least, greatest) => (Sign::RepMinMax(*least, *greatest), inner),
+            E::Push(inner) => (Sign::Push, inner),
+            E::Seq(left, right) => (Sign::FirstOfSeq(right), left),
+            E::Choice(left, right) => (Sign::FirstOfChoice(right), left),
+        };
+        Ok(Step::Inside(Around { operand, sign }, operand))
     }
 
     fn close(
         self,
         alloc: Global,
-        operand: Expr,
+        copy: Expr,
     ) -> Result<Step<&'a Expr, Around<'a>, Expr>, AllocError> {
-        let operand = Box::new(alloc, operand)?;
-        match self {
-            Around::FirstOfSeq(right) => Ok(Step::Inside(Around::SecondOfSeq(operand), right)),
-            Around::FirstOfChoice(right) => Ok(Step::Inside(
-                Around::SecondOfChoice(operand),
-                right,
-            )),
-            Around::PosPred => Ok(Step::Made(Expr::PosPred(operand))),
-            Around::NegPred => Ok(Step::Made(Expr::NegPred(operand))),
-            Around::Opt => Ok(Step::Made(Expr::Opt(operand))),
-            Around::Rep => Ok(Step::Made(Expr::Rep(operand))),
-            Around::RepOnce => Ok(Step::Made(Expr::RepOnce(operand))),
-            Around::RepExact(count) => Ok(Step::Made(Expr::RepExact(operand, count))),
-            Around::RepMin(least) => Ok(Step::Made(Expr::RepMin(operand, least))),
-            Around::RepMax(greatest) => Ok(Step::Made(Expr::RepMax(operand, greatest))),
-            Around::RepMinMax(least, greatest) => {
-                Ok(Step::Made(Expr::RepMinMax(operand, least, greatest)))
+        let copy = Box::new(alloc, copy)?;
+        let whole = match self.sign {
+            Sign::FirstOfSeq(operand) => {
+                let sign = Sign::SecondOfSeq(copy);
+                return Ok(Step::Inside(Around { operand, sign }, operand));
             }
-            Around::Push => Ok(Step::Made(Expr::Push(operand))),
-            Around::SecondOfSeq(left) => Ok(Step::Made(Expr::Seq(left, operand))),
-            Around::SecondOfChoice(left) => Ok(Step::Made(Expr::Choice(left, operand))),
-        }
-    }
-}
-
-// The same expression again.
-fn copy(expr: &Expr) -> Result<Expr, AllocError>
-    ensures { IfOk result (λ copy. expression_of copy ≡ expression_of expr.now) }
-{
-    match expr {
-        Expr::PeekSlice(start, end) => Ok(Expr::PeekSlice(*start, *end)),
-        Expr::Str(text) | Expr::Insens(text) | Expr::Range(text, _) | Expr::Ident(text) => {
-            rebuilt::<Around<'_>>(*text.allocator(), expr)
-        }
-        Expr::Skip(texts) => rebuilt::<Around<'_>>(*texts.allocator(), expr),
-        Expr::PosPred(inner)
-        | Expr::NegPred(inner)
-        | Expr::Opt(inner)
-        | Expr::Rep(inner)
-        | Expr::RepOnce(inner)
-        | Expr::RepExact(inner, _)
-        | Expr::RepMin(inner, _)
-        | Expr::RepMax(inner, _)
-        | Expr::RepMinMax(inner, _, _)
-        | Expr::Push(inner)
-        | Expr::Seq(inner, _)
-        | Expr::Choice(inner, _) => rebuilt::<Around<'_>>(*Box::allocator(inner), expr),
+            Sign::FirstOfChoice(operand) => {
+                let sign = Sign::SecondOfChoice(copy);
+                return Ok(Step::Inside(Around { operand, sign }, operand));
+            }
+            Sign::PosPred => Expr::PosPred(copy),
+            Sign::NegPred => Expr::NegPred(copy),
+            Sign::Opt => Expr::Opt(copy),
+            Sign::Rep => Expr::Rep(copy),
+            Sign::RepOnce => Expr::RepOnce(copy),
+            Sign::RepExact(count) => Expr::RepExact(copy, count),
+            Sign::RepMin(least) => Expr::RepMin(copy, least),
+            Sign::RepMax(greatest) => Expr::RepMax(copy, greatest),
+            Sign::RepMinMax(least, greatest) => Expr::RepMinMax(copy, least, greatest),
+            Sign::Push => Expr::Push(copy),
+            Sign::SecondOfSeq(left) => Expr::Seq(left, copy),
+            Sign::SecondOfChoice(left) => Expr::Choice(left, copy),
+        };
+        Ok(Step::Made(whole))
     }
 }

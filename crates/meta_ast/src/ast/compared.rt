@@ -3,7 +3,7 @@ ghost use Rattle.std.specs.Prelude.{◌≡◌, ◌↔◌, ◌+◌, ◌<◌, ◌&
 ghost use Rattle.std.specs.Cmp.{on_equiv, partial_equiv_from_equiv};
 ghost use Rattle.meta_ast.specs.Ast.{expression_of, rule_of_code};
 ghost use Rattle.meta_base.specs.Rewritings.Equality.{expression_eq, rule_eq, expression_eq_equiv, rule_eq_equiv};
-ghost use Rattle.meta_ast.specs.Sameness.{are_equal, heaviness};
+ghost use Rattle.meta_ast.specs.Sameness.{are_equal, heaviness, heaviness_left, is_same};
 ghost use Rattle.meta_ast.specs.Weight.{weight};
 
 use super::{Expr, Rule};
@@ -77,14 +77,24 @@ fn allocator_of(expr: &Expr) -> Option<Global> {
 }
 
 // Two expressions that are to be compared.
-#[derive(Drop)]
+#[derive(Clone, Copy)]
 struct Both<'a> {
     first: &'a Expr,
     second: &'a Expr,
 }
 
+// What is left to be compared of two expressions.
+#[derive(Clone, Copy)]
+enum Left<'a> {
+    // Nothing: this is the answer.
+    Nothing(bool),
+    // Their operands, beside the answer on all else.
+    One(Both<'a>, bool),
+    Two(Both<'a>, Both<'a>),
+}
+
 // Whether two expressions are equal, by a loop. The only fault is a want of memory.
-#[tactic(auto, using(crate::proofs::Sameness::are_equal_one, crate::proofs::Sameness::lighter))]
+#[tactic(auto, using(crate::proofs::Sameness::in_a_loop))]
 fn equal_by_list(alloc: Global, a: &Expr, b: &Expr) -> Result<bool, AllocError>
     ensures { IfOk result (λ answer. answer ≡ expression_eq (expression_of a.now) (expression_of b.now)) }
 {
@@ -103,7 +113,6 @@ fn equal_by_list(alloc: Global, a: &Expr, b: &Expr) -> Result<bool, AllocError>
 
 // Whether two expressions are equal but for their operands, which are put on a list. The only fault is a want
 // of memory.
-#[tactic(auto, using(crate::proofs::Sameness::are_equal_last, crate::proofs::Sameness::heaviness_last))]
 fn equal_outside<'a>(
     a: &'a Expr,
     b: &'a Expr,
@@ -115,53 +124,66 @@ fn equal_outside<'a>(
     ensures work { IfOk result (λ _. heaviness others.new.items
         < weight (expression_of a.entry.now) + heaviness others.old.items) }
 {
-    match (a, b) {
-        (Expr::PosPred(first), Expr::PosPred(second))
-        | (Expr::NegPred(first), Expr::NegPred(second))
-        | (Expr::Opt(first), Expr::Opt(second))
-        | (Expr::Rep(first), Expr::Rep(second))
-        | (Expr::RepOnce(first), Expr::RepOnce(second))
-        | (Expr::Push(first), Expr::Push(second)) => {
-            others.push(Both { first, second })?;
+    match compared(a, b) {
+        Left::Nothing(answer) => Ok(answer),
+        Left::One(operands, answer) => {
+            others.push(operands)?;
+            Ok(answer)
+        }
+        Left::Two(first, second) => {
+            others.push(second)?;
+            others.push(first)?;
             Ok(true)
         }
-        (Expr::Seq(first, x), Expr::Seq(second, y))
-        | (Expr::Choice(first, x), Expr::Choice(second, y)) => {
-            others.push(Both {
-                first: x,
-                second: y,
-            })?;
-            others.push(Both { first, second })?;
-            Ok(true)
-        }
-        (a, b) => Ok(same(a, b)),
     }
 }
 
-// Whether two expressions are of one variant, with equal parts.
+// Whether two expressions are equal, by calls.
 fn same(a: &Expr, b: &Expr) -> bool
     ensures { result ≡ expression_eq (expression_of a.now) (expression_of b.now) }
 {
-    match (a, b) {
-        (Expr::Str(s), Expr::Str(t))
-        | (Expr::Insens(s), Expr::Insens(t))
-        | (Expr::Ident(s), Expr::Ident(t)) => same_text(s, t),
-        (Expr::Range(s, u), Expr::Range(t, v)) => same_text(s, t) && same_text(u, v),
-        (Expr::PeekSlice(i, j), Expr::PeekSlice(k, l)) => i == k && j == l,
-        (Expr::PosPred(x), Expr::PosPred(y))
-        | (Expr::NegPred(x), Expr::NegPred(y))
-        | (Expr::Opt(x), Expr::Opt(y))
-        | (Expr::Rep(x), Expr::Rep(y))
-        | (Expr::RepOnce(x), Expr::RepOnce(y))
-        | (Expr::Push(x), Expr::Push(y)) => same(x, y),
-        (Expr::Seq(x, y), Expr::Seq(z, w)) | (Expr::Choice(x, y), Expr::Choice(z, w)) => {
-            same(x, z) && same(y, w)
+    match compared(a, b) {
+        Left::Nothing(answer) => answer,
+        Left::One(operands, answer) => same(operands.first, operands.second) && answer,
+        Left::Two(first, second) => {
+            same(first.first, first.second) && same(second.first, second.second)
         }
-        (Expr::RepExact(x, m), Expr::RepExact(y, n))
-        | (Expr::RepMin(x, m), Expr::RepMin(y, n))
-        | (Expr::RepMax(x, m), Expr::RepMax(y, n)) => same(x, y) && m == n,
-        (Expr::RepMinMax(x, k, m), Expr::RepMinMax(y, l, n)) => same(x, y) && k == l && m == n,
-        (Expr::Skip(ss), Expr::Skip(ts)) => same_texts(ss, ts),
-        _ => false,
+    }
+}
+
+// What is left to be compared of two expressions, once all but their operands is.
+#[tactic(auto, using(crate::proofs::Sameness::alone, crate::proofs::Weights::some_weight))]
+fn compared<'a>(a: &'a Expr, b: &'a Expr) -> Left<'a>
+    ensures same { is_same result ≡ expression_eq (expression_of a.entry.now) (expression_of b.entry.now) }
+    ensures work { heaviness_left result < weight (expression_of a.entry.now) }
+{
+    use Expr as E;
+    match (a, b) {
+        (E::Str(s), E::Str(t)) | (E::Insens(s), E::Insens(t)) | (E::Ident(s), E::Ident(t)) => {
+            Left::Nothing(same_text(s, t))
+        }
+        (E::Range(s, u), E::Range(t, v)) => Left::Nothing(same_text(s, t) && same_text(u, v)),
+        (E::PeekSlice(i, j), E::PeekSlice(k, l)) => Left::Nothing(i == k && j == l),
+        (E::PosPred(first), E::PosPred(second))
+        | (E::NegPred(first), E::NegPred(second))
+        | (E::Opt(first), E::Opt(second))
+        | (E::Rep(first), E::Rep(second))
+        | (E::RepOnce(first), E::RepOnce(second))
+        | (E::Push(first), E::Push(second)) => Left::One(Both { first, second }, true),
+        (E::Seq(first, x), E::Seq(second, y)) | (E::Choice(first, x), E::Choice(second, y)) => {
+            let right = Both {
+                first: x,
+                second: y,
+            };
+            Left::Two(Both { first, second }, right)
+        }
+        (E::RepExact(first, m), E::RepExact(second, n))
+        | (E::RepMin(first, m), E::RepMin(second, n))
+        | (E::RepMax(first, m), E::RepMax(second, n)) => Left::One(Both { first, second }, m == n),
+        (E::RepMinMax(first, k, m), E::RepMinMax(second, l, n)) => {
+            Left::One(Both { first, second }, k == l && m == n)
+        }
+        (E::Skip(ss), E::Skip(ts)) => Left::Nothing(same_texts(ss, ts)),
+        _ => Left::Nothing(false),
     }
 }

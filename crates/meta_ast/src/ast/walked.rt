@@ -6,7 +6,7 @@ ghost use Rattle.meta_ast.specs.Maps.{MapsTopDown, RefusesTopDown, MapsBottomUp,
 ghost use Rattle.meta_ast.specs.Operands.{preorder};
 
 use super::Expr;
-use crate::walks::{Joint, Node, Tree, boxed, map_bottom_up, map_top_down, take_first};
+use crate::walks::{Joint, Node, Tree, boxed, map_bottom_up, map_top_down, take_first, two};
 use meta_base::runtime::Fault;
 use std::alloc::{AllocError, Global};
 
@@ -115,59 +115,50 @@ impl Tree for Expr {
     ghost stands_for = { unary_of };
 
     fn open(self) -> Node<Expr, Sign> {
-        match self {
-            Expr::PosPred(inner) => Node::One(Sign::PosPred, Box::into_inner(inner)),
-            Expr::NegPred(inner) => Node::One(Sign::NegPred, Box::into_inner(inner)),
-            Expr::Seq(left, right) => {
-                Node::Two(
-                    Joint::Sequence,
-                    Box::into_inner(left),
-                    Box::into_inner(right),
-                )
-            }
-            Expr::Choice(left, right) => {
-                Node::Two(Joint::Choice, Box::into_inner(left), Box::into_inner(right))
-            }
-            Expr::Opt(inner) => Node::One(Sign::Opt, Box::into_inner(inner)),
-            Expr::Rep(inner) => Node::One(Sign::Rep, Box::into_inner(inner)),
-            Expr::RepOnce(inner) => Node::One(Sign::RepOnce, Box::into_inner(inner)),
-            Expr::RepExact(inner, count) => Node::One(
-                Sign::RepExact(count),
-                Box::into_inner(inner),
-            ),
-            Expr::RepMin(inner, min) => Node::One(Sign::RepMin(min), Box::into_inner(inner)),
-            Expr::RepMax(inner, max) => Node::One(Sign::RepMax(max), Box::into_inner(inner)),
-            Expr::RepMinMax(inner, min, max) => {
-                Node::One(Sign::RepMinMax(min, max), Box::into_inner(inner))
-            }
-            Expr::Push(inner) => Node::One(Sign::Push, Box::into_inner(inner)),
-            leaf => Node::Leaf(leaf),
-        }
+        use Expr as E;
+        let (sign, operand) = match self {
+            E::PosPred(inner) => (Sign::PosPred, inner),
+            E::NegPred(inner) => (Sign::NegPred, inner),
+            E::Opt(inner) => (Sign::Opt, inner),
+            E::Rep(inner) => (Sign::Rep, inner),
+            E::RepOnce(inner) => (Sign::RepOnce, inner),
+            E::RepExact(inner, count) => (Sign::RepExact(count), inner),
+            E::RepMin(inner, min) => (Sign::RepMin(min), inner),
+            E::RepMax(inner, max) => (Sign::RepMax(max), inner),
+            E::RepMinMax(inner, min, max) => (Sign::RepMinMax(min, max), inner),
+            E::Push(inner) => (Sign::Push, inner),
+            E::Seq(left, right) => return two(Joint::Sequence, left, right),
+            E::Choice(left, right) => return two(Joint::Choice, left, right),
+            leaf => return Node::Leaf(leaf),
+        };
+        Node::One(sign, Box::into_inner(operand))
     }
 
     fn enclose(alloc: Global, sign: Sign, operand: Expr) -> Result<Expr, Fault> {
         let inner = boxed(alloc, operand)?;
-        match sign {
-            Sign::PosPred => Ok(Expr::PosPred(inner)),
-            Sign::NegPred => Ok(Expr::NegPred(inner)),
-            Sign::Opt => Ok(Expr::Opt(inner)),
-            Sign::Rep => Ok(Expr::Rep(inner)),
-            Sign::RepOnce => Ok(Expr::RepOnce(inner)),
-            Sign::RepExact(count) => Ok(Expr::RepExact(inner, count)),
-            Sign::RepMin(min) => Ok(Expr::RepMin(inner, min)),
-            Sign::RepMax(max) => Ok(Expr::RepMax(inner, max)),
-            Sign::RepMinMax(min, max) => Ok(Expr::RepMinMax(inner, min, max)),
-            Sign::Push => Ok(Expr::Push(inner)),
-        }
+        let whole = match sign {
+            Sign::PosPred => Expr::PosPred(inner),
+            Sign::NegPred => Expr::NegPred(inner),
+            Sign::Opt => Expr::Opt(inner),
+            Sign::Rep => Expr::Rep(inner),
+            Sign::RepOnce => Expr::RepOnce(inner),
+            Sign::RepExact(count) => Expr::RepExact(inner, count),
+            Sign::RepMin(min) => Expr::RepMin(inner, min),
+            Sign::RepMax(max) => Expr::RepMax(inner, max),
+            Sign::RepMinMax(min, max) => Expr::RepMinMax(inner, min, max),
+            Sign::Push => Expr::Push(inner),
+        };
+        Ok(whole)
     }
 
     fn join(alloc: Global, joint: Joint, left: Expr, right: Expr) -> Result<Expr, Fault> {
         let left = boxed(alloc, left)?;
         let right = boxed(alloc, right)?;
-        match joint {
-            Joint::Sequence => Ok(Expr::Seq(left, right)),
-            Joint::Choice => Ok(Expr::Choice(left, right)),
-        }
+        let whole = match joint {
+            Joint::Sequence => Expr::Seq(left, right),
+            Joint::Choice => Expr::Choice(left, right),
+        };
+        Ok(whole)
     }
 
     fn copy(&self) -> Result<Expr, AllocError> {

@@ -30,9 +30,26 @@ impl Clone for OptimizedExpr {
     }
 }
 
-// What stands around an operand while that is copied.
+// The same expression again.
+fn copy(expr: &OptimizedExpr) -> Result<OptimizedExpr, AllocError>
+    ensures { IfOk result (λ copy. optimized_expression_of copy ≡ optimized_expression_of expr.now) }
+{
+    match Around::open(expr)? {
+        Step::Made(copy) => Ok(copy),
+        Step::Inside(around, _) => rebuilt::<Around<'_>>(*Box::allocator(around.operand), expr),
+    }
+}
+
+// An operand that is copied, and what it stands under.
 #[derive(Drop)]
-enum Around<'a> {
+struct Around<'a> {
+    operand: &'a Box<OptimizedExpr>,
+    sign: Sign<'a>,
+}
+
+// What an operand stands under while it is copied.
+#[derive(Drop)]
+enum Sign<'a> {
     PosPred,
     NegPred,
     Opt,
@@ -40,8 +57,8 @@ enum Around<'a> {
     Push,
     RestoreOnErr,
     // A `~` or a `|` whose left side is copied, with the right one; and with the copy of the left one.
-    FirstOfSeq(&'a OptimizedExpr),
-    FirstOfChoice(&'a OptimizedExpr),
+    FirstOfSeq(&'a Box<OptimizedExpr>),
+    FirstOfChoice(&'a Box<OptimizedExpr>),
     SecondOfSeq(Box<OptimizedExpr>),
     SecondOfChoice(Box<OptimizedExpr>),
 }
@@ -57,7 +74,7 @@ impl<'a> Rebuild for Around<'a> {
 
     ghost made = { λ expr. optimized_expression_of expr };
 
-    ghost fills = { λ around operand. with_operand around operand };
+    ghost fills = { λ around operand. with_operand around.sign operand };
 
     ghost is_right = { λ _. ⊤ };
 
@@ -65,73 +82,58 @@ impl<'a> Rebuild for Around<'a> {
 
     ghost size = { λ expr. 4 * weight (optimized_expression_of expr.now) };
 
-    ghost waits = { λ around. waits_of around };
+    ghost waits = { λ around. waits_of around.sign };
 
     fn open(
         expr: &'a OptimizedExpr,
     ) -> Result<Step<&'a OptimizedExpr, Around<'a>, OptimizedExpr>, AllocError> {
         use OptimizedExpr as E;
-        match expr {
-            E::Str(text) => Ok(Step::Made(E::Str(text.clone()?))),
-            E::Insens(text) => Ok(Step::Made(E::Insens(text.clone()?))),
-            E::Range(first, last) => Ok(Step::Made(E::Range(first.clone()?, last.clone()?))),
-            E::Ident(name) => Ok(Step::Made(E::Ident(name.clone()?))),
-            E::PeekSlice(start, end) => Ok(Step::Made(E::PeekSlice(*start, *end))),
-            E::Skip(texts) => Ok(Step::Made(E::Skip(copy_texts(texts)?))),
-            E::PosPred(inner) => Ok(Step::Inside(Around::PosPred, inner)),
-            E::NegPred(inner) => Ok(Step::Inside(Around::NegPred, inner)),
-            E::Opt(inner) => Ok(Step::Inside(Around::Opt, inner)),
-            E::Rep(inner) => Ok(Step::Inside(Around::Rep, inner)),
-            E::Push(inner) => Ok(Step::Inside(Around::Push, inner)),
-            E::RestoreOnErr(inner) => Ok(Step::Inside(Around::RestoreOnErr, inner)),
-            E::Seq(left, right) => Ok(Step::Inside(Around::FirstOfSeq(right), left)),
-            E::Choice(left, right) => Ok(Step::Inside(Around::FirstOfChoice(right), left)),
-        }
+        let (sign, operand) = match expr {
+            E::Str(text) => return Ok(Step::Made(E::Str(text.clone()?))),
+            E::Insens(text) => return Ok(Step::Made(E::Insens(text.clone()?))),
+            E::Range(first, last) => {
+                return Ok(Step::Made(E::Range(first.clone()?, last.clone()?)));
+            }
+            E::Ident(name) => return Ok(Step::Made(E::Ident(name.clone()?))),
+            E::PeekSlice(start, end) => return Ok(Step::Made(E::PeekSlice(*start, *end))),
+            E::Skip(texts) => return Ok(Step::Made(E::Skip(copy_texts(texts)?))),
+            E::PosPred(inner) => (Sign::PosPred, inner),
+            E::NegPred(inner) => (Sign::NegPred, inner),
+            E::Opt(inner) => (Sign::Opt, inner),
+            E::Rep(inner) => (Sign::Rep, inner),
+            E::Push(inner) => (Sign::Push, inner),
+            E::RestoreOnErr(inner) => (Sign::RestoreOnErr, inner),
+            E::Seq(left, right) => (Sign::FirstOfSeq(right), left),
+            E::Choice(left, right) => (Sign::FirstOfChoice(right), left),
+        };
+        Ok(Step::Inside(Around { operand, sign }, operand))
     }
 
     fn close(
         self,
         alloc: Global,
-        operand: OptimizedExpr,
+        copy: OptimizedExpr,
     ) -> Result<Step<&'a OptimizedExpr, Around<'a>, OptimizedExpr>, AllocError> {
         use OptimizedExpr as E;
-        let operand = Box::new(alloc, operand)?;
-        match self {
-            Around::FirstOfSeq(right) => Ok(Step::Inside(Around::SecondOfSeq(operand), right)),
-            Around::FirstOfChoice(right) => Ok(Step::Inside(
-                Around::SecondOfChoice(operand),
-                right,
-            )),
-            Around::PosPred => Ok(Step::Made(E::PosPred(operand))),
-            Around::NegPred => Ok(Step::Made(E::NegPred(operand))),
-            Around::Opt => Ok(Step::Made(E::Opt(operand))),
-            Around::Rep => Ok(Step::Made(E::Rep(operand))),
-            Around::Push => Ok(Step::Made(E::Push(operand))),
-            Around::RestoreOnErr => Ok(Step::Made(E::RestoreOnErr(operand))),
-            Around::SecondOfSeq(left) => Ok(Step::Made(E::Seq(left, operand))),
-            Around::SecondOfChoice(left) => Ok(Step::Made(E::Choice(left, operand))),
-        }
-    }
-}
-
-// The same expression again.
-fn copy(expr: &OptimizedExpr) -> Result<OptimizedExpr, AllocError>
-    ensures { IfOk result (λ copy. optimized_expression_of copy ≡ optimized_expression_of expr.now) }
-{
-    use OptimizedExpr as E;
-    match expr {
-        E::PeekSlice(start, end) => Ok(E::PeekSlice(*start, *end)),
-        E::Str(text) | E::Insens(text) | E::Range(text, _) | E::Ident(text) => {
-            rebuilt::<Around<'_>>(*text.allocator(), expr)
-        }
-        E::Skip(texts) => rebuilt::<Around<'_>>(*texts.allocator(), expr),
-        E::PosPred(inner)
-        | E::NegPred(inner)
-        | E::Opt(inner)
-        | E::Rep(inner)
-        | E::Push(inner)
-        | E::RestoreOnErr(inner)
-        | E::Seq(inner, _)
-        | E::Choice(inner, _) => rebuilt::<Around<'_>>(*Box::allocator(inner), expr),
+        let copy = Box::new(alloc, copy)?;
+        let whole = match self.sign {
+            Sign::FirstOfSeq(operand) => {
+                let sign = Sign::SecondOfSeq(copy);
+                return Ok(Step::Inside(Around { operand, sign }, operand));
+            }
+            Sign::FirstOfChoice(operand) => {
+                let sign = Sign::SecondOfChoice(copy);
+                return Ok(Step::Inside(Around { operand, sign }, operand));
+            }
+            Sign::PosPred => E::PosPred(copy),
+            Sign::NegPred => E::NegPred(copy),
+            Sign::Opt => E::Opt(copy),
+            Sign::Rep => E::Rep(copy),
+            Sign::Push => E::Push(copy),
+            Sign::RestoreOnErr => E::RestoreOnErr(copy),
+            Sign::SecondOfSeq(left) => E::Seq(left, copy),
+            Sign::SecondOfChoice(left) => E::Choice(left, copy),
+        };
+        Ok(Step::Made(whole))
     }
 }

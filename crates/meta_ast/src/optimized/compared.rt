@@ -3,7 +3,7 @@ ghost use Rattle.std.specs.Prelude.{◌≡◌, ◌↔◌, ◌+◌, ◌<◌, ◌&
 ghost use Rattle.std.specs.Cmp.{on_equiv, partial_equiv_from_equiv};
 ghost use Rattle.meta_base.specs.Rewritings.Equality.{expression_eq, rule_eq, expression_eq_equiv, rule_eq_equiv};
 ghost use Rattle.meta_ast.specs.Optimized.{optimized_expression_of, optimized_rule_of};
-ghost use Rattle.meta_ast.specs.OptimizedSameness.{are_equal, heaviness};
+ghost use Rattle.meta_ast.specs.OptimizedSameness.{are_equal, heaviness, heaviness_left, is_same};
 ghost use Rattle.meta_ast.specs.Weight.{weight};
 
 use super::{OptimizedExpr, OptimizedRule};
@@ -75,14 +75,24 @@ fn allocator_of(expr: &OptimizedExpr) -> Option<Global> {
 }
 
 // Two expressions that are to be compared.
-#[derive(Drop)]
+#[derive(Clone, Copy)]
 struct Both<'a> {
     first: &'a OptimizedExpr,
     second: &'a OptimizedExpr,
 }
 
+// What is left to be compared of two expressions.
+#[derive(Clone, Copy)]
+enum Left<'a> {
+    // Nothing: this is the answer.
+    Nothing(bool),
+    // Their operands, beside the answer on all else.
+    One(Both<'a>, bool),
+    Two(Both<'a>, Both<'a>),
+}
+
 // Whether two expressions are equal, by a loop. The only fault is a want of memory.
-#[tactic(auto, using(crate::proofs::OptimizedSameness::are_equal_one, crate::proofs::OptimizedSameness::lighter))]
+#[tactic(auto, using(crate::proofs::OptimizedSameness::in_a_loop))]
 fn equal_by_list(alloc: Global, a: &OptimizedExpr, b: &OptimizedExpr) -> Result<bool, AllocError>
     ensures { IfOk result
         (λ answer. answer ≡ expression_eq (optimized_expression_of a.now) (optimized_expression_of b.now)) }
@@ -102,7 +112,6 @@ fn equal_by_list(alloc: Global, a: &OptimizedExpr, b: &OptimizedExpr) -> Result<
 
 // Whether two expressions are equal but for their operands, which are put on a list. The only fault is a want
 // of memory.
-#[tactic(auto, using(crate::proofs::OptimizedSameness::are_equal_last, crate::proofs::OptimizedSameness::heaviness_last))]
 fn equal_outside<'a>(
     a: &'a OptimizedExpr,
     b: &'a OptimizedExpr,
@@ -114,50 +123,61 @@ fn equal_outside<'a>(
     ensures work { IfOk result (λ _. heaviness others.new.items
         < weight (optimized_expression_of a.entry.now) + heaviness others.old.items) }
 {
-    use OptimizedExpr as E;
-    match (a, b) {
-        (E::PosPred(first), E::PosPred(second))
-        | (E::NegPred(first), E::NegPred(second))
-        | (E::Opt(first), E::Opt(second))
-        | (E::Rep(first), E::Rep(second))
-        | (E::Push(first), E::Push(second))
-        | (E::RestoreOnErr(first), E::RestoreOnErr(second)) => {
-            others.push(Both { first, second })?;
+    match compared(a, b) {
+        Left::Nothing(answer) => Ok(answer),
+        Left::One(operands, answer) => {
+            others.push(operands)?;
+            Ok(answer)
+        }
+        Left::Two(first, second) => {
+            others.push(second)?;
+            others.push(first)?;
             Ok(true)
         }
-        (E::Seq(first, x), E::Seq(second, y)) | (E::Choice(first, x), E::Choice(second, y)) => {
-            others.push(Both {
-                first: x,
-                second: y,
-            })?;
-            others.push(Both { first, second })?;
-            Ok(true)
-        }
-        (a, b) => Ok(same(a, b)),
     }
 }
 
-// Whether two expressions are of one variant, with equal parts.
+// Whether two expressions are equal, by calls.
 fn same(a: &OptimizedExpr, b: &OptimizedExpr) -> bool
     ensures { result ≡ expression_eq (optimized_expression_of a.now) (optimized_expression_of b.now) }
+{
+    match compared(a, b) {
+        Left::Nothing(answer) => answer,
+        Left::One(operands, answer) => same(operands.first, operands.second) && answer,
+        Left::Two(first, second) => {
+            same(first.first, first.second) && same(second.first, second.second)
+        }
+    }
+}
+
+// What is left to be compared of two expressions, once all but their operands is.
+#[tactic(auto, using(crate::proofs::OptimizedSameness::alone, crate::proofs::Weights::some_weight))]
+fn compared<'a>(a: &'a OptimizedExpr, b: &'a OptimizedExpr) -> Left<'a>
+    ensures same { is_same result
+        ≡ expression_eq (optimized_expression_of a.entry.now) (optimized_expression_of b.entry.now) }
+    ensures work { heaviness_left result < weight (optimized_expression_of a.entry.now) }
 {
     use OptimizedExpr as E;
     match (a, b) {
         (E::Str(s), E::Str(t)) | (E::Insens(s), E::Insens(t)) | (E::Ident(s), E::Ident(t)) => {
-            same_text(s, t)
+            Left::Nothing(same_text(s, t))
         }
-        (E::Range(s, u), E::Range(t, v)) => same_text(s, t) && same_text(u, v),
-        (E::PeekSlice(i, j), E::PeekSlice(k, l)) => i == k && j == l,
-        (E::PosPred(x), E::PosPred(y))
-        | (E::NegPred(x), E::NegPred(y))
-        | (E::Opt(x), E::Opt(y))
-        | (E::Rep(x), E::Rep(y))
-        | (E::Push(x), E::Push(y))
-        | (E::RestoreOnErr(x), E::RestoreOnErr(y)) => same(x, y),
-        (E::Seq(x, y), E::Seq(z, w)) | (E::Choice(x, y), E::Choice(z, w)) => {
-            same(x, z) && same(y, w)
+        (E::Range(s, u), E::Range(t, v)) => Left::Nothing(same_text(s, t) && same_text(u, v)),
+        (E::PeekSlice(i, j), E::PeekSlice(k, l)) => Left::Nothing(i == k && j == l),
+        (E::PosPred(first), E::PosPred(second))
+        | (E::NegPred(first), E::NegPred(second))
+        | (E::Opt(first), E::Opt(second))
+        | (E::Rep(first), E::Rep(second))
+        | (E::RestoreOnErr(first), E::RestoreOnErr(second))
+        | (E::Push(first), E::Push(second)) => Left::One(Both { first, second }, true),
+        (E::Seq(first, x), E::Seq(second, y)) | (E::Choice(first, x), E::Choice(second, y)) => {
+            let right = Both {
+                first: x,
+                second: y,
+            };
+            Left::Two(Both { first, second }, right)
         }
-        (E::Skip(ss), E::Skip(ts)) => same_texts(ss, ts),
-        _ => false,
+        (E::Skip(ss), E::Skip(ts)) => Left::Nothing(same_texts(ss, ts)),
+        _ => Left::Nothing(false),
     }
 }

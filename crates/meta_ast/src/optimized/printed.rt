@@ -93,7 +93,8 @@ fn left_end<'a>(
 ) -> Result<(&'a OptimizedExpr, Vec<Side<'a>>), AllocError>
     ensures bytes { IfOk result (λ end. with_sides end.1.items (optimized_bytes end.0.now).alone
         ≡ with_side side.entry (optimized_bytes left.entry.now).alone) }
-    ensures lighter { IfOk result (λ end. weight (optimized_expression_of end.0.now) + weight_aside end.1.items
+    ensures lighter { IfOk result (λ end.
+        weight (optimized_expression_of end.0.now) + weight_aside end.1.items
         ≤ weight (optimized_expression_of left.entry.now) + weight_aside (side.entry ∷ [])) }
 {
     let mut sides = Vec::new(alloc);

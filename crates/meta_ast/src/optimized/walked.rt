@@ -7,7 +7,7 @@ ghost use Rattle.meta_ast.specs.Maps.{MapsTopDown, RefusesTopDown, MapsBottomUp,
 ghost use Rattle.meta_ast.specs.Operands.{preorder};
 
 use super::OptimizedExpr;
-use crate::walks::{Joint, Node, Tree, boxed, map_bottom_up, map_top_down, take_first};
+use crate::walks::{Joint, Node, Tree, boxed, map_bottom_up, map_top_down, take_first, two};
 use meta_base::runtime::Fault;
 use std::alloc::{AllocError, Global};
 
@@ -113,35 +113,31 @@ impl Tree for OptimizedExpr {
     ghost stands_for = { optimized_unary_of };
 
     fn open(self) -> Node<OptimizedExpr, Sign> {
-        match self {
-            OptimizedExpr::PosPred(inner) => Node::One(Sign::PosPred, Box::into_inner(inner)),
-            OptimizedExpr::NegPred(inner) => Node::One(Sign::NegPred, Box::into_inner(inner)),
-            OptimizedExpr::Seq(left, right) => {
-                Node::Two(
-                    Joint::Sequence,
-                    Box::into_inner(left),
-                    Box::into_inner(right),
-                )
-            }
-            OptimizedExpr::Choice(left, right) => {
-                Node::Two(Joint::Choice, Box::into_inner(left), Box::into_inner(right))
-            }
-            OptimizedExpr::Opt(inner) => Node::One(Sign::Opt, Box::into_inner(inner)),
-            OptimizedExpr::Rep(inner) => Node::One(Sign::Rep, Box::into_inner(inner)),
-            OptimizedExpr::Push(inner) => Node::One(Sign::Push, Box::into_inner(inner)),
-            leaf => Node::Leaf(leaf),
-        }
+        use OptimizedExpr as E;
+        let (sign, operand) = match self {
+            E::PosPred(inner) => (Sign::PosPred, inner),
+            E::NegPred(inner) => (Sign::NegPred, inner),
+            E::Opt(inner) => (Sign::Opt, inner),
+            E::Rep(inner) => (Sign::Rep, inner),
+            E::Push(inner) => (Sign::Push, inner),
+            E::Seq(left, right) => return two(Joint::Sequence, left, right),
+            E::Choice(left, right) => return two(Joint::Choice, left, right),
+            leaf => return Node::Leaf(leaf),
+        };
+        Node::One(sign, Box::into_inner(operand))
     }
 
     fn enclose(alloc: Global, sign: Sign, operand: OptimizedExpr) -> Result<OptimizedExpr, Fault> {
+        use OptimizedExpr as E;
         let inner = boxed(alloc, operand)?;
-        match sign {
-            Sign::PosPred => Ok(OptimizedExpr::PosPred(inner)),
-            Sign::NegPred => Ok(OptimizedExpr::NegPred(inner)),
-            Sign::Opt => Ok(OptimizedExpr::Opt(inner)),
-            Sign::Rep => Ok(OptimizedExpr::Rep(inner)),
-            Sign::Push => Ok(OptimizedExpr::Push(inner)),
-        }
+        let whole = match sign {
+            Sign::PosPred => E::PosPred(inner),
+            Sign::NegPred => E::NegPred(inner),
+            Sign::Opt => E::Opt(inner),
+            Sign::Rep => E::Rep(inner),
+            Sign::Push => E::Push(inner),
+        };
+        Ok(whole)
     }
 
     fn join(
@@ -152,10 +148,11 @@ impl Tree for OptimizedExpr {
     ) -> Result<OptimizedExpr, Fault> {
         let left = boxed(alloc, left)?;
         let right = boxed(alloc, right)?;
-        match joint {
-            Joint::Sequence => Ok(OptimizedExpr::Seq(left, right)),
-            Joint::Choice => Ok(OptimizedExpr::Choice(left, right)),
-        }
+        let whole = match joint {
+            Joint::Sequence => OptimizedExpr::Seq(left, right),
+            Joint::Choice => OptimizedExpr::Choice(left, right),
+        };
+        Ok(whole)
     }
 
     fn copy(&self) -> Result<OptimizedExpr, AllocError> {

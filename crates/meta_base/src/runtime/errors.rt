@@ -82,12 +82,16 @@ impl<R> fmt::Display for Error<R> {
             place: self.line_col,
             line: self.line.as_str(),
         };
-        writeln!(f, "{margin}--> {line}:{column}")?;
-        writeln!(f, "{margin} |")?;
-        writeln!(f, "{line} | {}", self.line)?;
-        writeln!(f, "{margin} | {underline}")?;
-        writeln!(f, "{margin} |")?;
-        write!(f, "{margin} = {}", self.variant)
+        write!(
+            f,
+            "{margin}--> {line}:{column}\n\
+             {margin} |\n\
+             {line} | {}\n\
+             {margin} | {underline}\n\
+             {margin} |\n\
+             {margin} = {}",
+            self.line, self.variant,
+        )
     }
 }
 

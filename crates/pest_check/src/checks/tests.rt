@@ -1,14 +1,13 @@
 use super::run;
 use std::alloc::{AllocError, Global};
 use std::io::{self, ErrorKind, Write};
-use std::test::Fail;
 
-/// What the program makes of a text: its status, what it prints, and what it reports.
-fn checked(alloc: Global, text: &str) -> (u8, Vec<u8>, Vec<u8>) {
+/// Whether the program answers this status on an input, prints this, and reports this.
+fn is_answer(alloc: Global, input: Option<&[u8]>, status: u8, printed: &str, told: &str) -> bool {
     let mut out = Vec::new(alloc);
     let mut err = Vec::new(alloc);
-    let status = run(alloc, Some(text.as_bytes()), &mut out, &mut err);
-    (status, out, err)
+    let answered = run(alloc, input, &mut out, &mut err);
+    answered == status && out.as_slice() == printed.as_bytes() && err.as_slice() == told.as_bytes()
 }
 
 /// Texts with what is printed for them.
@@ -101,10 +100,8 @@ static PRINTED: [(&str, &str); 29] = [
 #[test]
 fn grammars_are_printed(rt: HostRuntime) {
     for (text, printed) in &PRINTED {
-        let (status, out, err) = checked(rt.alloc(), text);
-        assert_eq!(rt; status, 0, "at {text}");
-        assert!(rt; out.as_slice() == printed.as_bytes(), "at {text}");
-        assert!(rt; err.is_empty(), "at {text}");
+        let is_printed = is_answer(rt.alloc(), Some(text.as_bytes()), 0, printed, "");
+        assert!(rt; is_printed, "at {text}");
     }
 }
 
@@ -338,16 +335,19 @@ fn report(alloc: Global, errors: &[Told]) -> Result<String, AllocError> {
     Ok(text)
 }
 
+/// Whether the program prints nothing for a text, and reports these errors.
+fn is_refused(alloc: Global, text: &str, errors: &[Told]) -> bool {
+    let Ok(wanted) = report(alloc, errors) else {
+        return false;
+    };
+    is_answer(alloc, Some(text.as_bytes()), 1, "", wanted.as_str())
+}
+
 #[test]
-fn other_texts_are_refused(rt: HostRuntime) -> Result<(), Fail> {
+fn other_texts_are_refused(rt: HostRuntime) {
     for (text, errors) in &REFUSED {
-        let (status, out, err) = checked(rt.alloc(), text);
-        let wanted = report(rt.alloc(), errors)?;
-        assert_eq!(rt; status, 1, "at {text}");
-        assert!(rt; out.is_empty(), "at {text}");
-        assert!(rt; err.as_slice() == wanted.as_str().as_bytes(), "at {text}");
+        assert!(rt; is_refused(rt.alloc(), text, errors), "at {text}");
     }
-    Ok(())
 }
 
 /// Bytes that are not UTF-8: of another encoding, never there, cut off, and half of a pair.
@@ -361,27 +361,32 @@ static NO_TEXTS: [&[u8]; 4] = [
 #[test]
 fn what_is_no_text_can_not_be_read(rt: HostRuntime) {
     for number in 0..5 {
-        let mut out = Vec::new(rt.alloc());
-        let mut err = Vec::new(rt.alloc());
         let input = NO_TEXTS.get(number).copied();
-        assert_eq!(rt; run(rt.alloc(), input, &mut out, &mut err), 3);
-        assert!(rt; out.is_empty());
-        assert!(rt; err.as_slice() == "cannot read\n".as_bytes());
+        assert!(rt;
+            is_answer(rt.alloc(), input, 3, "", "cannot read\n"),
+            "at {number}"
+        );
     }
+}
+
+/// The status that the program answers on a text, whether it prints nothing, and whether it reports nothing.
+fn answered(alloc: Global, text: &[u8]) -> (u8, bool, bool) {
+    let mut out = Vec::new(alloc);
+    let mut err = Vec::new(alloc);
+    let status = run(alloc, Some(text), &mut out, &mut err);
+    (status, out.is_empty(), err.is_empty())
 }
 
 #[test]
 fn each_beginning_of_a_grammar_has_its_answer(rt: HostRuntime) {
     let text = "a = { \"x\" ~ b } b = { \"y\" }".as_bytes();
     for length in 0..=text.len() {
-        let mut out = Vec::new(rt.alloc());
-        let mut err = Vec::new(rt.alloc());
-        let status = run(rt.alloc(), Some(&text[..length]), &mut out, &mut err);
         let is_grammar = length == 0 || length == text.len();
-        assert_eq!(rt; status == 0, is_grammar, "at {length}");
-        assert_eq!(rt; status == 1, !is_grammar, "at {length}");
-        assert_eq!(rt; out.is_empty(), length < text.len(), "at {length}");
-        assert_eq!(rt; err.is_empty(), is_grammar, "at {length}");
+        let wanted = (u8::from(!is_grammar), length < text.len(), is_grammar);
+        assert!(rt;
+            answered(rt.alloc(), &text[..length]) == wanted,
+            "at {length}"
+        );
     }
 }
 
@@ -422,51 +427,65 @@ impl Write for Narrow {
     }
 }
 
+/// Whether a write was refused to the program on a text, where so many are taken and so many bytes of each;
+/// nothing where it answers otherwise than it should.
+fn was_refused(alloc: Global, text: &str, left: usize, width: usize, whole: usize) -> Option<bool> {
+    let mut out = Narrow::new(left, width);
+    let mut err = Vec::new(alloc);
+    let status = run(alloc, Some(text.as_bytes()), &mut out, &mut err);
+    let is_right = if out.refused || width == 0 {
+        status == 4 && err.as_slice() == "cannot write\n".as_bytes()
+    } else {
+        status == 0 && out.taken == whole
+    };
+    is_right.then_some(out.refused)
+}
+
+/// How many bytes the program prints for a text.
+fn printed_bytes(alloc: Global, text: &str) -> usize {
+    let mut out = Vec::new(alloc);
+    let mut err = Vec::new(alloc);
+    run(alloc, Some(text.as_bytes()), &mut out, &mut err);
+    out.len()
+}
+
 /// The Nth write is refused, for each N, where writes are taken whole, three bytes at a time, and one.
 #[test]
 fn each_refused_write_is_told(rt: HostRuntime) {
     let text = "a = @{ (\"x\" ~ b) | \"c\" } b = { \"y\" }";
-    let (_, whole, _) = checked(rt.alloc(), text);
+    let whole = printed_bytes(rt.alloc(), text);
     for width in [1000, 3, 1] {
-        let mut was_refused = false;
-        let mut was_printed = false;
+        let mut some_are = false;
+        let mut all_are = true;
         for left in 0..100 {
-            let mut out = Narrow::new(left, width);
-            let mut err = Vec::new(rt.alloc());
-            let status = run(rt.alloc(), Some(text.as_bytes()), &mut out, &mut err);
-            if out.refused {
-                was_refused = true;
-                assert_eq!(rt; status, 4, "at {left}");
-                assert!(rt; err.as_slice() == "cannot write\n".as_bytes(), "at {left}");
-            } else {
-                was_printed = true;
-                assert_eq!(rt; status, 0, "at {left}");
-                assert_eq!(rt; out.taken, whole.len(), "at {left}");
-            }
+            let refused = was_refused(rt.alloc(), text, left, width, whole);
+            assert!(rt; refused.is_some(), "at {left}");
+            some_are = some_are || refused == Some(true);
+            all_are = all_are && refused == Some(true);
         }
-        assert!(rt; was_refused && was_printed);
+        assert!(rt; some_are && !all_are);
     }
 }
 
 /// A writer that takes nothing.
 #[test]
 fn a_write_that_takes_nothing_is_told(rt: HostRuntime) {
-    let mut out = Narrow::new(100, 0);
-    let mut err = Vec::new(rt.alloc());
-    let text = "a = { \"x\" }".as_bytes();
-    assert_eq!(rt; run(rt.alloc(), Some(text), &mut out, &mut err), 4);
-    assert!(rt; err.as_slice() == "cannot write\n".as_bytes());
+    let answer = was_refused(rt.alloc(), "a = { \"x\" }", 100, 0, 0);
+    assert!(rt; answer == Some(false));
+}
+
+/// Whether the program answers that a text is refused, and prints nothing, where the report is refused after
+/// so many writes.
+fn is_refused_untold(alloc: Global, text: &str, left: usize) -> bool {
+    let mut out = Vec::new(alloc);
+    let mut err = Narrow::new(left, 5);
+    let status = run(alloc, Some(text.as_bytes()), &mut out, &mut err);
+    status == 1 && err.refused && out.is_empty()
 }
 
 #[test]
 fn a_refused_report_changes_nothing(rt: HostRuntime) {
     for left in 0..8 {
-        let mut out = Vec::new(rt.alloc());
-        let mut err = Narrow::new(left, 5);
-        assert_eq!(rt;
-            run(rt.alloc(), Some("a = {".as_bytes()), &mut out, &mut err),
-            1
-        );
-        assert!(rt; err.refused && out.is_empty());
+        assert!(rt; is_refused_untold(rt.alloc(), "a = {", left), "at {left}");
     }
 }

@@ -7,11 +7,11 @@ use Rattle.meta_names.specs.Standing.{TokenTreesStandIn}
 use Rattle.meta_names.proofs.Trees.{count_of}
 use Rattle.meta_names.proofs.found.calls.Given as goal
 
-abbrev pub invariant-loop-token : goal.invariant-loop-token
-invariant-loop-token l = record {
+abbrev pub invariant-loop-tree : goal.invariant-loop-tree
+invariant-loop-tree l = record {
   stand : TokenTreesStandIn l.text (trees_of l.rest);
   split : calls l.text (named_trees_of l.trees) ≡ map piece_of l.found.items ++ calls l.text (named_trees_of l.rest);
 }
 
-abbrev pub decreases-loop-token : goal.decreases-loop-token
-decreases-loop-token l = count_of (named_trees_of l.rest)
+abbrev pub decreases-loop-tree : goal.decreases-loop-tree
+decreases-loop-tree l = count_of (named_trees_of l.rest)

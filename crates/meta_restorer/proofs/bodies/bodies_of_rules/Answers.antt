@@ -1,4 +1,4 @@
-use Rattle.std.proofs.Common.{◌≡◌, ◌∙◌, map, ap, arith, length, ◌≤◌}
+use Rattle.std.proofs.Common.{◌∙◌, map, ap, arith, length, ◌≤◌}
 use Rattle.std.proofs.lemmas.List.{take_all}
 use Rattle.meta_restorer.specs.Bodies.{named_body}
 use Rattle.meta_restorer.proofs.bodies.bodies_of_rules.Goals as goal

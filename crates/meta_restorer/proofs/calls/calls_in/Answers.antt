@@ -1,4 +1,4 @@
-use Rattle.std.proofs.Common.{◌≡◌, ◌∙◌, ◌||◌, ◌++◌, ap, map}
+use Rattle.std.proofs.Common.{◌∙◌, ◌||◌, ◌++◌, ap, map}
 use Rattle.std.specs.List.{list_any}
 use Rattle.meta_ast.specs.Optimized.{optimized_expression_of}
 use Rattle.meta_restorer.specs.Calls.{name_changes, names_in, number_changes}

@@ -11,8 +11,8 @@ invariant-loop-rule l = record {
 abbrev pub decreases-loop-rule : goal.decreases-loop-rule
 decreases-loop-rule l = 2 * unset l.marks.items + length l.waiting.items
 
-abbrev pub invariant-loop-caller : goal.invariant-loop-caller
-invariant-loop-caller l = record {
+abbrev pub invariant-loop-at : goal.invariant-loop-at
+invariant-loop-at l = record {
   sound : AreSound l.calls l.marks.items;
   fewer : unset l.marks.items ≤ unset l.initial.marks.items;
   both : 2 * unset l.marks.items + length l.waiting.items ≤ 2 * unset l.initial.marks.items + length l.initial.waiting.items;

@@ -20,10 +20,13 @@ abbrev pub decreases-restored_chain-along : goal.decreases-restored_chain-along
 decreases-restored_chain-along l = size (optimized_expression_of l.rest)
 
 abbrev pub decreases-restore : goal.decreases-restore
-decreases-restore l = 3 * size (optimized_expression_of l.expr.now) + 2
+decreases-restore l = 4 * size (optimized_expression_of l.expr.now) + 3
+
+abbrev pub decreases-restore_deep : goal.decreases-restore_deep
+decreases-restore_deep l = 4 * size (optimized_expression_of l.expr.now) + 2
 
 abbrev pub decreases-restored_chain : goal.decreases-restored_chain
-decreases-restored_chain l = 3 * size (optimized_expression_of l.expr) + 1
+decreases-restored_chain l = 4 * size (optimized_expression_of l.expr) + 1
 
 abbrev pub decreases-restore_one : goal.decreases-restore_one
-decreases-restore_one l = 3 * size (optimized_expression_of l.expr.now)
+decreases-restore_one l = 4 * size (optimized_expression_of l.expr.now)

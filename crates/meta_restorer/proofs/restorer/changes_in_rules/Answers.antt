@@ -1,8 +1,9 @@
-use Rattle.std.proofs.Common.{◌≡◌, map, subst, sym, ap}
+use Rattle.std.proofs.Common.{map, subst, sym}
 use Rattle.meta_ast.specs.Optimized.{optimized_rules_of}
-use Rattle.meta_restorer.specs.Bodies.{said_by, named_body, grammar_with, SameBodies}
+use Rattle.std.proofs.lemmas.Result.{IfOk-weaker}
+use Rattle.meta_restorer.specs.Bodies.{said_by, grammar_with, SameBodies}
 use Rattle.meta_restorer.specs.Telling.{AreCallsOf, Tells}
-use Rattle.meta_restorer.proofs.Holding.{answered, of_rules, tells_moved}
+use Rattle.meta_restorer.proofs.Holding.{of_rules, tells_moved}
 use Rattle.meta_restorer.proofs.restorer.changes_in_rules.Goals as goal
 
 pub returns-clause-tells : goal.returns-clause-tells
@@ -10,10 +11,10 @@ returns-clause-tells c =
     let bs = map said_by c.in_ok-bodies.bodies.items in
     let rs = c.args.rules.now in
     let same = subst (λ ds. SameBodies (grammar_with ds) (optimized_rules_of rs)) (sym c.in_ok-bodies.ensures) (of_rules rs) in
-    answered c.changes_of.result
+    IfOk-weaker c.changes_of.result _ _
     (λ changes t. tells_moved changes bs (optimized_rules_of rs) same (subst (λ ds. Tells changes (grammar_with (map said_by ds))) c.deref.ensures.value t)) c.changes_of.ensures.tells
 
 pub returns-clause-calls : goal.returns-clause-calls
 returns-clause-calls c =
-    answered c.changes_of.result
+    IfOk-weaker c.changes_of.result _ _
     (λ changes t. subst (λ ds. AreCallsOf changes.names ds changes.calls.items) c.in_ok-bodies.ensures (subst (λ ds. AreCallsOf changes.names (map said_by ds) changes.calls.items) c.deref.ensures.value t)) c.changes_of.ensures.calls

@@ -1,4 +1,4 @@
-use Rattle.std.proofs.Common.{◌≡◌, ◌∙◌, ◌∷◌, ◌++◌, ◌+◌, [], Some, ap, sym, suc, arith, drop, ◌<◌, length, rules, slice_get}
+use Rattle.std.proofs.Common.{◌≡◌, ◌∙◌, Some, ap, sym, suc, arith, drop, ◌<◌, length, rules, slice_get}
 use Rattle.std.proofs.lemmas.List.{length_push}
 use Rattle.std.proofs.lemmas.Grind.{common_steps}
 use Rattle.std.specs.Vec.Iter.{into_iter_items}

@@ -4,7 +4,7 @@ use Rattle.std.proofs.lemmas.List.{length_push, map_push}
 use Rattle.meta_stacks.specs.Stack.{is_among}
 use Rattle.meta_stacks.specs.Reading as says
 use Rattle.meta_stacks.specs.Reading.{top_reading, onward, turns, Endless}
-use Rattle.meta_stack.specs.Table.{IsMeaning, Inside, Called, LeadsTo, Lies, call_reading, copies, followed_at, node_reading, nodes_of}
+use Rattle.meta_stack.specs.Table.{IsMeaning, Called, LeadsTo, Lies, call_reading, copies, followed_at, node_reading, nodes_of}
 use Rattle.meta_stack.specs.Memory.{Meaning, IsRight}
 use Rattle.meta_stack.specs.Following.{times, copy_step, seen_stacks, Comes}
 use Rattle.meta_stacks.specs.Reported.{turn_starts}
@@ -13,7 +13,7 @@ use Rattle.meta_stack.proofs.Counts.{times_more}
 use Rattle.meta_stack.proofs.Follow.{Each, step_value, all_copies, turns_none, starts_none, turns_again, starts_again, turn_on, start_on, over_value, starts_over, among_reverse, seen_more, traced_all, traced_back, place_back, each_more}
 use Rattle.meta_stack.specs.declared.waiting.How.TheVariants as how
 use Rattle.meta_stack.specs.declared.waiting.Next.TheVariants as next
-use Rattle.meta_stack.proofs.Awaiting.{ReadSoFar, done_at_once, leaf_done, level_called, level_inside, read_begun, read_done, read_on, wait_first, wait_last}
+use Rattle.meta_stack.proofs.Awaiting.{ReadSoFar, done_at_once, leaf_done, level_called, read_begun, read_done, read_on, wait_first, wait_inside, wait_last}
 use Rattle.meta_stack.proofs.Work.{not_followed, where_ok, ended_value}
 use Rattle.meta_stack.proofs.reader.+reader.Goals as goal
 use Rattle.meta_stack.proofs.reader.+reader.Goals.{repeat-then-endless+in_ok-last, repeat-else-endless}
@@ -77,28 +77,16 @@ begin-returns-in-Some-followed t c =
     (λ meaning. sym (ap (λ o. call_reading meaning o (stack_of c.args.stack)) to)) lies.within (level_called tab c.args.node c.in-Some-followed.body lies) g) c.wait.ensures
 
 pub begin-returns-in-PosPred : goal.begin-returns-in-PosPred
-begin-returns-in-PosPred t c =
-    let tab = c.args.table.now in
-    let lies : Inside tab c.args.node c.in-PosPred.body = subst (Lies tab c.args.node) c.in-PosPred.is (c.kind_at.ensures.ordered c.requires.ordered) in
-    where_ok c.wait-in-PosPred.result (λ q g. wait_last tab _ c.args.node c.args.stack _ _ c.kind_at.ensures.means c.in-PosPred.is how.Ahead c.in-PosPred.body _ _ q (λ meaning. refl) lies.within (level_inside tab c.args.node c.in-PosPred.body lies) g) c.wait-in-PosPred.ensures
+begin-returns-in-PosPred t c = wait_inside c.args.table.now _ c.args.node c.args.stack _ _ c.kind_at.ensures.means c.in-PosPred.is (c.kind_at.ensures.ordered c.requires.ordered) how.Ahead c.in-PosPred.body (λ lies. lies) (λ meaning. refl) _ _ c.wait-in-PosPred.result c.wait-in-PosPred.ensures
 
 pub begin-returns-in-NegPred : goal.begin-returns-in-NegPred
-begin-returns-in-NegPred t c =
-    let tab = c.args.table.now in
-    let lies : Inside tab c.args.node c.in-NegPred.body = subst (Lies tab c.args.node) c.in-NegPred.is (c.kind_at.ensures.ordered c.requires.ordered) in
-    where_ok c.wait-in-NegPred.result (λ q g. wait_last tab _ c.args.node c.args.stack _ _ c.kind_at.ensures.means c.in-NegPred.is how.NotAhead c.in-NegPred.body _ _ q (λ meaning. refl) lies.within (level_inside tab c.args.node c.in-NegPred.body lies) g) c.wait-in-NegPred.ensures
+begin-returns-in-NegPred t c = wait_inside c.args.table.now _ c.args.node c.args.stack _ _ c.kind_at.ensures.means c.in-NegPred.is (c.kind_at.ensures.ordered c.requires.ordered) how.NotAhead c.in-NegPred.body (λ lies. lies) (λ meaning. refl) _ _ c.wait-in-NegPred.result c.wait-in-NegPred.ensures
 
 pub begin-returns-in-Opt : goal.begin-returns-in-Opt
-begin-returns-in-Opt t c =
-    let tab = c.args.table.now in
-    let lies : Inside tab c.args.node c.in-Opt.body = subst (Lies tab c.args.node) c.in-Opt.is (c.kind_at.ensures.ordered c.requires.ordered) in
-    where_ok c.wait-in-Opt.result (λ q g. wait_last tab _ c.args.node c.args.stack _ _ c.kind_at.ensures.means c.in-Opt.is how.Optional c.in-Opt.body _ _ q (λ meaning. refl) lies.within (level_inside tab c.args.node c.in-Opt.body lies) g) c.wait-in-Opt.ensures
+begin-returns-in-Opt t c = wait_inside c.args.table.now _ c.args.node c.args.stack _ _ c.kind_at.ensures.means c.in-Opt.is (c.kind_at.ensures.ordered c.requires.ordered) how.Optional c.in-Opt.body (λ lies. lies) (λ meaning. refl) _ _ c.wait-in-Opt.result c.wait-in-Opt.ensures
 
 pub begin-returns-in-Push : goal.begin-returns-in-Push
-begin-returns-in-Push t c =
-    let tab = c.args.table.now in
-    let lies : Inside tab c.args.node c.in-Push.body = subst (Lies tab c.args.node) c.in-Push.is (c.kind_at.ensures.ordered c.requires.ordered) in
-    where_ok c.wait-in-Push.result (λ q g. wait_last tab _ c.args.node c.args.stack _ _ c.kind_at.ensures.means c.in-Push.is how.Pushed c.in-Push.body _ _ q (λ meaning. refl) lies.within (level_inside tab c.args.node c.in-Push.body lies) g) c.wait-in-Push.ensures
+begin-returns-in-Push t c = wait_inside c.args.table.now _ c.args.node c.args.stack _ _ c.kind_at.ensures.means c.in-Push.is (c.kind_at.ensures.ordered c.requires.ordered) how.Pushed c.in-Push.body (λ lies. lies) (λ meaning. refl) _ _ c.wait-in-Push.result c.wait-in-Push.ensures
 
 pub begin-returns-in-Seq : goal.begin-returns-in-Seq
 begin-returns-in-Seq t c =

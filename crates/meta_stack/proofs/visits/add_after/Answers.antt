@@ -1,7 +1,7 @@
 use Rattle.std.proofs.Common.{◌≡◌, ◌∙◌, sym, ap, subst, Some, None}
 use Rattle.meta_stacks.specs.Walks.{next_after}
 use Rattle.meta_stacks.specs.Views.{stack_of, possible}
-use Rattle.meta_stack.specs.Visiting.{IsAfter, Adds}
+use Rattle.meta_stack.specs.Visiting.{IsAfter, AddsStack}
 use Rattle.meta_stack.specs.Table.{IsMeaning}
 use Rattle.meta_stack.specs.Memory.{Meaning, IsRight}
 use Rattle.meta_stack.proofs.Visited.{after_one}
@@ -14,5 +14,5 @@ returns-in_ok-add c =
     c.next_after-next.ensures ∙ ap (λ r. next_after c.args.choice r a) (c.in_ok-reading.ensures.value meaning h i) in
     after_one c.args.table.now _ _ (λ meaning b. IsAfter (meaning c.args.first) c.args.choice a b) c.args.found.now.items c.add.new.stacks.items c.next_after-next.result
     c.in_ok-reading.ensures.kept (λ meaning h i b p. is meaning h i ∙ p) (λ meaning h i b p. sym (is meaning h i) ∙ p)
-    (λ s e. let x : Some c.in-Some.next ≡ Some s = sym c.in-Some.is ∙ e in let y : c.in-Some.next ≡ s = cc in subst (λ s. Adds c.args.found.now.items c.add.new.stacks.items (stack_of s)) y c.in_ok-add.ensures)
+    (λ s e. let x : Some c.in-Some.next ≡ Some s = sym c.in-Some.is ∙ e in let y : c.in-Some.next ≡ s = cc in subst (λ s. AddsStack c.args.found.now.items c.add.new.stacks.items (stack_of s)) y c.in_ok-add.ensures)
     (λ e. let x : Some c.in-Some.next ≡ None = sym c.in-Some.is ∙ e in cc)

@@ -94,3 +94,24 @@ fmt_sides-loop-side-preserved g t c =
             one_side_more done _ c.loop-side.sides.items c.pop.new.self.items c.in-Some.side whole c.in-Some.ensures.items,
           ),
     )
+
+pub fmt_predicate-returns : goal.fmt_predicate-returns
+fmt_predicate-returns g t c plain ok =
+    let sign = c.write_str.ensures.writes plain (search rules) in
+    has_written_append _ _ _ _ _ _ sign (c.fmt_alone.ensures sign.plain ok)
+
+pub fmt_two-returns : goal.fmt_two-returns
+fmt_two-returns g t c plain ok =
+    let opening = c.write_str.ensures.writes plain (search rules) in
+    let left = c.fmt_alone.ensures opening.plain (search rules) in
+    has_written_append _ _ _ _ _ _ opening (has_written_append _ _ _ _ _ _ left (c.fmt_side.ensures left.plain ok))
+
+pub fmt_postfix-returns : goal.fmt_postfix-returns
+fmt_postfix-returns g t c plain ok =
+    let operand = c.fmt_before_postfix.ensures plain (search rules) in
+    has_written_append _ _ _ _ _ _ operand (c.write_str.ensures.writes operand.plain ok)
+
+pub fmt_counted-returns : goal.fmt_counted-returns
+fmt_counted-returns g t c plain ok =
+    let operand = c.fmt_before_postfix.ensures plain (search rules) in
+    has_written_append _ _ _ _ _ _ operand (c.fmt_counts.ensures operand.plain ok)

@@ -3,7 +3,7 @@ use Rattle.meta_syntax.proofs.Parsing.{fails_on_character, refused, refuses, spe
 use Rattle.meta_syntax.proofs.grammar.PestParser.tokens.Goals as goal
 
 pub call-requires : goal.call-requires
-call-requires c = record { ready = record { left = search rules; sound = c.new-recognizer.ensures.sound c.args.text.now } }
+call-requires c = record { ready = record { left = search rules; remembers = c.new-recognizer.ensures.remembers c.args.text.now } }
 
 pub returns-in-Ok-Some-clause-trees : goal.returns-in-Ok-Some-clause-trees
 returns-in-Ok-Some-clause-trees c =

@@ -7,10 +7,10 @@ use Rattle.meta_base.proofs.Steps.{ran_str, ran_range}
 use Rattle.meta_syntax.specs.Entries.{named_entries}
 use Rattle.meta_syntax.specs.Forms.{IsSpelled, all_take, expression_of, good}
 use Rattle.meta_syntax.specs.Sets.{spelled_by}
-use Rattle.meta_syntax.specs.Remembering.{IsSound}
+use Rattle.meta_syntax.specs.Remembering.{RemembersTruly}
 use Rattle.meta_syntax.specs.Runs.{IsLeft}
 use Rattle.meta_syntax.proofs.EntryLists.{adds_tree, not_grown}
-use Rattle.meta_syntax.proofs.Memory.{failed_within, fails_again, sound_on}
+use Rattle.meta_syntax.proofs.Memory.{failed_within, fails_again, remembers_truly_on}
 use Rattle.meta_syntax.proofs.Steps.{call_failed, call_found, copies_if_ok, cut_opened, fails_first, fails_not, fails_once, fails_start, finds_blanks, finds_comments, finds_left, finds_no_opt, finds_no_rep, finds_no_skipping, finds_not, finds_once, finds_opt, finds_rep, finds_seq, finds_skipped, finds_start, finds_turns, gives_leaving, ran_any, right_if_ok, so_far_nothing, so_far_blank, so_far_comment, so_far_turn}
 use Rattle.meta_syntax.proofs.Sequences.{begun_further, fails_followed, fails_part, found_further, found_whole}
 use Rattle.meta_syntax.proofs.Quiet.{and_first, and_second}
@@ -25,17 +25,17 @@ use Rattle.meta_syntax.proofs.recognize.Recognizer.+recognize.Goals as goal
 
 pub run-returns-in-Str-clause-means : goal.run-returns-in-Str-clause-means
 run-returns-in-Str-clause-means t c =
-    let l : IsLeft c.args.text.now c.args.rest.now = search rules in
+    let l : IsLeft c.args.text.now c.args.rest.now = assumption in
     rw c.in-Str.is (gives_leaving _ _ _ _ _ _ (λ classes. ran_str (c.literal.ensures.means c.args.text.now l)))
 
 pub run-returns-in-Range-clause-means : goal.run-returns-in-Range-clause-means
 run-returns-in-Range-clause-means t c =
-    let l : IsLeft c.args.text.now c.args.rest.now = search rules in
+    let l : IsLeft c.args.text.now c.args.rest.now = assumption in
     rw c.in-Range.is (gives_leaving _ _ _ _ _ _ (λ classes. ran_range (c.character.ensures.means c.args.text.now l)))
 
 pub run-returns-in-Any-clause-means : goal.run-returns-in-Any-clause-means
 run-returns-in-Any-clause-means t c =
-    let l : IsLeft c.args.text.now c.args.rest.now = search rules in
+    let l : IsLeft c.args.text.now c.args.rest.now = assumption in
     rw c.in-Any.is (gives_leaving _ _ _ _ _ _ (λ classes. ran_any c.args.mode (c.any.ensures.means c.args.text.now l)))
 
 pub run-returns-then-rest-text-clause-means : goal.run-returns-then-rest-text-clause-means
@@ -44,12 +44,12 @@ run-returns-then-rest-text-clause-means t c =
 
 pub run-returns-else-rest-text-clause-means : goal.run-returns-else-rest-text-clause-means
 run-returns-else-rest-text-clause-means t c =
-    let l : IsLeft c.args.text.now c.args.rest.now = search rules in
+    let l : IsLeft c.args.text.now c.args.rest.now = assumption in
     rw c.in-Start.is (fails_start c.args.mode _ _ _ _ l c.if-rest-text.false)
 
 pub run-returns-in-RepMinMax-clause-means : goal.run-returns-in-RepMinMax-clause-means
 run-returns-in-RepMinMax-clause-means t c =
-    let h : IsSpelled c.args.form.now = search rules in
+    let h : IsSpelled c.args.form.now = assumption in
     let k = rw c.in-RepMinMax.is at h in
     rw c.in-RepMinMax.is (copies_if_ok _ _ _ _ _ _ _ _ _ _ _ _ k.0 c.copies-in-RepMinMax.ensures.means)
 
@@ -67,27 +67,27 @@ first_of-returns-in-Some-clause-means t c = let x = rw c.in-Some.is at c.in_ok-a
 pub first_of-loop-rule-init : goal.first_of-loop-rule-init
 first_of-loop-rule-init t c =
     let x = rw c.in_default.is at c.in_ok-after.ensures.means in
-    record { means = x; sound = search rules }
+    record { means = x; remembers = c.in_ok-after.ensures.remembers }
 
 pub first_of-loop-rule-preserved : goal.first_of-loop-rule-preserved
 first_of-loop-rule-preserved t c =
-    let h : c.loop-rule.rule-index < length c.args.others.now = omega arith in
+    let h = c.loop-rule-test.true in
     let x = rw c.in_default-2.is at c.in_ok-after-2.ensures.means in
     record {
       means = failed_at (Ident (name_of c.args.first)) c.args.others.now c.loop-rule.rule-index _ h c.loop-rule.invariant.means x;
-      sound = search rules;
+      remembers = c.in_ok-after-2.ensures.remembers;
     }
 
 pub first_of-returns-in-Some-2-clause-goes_on : goal.first_of-returns-in-Some-2-clause-goes_on
 first_of-returns-in-Some-2-clause-goes_on t c =
-    let h : c.loop-rule.rule-index < length c.args.others.now = omega arith in
-    let k : all_take c.args.others.now ≡ true = search rules in
+    let h = c.loop-rule-test.true in
+    let k : all_take c.args.others.now ≡ true = assumption in
     let g = rw c.in-Some-2.is at c.in_ok-after-2.ensures.goes_on in
     goes_on_at c.args.text.now c.args.rest.now _ c.args.others.now c.loop-rule.rule-index _ h k g
 
 pub first_of-returns-in-Some-2-clause-means : goal.first_of-returns-in-Some-2-clause-means
 first_of-returns-in-Some-2-clause-means t c =
-    let h : c.loop-rule.rule-index < length c.args.others.now = omega arith in
+    let h = c.loop-rule-test.true in
     let y = rw c.in-Some-2.is at c.in_ok-after-2.ensures.means in
     found_at (Ident (name_of c.args.first)) c.args.others.now c.loop-rule.rule-index _ h c.loop-rule.invariant.means y
 
@@ -149,7 +149,7 @@ sequence-loop-next-preserved t c =
       left = g.left;
       shorter = omega (arith, g.shorter, n.shorter, i.shorter);
       begun = begun_further _ _ _ _ c.args.first.now c.args.others.now _ c.parts_of-parts.result.first.now c.in-Some-others.others.now i.begun i.shorter n.shorter g.shorter g.consumed h.null h.cost;
-      sound = search rules;
+      remembers = c.in_ok-after.ensures.remembers;
     }
 
 pub repetition-returns-in_ok-last-in-Some-clause-means : goal.repetition-returns-in_ok-last-in-Some-clause-means
@@ -163,12 +163,13 @@ repetition-returns-in-None-clause-means t c = let x = rw c.in-None.is at c.in_ok
 pub turns-loop-next-preserved : goal.turns-loop-next-preserved
 turns-loop-next-preserved t c =
     let x = rw c.in-Some.is at c.in_ok-after.ensures.means in
+    let g = rw c.in-Some.is at c.in_ok-after.ensures.goes_on in
     record {
       text = search rules;
       means = so_far_turn c.loop-next.invariant.means c.in_ok-next.ensures.means x;
-      left = search rules;
-      shorter = search rules;
-      sound = search rules;
+      left = g.left;
+      shorter = omega (arith, g.shorter, c.in_ok-next.ensures.goes_on.shorter, c.loop-next.invariant.shorter);
+      remembers = c.in_ok-after.ensures.remembers;
     }
 
 pub turns-returns-in-None-clause-means : goal.turns-returns-in-None-clause-means
@@ -179,12 +180,13 @@ turns-returns-in-None-clause-means t c =
 pub blanks-loop-after-preserved : goal.blanks-loop-after-preserved
 blanks-loop-after-preserved t c =
     let x = rw c.in-Some.is at c.in_ok-after.ensures.means in
+    let g = rw c.in-Some.is at c.in_ok-after.ensures.goes_on in
     record {
       text = search rules;
       means = so_far_blank c.loop-after.invariant.means x;
-      left = search rules;
-      shorter = search rules;
-      sound = search rules;
+      left = g.left;
+      shorter = omega (arith, g.shorter, c.loop-after.invariant.shorter);
+      remembers = c.in_ok-after.ensures.remembers;
     }
 
 pub blanks-returns-in-None-clause-means : goal.blanks-returns-in-None-clause-means
@@ -193,12 +195,14 @@ blanks-returns-in-None-clause-means t c = let x = rw c.in-None.is at c.in_ok-aft
 pub comments-loop-after-preserved : goal.comments-loop-after-preserved
 comments-loop-after-preserved t c =
     let x = rw c.in-Some.is at c.in_ok-after.ensures.means in
+    let g = rw c.in-Some.is at c.in_ok-after.ensures.goes_on in
+    let n = c.in_ok-rest-in-Some.ensures.goes_on in
     record {
       text = search rules;
       means = so_far_comment c.loop-after.invariant.means x c.in_ok-rest-in-Some.ensures.means;
-      left = search rules;
-      shorter = search rules;
-      sound = search rules;
+      left = n.left;
+      shorter = omega (arith, n.shorter, g.shorter, c.loop-after.invariant.shorter);
+      remembers = c.in_ok-rest-in-Some.ensures.remembers;
     }
 
 pub comments-returns-in-None-clause-means : goal.comments-returns-in-None-clause-means
@@ -219,28 +223,28 @@ skip-returns-in_ok-last-in-NonAtomic-clause-means t c =
 pub skip-returns-in-Atomic : goal.skip-returns-in-Atomic
 skip-returns-in-Atomic t c = record {
   goes_on = search rules;
-  sound = search rules;
+  remembers = assumption;
   means = finds_no_skipping c.args.mode _ _ _ _ c.in-Atomic.is;
 }
 
 pub characters-loop-set-init : goal.characters-loop-set-init
 characters-loop-set-init t c =
-    let l : IsLeft c.args.text.now c.args.from.now = search rules in
-    let o : expression_of c.args.body.now ≡ spelled_by c.args.set = search rules in
+    let l : IsLeft c.args.text.now c.args.from.now = assumption in
+    let o : expression_of c.args.body.now ≡ spelled_by c.args.set = assumption in
     let k = c.is_tight.ensures c.if-not-is_tight.false in
     record {
       text = search rules;
       means = so_far_past _ _ o (c.past-rest.ensures.means c.args.text.now c.args.mode l k);
       left = (c.past-rest.ensures.goes_on c.args.text.now l).left;
       shorter = (c.past-rest.ensures.goes_on c.args.text.now l).shorter;
-      sound = search rules;
+      remembers = assumption;
     }
 
 pub characters-loop-set-preserved : goal.characters-loop-set-preserved
 characters-loop-set-preserved t c =
     let x = rw c.in-Some.is at c.in_ok-after-2.ensures.means in
     let g = rw c.in-Some.is at c.in_ok-after-2.ensures.goes_on in
-    let o : expression_of c.args.body.now ≡ spelled_by c.args.set = search rules in
+    let o : expression_of c.args.body.now ≡ spelled_by c.args.set = assumption in
     let k = c.is_tight.ensures c.if-not-is_tight.false in
     let p = c.past-rest-in-Some.ensures.goes_on c.args.text.now g.left in
     let y = so_far_turn c.loop-set.invariant.means (finds_tight c.args.mode k) x in
@@ -249,12 +253,12 @@ characters-loop-set-preserved t c =
       means = so_far_further o y (c.past-rest-in-Some.ensures.means c.args.text.now c.args.mode g.left k);
       left = p.left;
       shorter = omega (arith, p.shorter, g.shorter, c.loop-set.invariant.shorter);
-      sound = search rules;
+      remembers = c.in_ok-after-2.ensures.remembers;
     }
 
 pub characters-returns-then-ends-clause-means : goal.characters-returns-then-ends-clause-means
 characters-returns-then-ends-clause-means t c =
-    let o : expression_of c.args.body.now ≡ spelled_by c.args.set = search rules in
+    let o : expression_of c.args.body.now ≡ spelled_by c.args.set = assumption in
     let k = c.is_tight.ensures c.if-not-is_tight.false in
     finds_characters c.args.mode k c.loop-set.invariant.means
     (record { kept = refl; ran = λ classes. rw o (c.ends.ensures c.if-ends.true c.args.text.now c.args.mode classes _ k) })
@@ -266,21 +270,21 @@ characters-returns-in-None-clause-means t c =
 
 pub quoted-returns-then-is_seen_from-clause-means : goal.quoted-returns-then-is_seen_from-clause-means
 quoted-returns-then-is_seen_from-clause-means t c =
-    let o : expression_of c.args.spelled.now ≡ body_of is.inner_str = search rules in
+    let o : expression_of c.args.spelled.now ≡ body_of is.inner_str = assumption in
     rw (← o) c.copies.ensures.means
 
 pub quoted-loop-next-init : goal.quoted-loop-next-init
 quoted-loop-next-init t c = record {
   text = search rules;
   means = so_far_nothing _ _ _ _ _;
-  left = search rules;
-  shorter = search rules;
-  sound = search rules;
+  left = assumption;
+  shorter = omega arith;
+  remembers = assumption;
 }
 
 pub quoted-loop-next-preserved : goal.quoted-loop-next-preserved
 quoted-loop-next-preserved t c =
-    let o : expression_of c.args.body.now ≡ spelled_by set.Quoted = search rules in
+    let o : expression_of c.args.body.now ≡ spelled_by set.Quoted = assumption in
     let y = rw o at c.in_ok-next.ensures.means in
     let w = rw c.in-Some.is at c.in_ok-after.ensures.means in
     let g = rw c.in-Some.is at c.in_ok-after.ensures.goes_on in
@@ -289,12 +293,12 @@ quoted-loop-next-preserved t c =
       means = so_far_escape c.loop-next.invariant.means y w;
       left = g.left;
       shorter = omega (arith, g.shorter, c.in_ok-next.ensures.goes_on.shorter, c.loop-next.invariant.shorter);
-      sound = search rules;
+      remembers = c.in_ok-after.ensures.remembers;
     }
 
 pub quoted-returns-in-None-clause-means : goal.quoted-returns-in-None-clause-means
 quoted-returns-in-None-clause-means t c =
-    let o : expression_of c.args.body.now ≡ spelled_by set.Quoted = search rules in
+    let o : expression_of c.args.body.now ≡ spelled_by set.Quoted = assumption in
     let y = rw o at c.in_ok-next.ensures.means in
     let w = rw c.in-None.is at c.in_ok-after.ensures.means in
     let k = unseen c.args.mode (sym c.is_seen_from.ensures ∙ c.if-is_seen_from.false) in
@@ -302,33 +306,33 @@ quoted-returns-in-None-clause-means t c =
 
 pub comment-returns-then-is_seen_from-clause-means : goal.comment-returns-then-is_seen_from-clause-means
 comment-returns-then-is_seen_from-clause-means t c =
-    let o : expression_of c.args.spelled.now ≡ body_of is.block_comment = search rules in
+    let o : expression_of c.args.spelled.now ≡ body_of is.block_comment = assumption in
     rw (← o) c.copies.ensures.means
 
 pub comment-returns-in_default-clause-means : goal.comment-returns-in_default-clause-means
 comment-returns-in_default-clause-means t c =
-    let l : IsLeft c.args.text.now c.args.from.now = search rules in
+    let l : IsLeft c.args.text.now c.args.from.now = assumption in
     let k = unseen c.args.mode (sym c.is_seen_from.ensures ∙ c.if-is_seen_from.false) in
     rw k (never_begun _ _ _ _ (c.in_default.ensures.means c.args.text.now l))
 
 pub comment-returns-in-Some-closed-clause-means : goal.comment-returns-in-Some-closed-clause-means
 comment-returns-in-Some-closed-clause-means t c =
-    let l : IsLeft c.args.text.now c.args.from.now = search rules in
+    let l : IsLeft c.args.text.now c.args.from.now = assumption in
     let k = unseen c.args.mode (sym c.is_seen_from.ensures ∙ c.if-is_seen_from.false) in
     let g = c.in-Some.ensures.goes_on c.args.text.now l in
     rw k (comment_gives _ _ _ _ _ (Some c.in-Some-closed.after) (c.in-Some.ensures.means c.args.text.now l) (λ classes. c.in-Some-closed.ensures.closed c.args.text.now classes _ g.left))
 
 pub comment-returns-clause-means : goal.comment-returns-clause-means
 comment-returns-clause-means t c =
-    let l : IsLeft c.args.text.now c.args.from.now = search rules in
+    let l : IsLeft c.args.text.now c.args.from.now = assumption in
     let k = unseen c.args.mode (sym c.is_seen_from.ensures ∙ c.if-is_seen_from.false) in
     let f = c.in_ok-find_ends.ensures in
     rw (k, f.entries, f.furthest) (comment_gives _ _ _ _ _ c.behind.result (c.in-Some.ensures.means c.args.text.now l) (λ classes. c.behind.ensures.means classes _))
 
 pub called-returns-then-has_failed-clause-means : goal.called-returns-then-has_failed-clause-means
 called-returns-then-has_failed-clause-means t c =
-    let l : IsLeft c.args.text.now c.args.rest.now = search rules in
-    let s : IsSound c.args.text.now c.args.self.now = search rules in
+    let l : IsLeft c.args.text.now c.args.rest.now = assumption in
+    let s : RemembersTruly c.args.text.now c.args.self.now = assumption in
     fails_again c.args.rule _ _ _ _ _ (c.has_failed.ensures c.args.text.now s l c.if-has_failed.true)
 
 pub called-returns-in_ok-close-in-Some-2-clause-means : goal.called-returns-in_ok-close-in-Some-2-clause-means
@@ -341,13 +345,13 @@ called-returns-in_ok-close-in-Some-2-clause-means t c =
       ran = λ classes. call_found c.args.rule _ _ _ _ r.defined c.body_mode-inner_mode.ensures.means r.body r.kind _ (x.ran classes) c.gives_token-gives.ensures;
     }
 
-pub called-returns-in_ok-remember-in-None-clause-sound : goal.called-returns-in_ok-remember-in-None-clause-sound
-called-returns-in_ok-remember-in-None-clause-sound t c =
+pub called-returns-in_ok-remember-in-None-clause-remembers : goal.called-returns-in_ok-remember-in-None-clause-remembers
+called-returns-in_ok-remember-in-None-clause-remembers t c =
     let x = rw c.in-None.is at c.in_ok-after.ensures.means in
     let r = c.in-Some.ensures in
-    let l : IsLeft c.args.text.now c.args.rest.now = search rules in
-    c.in_ok-remember-in-None.ensures.sound c.args.text.now
-    (sound_on c.args.text.now c.run.new.self c.furthest_with-self.result c.in_ok-after.ensures.sound c.furthest_with-self.ensures.further) l
+    let l : IsLeft c.args.text.now c.args.rest.now = assumption in
+    c.in_ok-remember-in-None.ensures.remembers c.args.text.now
+    (remembers_truly_on c.args.text.now c.run.new.self c.furthest_with-self.result c.in_ok-after.ensures.remembers c.furthest_with-self.ensures.further) l
     (failed_within c.args.rule _ _ _ _ _ (λ classes. call_failed c.args.rule _ _ _ _ r.defined c.body_mode-inner_mode.ensures.means r.body r.kind _ (x.ran classes) c.call_counts.ensures c.furthest_with-self.ensures.value))
 
 pub called-returns-in_ok-remember-in-None-clause-means : goal.called-returns-in_ok-remember-in-None-clause-means

@@ -5,7 +5,7 @@ use Rattle.meta_base.specs.Language.Expression.{Ident}
 use Rattle.meta_base.specs.Language.Meaning.{Run, Turns}
 use Rattle.meta_base.specs.Pieces.MetaRules.{name_of}
 use Rattle.meta_syntax.specs.Forms.{IsGood, IsSpelled, choice_among, cost, count_of_parts, expression_of, followed, greatest_rank, null, rank_of}
-use Rattle.meta_syntax.specs.Remembering.{IsSound}
+use Rattle.meta_syntax.specs.Remembering.{RemembersTruly}
 use Rattle.meta_syntax.specs.Runs.{Fails, IsLeft, measure, mode_of, skips_in, skips_in_call}
 use Rattle.meta_syntax.proofs.Quoted.{text_of_string}
 use Rattle.meta_base.specs.Language.State.{AtomicMode}
@@ -31,7 +31,7 @@ invariant-quoted-loop-next l = record {
   means : SoFar (Run AtomicMode text_of_string) l.text l.from l.fn.self.entries.items l.fn.self.furthest l.rest l.self.entries.items l.self.furthest;
   left : IsLeft l.text l.rest;
   shorter : length l.rest ≤ length l.from;
-  sound : IsSound l.text l.self;
+  remembers : RemembersTruly l.text l.self;
 }
 
 abbrev pub decreases-quoted-loop-next : goal.decreases-quoted-loop-next
@@ -46,7 +46,7 @@ invariant-characters-loop-set l = record {
   means : SoFar (Turns (mode_of l.mode) (expression_of l.body)) l.text l.from l.fn.self.entries.items l.fn.self.furthest l.rest l.self.entries.items l.self.furthest;
   left : IsLeft l.text l.rest;
   shorter : length l.rest ≤ length l.from;
-  sound : IsSound l.text l.self;
+  remembers : RemembersTruly l.text l.self;
 }
 
 abbrev pub decreases-characters-loop-set : goal.decreases-characters-loop-set
@@ -67,7 +67,7 @@ decreases-first_of l = measure l.rest.now (skips_in l.mode) (3 + greatest_rank (
 abbrev pub invariant-first_of-loop-rule : goal.invariant-first_of-loop-rule
 invariant-first_of-loop-rule l = record {
   means : Fails (Run (mode_of l.mode) (choice_among (Ident (name_of l.fn.first)) (take l.rule-index l.others))) l.text l.rest l.fn.self.entries.items l.self.entries.items l.fn.self.furthest l.self.furthest;
-  sound : IsSound l.text l.self;
+  remembers : RemembersTruly l.text l.self;
 }
 
 abbrev pub decreases-option : goal.decreases-option
@@ -92,7 +92,7 @@ invariant-sequence-loop-next l = record {
   left : IsLeft l.text l.rest;
   shorter : length l.rest ≤ length l.from;
   begun : Begun l.from l.rest l.first l.others l.left;
-  sound : IsSound l.text l.self;
+  remembers : RemembersTruly l.text l.self;
 }
 
 abbrev pub decreases-sequence-loop-next : goal.decreases-sequence-loop-next
@@ -119,7 +119,7 @@ invariant-blanks-loop-after l = record {
   means : SoFar blanks l.text l.from l.fn.self.entries.items l.fn.self.furthest l.rest l.self.entries.items l.self.furthest;
   left : IsLeft l.text l.rest;
   shorter : length l.rest ≤ length l.from;
-  sound : IsSound l.text l.self;
+  remembers : RemembersTruly l.text l.self;
 }
 
 abbrev pub decreases-blanks-loop-after : goal.decreases-blanks-loop-after
@@ -131,7 +131,7 @@ invariant-comments-loop-after l = record {
   means : SoFar comments l.text l.from l.fn.self.entries.items l.fn.self.furthest l.rest l.self.entries.items l.self.furthest;
   left : IsLeft l.text l.rest;
   shorter : length l.rest ≤ length l.from;
-  sound : IsSound l.text l.self;
+  remembers : RemembersTruly l.text l.self;
 }
 
 abbrev pub decreases-comments-loop-after : goal.decreases-comments-loop-after
@@ -143,7 +143,7 @@ invariant-turns-loop-next l = record {
   means : SoFar (Turns (mode_of l.mode) (expression_of l.body)) l.text l.from l.fn.self.entries.items l.fn.self.furthest l.rest l.self.entries.items l.self.furthest;
   left : IsLeft l.text l.rest;
   shorter : length l.rest ≤ length l.from;
-  sound : IsSound l.text l.self;
+  remembers : RemembersTruly l.text l.self;
 }
 
 abbrev pub decreases-turns-loop-next : goal.decreases-turns-loop-next

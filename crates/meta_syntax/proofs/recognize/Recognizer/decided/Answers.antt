@@ -6,12 +6,12 @@ use Rattle.meta_syntax.specs.Runs.{mode_of}
 use Rattle.meta_syntax.proofs.EntryLists.{not_grown}
 use Rattle.meta_syntax.proofs.FirstCharacters.{fails_at_once}
 use Rattle.meta_syntax.proofs.LeafLemmas.{past_one}
-use Rattle.meta_syntax.proofs.Memory.{sound_on}
+use Rattle.meta_syntax.proofs.Memory.{remembers_truly_on}
 use Rattle.meta_syntax.proofs.SingleCharacters.{one_taken}
 use Rattle.meta_syntax.proofs.recognize.Recognizer.decided.Goals as goal
 
-pub returns-in-Fails-clause-sound : goal.returns-in-Fails-clause-sound
-returns-in-Fails-clause-sound c = sound_on c.args.text.now c.args.self.now c.furthest_with-self.result c.requires.ready.sound c.furthest_with-self.ensures.further
+pub returns-in-Fails-clause-remembers : goal.returns-in-Fails-clause-remembers
+returns-in-Fails-clause-remembers c = remembers_truly_on c.args.text.now c.args.self.now c.furthest_with-self.result c.requires.ready.remembers c.furthest_with-self.ensures.further
 
 pub returns-in-Fails-clause-means : goal.returns-in-Fails-clause-means
 returns-in-Fails-clause-means c =

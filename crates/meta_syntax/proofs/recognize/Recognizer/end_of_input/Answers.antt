@@ -1,11 +1,11 @@
 use Rattle.std.proofs.Common.{refl}
 use Rattle.meta_syntax.proofs.LeafLemmas.{end_found, end_missing}
-use Rattle.meta_syntax.proofs.Memory.{sound_on}
+use Rattle.meta_syntax.proofs.Memory.{remembers_truly_on}
 use Rattle.meta_syntax.proofs.Steps.{ran_end, ran_not_end}
 use Rattle.meta_syntax.proofs.recognize.Recognizer.end_of_input.Goals as goal
 
-pub returns-then-not-is_empty-clause-sound : goal.returns-then-not-is_empty-clause-sound
-returns-then-not-is_empty-clause-sound c = sound_on c.args.text.now c.args.self.now c.furthest_with-self.result c.requires.ready.sound c.furthest_with-self.ensures.further
+pub returns-then-not-is_empty-clause-remembers : goal.returns-then-not-is_empty-clause-remembers
+returns-then-not-is_empty-clause-remembers c = remembers_truly_on c.args.text.now c.args.self.now c.furthest_with-self.result c.requires.ready.remembers c.furthest_with-self.ensures.further
 
 pub returns-then-not-is_empty-clause-means : goal.returns-then-not-is_empty-clause-means
 returns-then-not-is_empty-clause-means c = record { kept = refl; ran = λ classes. ran_not_end c.args.mode _ (end_missing _ _ _ _ c.utf8.rest c.is_empty.ensures c.if-not-is_empty.true) c.is_seen_from-is_seen.ensures c.furthest_with-self.ensures.value }

@@ -1,11 +1,11 @@
 use Rattle.std.proofs.Common.{refl, sym}
 use Rattle.meta_base.proofs.Steps.{ran_str}
-use Rattle.meta_syntax.proofs.Memory.{sound_on}
+use Rattle.meta_syntax.proofs.Memory.{remembers_truly_on}
 use Rattle.meta_syntax.proofs.Steps.{call_failed, call_found}
 use Rattle.meta_syntax.proofs.recognize.Recognizer.sign.Goals as goal
 
-pub returns-in_default-clause-sound : goal.returns-in_default-clause-sound
-returns-in_default-clause-sound c = sound_on c.args.text.now c.args.self.now c.furthest_with-self.result c.requires.ready.sound c.furthest_with-self.ensures.further
+pub returns-in_default-clause-remembers : goal.returns-in_default-clause-remembers
+returns-in_default-clause-remembers c = remembers_truly_on c.args.text.now c.args.self.now c.furthest_with-self.result c.requires.ready.remembers c.furthest_with-self.ensures.further
 
 pub returns-in_default-clause-means : goal.returns-in_default-clause-means
 returns-in_default-clause-means c =

@@ -1,5 +1,5 @@
 use Rattle.std.proofs.Common.{refl}
-use Rattle.meta_base.proofs.PairLemmas.{AreNested-popped, AreNested-first, AreNested-le, AreNested-opened, AreNested-copied, preorder_opened}
+use Rattle.meta_base.proofs.PairLemmas.{AreNested-popped, AreNested-first, AreNested-le, AreNested-opened, AreNested-copied, preorder_opened, on_err, some_pairs}
 use Rattle.meta_base.proofs.runtime.tokens.FlatPairs.take_first.Goals as goal
 
 pub invariant_of-self-in-Break-1 : goal.invariant_of-self-in-Break-1
@@ -22,3 +22,9 @@ invariant_of-result g c =
 pub returns-clause-ok : goal.returns-clause-ok
 returns-clause-ok g c =
     (refl, (refl, preorder_opened _ _ _ c.in-Some.tree _ c.in-Some.ensures.items c.in_ok-append.ensures.items c.in_ok-copies.ensures))
+
+pub returns-in_err-copies-clause-some : goal.returns-in_err-copies-clause-some
+returns-in_err-copies-clause-some g c = on_err _ (some_pairs _ _ c.in-Some.tree c.in-Some.ensures.items)
+
+pub returns-in_err-append-clause-some : goal.returns-in_err-append-clause-some
+returns-in_err-append-clause-some g c = on_err _ (some_pairs _ _ c.in-Some.tree c.in-Some.ensures.items)

@@ -3,7 +3,7 @@ use Rattle.meta_base.specs.Pieces.NamedTrees.{named_trees_of}
 use Rattle.meta_base.specs.Pieces.Saying.{piece_of}
 use Rattle.meta_names.specs.GrammarNames.{names_in}
 use Rattle.meta_names.proofs.Trees.{AllStand, waiting_names, waiting_count}
-use Rattle.meta_names.proofs.found.with_names.Given as goal
+use Rattle.meta_names.proofs.found.add_names.Given as goal
 
 abbrev pub invariant-loop-rest : goal.invariant-loop-rest
 invariant-loop-rest l = record {

@@ -8,13 +8,13 @@ use Rattle.meta_validator.specs.declared.table.Kind.{Kind}
 use Rattle.meta_validator.specs.declared.table.Kind.TheVariants as is
 use Rattle.meta_validator.specs.declared.facts.Facts.{Facts}
 
-abbrev pub Ends : Facts → Kind → Type 0
-Ends facts (is.Again j) = is_set_at facts.nullable.items j ≡ false
-Ends facts (is.OnceAgain j) = is_set_at facts.nullable.items j ≡ false
-Ends facts _ = ⊤
+abbrev pub RepeatedTakes : Facts → Kind → Type 0
+RepeatedTakes facts (is.Again j) = is_set_at facts.nullable.items j ≡ false
+RepeatedTakes facts (is.OnceAgain j) = is_set_at facts.nullable.items j ≡ false
+RepeatedTakes facts _ = ⊤
 
-abbrev pub AllEnd : Facts → Type 0
-AllEnd facts = (i : ℕ) (k : Kind) → slice_get facts.table.kinds.items i ≡ Some k → Ends facts k
+abbrev pub AllRepeatedTake : Facts → Type 0
+AllRepeatedTake facts = (i : ℕ) (k : Kind) → slice_get facts.table.kinds.items i ≡ Some k → RepeatedTakes facts k
 
 abbrev pub SkippedTake : List ParserRule → Facts → Type 0
 SkippedTake rules facts = (r : ℕ) (rule : ParserRule) (i : ℕ) → slice_get rules r ≡ Some rule

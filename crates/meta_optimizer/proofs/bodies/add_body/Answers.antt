@@ -1,0 +1,11 @@
+use Rattle.std.proofs.Common.{ap}
+use Rattle.std.specs.Str.{chars}
+use Rattle.std.proofs.lemmas.Map.Text.{hash_map_updates_text}
+use Rattle.meta_ast.specs.Ast.{rule_of_code}
+use Rattle.meta_optimizer.proofs.Holding.{one_more_body}
+use Rattle.meta_optimizer.proofs.bodies.add_body.Goals as goal
+
+pub returns : goal.returns
+returns c = λ g h.
+    one_more_body c.args.bodies.now c.insert.new.self g (rule_of_code c.args.rule.now) c.in_ok-name.name c.in_ok-body.body h
+    (λ bs. hash_map_updates_text _ c.args.bodies.now c.insert.new.self _ c.in_ok-insert.ensures.updates bs) c.in_ok-body.ensures.cases (ap chars c.in_ok-name.ensures.cases)
