@@ -1,22 +1,24 @@
--- What is met in an expression, piece by piece.
-use Rattle.std.proofs.Common.{◌≡◌, ◌<◌, ℕ, zero, suc, subst, map, drop, ◌⊎◌, inl, inr, length, slice_get, arith, List, [], ◌∷◌, ◌++◌, Option, Some, Bool, true, false, ◌||◌, refl, sym, ◌∙◌, ap}
+-- What is noted of expressions, piece by piece.
+use Rattle.std.proofs.Common.{◌≡◌, ◌<◌, ◌≤◌, ◌-◌, ℕ, zero, suc, subst, map, take, drop, ◌⊎◌, inl, inr, length, slice_get, slice_range, arith, List, [], ◌∷◌, ◌++◌, Some, None, Bool, true, false, ◌||◌, refl, sym, ◌∙◌, ap, ap₂}
 use Rattle.std.specs.List.{list_any}
-use Rattle.std.proofs.lemmas.List.{length_push, length-map}
+use Rattle.std.proofs.lemmas.List.{length_push, length-append, length-drop, length-map, map-append, take_all, take-append-le, drop-append-le}
+use Rattle.std.proofs.Math.Seq.{drop-append_seam}
 use Rattle.std.proofs.lemmas.List.Folds.{list_any-append}
 use Rattle.std.proofs.lemmas.Option.{slice_get_within}
+use Rattle.meta_base.specs.Language.Text.{Text}
+use Rattle.meta_base.specs.Language.Expression.{Expression}
+use Rattle.meta_ast.specs.Ast.{text_of}
 use Rattle.meta_ast.specs.Optimized.{optimized_expression_of}
-use Rattle.meta_restorer.specs.Bodies.{NamedBody, named_body}
-use Rattle.meta_restorer.specs.Telling.{AreCallsOf}
+use Rattle.meta_ast.specs.declared.optimized.OptimizedExpr as code
 use Rattle.meta_ast.specs.declared.optimized.OptimizedRule.{OptimizedRule}
+use Rattle.meta_restorer.specs.Bodies.{NamedBody, named_body}
+use Rattle.meta_restorer.specs.Calls.{name_changes, names_in, number_changes}
+use Rattle.meta_restorer.specs.Changing.{changes_by, is_changer}
+use Rattle.meta_restorer.specs.Names.{Numbers, numbers_of}
+use Rattle.meta_restorer.specs.Noted.{AreNotedOf, AreWithin, IsNotedAs, IsWithin, shows, shows_at}
 use Rattle.meta_restorer.specs.declared.names.Names.{Names}
-use Rattle.meta_restorer.specs.Calls.{number_changes, IsMetIn}
-use Rattle.meta_restorer.specs.declared.calls.Calls.{Calls}
-
-got_more : {A : Type 0} (xs : List A) (y : A) (k : ℕ) (n : A) → slice_get (xs ++ y ∷ []) k ≡ Some n → (slice_get xs k ≡ Some n) ⊎ ((k ≡ length xs) × (y ≡ n))
-got_more [] y zero n e = inr (refl, cc)
-got_more [] y (suc k) n e = cc
-got_more (x ∷ xs) y zero n e = inl e
-got_more (x ∷ xs) y (suc k) n e = elim (got_more xs y k n e) [ inl h ↦ inl h | inr h ↦ inr (ap suc h.0, h.1) ]
+use Rattle.meta_restorer.specs.declared.noted.Noted.{Noted}
+use Rattle.meta_restorer.specs.declared.noted.Share.{Share}
 
 pub or_assoc : (a b c : Bool) → ((a || b) || c) ≡ (a || (b || c))
 or_assoc true b c = refl
@@ -30,48 +32,128 @@ pub or_true : (a : Bool) → (a || true) ≡ true
 or_true true = refl
 or_true false = refl
 
--- a name is met, and its number noted
-pub name_noted : (marks : List Bool) (a now b : Bool) (rs new : List (Option ℕ)) (q : Option ℕ) → new ≡ rs ++ q ∷ [] → now ≡ (a || b)
-    → (now || list_any (number_changes marks) new) ≡ ((a || list_any (number_changes marks) rs) || (b || number_changes marks q))
-name_noted marks a now b rs new q e f =
-    ap (λ x. x || list_any (number_changes marks) new) f
-    ∙ (ap (λ xs. (a || b) || list_any (number_changes marks) xs) e
-    ∙ (ap (λ x. (a || b) || x) (list_any-append (number_changes marks) rs (q ∷ []) ∙ ap (λ x. list_any (number_changes marks) rs || x) (or_false (number_changes marks q)))
-    ∙ shuffled a b (list_any (number_changes marks) rs) (number_changes marks q)))
-  where
-    shuffled : (a b c d : Bool) → ((a || b) || (c || d)) ≡ ((a || c) || (b || d))
-    shuffled true b c d = refl
-    shuffled false true true d = refl
-    shuffled false true false d = refl
-    shuffled false false c d = refl
+module _ (names : Names) (marks : List Bool) where
+  abbrev marked : List Text → Bool
+  marked ns = list_any (number_changes marks) (numbers_of names ns)
 
--- the left operand has been looked at
-pub left_met : (old new l r all : Bool) → new ≡ (old || l) → (old || (l || r)) ≡ all → (new || r) ≡ all
-left_met old new l r all e f = ap (λ x. x || r) e ∙ (or_assoc old l r ∙ f)
+  both : (a b c d : Bool) (ms ns : List Text) → a ≡ (b || marked ms) → c ≡ (d || marked ns) → (a || c) ≡ ((b || d) || marked (ms ++ ns))
+  both a b c d ms ns e f =
+      let parts : marked (ms ++ ns) ≡ (marked ms || marked ns) = ap (list_any (number_changes marks)) (map-append _ ms ns) ∙ list_any-append (number_changes marks) (numbers_of names ms) (numbers_of names ns) in
+      ap (λ x. x || c) e ∙ (ap (λ x. (b || marked ms) || x) f ∙ (shuffled b (marked ms) d (marked ns) ∙ ap (λ x. (b || d) || x) (sym parts)))
+    where
+      shuffled : (a b c d : Bool) → ((a || b) || (c || d)) ≡ ((a || c) || (b || d))
+      shuffled true b c d = refl
+      shuffled false true true d = refl
+      shuffled false true false d = refl
+      shuffled false false c d = refl
 
--- one body more was looked at
-pub one_more : (names : Names) (bs : List NamedBody) (cs new : List Calls) (b : NamedBody) (c : Calls) → AreCallsOf names bs cs → new ≡ cs ++ c ∷ []
-    → IsMetIn names (optimized_expression_of b.1) c → AreCallsOf names (bs ++ b ∷ []) new
-one_more names bs cs new b c h e f = record {
-  alike = (let x = length_push cs c in let y = length_push bs b in let l = h.alike in let d = ap (λ z. length z) e in omega arith);
-  show = λ i q d at here. go i q d (got_more bs b i q at) (got_more cs c i d (sym (ap (λ z. slice_get z i) e) ∙ here));
+  -- an expression changes the stack by itself, or names a rule that is marked
+  pub split : (x : code.OptimizedExpr) → changes_by (name_changes names marks) (optimized_expression_of x)
+      ≡ (changes_by is_changer (optimized_expression_of x) || marked (names_in (optimized_expression_of x)))
+  split (code.Str s) = refl
+  split (code.Insens s) = refl
+  split (code.Range s t) = refl
+  split (code.Ident s) = ap (λ b. is_changer (text_of s) || b) (sym (or_false _))
+  split (code.PeekSlice i j) = refl
+  split (code.Skip ss) = refl
+  split (code.PosPred' p x) = split x
+  split (code.NegPred' p x) = split x
+  split (code.Seq' p x q y) = both _ _ _ _ (names_in (optimized_expression_of x)) (names_in (optimized_expression_of y)) (split x) (split y)
+  split (code.Choice' p x q y) = both _ _ _ _ (names_in (optimized_expression_of x)) (names_in (optimized_expression_of y)) (split x) (split y)
+  split (code.Opt' p x) = split x
+  split (code.Rep' p x) = split x
+  split (code.Push' p x) = refl
+  split (code.RestoreOnErr' p x) = refl
+
+  -- what is noted of an expression shows whether it changes the stack
+  pub shown : (x : code.OptimizedExpr) (qs : Numbers) (s : Share) → IsNotedAs names (optimized_expression_of x) qs s
+      → shows marks qs s ≡ changes_by (name_changes names marks) (optimized_expression_of x)
+  shown x qs s h = ap (λ b. b || list_any (number_changes marks) (slice_range qs s.start s.end)) h.changes
+      ∙ (ap (λ rs. changes_by is_changer (optimized_expression_of x) || list_any (number_changes marks) rs) h.numbers ∙ sym (split x))
+
+-- what has been noted stays, where more is noted behind it
+range_kept : (qs more : Numbers) (i j : ℕ) → i ≤ j → j ≤ length qs → slice_range (qs ++ more) i j ≡ slice_range qs i j
+range_kept qs more i j h k = ap (λ xs. take (j - i) xs) (drop-append-le i qs more (omega arith)) ∙ take-append-le (j - i) (drop i qs) more (let l = length-drop i qs in omega arith)
+
+within_kept : (qs more : Numbers) (s : Share) → IsWithin qs s → IsWithin (qs ++ more) s
+within_kept qs more s h = record { start = h.start; end = (let a = h.end in let l = length-append qs more in omega arith) }
+
+pub kept : (names : Names) (qs new more : Numbers) → new ≡ qs ++ more → (e : Expression) (s : Share) → IsNotedAs names e qs s → IsNotedAs names e new s
+kept names qs new more h e s n = subst (λ rs. IsNotedAs names e rs s) (sym h) (record {
+  changes = n.changes;
+  within = within_kept qs more s n.within;
+  numbers = range_kept qs more s.start s.end n.within.start n.within.end ∙ n.numbers;
+})
+
+-- what is noted last
+range_last : (qs more : Numbers) → slice_range (qs ++ more) (length qs) (length (qs ++ more)) ≡ more
+range_last qs more =
+    let d : drop (length qs) (qs ++ more) ≡ more = drop-append_seam qs more in
+    ap (λ xs. take (length (qs ++ more) - length qs) xs) d ∙ take_all (length (qs ++ more) - length qs) more (let l = length-append qs more in omega arith)
+
+pub noted_last : (names : Names) (e : Expression) (qs new : Numbers) (s : Share) → new ≡ qs ++ numbers_of names (names_in e) → s.changes ≡ changes_by is_changer e
+    → s.start ≡ length qs → s.end ≡ length new → IsNotedAs names e new s
+noted_last names e qs new s h c i j = record {
+  changes = c;
+  within = record {
+    start = (let l = length-append qs (numbers_of names (names_in e)) in let k = ap (λ xs. length xs) h in omega arith);
+    end = omega arith;
+  };
+  numbers = ap₂ (slice_range new) i j ∙ (ap (λ xs. slice_range xs (length qs) (length xs)) h ∙ range_last qs (numbers_of names (names_in e)));
 }
-  where
-    go : (i : ℕ) (q : NamedBody) (d : Calls) → (slice_get bs i ≡ Some q) ⊎ ((i ≡ length bs) × (b ≡ q)) → (slice_get cs i ≡ Some d) ⊎ ((i ≡ length cs) × (c ≡ d)) → IsMetIn names (optimized_expression_of q.1) d
-    go i q d (inl x) (inl y) = h.show i q d x y
-    go i q d (inr x) (inr y) = subst (IsMetIn names (optimized_expression_of q.1)) y.1 (subst (λ (z : NamedBody). IsMetIn names (optimized_expression_of z.1) c) x.1 f)
-    go i q d (inl x) (inr y) = absurd (let a = slice_get_within bs i q x in let l = h.alike in let z = y.0 in omega arith)
-    go i q d (inr x) (inl y) = absurd (let a = slice_get_within cs i d y in let l = h.alike in let z = x.0 in omega arith)
+
+got_more : {A : Type 0} (xs : List A) (y : A) (k : ℕ) (n : A) → slice_get (xs ++ y ∷ []) k ≡ Some n → (slice_get xs k ≡ Some n) ⊎ ((k ≡ length xs) × (y ≡ n))
+got_more [] y zero n e = inr (refl, cc)
+got_more [] y (suc k) n e = cc
+got_more (x ∷ xs) y zero n e = inl e
+got_more (x ∷ xs) y (suc k) n e = elim (got_more xs y k n e) [ inl h ↦ inl h | inr h ↦ inr (ap suc h.0, h.1) ]
 
 got_mapped : {A B : Type 0} (f : A → B) (xs : List A) (i : ℕ) (x : A) → slice_get xs i ≡ Some x → slice_get (map f xs) i ≡ Some (f x)
 got_mapped f [] i x e = cc
 got_mapped f (y ∷ xs) zero x e = cc
 got_mapped f (y ∷ xs) (suc i) x e = got_mapped f xs i x e
 
--- what is met in the body of a rule
-pub met_at : (names : Names) (rs : List OptimizedRule) (cs : List Calls) (i : ℕ) (r : OptimizedRule) (c : Calls) → AreCallsOf names (map named_body rs) cs
-    → slice_get rs i ≡ Some r → slice_get cs i ≡ Some c → IsMetIn names (optimized_expression_of r.expr) c
-met_at names rs cs i r c h at here = h.show i (named_body r) c (got_mapped named_body rs i r at) here
+got_alike : {A B : Type 0} (xs : List A) (ys : List B) (k : ℕ) (x : A) → slice_get xs k ≡ Some x → length xs ≡ length ys → (y : B) × (slice_get ys k ≡ Some y)
+got_alike [] ys k x e l = cc
+got_alike (x ∷ xs) [] k z e l = absurd (omega arith)
+got_alike (x ∷ xs) (y ∷ ys) zero z e l = (y, refl)
+got_alike (x ∷ xs) (y ∷ ys) (suc k) z e l = got_alike xs ys k z e (omega arith)
+
+module _ (names : Names) where
+  -- one body more is noted
+  pub one_more : (bs : List NamedBody) (n m : Noted) (b : NamedBody) (s : Share) → AreNotedOf names bs n → m.shares.items ≡ n.shares.items ++ s ∷ []
+      → ((e : Expression) (t : Share) → IsNotedAs names e n.numbers.items t → IsNotedAs names e m.numbers.items t)
+      → IsNotedAs names (optimized_expression_of b.1) m.numbers.items s → AreNotedOf names (bs ++ b ∷ []) m
+  one_more bs n m b s h e keeps f = record {
+    alike = (let x = length_push n.shares.items s in let y = length_push bs b in let l = h.alike in let d = ap (λ z. length z) e in omega arith);
+    noted = λ i c t at here. go i c t (got_more bs b i c at) (got_more n.shares.items s i t (sym (ap (λ z. slice_get z i) e) ∙ here));
+  }
+    where
+      go : (i : ℕ) (c : NamedBody) (t : Share) → (slice_get bs i ≡ Some c) ⊎ ((i ≡ length bs) × (b ≡ c)) → (slice_get n.shares.items i ≡ Some t) ⊎ ((i ≡ length n.shares.items) × (s ≡ t))
+          → IsNotedAs names (optimized_expression_of c.1) m.numbers.items t
+      go i c t (inl x) (inl y) = keeps (optimized_expression_of c.1) t (h.noted i c t x y)
+      go i c t (inr x) (inr y) = subst (IsNotedAs names (optimized_expression_of c.1) m.numbers.items) y.1 (subst (λ (z : NamedBody). IsNotedAs names (optimized_expression_of z.1) m.numbers.items s) x.1 f)
+      go i c t (inl x) (inr y) = absurd (let a = slice_get_within bs i c x in let l = h.alike in let z = y.0 in omega arith)
+      go i c t (inr x) (inl y) = absurd (let a = slice_get_within n.shares.items i t y in let l = h.alike in let z = x.0 in omega arith)
+
+  -- the shares of bodies stand in the list
+  pub are_within : (bs : List NamedBody) (n : Noted) → AreNotedOf names bs n → AreWithin n
+  are_within bs n h i s at = let (b, here) = got_alike n.shares.items bs i s at h.alike in (h.noted i b s here at).within
+
+  -- the share of a body shows whether it changes the stack
+  pub shown_at : (bs : List NamedBody) (n : Noted) (marks : List Bool) (i : ℕ) (b : NamedBody) → AreNotedOf names bs n → slice_get bs i ≡ Some b
+      → shows_at marks n i ≡ changes_by (name_changes names marks) (optimized_expression_of b.1)
+  shown_at bs n marks i b h at =
+      let (s, here) = got_alike bs n.shares.items i b at (sym h.alike) in
+      ap (λ o. elim o [ Some t ↦ shows marks n.numbers.items t | None ↦ false ]) here ∙ shown names marks b.1 n.numbers.items s (h.noted i b s at here)
+
+  -- what is noted of the body of a rule
+  pub noted_at : (rs : List OptimizedRule) (n : Noted) (i : ℕ) (r : OptimizedRule) (s : Share) → AreNotedOf names (map named_body rs) n → slice_get rs i ≡ Some r → slice_get n.shares.items i ≡ Some s
+      → IsNotedAs names (optimized_expression_of r.expr) n.numbers.items s
+  noted_at rs n i r s h at here = h.noted i (named_body r) s (got_mapped named_body rs i r at) here
+
+  pub noted_within : (rs : List OptimizedRule) (n : Noted) (i : ℕ) (r : OptimizedRule) → AreNotedOf names (map named_body rs) n → slice_get rs i ≡ Some r → i < length n.shares.items
+  noted_within rs n i r h at = let a = slice_get_within rs i r at in let l = h.alike in let m = length-map rs named_body in omega arith
 
 -- the next one of a list
 pub next_of : {A : Type 0} (xs : List A) (i : ℕ) (x : A) (ys : List A) → drop i xs ≡ x ∷ ys → (slice_get xs i ≡ Some x) × (drop (suc i) xs ≡ ys)
@@ -79,6 +161,3 @@ next_of [] zero x ys e = cc
 next_of [] (suc i) x ys e = cc
 next_of (z ∷ xs) zero x ys e = (cc, cc)
 next_of (z ∷ xs) (suc i) x ys e = next_of xs i x ys e
-
-pub met_within : (names : Names) (rs : List OptimizedRule) (cs : List Calls) (i : ℕ) (r : OptimizedRule) → AreCallsOf names (map named_body rs) cs → slice_get rs i ≡ Some r → i < length cs
-met_within names rs cs i r h at = let a = slice_get_within rs i r at in let l = h.alike in let m = length-map rs named_body in omega arith

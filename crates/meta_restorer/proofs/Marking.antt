@@ -1,8 +1,11 @@
 -- Flags that are set.
-use Rattle.std.proofs.Common.{◌≡◌, ℕ, zero, suc, ◌<◌, ◌⊎◌, inl, inr, List, [], ◌∷◌, Some, Bool, true, false, slice_get, get_or, length, refl, sym, ◌∙◌, ap, subst, arith}
+use Rattle.std.proofs.Common.{◌≡◌, ℕ, zero, suc, ◌<◌, ◌⊎◌, inl, inr, List, [], ◌∷◌, Option, Some, None, Bool, true, false, slice_get, length, refl, sym, ◌∙◌, ap, subst, arith}
 use Rattle.std.proofs.Math.ListN.{set}
-use Rattle.meta_restorer.specs.Calls.{is_set_at, shows, Holds, holds, unset, AreSound}
-use Rattle.meta_restorer.specs.declared.calls.Calls.{Calls}
+use Rattle.std.proofs.lemmas.Option.{slice_get_within}
+use Rattle.meta_restorer.specs.Calls.{is_set_at, unset}
+use Rattle.meta_restorer.specs.Noted.{AreSound, Holds, holds, shows, shows_at}
+use Rattle.meta_restorer.specs.declared.noted.Noted.{Noted}
+use Rattle.meta_restorer.specs.declared.noted.Share.{Share}
 
 pub unset_less : (bs : List Bool) (i : ℕ) → i < length bs → is_set_at bs i ≡ false → unset bs ≡ suc (unset (set bs i true))
 unset_less [] i h e = absurd (omega arith)
@@ -19,13 +22,16 @@ set_or_one (b ∷ bs) zero (suc j) h = inr h
 set_or_one (b ∷ bs) (suc i) zero h = inr h
 set_or_one (b ∷ bs) (suc i) (suc j) h = elim (set_or_one bs i j h) [ inl e ↦ inl (ap suc e) | inr e ↦ inr e ]
 
-pub sound_one : (cs : List Calls) (marks : List Bool) (i : ℕ) (c : Calls) → slice_get cs i ≡ Some c → shows marks c ≡ true → length (set marks i true) ≡ length marks → AreSound cs marks → AreSound cs (set marks i true)
-sound_one cs marks i c at f l s = record {
+pub sound_one : (n : Noted) (marks : List Bool) (i : ℕ) → shows_at marks n i ≡ true → length (set marks i true) ≡ length marks → AreSound n marks → AreSound n (set marks i true)
+sound_one n marks i f l s = record {
   alike = l ∙ s.alike;
-  right = λ j h. elim (set_or_one marks i j h) [ inl e ↦ subst (λ n. Holds cs n) (sym e) (holds marks at f s.right) | inr e ↦ s.right j e ];
+  right = λ j h. elim (set_or_one marks i j h) [ inl e ↦ subst (λ k. Holds n k) (sym e) (holds marks f s.right) | inr e ↦ s.right j e ];
 }
 
-pub got : {A : Type 0} (xs : List A) (i : ℕ) (x : A) → i < length xs → x ≡ get_or xs i x → slice_get xs i ≡ Some x
-got [] i x h e = absurd (omega arith)
-got (y ∷ xs) zero x h e = ap Some (sym e)
-got (y ∷ xs) (suc i) x h e = got xs i x (omega arith) e
+-- what shows a change is a rule
+pub shown_within : (n : Noted) (marks : List Bool) (i : ℕ) → shows_at marks n i ≡ true → i < length n.shares.items
+shown_within n marks i h = go (slice_get n.shares.items i) refl h
+  where
+    go : (o : Option Share) → slice_get n.shares.items i ≡ o → elim o [ Some s ↦ shows marks n.numbers.items s | None ↦ false ] ≡ true → i < length n.shares.items
+    go None e k = cc
+    go (Some s) e k = slice_get_within n.shares.items i s e

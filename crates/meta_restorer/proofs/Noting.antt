@@ -1,13 +1,15 @@
 -- Numbers that are noted behind one another are those of an expression's names.
-use Rattle.std.proofs.Common.{◌≡◌, ℕ, ◌+◌, List, [], ◌∷◌, ◌++◌, Option, Some, map, slice_get, length, refl, sym, ◌∙◌, ap, subst}
-use Rattle.std.proofs.lemmas.List.{append-nil, append_assoc, length-append, length-map, map-append}
+use Rattle.std.proofs.Common.{◌≡◌, ℕ, ◌+◌, List, [], ◌∷◌, ◌++◌, Some, take, drop, slice_get, length, refl, sym, ◌∙◌, ap, subst, arith}
+use Rattle.std.proofs.lemmas.List.{append_assoc, length-append, length-map, length-take-le, map-append, take-append-drop}
+use Rattle.std.proofs.lemmas.List.Folds.{drop_split}
 use Rattle.std.proofs.Math.Nat.{add_assoc}
 use Rattle.meta_base.specs.Language.Text.{Text}
 use Rattle.meta_base.specs.Language.Expression.{Expression, Str, Insens, Range, Ident, PeekSlice, PosPred, NegPred, Seq, Choice, Opt, Rep, RepOnce, RepExact, RepMin, RepMax, RepMinMax, Skip, Push, RestoreOnErr}
 use Rattle.meta_restorer.specs.Calls.{names_in, AreNoted}
-use Rattle.meta_restorer.specs.Names.{number_of}
+use Rattle.meta_restorer.specs.Names.{Numbers, number_of, numbers_of}
+use Rattle.meta_restorer.specs.Noted.{IsNotedAs}
 use Rattle.meta_restorer.specs.declared.names.Names.{Names}
-use Rattle.meta_restorer.specs.declared.names.Names.{Names}
+use Rattle.meta_restorer.specs.declared.noted.Share.{Share}
 
 got_here : {A : Type 0} (xs ys : List A) (x : A) → slice_get (xs ++ (x ∷ ys)) (length xs) ≡ Some x
 got_here [] ys x = refl
@@ -17,13 +19,13 @@ pub counted : {A : Type 0} (xs ys : List A) (i j k : ℕ) → j ≡ i + length x
 counted xs ys i j k e f = ap (λ n. n + length ys) e ∙ (add_assoc i (length xs) (length ys) ∙ (ap (λ n. i + n) (sym (length-append xs ys)) ∙ f))
 
 module _ (names : Names) where
-  abbrev numbers : List Text → List (Option ℕ)
-  numbers ns = map (number_of names) ns
+  abbrev numbers : List Text → Numbers
+  numbers ns = numbers_of names ns
 
-  abbrev Behind : List (Option ℕ) → Expression → List (Option ℕ) → Type 0
+  abbrev Behind : Numbers → Expression → Numbers → Type 0
   Behind before e behind = AreNoted names (before ++ (numbers (names_in e) ++ behind)) e (length before)
 
-  both : (a b : Expression) (before behind : List (Option ℕ)) → ((qs : List (Option ℕ)) → Behind before a qs) → ((qs : List (Option ℕ)) → Behind qs b behind)
+  both : (a b : Expression) (before behind : Numbers) → ((qs : Numbers) → Behind before a qs) → ((qs : Numbers) → Behind qs b behind)
       → AreNoted names (before ++ (numbers (names_in a ++ names_in b) ++ behind)) a (length before)
       × AreNoted names (before ++ (numbers (names_in a ++ names_in b) ++ behind)) b (length before + length (names_in a))
   both a b before behind f k =
@@ -38,7 +40,7 @@ module _ (names : Names) where
         subst (λ i. AreNoted names whole b i) place (subst (λ qs. AreNoted names qs b (length (before ++ numbers (names_in a)))) second (k (before ++ numbers (names_in a)))),
       )
 
-  behind_all : (e : Expression) (before behind : List (Option ℕ)) → Behind before e behind
+  behind_all : (e : Expression) (before behind : Numbers) → Behind before e behind
   behind_all (Ident n) before behind = got_here before behind (number_of names n)
   behind_all (PosPred e) before behind = behind_all e before behind
   behind_all (NegPred e) before behind = behind_all e before behind
@@ -59,6 +61,11 @@ module _ (names : Names) where
   behind_all (PeekSlice i j) before behind = tt
   behind_all (Skip ts) before behind = tt
 
-  -- what was noted of an expression from the start
-  pub all_noted : (e : Expression) (qs : List (Option ℕ)) → qs ≡ numbers (names_in e) → AreNoted names qs e 0
-  all_noted e qs h = subst (λ rs. AreNoted names rs e 0) (append-nil (numbers (names_in e)) ∙ sym h) (behind_all e [] [])
+  -- what is noted of an expression stands from a place on
+  pub noted_from : (e : Expression) (qs : Numbers) (s : Share) → IsNotedAs names e qs s → AreNoted names qs e s.start
+  noted_from e qs s h =
+      let ns = numbers_of names (names_in e) in
+      let rest : drop s.start qs ≡ ns ++ drop s.end qs = drop_split qs s.start s.end h.within.start ∙ ap (λ xs. xs ++ drop s.end qs) h.numbers in
+      let whole : take s.start qs ++ (ns ++ drop s.end qs) ≡ qs = ap (λ xs. take s.start qs ++ xs) (sym rest) ∙ take-append-drop s.start qs in
+      let place : length (take s.start qs) ≡ s.start = length-take-le s.start qs (let a = h.within.start in let b = h.within.end in omega arith) in
+      subst (λ i. AreNoted names qs e i) place (subst (λ rs. AreNoted names rs e (length (take s.start qs))) whole (behind_all e (take s.start qs) (drop s.end qs)))

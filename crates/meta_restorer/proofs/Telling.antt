@@ -1,29 +1,24 @@
 -- Marks that are right and closed tell which names change the stack.
-use Rattle.std.proofs.Common.{◌≡◌, ℕ, zero, suc, List, [], ◌∷◌, Option, Some, Bool, true, inl, inr, slice_get, length, refl, sym, ◌∙◌, ap, subst, arith, String, Global}
+use Rattle.std.proofs.Common.{◌≡◌, ℕ, List, Option, Some, Bool, true, inl, inr, slice_get, refl, sym, ◌∙◌, ap, subst, String, Global}
 use Rattle.meta_base.specs.Language.Text.{Text}
 use Rattle.meta_base.specs.Language.Expression.{Expression, Ident, Rule, rule_of}
 use Rattle.meta_base.specs.Rewritings.Wrapping.{ChangesStack, changes_push, changes_pop, changes_drop, changes_rule, changes_pos_pred, changes_neg_pred, changes_seq_left, changes_seq_right, changes_left, changes_right, changes_opt, changes_rep, changes_rep_once, changes_rep_exact, changes_rep_min, changes_rep_max, changes_rep_min_max}
 use Rattle.meta_ast.specs.Ast.{text_of}
 use Rattle.meta_ast.specs.Optimized.{optimized_expression_of}
 use Rattle.meta_restorer.specs.Bodies.{NamedBody, rule_with, grammar_with}
-use Rattle.meta_restorer.specs.Calls.{is_set_at, number_changes, name_changes, Holds, holds, AreSound, AreClosed}
+use Rattle.meta_restorer.specs.Calls.{is_set_at, number_changes, name_changes}
 use Rattle.meta_restorer.specs.Changing.{is_changer, changes_by}
 use Rattle.meta_restorer.specs.Names.{last_place, number_of, KnowsNames}
-use Rattle.meta_restorer.specs.Telling.{AreCallsOf}
-use Rattle.meta_restorer.specs.declared.calls.Calls.{Calls}
+use Rattle.meta_restorer.specs.Noted.{AreClosed, AreNotedOf, AreSound, Holds, holds}
 use Rattle.meta_restorer.specs.declared.names.Names.{Names}
+use Rattle.meta_restorer.specs.declared.noted.Noted.{Noted}
 use Rattle.meta_restorer.proofs.Changers.{changer_is, drop_named, either, pop_named}
 use Rattle.meta_restorer.proofs.Deciding.{changing, or_left, or_right}
+use Rattle.meta_restorer.proofs.Looking.{shown_at}
 use Rattle.meta_restorer.proofs.Naming.{Named, absent, named, resolved}
 use Rattle.meta_restorer.proofs.Said.{IsSaid, said}
 
-pub got_alike : {A B : Type 0} (xs : List A) (ys : List B) (k : ℕ) (x : A) → slice_get xs k ≡ Some x → length xs ≡ length ys → (y : B) × (slice_get ys k ≡ Some y)
-got_alike [] ys k x e l = cc
-got_alike (x ∷ xs) [] k z e l = absurd (omega arith)
-got_alike (x ∷ xs) (y ∷ ys) zero z e l = (y, refl)
-got_alike (x ∷ xs) (y ∷ ys) (suc k) z e l = got_alike xs ys k z e (omega arith)
-
-module _ (bs : List NamedBody) (names : Names) (cs : List Calls) (known : KnowsNames names (grammar_with bs)) (met : AreCallsOf names bs cs) where
+module _ (bs : List NamedBody) (names : Names) (noted : Noted) (known : KnowsNames names (grammar_with bs)) (met : AreNotedOf names bs noted) where
   -- a name changes the stack where its rule does
   by_number : (marks : List Bool) → ((i : ℕ) (b : NamedBody) → slice_get bs i ≡ Some b → is_set_at marks i ≡ true → ChangesStack (grammar_with bs) (optimized_expression_of b.1))
       → (s : String Global) → name_changes names marks (text_of s) ≡ true → ChangesStack (grammar_with bs) (Ident (text_of s))
@@ -36,11 +31,11 @@ module _ (bs : List NamedBody) (names : Names) (cs : List Calls) (known : KnowsN
       go o (absent e) k = cc
       go o (named {i = i} b at e) k = changes_rule e (f i b at k)
 
-  holding : {i : ℕ} → Holds cs i → (b : NamedBody) → slice_get bs i ≡ Some b → ChangesStack (grammar_with bs) (optimized_expression_of b.1)
-  holding (holds {i = i} {c = c} marks at sh f) b e =
-      changing (grammar_with bs) (name_changes names marks) (by_number marks (λ j d g k. holding (f j k) d g)) (optimized_expression_of b.1) (said b.1) (sym ((met.show i b c e at).show marks) ∙ sh)
+  holding : {i : ℕ} → Holds noted i → (b : NamedBody) → slice_get bs i ≡ Some b → ChangesStack (grammar_with bs) (optimized_expression_of b.1)
+  holding (holds {i = i} marks sh f) b e =
+      changing (grammar_with bs) (name_changes names marks) (by_number marks (λ j d g k. holding (f j k) d g)) (optimized_expression_of b.1) (said b.1) (sym (shown_at names bs noted marks i b met e) ∙ sh)
 
-  module _ (marks : List Bool) (closed : AreClosed cs marks) where
+  module _ (marks : List Bool) (closed : AreClosed noted marks) where
     abbrev p : Text → Bool
     p = name_changes names marks
 
@@ -52,8 +47,7 @@ module _ (bs : List NamedBody) (names : Names) (cs : List Calls) (known : KnowsN
         go o (named {i = i} b at a) =
             let same : rule_with b ≡ r = cc in
             let own : changes_by p (optimized_expression_of b.1) ≡ true = ap (λ (q : Rule). changes_by p q.body) same ∙ f (subst (λ (q : Rule). IsSaid q.body) same (said b.1)) in
-            let (c, here) = got_alike bs cs i b at (sym met.alike) in
-            closed i c here ((met.show i b c at here).show marks ∙ own)
+            closed i (shown_at names bs noted marks i b met at ∙ own)
 
     complete : {e : Expression} → ChangesStack (grammar_with bs) e → IsSaid e → changes_by p e ≡ true
     complete changes_push s = refl
@@ -74,7 +68,7 @@ module _ (bs : List NamedBody) (names : Names) (cs : List Calls) (known : KnowsN
     complete (changes_rep_max d) s = complete d s
     complete (changes_rep_min_max d) s = complete d s
 
-    pub tells : AreSound cs marks → (n : String Global) → (p (text_of n) ≡ true → ChangesStack (grammar_with bs) (Ident (text_of n))) × (ChangesStack (grammar_with bs) (Ident (text_of n)) → p (text_of n) ≡ true)
+    pub tells : AreSound noted marks → (n : String Global) → (p (text_of n) ≡ true → ChangesStack (grammar_with bs) (Ident (text_of n))) × (ChangesStack (grammar_with bs) (Ident (text_of n)) → p (text_of n) ≡ true)
     tells sound n = (
       (λ h. by_number marks (λ i b at k. holding (sound.right i k) b at) n h),
       (λ d. complete d (n, refl)),

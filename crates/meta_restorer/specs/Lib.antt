@@ -4,6 +4,7 @@ pub mod Calls
 pub mod Changing
 pub mod Faults
 pub mod Names
+pub mod Noted
 pub mod Restoring
 pub mod Sides
 pub mod Size

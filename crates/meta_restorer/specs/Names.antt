@@ -1,5 +1,5 @@
 -- Names, and the numbers of rules.
-use Rattle.std.specs.Prelude.{◌≡◌, ℕ, suc, [], ◌∷◌, Option, Some, None, if◌then◌else◌, bytes_eq, encode_utf8_all}
+use Rattle.std.specs.Prelude.{◌≡◌, ℕ, suc, List, [], ◌∷◌, map, Option, Some, None, if◌then◌else◌, bytes_eq, encode_utf8_all}
 use Rattle.std.specs.HashMap.{get_by_text}
 use Rattle.std.specs.declared.alloc.Global.{Global}
 use Rattle.std.specs.declared.string.String.{String}
@@ -19,6 +19,13 @@ last_place (r ∷ g) n = elim (last_place g n) [
 -- the number that is known for a name
 abbrev pub number_of : Names → Text → Option ℕ
 number_of names n = get_by_text names.numbers (encode_utf8_all n)
+
+-- for each of some names the number of its rule, if it means one
+abbrev pub Numbers : Type 0
+Numbers = List (Option ℕ)
+
+abbrev pub numbers_of : Names → List Text → Numbers
+numbers_of names ns = map (number_of names) ns
 
 -- each name's number is the place of the last rule of that name
 abbrev pub KnowsNames : Names → Grammar → Type 0

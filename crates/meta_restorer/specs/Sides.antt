@@ -26,7 +26,8 @@ module _ (p : Text → Bool) where
 
   abbrev pub beside : Side → Expression → Expression
   beside (side.Sequence left) e = Seq (optimized_expression_of left.expr.value) e
-  beside (side.Choice left) e = Choice (wrapped_by p (optimized_expression_of left.expr.value)) (wrapped_by p e)
+  beside (side.Choice left) e =
+      Choice (wrapped_by p (optimized_expression_of left.expr.value)) (wrapped_by p e)
 
   -- an expression behind left sides, the last of which stands next to it
   abbrev pub put_behind : List Side → Expression → Expression

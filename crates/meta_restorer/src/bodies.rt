@@ -22,7 +22,7 @@ pub(crate) fn bodies_of_map<'a>(
     ensures { IfOk result (λ bodies. (g : Grammar) → HoldsOptimizedBodies rules.now g
         → SameBodies (grammar_with (map said_by bodies.items)) g) }
 {
-    let mut bodies = Vec::new(alloc);
+    let mut bodies = Vec::with_capacity(alloc, rules.len())?;
     for (name, expr) in rules {
         bodies.push(Body { name, expr })?;
     }
@@ -36,7 +36,7 @@ pub(crate) fn bodies_of_rules<'a>(
 ) -> Result<Vec<Body<'a>>, AllocError>
     ensures { IfOk result (λ bodies. map said_by bodies.items ≡ map named_body rules.now) }
 {
-    let mut bodies = Vec::new(alloc);
+    let mut bodies = Vec::with_capacity(alloc, rules.len())?;
     for rule in rules {
         bodies.push(Body {
             name: &rule.name,

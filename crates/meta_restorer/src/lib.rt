@@ -7,6 +7,7 @@ mod changes;
 pub mod laws;
 mod marks;
 mod names;
+mod noted;
 mod restored;
 mod restorer;
 mod sides;

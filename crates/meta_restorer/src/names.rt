@@ -21,7 +21,7 @@ pub struct Names {
 pub(crate) fn names_of<'a>(alloc: Global, bodies: &[Body<'a>]) -> Result<Names, AllocError>
     ensures { IfOk result (λ names. KnowsNames names (grammar_with (map said_by bodies.now))) }
 {
-    let mut numbers = HashMap::new(alloc);
+    let mut numbers = HashMap::with_capacity(alloc, bodies.len())?;
     for number in 0..bodies.len() {
         let name = String::from_str(alloc, bodies[number].name.as_str())?;
         numbers.insert(name, number)?;

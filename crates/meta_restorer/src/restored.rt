@@ -1,11 +1,12 @@
 //! An expression with wrappers round what changes the stack.
 ghost use Rattle.std.specs.Prelude.{◌≡◌, ◌<◌, ◌+◌, IfOk, OnOk, Some, length, slice_get};
-ghost use Rattle.meta_restorer.specs.Calls.{AreNoted, names_in};
+ghost use Rattle.meta_restorer.specs.Calls.{names_in};
 ghost use Rattle.meta_restorer.specs.Sides.{IsTold, IsNoPair};
-ghost use Rattle.meta_restorer.specs.Changing.{restored_by};
-ghost use Rattle.meta_restorer.specs.Telling.{told};
+ghost use Rattle.meta_restorer.specs.Changing.{restored_by, wrapped_by};
+ghost use Rattle.meta_restorer.specs.Telling.{IsNotedFrom, told};
 ghost use Rattle.meta_ast.specs.Optimized.{optimized_expression_of};
 
+use crate::calls::is_plain;
 use crate::changes::{Changes, is_changing};
 use crate::sides::{Left, Restored, Side, behind, nothing, wrap};
 use meta_ast::optimized::OptimizedExpr;
@@ -13,12 +14,12 @@ use std::alloc::{AllocError, Global};
 use std::mem;
 
 /// What is noted at a place, which moves on.
-fn next_rule(rules: &[Option<usize>], place: &mut usize) -> Option<usize>
-    requires { place.old < length rules.now }
-    ensures rule { slice_get rules.now place.old ≡ Some result }
+fn next_rule(numbers: &[Option<usize>], place: &mut usize) -> Option<usize>
+    requires { place.old < length numbers.now }
+    ensures rule { slice_get numbers.now place.old ≡ Some result }
     ensures place { place.new ≡ place.old + 1 }
 {
-    let rule = rules[*place];
+    let rule = numbers[*place];
     *place += 1;
     rule
 }
@@ -27,17 +28,17 @@ fn next_rule(rules: &[Option<usize>], place: &mut usize) -> Option<usize>
 pub(crate) const LEVELS: usize = 64;
 
 /// Restores an expression where it stands, where the rules of its names are noted from a place on: no node is
-/// made anew but for wrappers. So many levels are taken by calls. Whether it then changes the stack.
+/// made anew but for wrappers. So many levels are taken by calls. Whether it then changes the stack. Both
+/// sides of a `~` or a `|` are asked what they are before one is restored, so that memory gives both at once.
 #[cycle(restored)]
 pub(crate) fn restore(
     alloc: Global,
     changes: &Changes,
-    rules: &[Option<usize>],
     place: &mut usize,
     levels: usize,
     expr: &mut OptimizedExpr,
 ) -> Result<bool, AllocError>
-    requires noted { AreNoted changes.now.names rules.now (optimized_expression_of expr.old) place.old }
+    requires noted { IsNotedFrom changes.now (optimized_expression_of expr.old) place.old }
     ensures place { OnOk result
         (place.new ≡ place.old + length (names_in (optimized_expression_of expr.old))) }
     ensures told { IfOk result
@@ -46,23 +47,50 @@ pub(crate) fn restore(
         ≡ restored_by (told changes.now) (optimized_expression_of expr.old)) }
 {
     if levels == 0 {
-        return restore_deep(alloc, changes, rules, place, expr);
+        return restore_deep(alloc, changes, place, expr);
     }
     match expr {
         OptimizedExpr::Seq(left, right) => {
-            let is_first_changing = restore(alloc, changes, rules, place, levels - 1, left)?;
-            let is_second_changing = restore(alloc, changes, rules, place, levels - 1, right)?;
+            let is_left_plain = is_plain(left);
+            let is_right_plain = is_plain(right);
+            let is_first_changing = !is_left_plain
+                && restore(alloc, changes, place, levels - 1, left)?;
+            let is_second_changing = !is_right_plain
+                && restore(alloc, changes, place, levels - 1, right)?;
             Ok(is_first_changing || is_second_changing)
         }
         OptimizedExpr::Choice(left, right) => {
-            let is_first_changing = restore(alloc, changes, rules, place, levels - 1, left)?;
-            let is_second_changing = restore(alloc, changes, rules, place, levels - 1, right)?;
-            wrap(alloc, changes, left, is_first_changing)?;
-            wrap(alloc, changes, right, is_second_changing)?;
+            let is_left_plain = is_plain(left);
+            let is_right_plain = is_plain(right);
+            if !is_left_plain {
+                restore_wrapped(alloc, changes, place, levels - 1, left)?;
+            }
+            if !is_right_plain {
+                restore_wrapped(alloc, changes, place, levels - 1, right)?;
+            }
             Ok(false)
         }
-        _ => restore_one(alloc, changes, rules, place, levels - 1, expr),
+        _ => restore_one(alloc, changes, place, levels - 1, expr),
     }
+}
+
+// Restores an operand, and puts a wrapper round it where it then changes the stack.
+#[cycle(restored)]
+fn restore_wrapped(
+    alloc: Global,
+    changes: &Changes,
+    place: &mut usize,
+    levels: usize,
+    expr: &mut Box<OptimizedExpr>,
+) -> Result<(), AllocError>
+    requires noted { IsNotedFrom changes.now (optimized_expression_of expr.old.value) place.old }
+    ensures place { OnOk result
+        (place.new ≡ place.old + length (names_in (optimized_expression_of expr.old.value))) }
+    ensures made { OnOk result (optimized_expression_of expr.new.value ≡ wrapped_by (told changes.now)
+        (restored_by (told changes.now) (optimized_expression_of expr.old.value))) }
+{
+    let is_changing = restore(alloc, changes, place, levels, expr)?;
+    wrap(alloc, changes, expr, is_changing)
 }
 
 // The same, along right sides by a loop.
@@ -70,11 +98,10 @@ pub(crate) fn restore(
 fn restore_deep(
     alloc: Global,
     changes: &Changes,
-    rules: &[Option<usize>],
     place: &mut usize,
     expr: &mut OptimizedExpr,
 ) -> Result<bool, AllocError>
-    requires noted { AreNoted changes.now.names rules.now (optimized_expression_of expr.old) place.old }
+    requires noted { IsNotedFrom changes.now (optimized_expression_of expr.old) place.old }
     ensures place { OnOk result
         (place.new ≡ place.old + length (names_in (optimized_expression_of expr.old))) }
     ensures told { IfOk result
@@ -88,26 +115,26 @@ fn restore_deep(
             let Restored {
                 expr: chain,
                 changes: is_changing,
-            } = restored_chain(alloc, changes, rules, place, chain)?;
+            } = restored_chain(alloc, changes, place, chain)?;
             *expr = chain;
             Ok(is_changing)
         }
-        _ => restore_one(alloc, changes, rules, place, 0, expr),
+        _ => restore_one(alloc, changes, place, 0, expr),
     }
 }
 
-// Restores an expression that is no `~` and no `|` where it stands; so many levels below it are taken by calls.
+// Restores an expression that is no `~` and no `|` where it stands. So many levels below it are taken by
+// calls.
 #[cycle(restored)]
 fn restore_one(
     alloc: Global,
     changes: &Changes,
-    rules: &[Option<usize>],
     place: &mut usize,
     levels: usize,
     expr: &mut OptimizedExpr,
 ) -> Result<bool, AllocError>
     requires single { IsNoPair (optimized_expression_of expr.old) }
-    requires noted { AreNoted changes.now.names rules.now (optimized_expression_of expr.old) place.old }
+    requires noted { IsNotedFrom changes.now (optimized_expression_of expr.old) place.old }
     ensures place { OnOk result
         (place.new ≡ place.old + length (names_in (optimized_expression_of expr.old))) }
     ensures told { IfOk result
@@ -116,21 +143,23 @@ fn restore_one(
         ≡ restored_by (told changes.now) (optimized_expression_of expr.old)) }
 {
     match expr {
-        OptimizedExpr::Ident(name) => Ok(is_changing(changes, name, next_rule(rules, place))),
-        OptimizedExpr::PosPred(inner) => Ok(restore(alloc, changes, rules, place, levels, inner)?),
-        OptimizedExpr::NegPred(inner) => Ok(restore(alloc, changes, rules, place, levels, inner)?),
+        OptimizedExpr::Ident(name) => Ok(is_changing(
+            changes,
+            name,
+            next_rule(&changes.noted.numbers, place),
+        )),
+        OptimizedExpr::PosPred(inner) => Ok(restore(alloc, changes, place, levels, inner)?),
+        OptimizedExpr::NegPred(inner) => Ok(restore(alloc, changes, place, levels, inner)?),
         OptimizedExpr::Push(inner) => {
-            restore(alloc, changes, rules, place, levels, inner)?;
+            restore(alloc, changes, place, levels, inner)?;
             Ok(true)
         }
         OptimizedExpr::Opt(inner) => {
-            let is_changing = restore(alloc, changes, rules, place, levels, inner)?;
-            wrap(alloc, changes, inner, is_changing)?;
+            restore_wrapped(alloc, changes, place, levels, inner)?;
             Ok(false)
         }
         OptimizedExpr::Rep(inner) => {
-            let is_changing = restore(alloc, changes, rules, place, levels, inner)?;
-            wrap(alloc, changes, inner, is_changing)?;
+            restore_wrapped(alloc, changes, place, levels, inner)?;
             Ok(false)
         }
         _ => Ok(false),
@@ -142,11 +171,10 @@ fn restore_one(
 fn restored_chain(
     alloc: Global,
     changes: &Changes,
-    rules: &[Option<usize>],
     place: &mut usize,
     expr: OptimizedExpr,
 ) -> Result<Restored, AllocError>
-    requires noted { AreNoted changes.now.names rules.now (optimized_expression_of expr) place.old }
+    requires noted { IsNotedFrom changes.now (optimized_expression_of expr) place.old }
     ensures place { OnOk result (place.new ≡ place.old + length (names_in (optimized_expression_of expr))) }
     ensures told { IfOk result
         (λ r. IsTold (told changes.now) r.changes (optimized_expression_of r.expr)) }
@@ -160,7 +188,7 @@ fn restored_chain(
             OptimizedExpr::Seq(left, right) => {
                 let mut left = left;
                 let mut room = right;
-                let is_changing = restore(alloc, changes, rules, place, 0, &mut left)?;
+                let is_changing = restore(alloc, changes, place, 0, &mut left)?;
                 rest = Box::replace(&mut room, nothing());
                 sides.push(Side::Sequence(Left {
                     expr: left,
@@ -171,7 +199,7 @@ fn restored_chain(
             OptimizedExpr::Choice(left, right) => {
                 let mut left = left;
                 let mut room = right;
-                let is_changing = restore(alloc, changes, rules, place, 0, &mut left)?;
+                let is_changing = restore(alloc, changes, place, 0, &mut left)?;
                 rest = Box::replace(&mut room, nothing());
                 sides.push(Side::Choice(Left {
                     expr: left,
@@ -181,7 +209,7 @@ fn restored_chain(
             }
             last => {
                 let mut last = last;
-                let is_changing = restore_one(alloc, changes, rules, place, 0, &mut last)?;
+                let is_changing = restore_one(alloc, changes, place, 0, &mut last)?;
                 let last = Restored {
                     expr: last,
                     changes: is_changing,

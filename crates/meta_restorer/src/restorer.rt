@@ -7,15 +7,16 @@ ghost use Rattle.meta_base.specs.Rewritings.Wrapping.{ChangesStack, RestoresTo, 
 ghost use Rattle.meta_ast.specs.Ast.{text_of};
 ghost use Rattle.meta_ast.specs.Optimized.{optimized_expression_of, optimized_rule_of, optimized_rules_of};
 ghost use Rattle.meta_restorer.specs.Bodies.{HoldsOptimizedBodies, named_body};
-ghost use Rattle.meta_restorer.specs.Calls.{IsMetIn};
 ghost use Rattle.meta_restorer.specs.Changing.{HasNoWrappers, changes_by};
 ghost use Rattle.meta_restorer.specs.Faults.{IsMemory};
+ghost use Rattle.meta_restorer.specs.Noted.{AreNotedOf, IsNotedAs};
 ghost use Rattle.meta_restorer.specs.Restoring.{AreQuiet, AreSameErased, HaveNoWrappers, restored_rule_by, restored_rules_by};
-ghost use Rattle.meta_restorer.specs.Telling.{AreCallsOf, Tells, told};
+ghost use Rattle.meta_restorer.specs.Telling.{Tells, told};
 
 use crate::bodies::{bodies_of_map, bodies_of_rules};
-use crate::calls::{Calls, calls_in, changes_itself, is_shown};
+use crate::calls::changes_itself;
 use crate::changes::{Changes, changes_of};
+use crate::noted::{Share, is_shown, note};
 use crate::restored::{LEVELS, restore};
 use meta_ast::optimized::{OptimizedExpr, OptimizedRule};
 use meta_base::runtime::Fault;
@@ -62,7 +63,7 @@ pub fn restore_on_err(
     ensures memory { IfErr result IsMemory }
 {
     match changes_in_map(alloc, rules) {
-        Ok(changes) => match looked_at(alloc, &changes, rule) {
+        Ok(changes) => match noted_rule(alloc, changes, rule) {
             Ok(rule) => Ok(rule),
             Err(error) => Err(Fault::Memory(error)),
         },
@@ -83,7 +84,7 @@ pub fn restore_rules(alloc: Global, rules: Vec<OptimizedRule>) -> Result<Vec<Opt
         return Ok(rules);
     }
     match changes_in_rules(alloc, &rules) {
-        Ok(changes) => match restored_rules(alloc, &changes, &changes.calls, rules) {
+        Ok(changes) => match restored_rules(alloc, &changes, rules) {
             Ok(rules) => Ok(rules),
             Err(error) => Err(Fault::Memory(error)),
         },
@@ -118,8 +119,8 @@ fn changes_in_map(
 // Which rules change the stack.
 fn changes_in_rules(alloc: Global, rules: &[OptimizedRule]) -> Result<Changes, AllocError>
     ensures tells { IfOk result (λ changes. Tells changes (optimized_rules_of rules.now)) }
-    ensures calls { IfOk result (λ changes.
-        AreCallsOf changes.names (map named_body rules.now) changes.calls.items) }
+    ensures noted { IfOk result (λ changes.
+        AreNotedOf changes.names (map named_body rules.now) changes.noted) }
 {
     let bodies = bodies_of_rules(alloc, rules)?;
     changes_of(alloc, &bodies)
@@ -130,69 +131,64 @@ fn is_changed(alloc: Global, changes: &Changes, expr: &OptimizedExpr) -> Result<
     ensures { IfOk result
         (λ yes. yes ≡ changes_by (told changes.now) (optimized_expression_of expr.now)) }
 {
-    let calls = calls_in(alloc, &changes.names, expr)?;
-    Ok(is_shown(&calls, &changes.marks))
+    let mut numbers = Vec::new(alloc);
+    let share = note(&changes.names, expr, &mut numbers)?;
+    Ok(is_shown(&numbers, share, &changes.marks))
 }
 
-// A rule with wrappers, where it is known what is met in its body. Where that changes nothing, it stays.
+// A rule with wrappers, where what is met in its body is noted. Where that changes nothing, it stays.
 fn restored_rule(
     alloc: Global,
     changes: &Changes,
-    calls: &Calls,
+    share: Share,
     rule: OptimizedRule,
 ) -> Result<OptimizedRule, AllocError>
-    requires { IsMetIn changes.now.names (optimized_expression_of rule.expr) calls.now }
+    requires { IsNotedAs changes.now.names (optimized_expression_of rule.expr)
+        changes.now.noted.numbers.items share }
     ensures name { IfOk result (λ r. r.name ≡ rule.name) }
     ensures ty { IfOk result (λ r. r.ty ≡ rule.ty) }
     ensures whole { IfOk result
         (λ r. optimized_rule_of r ≡ restored_rule_by (told changes.now) (optimized_rule_of rule)) }
 {
-    if !is_shown(calls, &changes.marks) {
+    if !is_shown(&changes.noted.numbers, share, &changes.marks) {
         return Ok(rule);
     }
     let mut rule = rule;
-    let mut place = 0;
-    restore(
-        alloc,
-        changes,
-        &calls.rules,
-        &mut place,
-        LEVELS,
-        &mut rule.expr,
-    )?;
+    let mut place = share.start;
+    restore(alloc, changes, &mut place, LEVELS, &mut rule.expr)?;
     Ok(rule)
 }
 
-// A rule with wrappers, whose body is looked through first.
-fn looked_at(
+// A rule with wrappers, what is met in whose body is noted first.
+fn noted_rule(
     alloc: Global,
-    changes: &Changes,
+    changes: Changes,
     rule: OptimizedRule,
 ) -> Result<OptimizedRule, AllocError>
     ensures name { IfOk result (λ r. r.name ≡ rule.name) }
     ensures ty { IfOk result (λ r. r.ty ≡ rule.ty) }
     ensures whole { IfOk result
-        (λ r. optimized_rule_of r ≡ restored_rule_by (told changes.now) (optimized_rule_of rule)) }
+        (λ r. optimized_rule_of r ≡ restored_rule_by (told changes) (optimized_rule_of rule)) }
 {
-    let calls = calls_in(alloc, &changes.names, &rule.expr)?;
-    restored_rule(alloc, changes, &calls, rule)
+    let mut changes = changes;
+    let share = note(&changes.names, &rule.expr, &mut changes.noted.numbers)?;
+    restored_rule(alloc, &changes, share, rule)
 }
 
-// Rules with wrappers, where it is known what is met in each body.
+// Rules with wrappers, where what is met in each body is noted.
 fn restored_rules(
     alloc: Global,
     changes: &Changes,
-    calls: &[Calls],
     rules: Vec<OptimizedRule>,
 ) -> Result<Vec<OptimizedRule>, AllocError>
-    requires { AreCallsOf changes.now.names (map named_body rules.items) calls.now }
+    requires { AreNotedOf changes.now.names (map named_body rules.items) changes.now.noted }
     ensures { IfOk result (λ answer. optimized_rules_of answer.items
         ≡ restored_rules_by (told changes.now) (optimized_rules_of rules.items)) }
 {
-    let mut answer = Vec::new(alloc);
+    let mut answer = Vec::with_capacity(alloc, rules.len())?;
     for rule in rules {
         let place = answer.len();
-        let rule = restored_rule(alloc, changes, &calls[place], rule)?;
+        let rule = restored_rule(alloc, changes, changes.noted.shares[place], rule)?;
         answer.push(rule)?;
     }
     Ok(answer)

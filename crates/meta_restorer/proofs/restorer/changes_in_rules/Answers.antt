@@ -2,7 +2,8 @@ use Rattle.std.proofs.Common.{map, subst, sym}
 use Rattle.meta_ast.specs.Optimized.{optimized_rules_of}
 use Rattle.std.proofs.lemmas.Result.{IfOk-weaker}
 use Rattle.meta_restorer.specs.Bodies.{said_by, grammar_with, SameBodies}
-use Rattle.meta_restorer.specs.Telling.{AreCallsOf, Tells}
+use Rattle.meta_restorer.specs.Noted.{AreNotedOf}
+use Rattle.meta_restorer.specs.Telling.{Tells}
 use Rattle.meta_restorer.proofs.Holding.{of_rules, tells_moved}
 use Rattle.meta_restorer.proofs.restorer.changes_in_rules.Goals as goal
 
@@ -14,7 +15,7 @@ returns-clause-tells c =
     IfOk-weaker c.changes_of.result _ _
     (λ changes t. tells_moved changes bs (optimized_rules_of rs) same (subst (λ ds. Tells changes (grammar_with (map said_by ds))) c.deref.ensures.value t)) c.changes_of.ensures.tells
 
-pub returns-clause-calls : goal.returns-clause-calls
-returns-clause-calls c =
+pub returns-clause-noted : goal.returns-clause-noted
+returns-clause-noted c =
     IfOk-weaker c.changes_of.result _ _
-    (λ changes t. subst (λ ds. AreCallsOf changes.names ds changes.calls.items) c.in_ok-bodies.ensures (subst (λ ds. AreCallsOf changes.names (map said_by ds) changes.calls.items) c.deref.ensures.value t)) c.changes_of.ensures.calls
+    (λ changes t. subst (λ ds. AreNotedOf changes.names ds changes.noted) c.in_ok-bodies.ensures (subst (λ ds. AreNotedOf changes.names (map said_by ds) changes.noted) c.deref.ensures.value t)) c.changes_of.ensures.noted

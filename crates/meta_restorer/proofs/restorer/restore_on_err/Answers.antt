@@ -8,13 +8,13 @@ use Rattle.meta_restorer.specs.Telling.{told}
 use Rattle.meta_restorer.proofs.Restoring.{restores, restored_same}
 use Rattle.meta_restorer.proofs.restorer.restore_on_err.Goals as goal
 
-pub returns-in-Ok-looked_at-clause-restores : goal.returns-in-Ok-looked_at-clause-restores
-returns-in-Ok-looked_at-clause-restores c = λ g h k.
+pub returns-in-Ok-noted_rule-clause-restores : goal.returns-in-Ok-noted_rule-clause-restores
+returns-in-Ok-noted_rule-clause-restores c = λ g h k.
     let x = c.args.rule.expr in
     let p = told c.in-Ok.changes in
-    let body : optimized_expression_of c.in-Ok-looked_at.rule.expr ≡ restored_by p (optimized_expression_of x) = ap (λ (r : Rule). r.body) c.in-Ok-looked_at.ensures.whole in
+    let body : optimized_expression_of c.in-Ok-noted_rule.rule.expr ≡ restored_by p (optimized_expression_of x) = ap (λ (r : Rule). r.body) c.in-Ok-noted_rule.ensures.whole in
     subst (RestoresTo g (optimized_expression_of x)) (sym body) (restores p g (c.in-Ok.ensures g h) x k)
 
-pub returns-in-Ok-looked_at-clause-erased : goal.returns-in-Ok-looked_at-clause-erased
-returns-in-Ok-looked_at-clause-erased c =
-    ap (λ (r : Rule). erased r.body) c.in-Ok-looked_at.ensures.whole ∙ restored_same (told c.in-Ok.changes) (optimized_expression_of c.args.rule.expr)
+pub returns-in-Ok-noted_rule-clause-erased : goal.returns-in-Ok-noted_rule-clause-erased
+returns-in-Ok-noted_rule-clause-erased c =
+    ap (λ (r : Rule). erased r.body) c.in-Ok-noted_rule.ensures.whole ∙ restored_same (told c.in-Ok.changes) (optimized_expression_of c.args.rule.expr)

@@ -1,13 +1,25 @@
-use Rattle.std.proofs.Common.{◌≡◌, ◌∙◌, ap, sym, false, rules}
+use Rattle.std.proofs.Common.{◌≡◌, ◌∙◌, ap, sym, false, rules, subst}
 use Rattle.meta_ast.specs.Optimized.{optimized_expression_of, optimized_rule_of}
-use Rattle.meta_restorer.specs.Calls.{shows}
+use Rattle.meta_restorer.specs.Noted.{IsWithin, shows}
 use Rattle.meta_restorer.specs.Telling.{told}
+use Rattle.meta_restorer.proofs.Looking.{shown}
+use Rattle.meta_restorer.proofs.Noting.{noted_from}
 use Rattle.meta_restorer.proofs.Quiet.{restored_stays}
 use Rattle.meta_restorer.proofs.restorer.restored_rule.Goals as goal
 
+pub is_shown-requires : goal.is_shown-requires
+is_shown-requires c = subst (λ qs. IsWithin qs c.args.share) (sym c.deref.ensures.value) c.requires.within
+
 pub returns-then-not-is_shown-clause-whole : goal.returns-then-not-is_shown-clause-whole
 returns-then-not-is_shown-clause-whole c =
-    let marks = c.args.changes.now.marks.items in
+    let changes = c.args.changes.now in
+    let marks = changes.marks.items in
     let rule = c.args.rule in
-    let off : shows marks c.args.calls.now ≡ false = search rules in
-    ap (λ b. record (optimized_rule_of rule) { body = b }) (sym (restored_stays (told c.args.changes.now) (optimized_expression_of rule.expr) (sym (c.requires.show marks) ∙ off)))
+    let qs = changes.noted.numbers.items in
+    let off : shows marks qs c.args.share ≡ false = search rules in
+    ap (λ b. record (optimized_rule_of rule) { body = b }) (sym (restored_stays (told changes) (optimized_expression_of rule.expr) (sym (shown changes.names marks rule.expr qs c.args.share c.requires) ∙ off)))
+
+pub restore-requires : goal.restore-requires
+restore-requires c = record {
+  noted = noted_from c.args.changes.now.names (optimized_expression_of c.args.rule.expr) c.args.changes.now.noted.numbers.items c.args.share c.requires;
+}

@@ -1,7 +1,7 @@
 use Rattle.std.proofs.Common.{◌≡◌, false, take}
 use Rattle.std.specs.List.{list_any}
 use Rattle.meta_restorer.specs.Calls.{number_changes}
-use Rattle.meta_restorer.proofs.calls.is_shown.Given as goal
+use Rattle.meta_restorer.proofs.noted.is_shown.Given as goal
 
 abbrev pub invariant-loop-rule : goal.invariant-loop-rule
 invariant-loop-rule l = list_any (number_changes l.marks) (take l.rule-index l.rule-items) ≡ false

@@ -1,0 +1,152 @@
+//! What the bodies of rules do to the stack by themselves, and the numbers of the rules that they call, in
+//! one list.
+ghost use Rattle.std.specs.Prelude.{◌≡◌, ◌++◌, IfOk, OnOk, map};
+ghost use Rattle.meta_base.specs.Language.Expression.{Expression};
+ghost use Rattle.meta_ast.specs.Optimized.{optimized_expression_of};
+ghost use Rattle.meta_restorer.specs.Bodies.{said_by};
+ghost use Rattle.meta_restorer.specs.Calls.{names_in};
+ghost use Rattle.meta_restorer.specs.Changing.{changes_by, is_changer};
+ghost use Rattle.meta_restorer.specs.Names.{numbers_of};
+ghost use Rattle.meta_restorer.specs.Noted.{AreNotedOf, AreWithin, IsNotedAs, IsWithin, shows, shows_at};
+
+use crate::bodies::Body;
+use crate::calls::{is_marked, is_plain};
+use crate::names::{Names, is_changer_name, number_of_name};
+use meta_ast::optimized::OptimizedExpr;
+use std::alloc::{AllocError, Global};
+
+/// What is met in an expression, not below a wrapper.
+#[derive(Clone, Copy)]
+pub struct Share {
+    /// Whether a `PUSH`, `POP` or `DROP` is met.
+    pub changes: bool,
+    /// Where the numbers of its names stand in the list.
+    pub start: usize,
+    pub end: usize,
+}
+
+/// What is met in the bodies of all rules.
+#[derive(Drop)]
+pub struct Noted {
+    /// For each name, body by body and in order, the number of the rule that it means, if it means one.
+    pub numbers: Vec<Option<usize>>,
+    /// For each rule the share of its body.
+    pub shares: Vec<Share>,
+}
+
+/// Whether a `PUSH`, `POP` or `DROP` is met in an expression, not below a wrapper. The number of each name
+/// that is met goes behind the others.
+fn look(
+    names: &Names,
+    expr: &OptimizedExpr,
+    numbers: &mut Vec<Option<usize>>,
+) -> Result<bool, AllocError>
+    ensures changes { IfOk result
+        (λ yes. yes ≡ changes_by is_changer (optimized_expression_of expr.now)) }
+    ensures numbers { OnOk result (numbers.new.items
+        ≡ numbers.old.items ++ numbers_of names.now (names_in (optimized_expression_of expr.now))) }
+{
+    let mut is_changing = false;
+    let mut here = expr;
+    'down: loop {
+        match here {
+            OptimizedExpr::Ident(name) => {
+                numbers.push(number_of_name(names, name))?;
+                return Ok(is_changing || is_changer_name(name));
+            }
+            OptimizedExpr::Push(inner) => {
+                is_changing = true;
+                here = inner;
+            }
+            OptimizedExpr::PosPred(inner) => here = inner,
+            OptimizedExpr::NegPred(inner) => here = inner,
+            OptimizedExpr::Opt(inner) => here = inner,
+            OptimizedExpr::Rep(inner) => here = inner,
+            OptimizedExpr::Seq(left, right) => {
+                let is_right_plain = is_plain(right);
+                if !is_plain(left) && look(names, left, numbers)? {
+                    is_changing = true;
+                }
+                if is_right_plain {
+                    return Ok(is_changing);
+                }
+                here = right;
+            }
+            OptimizedExpr::Choice(left, right) => {
+                let is_right_plain = is_plain(right);
+                if !is_plain(left) && look(names, left, numbers)? {
+                    is_changing = true;
+                }
+                if is_right_plain {
+                    return Ok(is_changing);
+                }
+                here = right;
+            }
+            _ => return Ok(is_changing),
+        }
+    }
+}
+
+/// Notes what is met in an expression.
+pub(crate) fn note(
+    names: &Names,
+    expr: &OptimizedExpr,
+    numbers: &mut Vec<Option<usize>>,
+) -> Result<Share, AllocError>
+    ensures noted { IfOk result
+        (λ share. IsNotedAs names.now (optimized_expression_of expr.now) numbers.new.items share) }
+    ensures kept { OnOk result ((e : Expression) (s : Share)
+        → IsNotedAs names.now e numbers.old.items s → IsNotedAs names.now e numbers.new.items s) }
+{
+    let start = numbers.len();
+    let changes = look(names, expr, numbers)?;
+    Ok(Share {
+        changes,
+        start,
+        end: numbers.len(),
+    })
+}
+
+/// Notes what is met in each body.
+pub(crate) fn noted_of<'a>(
+    alloc: Global,
+    names: &Names,
+    bodies: &[Body<'a>],
+) -> Result<Noted, AllocError>
+    ensures { IfOk result (AreNotedOf names.now (map said_by bodies.now)) }
+{
+    let mut numbers = Vec::new(alloc);
+    let mut shares = Vec::with_capacity(alloc, bodies.len())?;
+    for body in bodies {
+        let share = note(names, body.expr, &mut numbers)?;
+        shares.push(share)?;
+    }
+    Ok(Noted { numbers, shares })
+}
+
+/// Whether a `PUSH`, `POP` or `DROP` is met, or a rule that is marked.
+pub(crate) fn is_shown(numbers: &[Option<usize>], share: Share, marks: &[bool]) -> bool
+    requires { IsWithin numbers.now share }
+    ensures { result ≡ shows marks.now numbers.now share }
+{
+    if share.changes {
+        return true;
+    }
+    for rule in &numbers[share.start..share.end] {
+        if is_marked(marks, *rule) {
+            return true;
+        }
+    }
+    false
+}
+
+/// The same of the body of a rule, if there is such a rule.
+pub(crate) fn is_shown_at(noted: &Noted, rule: usize, marks: &[bool]) -> bool
+    requires { AreWithin noted.now }
+    ensures { result ≡ shows_at marks.now noted.now rule }
+{
+    match noted.shares.get(rule) {
+        Some(share) => is_shown(&noted.numbers, *share, marks),
+        None => false,
+    }
+}
