@@ -2,6 +2,7 @@
 #![tactic(auto)]
 
 pub mod ast;
+pub mod derived;
 pub mod optimized;
 pub mod printing;
 pub mod rebuilt;

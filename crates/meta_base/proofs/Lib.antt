@@ -27,3 +27,4 @@ pub mod Lines
 pub mod PairLemmas
 pub mod FailuresStand
 pub mod InBytes
+mod Comparisons

@@ -1,4 +1,5 @@
 -- Pieces of a text, trees over them, and errors that tell of them.
+pub mod Comparing
 pub mod LineColumn
 pub mod MetaRules
 pub mod NamedTrees

@@ -2,3 +2,5 @@ pub mod SmallGrammars
 pub mod NullableExpressions
 pub mod SmallRewritings
 pub mod LooseRuns
+pub mod SingleParts
+pub mod FurthestPlaces

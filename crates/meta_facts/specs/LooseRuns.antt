@@ -6,7 +6,7 @@ use Rattle.meta_base.specs.Language.Meaning.{Matches}
 use Rattle.meta_base.specs.Language.LooseMeaning.{Done, Lost, MatchesLoosely}
 use Rattle.meta_facts.specs.SmallGrammars.{at_start, stacked, end_of}
 
--- a failed POP has removed its entry, a failed POP_ALL those down to and with the one that did not match
+-- a POP that fails loses its entry, a POP_ALL all entries down to and with the first that differs
 pub record FailuresLose (classes : Classes) : Type 0 where
   pub pop : MatchesLoosely [] classes (Ident (codes "POP")) NonAtomicMode (stacked (codes "a"))
       (Lost (codes "a" ∷ []))

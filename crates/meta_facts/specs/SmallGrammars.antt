@@ -1,7 +1,7 @@
 -- Small grammars and single expressions, and what they do.
 use Rattle.std.specs.Prelude.{ℕ, Some, None, pos, negsuc, [], ◌∷◌, codes}
 use Rattle.meta_base.specs.Language.Text.{Text}
-use Rattle.meta_base.specs.Language.Expression.{Expression, Str, Ident, Seq, Choice, Opt, Rep, RepOnce, Normal, Silent, CompoundAtomic, NonAtomic, Grammar, Atomic, Insens, PeekSlice, PosPred, NegPred, Push, Range, RepMinMax, Skip}
+use Rattle.meta_base.specs.Language.Expression.{Expression, Str, Ident, Seq, Choice, Opt, Rep, RepOnce, Normal, Silent, CompoundAtomic, NonAtomic, Grammar, Atomic, Insens, PeekSlice, PosPred, NegPred, Push, Range, RepMinMax, Skip, RuleType}
 use Rattle.meta_base.specs.Language.State.{Mode, NonAtomicMode, AtomicMode, CompoundAtomicMode, Between, IsRuleMode, State, None', Tree, Outcome, Success, Failure, Classes}
 use Rattle.meta_base.specs.Language.Meaning.{Matches}
 
@@ -292,3 +292,34 @@ pub record TokensOfTheEnd (classes : Classes) : Type 0 where
       (Success (at_start []) (Tree (codes "EOI") 0 0 None' None'))
   pub in_atomic : Matches [] classes (Ident (codes "EOI")) AtomicMode (at_start []) (ends_at (at_start []))
   pub before_the_end : Matches [] classes (Ident (codes "EOI")) NonAtomicMode (at_start (codes "a")) Failure
+
+-- a = @{ b }  b = ${ "x" }
+abbrev pub compound_inside : Grammar
+compound_inside =
+    record { name = codes "a"; type_of = Atomic; body = Ident (codes "b") }
+    ∷ record { name = codes "b"; type_of = CompoundAtomic; body = Str (codes "x") }
+    ∷ []
+
+-- a `$` rule gives its token inside an atomic one too
+abbrev pub CompoundInsideAtomic : Classes → Type 0
+CompoundInsideAtomic classes = Matches compound_inside classes (Ident (codes "a")) NonAtomicMode
+    (at_start (codes "x")) (Success (end_of 1 (at_start []))
+    (Tree (codes "a") 0 1 (Tree (codes "b") 0 1 None' None') None'))
+
+-- a COMMENT of some type with the body "#" ~ w;  w = { "w" }  a = { "x" ~ "y" }
+abbrev pub wordy_comments : RuleType → Grammar
+wordy_comments type_of =
+    record { name = codes "COMMENT"; type_of = type_of; body = Seq (Str (codes "#")) (Ident (codes "w")) }
+    ∷ record { name = codes "w"; type_of = Normal; body = Str (codes "w") }
+    ∷ record { name = codes "a"; type_of = Normal; body = Seq (Str (codes "x")) (Str (codes "y")) }
+    ∷ []
+
+-- a COMMENT declared `$` runs CompoundAtomic, so what it calls gives tokens; another runs Atomic, and there
+-- it gives none
+pub record CompoundComments (classes : Classes) : Type 0 where
+  pub declared : Matches (wordy_comments CompoundAtomic) classes (Ident (codes "a")) NonAtomicMode
+      (at_start (codes "x#wy")) (Success (end_of 4 (at_start []))
+      (Tree (codes "a") 0 4 (Tree (codes "COMMENT") 1 3 (Tree (codes "w") 2 3 None' None') None') None'))
+  pub plain : Matches (wordy_comments Normal) classes (Ident (codes "a")) NonAtomicMode
+      (at_start (codes "x#wy")) (Success (end_of 4 (at_start []))
+      (Tree (codes "a") 0 4 (Tree (codes "COMMENT") 1 3 None' None') None'))

@@ -1,6 +1,8 @@
 //! Facts on small grammars: what they do, tied to the definitions.
 ghost use Rattle.meta_base.specs.Language.State.{Classes};
-ghost use Rattle.meta_facts.specs.SmallGrammars.{ListingDiffers, BlankIsTaken, HasNone, ReadsEmptyStack, OrdersOfTheStack, NegativeSlices, TokensOfAtomicRules, PredicateRestores, PushPushes, Skips, Newlines, RangesThatFail, BlankGivesToken, NonAtomicInside, LastRuleIsMeant, OtherReadings, ReadsTheTop, EmptiesTheStack, NegativePredicates, Alternatives, CommentsAreSkipped, UndefinedNames, LoudBlanks, SlicesPastTheLength, TokensOfTheEnd};
+ghost use Rattle.meta_facts.specs.SmallGrammars.{ListingDiffers, BlankIsTaken, HasNone, ReadsEmptyStack, OrdersOfTheStack, NegativeSlices, TokensOfAtomicRules, PredicateRestores, PushPushes, Skips, Newlines, RangesThatFail, BlankGivesToken, NonAtomicInside, LastRuleIsMeant, OtherReadings, ReadsTheTop, EmptiesTheStack, NegativePredicates, Alternatives, CommentsAreSkipped, UndefinedNames, LoudBlanks, SlicesPastTheLength, TokensOfTheEnd, CompoundInsideAtomic, CompoundComments};
+ghost use Rattle.meta_facts.specs.SingleParts.{OnlyAtTheStart, HexDigits, AsksTheSet, TwoCopies, Options, LaterTurnsFail};
+ghost use Rattle.meta_facts.specs.FurthestPlaces.{CountsUnderPredicate, CountsByMode, CountsWhenGivenUp};
 ghost use Rattle.meta_facts.specs.NullableExpressions.{NullableOrNot, CannotFailOrMay, LeftCalledOrNot};
 ghost use Rattle.meta_facts.specs.SmallRewritings.{ListingIsComputed, StringsOfNames};
 ghost use Rattle.meta_facts.specs.LooseRuns.{FailuresLose, GoesOnFromWhatIsLeft, RepeatsInBoth};
@@ -62,7 +64,7 @@ pub fn newlines()
     ensures { (classes : Classes) → Newlines classes }
 {}
 
-/// A range fails where a bound is empty or the first is above the second.
+/// A range with an empty bound takes no character, nor does one whose bounds are the wrong way round.
 pub fn ranges_that_fail()
     ensures { (classes : Classes) → RangesThatFail classes }
 {}
@@ -176,4 +178,59 @@ pub fn goes_on_from_what_is_left()
 /// `a = { "x"+ }` on `x` ends at 1 in both meanings.
 pub fn repeats_in_both()
     ensures { (classes : Classes) → RepeatsInBoth classes }
+{}
+
+/// `SOI` takes nothing at the start of a text, and fails behind a character.
+pub fn start_of_the_text()
+    ensures { (classes : Classes) → OnlyAtTheStart classes }
+{}
+
+/// `ASCII_HEX_DIGIT` takes one of `0` to `9`, `a` to `f` and `A` to `F`.
+pub fn hex_digits()
+    ensures { (classes : Classes) → HexDigits classes }
+{}
+
+/// `LETTER`, a property name, takes one character if it is in the set that the name stands for.
+pub fn asks_the_set()
+    ensures { (classes : Classes) → AsksTheSet classes }
+{}
+
+/// `"x"{2}` and `"x"{2,}` fail after one copy; of three the first takes two, and the second all.
+pub fn two_copies()
+    ensures { (classes : Classes) → TwoCopies classes }
+{}
+
+/// `"x"?` takes what its operand takes, once, and nothing where that fails.
+pub fn options()
+    ensures { (classes : Classes) → Options classes }
+{}
+
+/// A later turn that fails gives back what it took, and what was skipped before it.
+pub fn later_turns_fail()
+    ensures { (classes : Classes) → LaterTurnsFail classes }
+{}
+
+/// A `$` rule that is called in Atomic gives its token.
+pub fn compound_inside_atomic()
+    ensures { (classes : Classes) → CompoundInsideAtomic classes }
+{}
+
+/// What a `COMMENT` declared `$` calls gives tokens, and what a plain one calls gives none.
+pub fn compound_comments()
+    ensures { (classes : Classes) → CompoundComments classes }
+{}
+
+/// A failure under a predicate counts for the furthest one, also where the match succeeds.
+pub fn counts_under_predicate()
+    ensures { (classes : Classes) → CountsUnderPredicate classes }
+{}
+
+/// A failure of a call in Atomic doesn't count, and one in CompoundAtomic does.
+pub fn counts_by_mode()
+    ensures { (classes : Classes) → CountsByMode classes }
+{}
+
+/// A failure in an alternative that was given up counts.
+pub fn counts_when_given_up()
+    ensures { (classes : Classes) → CountsWhenGivenUp classes }
 {}

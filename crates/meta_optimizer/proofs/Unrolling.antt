@@ -1,9 +1,9 @@
 -- What is unrolled at each node from the leaves up is unrolled.
-use Rattle.std.proofs.Common.{◌≡◌, refl, ℕ, zero, suc, ◌+◌, ◌-◌, min, List, [], ◌∷◌, ◌++◌, replicate, subst, add-one, sub-one, ap, sym, ◌<◌, ◌≤◌, arith}
+use Rattle.std.proofs.Common.{◌≡◌, refl, ℕ, zero, suc, ◌+◌, ◌-◌, min, List, [], ◌∷◌, ◌++◌, replicate, subst, add-one, sub-one, ap, sym, ◌∙◌, ◌<◌, ◌≤◌, arith}
 use Rattle.std.proofs.lemmas.List.{append-nil}
 use Rattle.std.specs.Prelude.{⊤}
 use Rattle.meta_base.specs.Language.Expression.{Expression, Str, Insens, Range, Ident, PeekSlice, PosPred, NegPred, Seq, Choice, Opt, Rep, RepOnce, RepExact, RepMin, RepMax, RepMinMax, Skip, Push, RestoreOnErr}
-use Rattle.meta_base.specs.Language.Meaning.{in_sequence, exactly, from_to}
+use Rattle.meta_base.specs.Language.Meaning.{in_sequence, exactly, at_least, from_to}
 use Rattle.meta_base.specs.Rewritings.Rewriting.{Many, no_step, one_step, here, Unrolls, unroll_once, unroll_exact, unroll_min, unroll_max, unroll_min_max}
 use Rattle.meta_optimizer.specs.Here.{unrolled_here}
 use Rattle.meta_optimizer.specs.Unrolled.{IsUnrolled}
@@ -16,6 +16,26 @@ use Rattle.meta_optimizer.proofs.Chains as chains
 pub one_copy : (e f : Expression) (fs : List Expression) (i : ℕ) → in_sequence (replicate (i + 1) e ++ (f ∷ fs)) ≡ Seq e (in_sequence (replicate i e ++ (f ∷ fs)))
 one_copy e f fs zero = refl
 one_copy e f fs (suc i) = rw add-one refl
+
+pub no_copy : (n : ℕ) (e o f : Expression) (fs : List Expression) → n ≡ 0 → o ≡ in_sequence (f ∷ fs) → o ≡ in_sequence (replicate n e ++ (f ∷ fs))
+no_copy zero e o f fs h i = i
+no_copy (suc n) e o f fs h i = absurd (omega arith)
+
+pub first_copy : (e o : Expression) (n : ℕ) (f : Expression) (fs : List Expression) → (n ≡ 0 → ⊥) → o ≡ in_sequence (replicate (n - 1) e ++ (f ∷ fs)) → Seq e o ≡ in_sequence (replicate n e ++ (f ∷ fs))
+first_copy e o zero f fs h i = absurd (h refl)
+first_copy e o (suc n) f fs h i = rw i (rw sub-one (sym (one_copy e f fs n) ∙ ap (λ k. in_sequence (replicate k e ++ (f ∷ fs))) (add-one n)))
+
+pub one_alone : (e : Expression) (n : ℕ) → n ≡ 1 → e ≡ exactly e n
+one_alone e n h = rw h refl
+
+pub none_needed : (e : Expression) (n : ℕ) → n ≡ 0 → Rep e ≡ at_least e n
+none_needed e n h = rw h refl
+
+pub all_optional : (e : Expression) (m n : ℕ) → m ≡ 0 → exactly (Opt e) n ≡ from_to e m n
+all_optional e m n h =
+    let p : min m n ≡ 0 = omega arith in
+    let q : n - m ≡ n = omega arith in
+    rw (p, q) refl
 
 last_copy : (x : Expression) (k : ℕ) → replicate k x ++ (x ∷ []) ≡ x ∷ replicate k x
 last_copy x zero = refl

@@ -1,4 +1,4 @@
-//! Literals in sequence put together by a loop, in time linear in their texts.
+//! Literals in sequence put together by a loop: in time linear in their texts where they nest to the right.
 ghost use Rattle.std.specs.Prelude.{◌≡◌, ◌++◌, ◌*◌, ⊤, IfOk};
 ghost use Rattle.meta_base.specs.Language.Expression.{Expression, Seq};
 ghost use Rattle.meta_ast.specs.Ast.{expression_of, text_of};

@@ -19,7 +19,9 @@ pub use concatenator::concatenate;
 pub use counts::counts_are_readable;
 pub use factorizer::factor;
 pub use lister::list;
-pub use meta_ast::optimized::{OptimizedExpr, OptimizedExprTopDownIterator, OptimizedRule};
+pub use meta_ast::optimized::{
+    OptimizedExpr, OptimizedExprTopDownIterator, OptimizedRule, release,
+};
 pub use meta_base::runtime::Fault;
 pub use meta_restorer::{child_modifies_state, restore_on_err};
 pub use passes::optimize;

@@ -20,9 +20,9 @@ use std::collections::HashMap;
 /// The optimized rules, in order: `rotate`, `skip`, `unroll`, `concatenate`, `factor` and `list` are done in
 /// each, and `skip` looks names up in the rules as they were handed in; then wrappers are put in, as
 /// `restore_on_err` does. Names and types stay. Up to the listing, if no rule is named `ANY`, the outcomes
-/// from every start are those of the rules that were handed in. Where `POP_ALL` is named nowhere and
-/// `WHITESPACE` and `COMMENT` reach no `POP`, it does not matter for the rules that are answered what a
-/// failed `POP` leaves of the stack. The only fault is a want of memory.
+/// from every start are those of the rules that were handed in. Where `WHITESPACE` and `COMMENT` reach no
+/// `POP` and no `POP_ALL`, it does not matter for the rules that are answered what a failed `POP` or
+/// `POP_ALL` leaves of the stack. The only fault is a want of memory.
 pub fn optimize(alloc: Global, rules: Vec<Rule>) -> Result<Vec<OptimizedRule>, Fault>
     ensures rules { IfOk result
         (λ answer. IsOptimized (rules_of rules.items) (optimized_rules_of answer.items)) }

@@ -74,8 +74,11 @@ pub(crate) fn is_no_turn(expr: &Expr) -> bool
 {
     match expr {
         Expr::Rep(inner) => match &**inner {
-            Expr::Seq(left, _) => match &**left {
-                Expr::NegPred(_) => false,
+            Expr::Seq(left, right) => match &**left {
+                Expr::NegPred(_) => match &**right {
+                    Expr::Ident(_) => false,
+                    _ => true,
+                },
                 _ => true,
             },
             _ => true,

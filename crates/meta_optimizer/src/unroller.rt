@@ -75,10 +75,11 @@ fn one_or_more(alloc: Global, inner: Box<Expr>) -> Result<Expr, AllocError>
 fn min_or_more(alloc: Global, expr: Expr, min: u32) -> Result<Expr, AllocError>
     ensures { IfOk result (λ e. expression_of e ≡ at_least (expression_of expr) min) }
 {
+    if min == 0 {
+        return Ok(Expr::Rep(Box::new(alloc, expr)?));
+    }
     let others = Expr::Rep(Box::new(alloc, expr.clone()?)?);
-    let copies = repeated(alloc, &expr, min, others);
-    expr.release();
-    copies
+    repeated(alloc, expr, min, others)
 }
 
 // So many copies in sequence.
@@ -89,10 +90,11 @@ fn exact(alloc: Global, expr: Expr, count: u32) -> Result<Expr, AllocError>
         expr.release();
         return Ok(Expr::Str(String::new(alloc)));
     }
+    if count == 1 {
+        return Ok(expr);
+    }
     let last = expr.clone()?;
-    let copies = repeated(alloc, &expr, count - 1, last);
-    expr.release();
-    copies
+    repeated(alloc, expr, count - 1, last)
 }
 
 // From `min` to `max` of them.
@@ -102,15 +104,31 @@ fn between(alloc: Global, expr: Expr, min: u32, max: u32) -> Result<Expr, AllocE
     if max <= min {
         return exact(alloc, expr, max);
     }
+    if min == 0 {
+        return exact(alloc, Expr::Opt(Box::new(alloc, expr)?), max);
+    }
     let optional = Expr::Opt(Box::new(alloc, expr.clone()?)?);
     let others = exact(alloc, optional, max - min)?;
-    let copies = repeated(alloc, &expr, min, others);
-    expr.release();
-    copies
+    repeated(alloc, expr, min, others)
+}
+
+// So many copies, the first of which is the expression itself, and what stands behind them.
+fn repeated(alloc: Global, expr: Expr, count: u32, others: Expr) -> Result<Expr, AllocError>
+    ensures { IfOk result (λ r. (f : Expression) (fs : List Expression)
+        → expression_of others ≡ in_sequence (f ∷ fs)
+        → expression_of r ≡ in_sequence (replicate count (expression_of expr) ++ (f ∷ fs))) }
+{
+    if count == 0 {
+        expr.release();
+        return Ok(others);
+    }
+    let behind = copies(alloc, &expr, count - 1, others)?;
+    let first = Box::new(alloc, expr)?;
+    Ok(Expr::Seq(first, Box::new(alloc, behind)?))
 }
 
 // So many copies, and what stands behind them.
-fn repeated(alloc: Global, expr: &Expr, count: u32, others: Expr) -> Result<Expr, AllocError>
+fn copies(alloc: Global, expr: &Expr, count: u32, others: Expr) -> Result<Expr, AllocError>
     ensures { IfOk result (λ r. (f : Expression) (fs : List Expression)
         → expression_of others ≡ in_sequence (f ∷ fs)
         → expression_of r ≡ in_sequence (replicate count (expression_of expr.now) ++ (f ∷ fs))) }

@@ -109,7 +109,7 @@ fn rules<'i>(
 /// The pairs that the text spells for a rule of the meta-grammar, from its start on, as
 /// `PestParser::parse` answers them; those of a whole grammar are the pairs for `grammar_rules`.
 ///
-/// Text may be left over, unless the rule asks for `EOI`. Places in pairs and errors count bytes.
+/// The rule may stop before the end, but where it asks for `EOI`. Places in pairs and errors count bytes.
 /// Where the rule fails, the fault holds one `ParsingError`, at the greatest position at which a rule
 /// that gives a token, or `EOI`, was called and failed, in a mode other than Atomic and in any branch;
 /// at 0 where there is none. Any other fault is a want of memory.

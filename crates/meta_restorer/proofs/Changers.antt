@@ -3,6 +3,8 @@ use Rattle.std.proofs.Common.{◌≡◌, List, [], ◌∷◌, Option, Some, None
 use Rattle.std.proofs.lemmas.Slice.Eq.{bytes_eq-Decides}
 use Rattle.meta_base.specs.Language.Text.{Text}
 use Rattle.meta_base.specs.Language.Builtins.{Builtin, Property, Pop, Drop, PopAll, Named, builtins, property_names, is_one_of, looked_up, builtin_of}
+use Rattle.meta_base.specs.Language.Expression.{Ident, Grammar}
+use Rattle.meta_base.specs.Rewritings.Wrapping.{ChangesStack, changes_pop, changes_pop_all, changes_drop}
 use Rattle.meta_restorer.specs.Changing.{is_changer}
 
 -- a builtin that changes the stack has its name
@@ -55,12 +57,19 @@ is_pop_all n e = (bytes_eq-Decides n (codes "POP_ALL")).0 (rw e at (known n))
 pub pop_named : (n : Text) → builtin_of n ≡ Some Pop → is_changer n ≡ true
 pop_named n e = ap is_changer (is_pop n e)
 
+pub pop_all_named : (n : Text) → builtin_of n ≡ Some PopAll → is_changer n ≡ true
+pop_all_named n e = ap is_changer (is_pop_all n e)
+
 pub drop_named : (n : Text) → builtin_of n ≡ Some Drop → is_changer n ≡ true
 drop_named n e = ap is_changer (is_drop n e)
 
 pop_found : builtin_of (codes "POP") ≡ Some Pop
 unfolding builtins
 pop_found = refl
+
+pop_all_found : builtin_of (codes "POP_ALL") ≡ Some PopAll
+unfolding builtins
+pop_all_found = refl
 
 drop_found : builtin_of (codes "DROP") ≡ Some Drop
 unfolding builtins
@@ -70,8 +79,12 @@ pub either : (a b : Bool) → (a || b) ≡ true → (a ≡ true) ⊎ (b ≡ true
 either true b h = inl refl
 either false b h = inr h
 
-pub changer_is : (n : Text) → is_changer n ≡ true → (builtin_of n ≡ Some Pop) ⊎ (builtin_of n ≡ Some Drop)
-changer_is n h = elim (either (bytes_eq n (codes "POP")) (bytes_eq n (codes "DROP")) h) [
-  | inl e ↦ inl (ap builtin_of ((bytes_eq-Decides n (codes "POP")).0 e) ∙ pop_found)
-  | inr e ↦ inr (ap builtin_of ((bytes_eq-Decides n (codes "DROP")).0 e) ∙ drop_found)
+-- a name that counts changes the stack, whatever the rules are
+pub changer_changes : (g : Grammar) (n : Text) → is_changer n ≡ true → ChangesStack g (Ident n)
+changer_changes g n h = elim (either (bytes_eq n (codes "POP")) (bytes_eq n (codes "POP_ALL") || bytes_eq n (codes "DROP")) h) [
+  | inl e ↦ changes_pop (ap builtin_of ((bytes_eq-Decides n (codes "POP")).0 e) ∙ pop_found)
+  | inr k ↦ elim (either (bytes_eq n (codes "POP_ALL")) (bytes_eq n (codes "DROP")) k) [
+    | inl e ↦ changes_pop_all (ap builtin_of ((bytes_eq-Decides n (codes "POP_ALL")).0 e) ∙ pop_all_found)
+    | inr e ↦ changes_drop (ap builtin_of ((bytes_eq-Decides n (codes "DROP")).0 e) ∙ drop_found)
+  ]
 ]

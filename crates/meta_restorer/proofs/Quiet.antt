@@ -1,16 +1,16 @@
--- Rules in which no `PUSH`, `POP` or `DROP` is met change nothing, and are restored as they are.
+-- Rules in which no `PUSH`, `POP`, `POP_ALL` or `DROP` is met change nothing, and are restored as they are.
 use Rattle.std.proofs.Common.{◌≡◌, List, [], ◌∷◌, Option, Some, None, Bool, true, false, ◌||◌, if◌then◌else◌, bytes_eq, refl, ◌∙◌, ap, ap₂, subst, inl, inr, String, Global}
 use Rattle.std.specs.Bool.{Decides}
 use Rattle.std.proofs.lemmas.List.Elements.{All-head, All-tail}
 use Rattle.meta_base.specs.Language.Text.{Text}
 use Rattle.meta_base.specs.Language.Expression.{Expression, Ident, PosPred, NegPred, Seq, Choice, Opt, Rep, Push, RestoreOnErr, Rule, Grammar, rule_of, or_else}
-use Rattle.meta_base.specs.Rewritings.Wrapping.{ChangesStack, changes_push, changes_pop, changes_drop, changes_rule, changes_pos_pred, changes_neg_pred, changes_seq_left, changes_seq_right, changes_left, changes_right, changes_opt, changes_rep, changes_rep_once, changes_rep_exact, changes_rep_min, changes_rep_max, changes_rep_min_max, EachRestored}
+use Rattle.meta_base.specs.Rewritings.Wrapping.{ChangesStack, changes_push, changes_pop, changes_pop_all, changes_drop, changes_rule, changes_pos_pred, changes_neg_pred, changes_seq_left, changes_seq_right, changes_left, changes_right, changes_opt, changes_rep, changes_rep_once, changes_rep_exact, changes_rep_min, changes_rep_max, changes_rep_min_max, EachRestored}
 use Rattle.meta_ast.specs.Ast.{text_of}
 use Rattle.meta_ast.specs.Optimized.{optimized_rule_of, optimized_rules_of}
 use Rattle.meta_ast.specs.declared.optimized.OptimizedRule.{OptimizedRule}
 use Rattle.meta_restorer.specs.Changing.{changes_by, is_changer, wrapped_by, restored_by}
 use Rattle.meta_restorer.specs.Restoring.{AreQuiet, IsQuiet, AreSameErased, HaveNoWrappers, restored_rules_by}
-use Rattle.meta_restorer.proofs.Changers.{changer_is, pop_named, drop_named}
+use Rattle.meta_restorer.proofs.Changers.{changer_changes, pop_named, pop_all_named, drop_named}
 use Rattle.meta_restorer.proofs.Deciding.{or_left, or_right}
 use Rattle.meta_restorer.proofs.Restoring.{each_restored, rules_same}
 
@@ -57,6 +57,7 @@ module _ (rs : List OptimizedRule) (quiet : AreQuiet rs) where
   shown : {e : Expression} → ChangesStack g e → changes_by is_changer e ≡ true
   shown changes_push = refl
   shown (changes_pop {n = n} b) = pop_named n b
+  shown (changes_pop_all {n = n} b) = pop_all_named n b
   shown (changes_drop {n = n} b) = drop_named n b
   shown (changes_rule {n = n} {r = r} e d) = let on = shown d in let off = quiet_rule rs quiet n r e in cc
   shown (changes_pos_pred d) = shown d
@@ -75,7 +76,7 @@ module _ (rs : List OptimizedRule) (quiet : AreQuiet rs) where
 
   decides : (n : String Global) → Decides (is_changer (text_of n)) (ChangesStack g (Ident (text_of n)))
   decides n = (
-    (λ h. elim (changer_is (text_of n) h) [ inl b ↦ changes_pop b | inr b ↦ changes_drop b ]),
+    changer_changes g (text_of n),
     (λ d. shown d),
   )
 

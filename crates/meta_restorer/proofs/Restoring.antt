@@ -5,7 +5,7 @@ use Rattle.std.specs.List.{All}
 use Rattle.std.proofs.lemmas.List.Elements.{All-head, All-tail}
 use Rattle.meta_base.specs.Language.Text.{Text}
 use Rattle.meta_base.specs.Rewritings.Erased.{erased}
-use Rattle.meta_base.specs.Language.Expression.{Expression, Ident, PosPred, NegPred, Seq, Choice, Opt, Rep, Push, RestoreOnErr, Rule, Grammar, whole, of_pos_pred, of_neg_pred, of_seq_left, of_seq_right, of_choice_left, of_choice_right, of_opt, of_rep, of_push}
+use Rattle.meta_base.specs.Language.Expression.{Expression, Ident, PosPred, NegPred, Seq, Choice, Opt, Rep, Push, RestoreOnErr, Rule, Grammar, whole, of_pos_pred, of_neg_pred, of_seq_left, of_seq_right, of_choice_left, of_choice_right, of_opt, of_rep, of_push, of_restore}
 use Rattle.meta_base.specs.Rewritings.Rewriting.{EachBody, no_rules, also_rule}
 use Rattle.meta_base.specs.Rewritings.Wrapping.{ChangesStack, Wraps, wraps, leaves, RestoresTo, restores_str, restores_insens, restores_range, restores_name, restores_slice, restores_skip, restores_pos_pred, restores_neg_pred, restores_push, restores_seq, restores_choice, restores_opt, restores_rep}
 use Rattle.meta_base.proofs.SomeRule.{each_rule}
@@ -13,7 +13,7 @@ use Rattle.meta_ast.specs.Ast.{text_of}
 use Rattle.meta_ast.specs.Optimized.{optimized_expression_of, optimized_rule_of, optimized_rules_of}
 use Rattle.meta_ast.specs.declared.optimized.OptimizedExpr as code
 use Rattle.meta_ast.specs.declared.optimized.OptimizedRule.{OptimizedRule}
-use Rattle.meta_restorer.specs.Changing.{changes_by, wrapped_by, restored_by, HasNoWrappers}
+use Rattle.meta_restorer.specs.Changing.{changes_by, wrapped_by, restored_by, HasNoWrappers, KeepsWrappers}
 use Rattle.meta_restorer.specs.Restoring.{HaveNoWrappers, AreSameErased, restored_rules_by}
 use Rattle.meta_restorer.proofs.Deciding.{decided}
 use Rattle.meta_restorer.proofs.Said.{IsSaid, said, restored_said}
@@ -35,6 +35,25 @@ module _ (p : Text → Bool) where
   restored_same (Opt e) = ap Opt (wrapped_same (restored_by p e) ∙ restored_same e)
   restored_same (Rep e) = ap Rep (wrapped_same (restored_by p e) ∙ restored_same e)
   restored_same _ = refl
+
+  wrapped_keeps : (e x : Expression) → KeepsWrappers x e → KeepsWrappers x (wrapped_by p e)
+  wrapped_keeps e x f = go (changes_by p e)
+    where
+      go : (b : Bool) → KeepsWrappers x (if b then RestoreOnErr e else e)
+      go true y k = of_restore (f y k)
+      go false y k = f y k
+
+  pub restored_keeps : (e : Expression) → KeepsWrappers e (restored_by p e)
+  restored_keeps (PosPred e) y (of_pos_pred k) = of_pos_pred (restored_keeps e y k)
+  restored_keeps (NegPred e) y (of_neg_pred k) = of_neg_pred (restored_keeps e y k)
+  restored_keeps (Push e) y (of_push k) = of_push (restored_keeps e y k)
+  restored_keeps (Seq a b) y (of_seq_left k) = of_seq_left (restored_keeps a y k)
+  restored_keeps (Seq a b) y (of_seq_right k) = of_seq_right (restored_keeps b y k)
+  restored_keeps (Choice a b) y (of_choice_left k) = of_choice_left (wrapped_keeps (restored_by p a) a (restored_keeps a) y k)
+  restored_keeps (Choice a b) y (of_choice_right k) = of_choice_right (wrapped_keeps (restored_by p b) b (restored_keeps b) y k)
+  restored_keeps (Opt e) y (of_opt k) = of_opt (wrapped_keeps (restored_by p e) e (restored_keeps e) y k)
+  restored_keeps (Rep e) y (of_rep k) = of_rep (wrapped_keeps (restored_by p e) e (restored_keeps e) y k)
+  restored_keeps _ y k = k
 
   pub rules_same : (g : Grammar) → AreSameErased g (restored_rules_by p g)
   rules_same [] = no_rules

@@ -5,9 +5,9 @@ use Rattle.meta_base.specs.Language.Expression.{Expression, Str, Ident, Seq, Opt
 use Rattle.meta_base.specs.Language.Builtins.{builtin_of, builtins, property_names, general_categories, binary_properties, scripts}
 use Rattle.meta_base.specs.Language.Meaning.{exactly, from_to}
 use Rattle.meta_base.specs.Rewritings.Rewriting.{EachBody, no_rules, also_rule}
-use Rattle.meta_base.specs.Language.WellFormed.{InRules, IsSkipped, is_whitespace, is_comment, Reaches, itself, onward}
+use Rattle.meta_base.specs.Language.WellFormed.{IsSkipped, is_whitespace, is_comment, Reaches, itself, onward}
 use Rattle.meta_base.specs.Language.LooseMeaning.{Pops, pops, pops_all, pops_rule, pops_left, pops_right, pops_push, pops_rep_exact, pops_rep_min_max, Safe, wrapped, keeps, SafeHere, IsSafe, Restored}
-use Rattle.meta_base.specs.Rewritings.Wrapping.{ChangesStack, changes_push, changes_pop, changes_rule, changes_pos_pred, changes_neg_pred, changes_seq_left, changes_seq_right, changes_left, changes_right, changes_opt, changes_rep, changes_rep_exact, changes_rep_min_max, Wraps, wraps, leaves, RestoresTo, restores_str, restores_insens, restores_range, restores_name, restores_slice, restores_skip, restores_pos_pred, restores_neg_pred, restores_push, restores_seq, restores_choice, restores_opt, restores_rep, EachRestored}
+use Rattle.meta_base.specs.Rewritings.Wrapping.{ChangesStack, changes_push, changes_pop, changes_pop_all, changes_rule, changes_pos_pred, changes_neg_pred, changes_seq_left, changes_seq_right, changes_left, changes_right, changes_opt, changes_rep, changes_rep_exact, changes_rep_min_max, Wraps, wraps, leaves, RestoresTo, restores_str, restores_insens, restores_range, restores_name, restores_slice, restores_skip, restores_pos_pred, restores_neg_pred, restores_push, restores_seq, restores_choice, restores_opt, restores_rep, EachRestored}
 use Rattle.meta_base.proofs.OneOutcome.{same_rule}
 use Rattle.meta_base.proofs.Moving.{each_copy, each_of_both, in_all}
 use Rattle.meta_base.proofs.BothMeaningsAgree.{same_endings}
@@ -81,113 +81,90 @@ module _ (g : Grammar) where
   by_from_to : (e : Expression) (i j : ℕ) → By e (from_to e i j)
   by_from_to e i j = in_all (By e) (by_nothing e) (by_sequence e) (each_of_both (By e) (each_copy (By e) (min i j) (λ d. d)) (each_copy (By e) (j - i) (by_optional e)))
 
--- an expression that does not name `POP_ALL`
-abbrev NoneIn : Expression → Type 0
-NoneIn e = Part e (Ident (codes "POP_ALL")) → ⊥
-
-none_in_nothing : NoneIn (Str [])
-none_in_nothing k = elim k [ ]
-
-none_in_sequence : (a b : Expression) → NoneIn a → NoneIn b → NoneIn (Seq a b)
-none_in_sequence a b f k (of_seq_left p) = f p
-none_in_sequence a b f k (of_seq_right p) = k p
-
-none_in_optional : (e : Expression) → NoneIn e → NoneIn (Opt e)
-none_in_optional e f (of_opt p) = f p
-
-none_in_exactly : (e : Expression) (i : ℕ) → NoneIn e → NoneIn (exactly e i)
-none_in_exactly e i f = in_all NoneIn none_in_nothing none_in_sequence (each_copy NoneIn i f)
-
-none_in_from_to : (e : Expression) (i j : ℕ) → NoneIn e → NoneIn (from_to e i j)
-none_in_from_to e i j f = in_all NoneIn none_in_nothing none_in_sequence (each_of_both NoneIn (each_copy NoneIn (min i j) f) (each_copy NoneIn (j - i) (none_in_optional e f)))
-
-module _ (g h : Grammar) (a : EachRestored g h) (no : InRules h (Ident (codes "POP_ALL")) → ⊥) where
+module _ (g h : Grammar) (a : EachRestored g h) where
   before : (n : Text) (q : Rule) → rule_of h n ≡ Some q → (b : Expression) × (rule_of g n ≡ Some (record q { body = b })) × RestoresTo g b q.body
   before n q e = backward g (pairs g a n) e
 
   -- what may have lost an entry changes the stack
-  changing : {e : Expression} → NoneIn e → Pops h e → ChangesStack g e
-  changing f (pops b) = changes_pop b
-  changing f (pops_all {n = n} b) = absurd (f (subst (λ m. Part (Ident n) (Ident m)) (is_pop_all n b) whole))
-  changing f (pops_rule {n = n} {r = q} e d) =
+  changing : {e : Expression} → Pops h e → ChangesStack g e
+  changing (pops b) = changes_pop b
+  changing (pops_all b) = changes_pop_all b
+  changing (pops_rule {n = n} {r = q} e d) =
       let (b, i, t) = before n q e in
-      changes_rule i (changed_before g t (changing (λ k. no (n, q, e, k)) d))
-  changing f (pops_left d) = changes_left (changing (λ k. f (of_choice_left k)) d)
-  changing f (pops_right d) = changes_right (changing (λ k. f (of_choice_right k)) d)
-  changing f (pops_push d) = changes_push
-  changing f (pops_rep_exact {e = e} {i = i} d) = changes_rep_exact (by_exactly g e i (changing (none_in_exactly e i (λ k. f (of_rep_exact k))) d))
-  changing f (pops_rep_min_max {e = e} {i = i} {j = j} d) = changes_rep_min_max (by_from_to g e i j (changing (none_in_from_to e i j (λ k. f (of_rep_min_max k))) d))
+      changes_rule i (changed_before g t (changing d))
+  changing (pops_left d) = changes_left (changing d)
+  changing (pops_right d) = changes_right (changing d)
+  changing (pops_push d) = changes_push
+  changing (pops_rep_exact {e = e} {i = i} d) = changes_rep_exact (by_exactly g e i (changing d))
+  changing (pops_rep_min_max {e = e} {i = i} {j = j} d) = changes_rep_min_max (by_from_to g e i j (changing d))
 
-  safe : {b c : Expression} → NoneIn c → Wraps g b c → Safe h c
-  safe f (wraps {e = e} d) = wrapped e refl
-  safe f (leaves d) = keeps (λ p. d (changing f p))
+  safe : {b c : Expression} → Wraps g b c → Safe h c
+  safe (wraps {e = e} d) = wrapped e refl
+  safe (leaves d) = keeps (λ p. d (changing p))
 
   below : {b c p : Expression} → Wraps g b c → ((p : Expression) → Part b p → SafeHere h p) → Part c p → SafeHere h p
   below (wraps d) i whole = tt
   below (wraps d) i (of_restore k) = i _ k
   below (leaves d) i k = i _ k
 
-  inner : {b c : Expression} → Wraps g b c → NoneIn c → NoneIn b
-  inner (wraps d) f k = f (of_restore k)
-  inner (leaves d) f k = f k
-
-  is_safe : {b c : Expression} → RestoresTo g b c → NoneIn c → (p : Expression) → Part c p → SafeHere h p
-  is_safe restores_str f p whole = tt
-  is_safe restores_insens f p whole = tt
-  is_safe restores_range f p whole = tt
-  is_safe restores_name f p whole = tt
-  is_safe restores_slice f p whole = tt
-  is_safe restores_skip f p whole = tt
-  is_safe (restores_pos_pred d) f p whole = tt
-  is_safe (restores_pos_pred d) f p (of_pos_pred k) = is_safe d (λ i. f (of_pos_pred i)) p k
-  is_safe (restores_neg_pred d) f p whole = tt
-  is_safe (restores_neg_pred d) f p (of_neg_pred k) = is_safe d (λ i. f (of_neg_pred i)) p k
-  is_safe (restores_push d) f p whole = tt
-  is_safe (restores_push d) f p (of_push k) = is_safe d (λ i. f (of_push i)) p k
-  is_safe (restores_seq d e) f p whole = tt
-  is_safe (restores_seq d e) f p (of_seq_left k) = is_safe d (λ i. f (of_seq_left i)) p k
-  is_safe (restores_seq d e) f p (of_seq_right k) = is_safe e (λ i. f (of_seq_right i)) p k
-  is_safe (restores_choice d v e w) f p whole = (safe (λ i. f (of_choice_left i)) v, safe (λ i. f (of_choice_right i)) w)
-  is_safe (restores_choice d v e w) f p (of_choice_left k) = below v (is_safe d (inner v (λ i. f (of_choice_left i)))) k
-  is_safe (restores_choice d v e w) f p (of_choice_right k) = below w (is_safe e (inner w (λ i. f (of_choice_right i)))) k
-  is_safe (restores_opt d v) f p whole = safe (λ i. f (of_opt i)) v
-  is_safe (restores_opt d v) f p (of_opt k) = below v (is_safe d (inner v (λ i. f (of_opt i)))) k
-  is_safe (restores_rep d v) f p whole = safe (λ i. f (of_rep i)) v
-  is_safe (restores_rep d v) f p (of_rep k) = below v (is_safe d (inner v (λ i. f (of_rep i)))) k
+  is_safe : {b c : Expression} → RestoresTo g b c → (p : Expression) → Part c p → SafeHere h p
+  is_safe restores_str p whole = tt
+  is_safe restores_insens p whole = tt
+  is_safe restores_range p whole = tt
+  is_safe restores_name p whole = tt
+  is_safe restores_slice p whole = tt
+  is_safe restores_skip p whole = tt
+  is_safe (restores_pos_pred d) p whole = tt
+  is_safe (restores_pos_pred d) p (of_pos_pred k) = is_safe d p k
+  is_safe (restores_neg_pred d) p whole = tt
+  is_safe (restores_neg_pred d) p (of_neg_pred k) = is_safe d p k
+  is_safe (restores_push d) p whole = tt
+  is_safe (restores_push d) p (of_push k) = is_safe d p k
+  is_safe (restores_seq d e) p whole = tt
+  is_safe (restores_seq d e) p (of_seq_left k) = is_safe d p k
+  is_safe (restores_seq d e) p (of_seq_right k) = is_safe e p k
+  is_safe (restores_choice d v e w) p whole = (safe v, safe w)
+  is_safe (restores_choice d v e w) p (of_choice_left k) = below v (is_safe d) k
+  is_safe (restores_choice d v e w) p (of_choice_right k) = below w (is_safe e) k
+  is_safe (restores_opt d v) p whole = safe v
+  is_safe (restores_opt d v) p (of_opt k) = below v (is_safe d) k
+  is_safe (restores_rep d v) p whole = safe v
+  is_safe (restores_rep d v) p (of_rep k) = below v (is_safe d) k
 
   body_safe : (n : Text) (q : Rule) → rule_of h n ≡ Some q → IsSafe h q.body
-  body_safe n q e p k = let (b, i, t) = before n q e in is_safe t (λ j. no (n, q, e, j)) p k
+  body_safe n q e p k = let (b, i, t) = before n q e in is_safe t p k
 
-  -- the parts of copies are those of what is copied, but for the sequences and `?` that are made of them
-  abbrev Within : Rule → Expression → Type 0
-  Within q e = (n : Text) → Part e (Ident n) → Part q.body (Ident n)
+-- the parts of copies are those of what is copied, but for the sequences and `?` that are made of them
+abbrev Within : Rule → Expression → Type 0
+Within q e = (n : Text) → Part e (Ident n) → Part q.body (Ident n)
 
-  within_nothing : (q : Rule) → Within q (Str [])
-  within_nothing q n k = elim k [ ]
+within_nothing : (q : Rule) → Within q (Str [])
+within_nothing q n k = elim k [ ]
 
-  within_sequence : (q : Rule) (x y : Expression) → Within q x → Within q y → Within q (Seq x y)
-  within_sequence q x y f k n (of_seq_left p) = f n p
-  within_sequence q x y f k n (of_seq_right p) = k n p
+within_sequence : (q : Rule) (x y : Expression) → Within q x → Within q y → Within q (Seq x y)
+within_sequence q x y f k n (of_seq_left p) = f n p
+within_sequence q x y f k n (of_seq_right p) = k n p
 
-  within_optional : (q : Rule) (e : Expression) → Within q e → Within q (Opt e)
-  within_optional q e f n (of_opt p) = f n p
+within_optional : (q : Rule) (e : Expression) → Within q e → Within q (Opt e)
+within_optional q e f n (of_opt p) = f n p
 
-  within_exactly : (q : Rule) (e : Expression) (i : ℕ) → Within q e → Within q (exactly e i)
-  within_exactly q e i f = in_all (Within q) (within_nothing q) (within_sequence q) (each_copy (Within q) i f)
+within_exactly : (q : Rule) (e : Expression) (i : ℕ) → Within q e → Within q (exactly e i)
+within_exactly q e i f = in_all (Within q) (within_nothing q) (within_sequence q) (each_copy (Within q) i f)
 
-  within_from_to : (q : Rule) (e : Expression) (i j : ℕ) → Within q e → Within q (from_to e i j)
-  within_from_to q e i j f = in_all (Within q) (within_nothing q) (within_sequence q) (each_of_both (Within q) (each_copy (Within q) (min i j) f) (each_copy (Within q) (j - i) (within_optional q e f)))
+within_from_to : (q : Rule) (e : Expression) (i j : ℕ) → Within q e → Within q (from_to e i j)
+within_from_to q e i j f = in_all (Within q) (within_nothing q) (within_sequence q) (each_of_both (Within q) (each_copy (Within q) (min i j) f) (each_copy (Within q) (j - i) (within_optional q e f)))
 
-  -- a loss comes from a POP that is reached
-  traced : (n : Text) → (Reaches h n (codes "POP") → ⊥) → (k : Text) (q : Rule) → Reaches h n k → rule_of h k ≡ Some q → {e : Expression} → Within q e → Pops h e → ⊥
-  traced n f k q l e i (pops {n = m} b) = f (onward l e (subst (λ x. Part q.body (Ident x)) (is_pop m b) (i m whole)))
-  traced n f k q l e i (pops_all {n = m} b) = no (k, q, e, subst (λ x. Part q.body (Ident x)) (is_pop_all m b) (i m whole))
-  traced n f k q l e i (pops_rule {n = m} {r = s} j d) = traced n f m s (onward l e (i m whole)) j (λ p c. c) d
-  traced n f k q l e i (pops_left d) = traced n f k q l e (λ p c. i p (of_choice_left c)) d
-  traced n f k q l e i (pops_right d) = traced n f k q l e (λ p c. i p (of_choice_right c)) d
-  traced n f k q l e i (pops_push d) = traced n f k q l e (λ p c. i p (of_push c)) d
-  traced n f k q l e i (pops_rep_exact {e = x} {i = c} d) = traced n f k q l e (within_exactly q x c (λ p r. i p (of_rep_exact r))) d
-  traced n f k q l e i (pops_rep_min_max {e = x} {i = c} {j = b} d) = traced n f k q l e (within_from_to q x c b (λ p r. i p (of_rep_min_max r))) d
+-- a loss comes from a POP or a POP_ALL that is reached
+module _ (h : Grammar) (n : Text) (no_pop : Reaches h n (codes "POP") → ⊥) (no_pop_all : Reaches h n (codes "POP_ALL") → ⊥) where
+  traced : (k : Text) (q : Rule) → Reaches h n k → rule_of h k ≡ Some q → {e : Expression} → Within q e → Pops h e → ⊥
+  traced k q l e i (pops {n = m} b) = no_pop (onward l e (subst (λ x. Part q.body (Ident x)) (is_pop m b) (i m whole)))
+  traced k q l e i (pops_all {n = m} b) = no_pop_all (onward l e (subst (λ x. Part q.body (Ident x)) (is_pop_all m b) (i m whole)))
+  traced k q l e i (pops_rule {n = m} {r = s} j d) = traced m s (onward l e (i m whole)) j (λ p c. c) d
+  traced k q l e i (pops_left d) = traced k q l e (λ p c. i p (of_choice_left c)) d
+  traced k q l e i (pops_right d) = traced k q l e (λ p c. i p (of_choice_right c)) d
+  traced k q l e i (pops_push d) = traced k q l e (λ p c. i p (of_push c)) d
+  traced k q l e i (pops_rep_exact {e = x} {i = c} d) = traced k q l e (within_exactly q x c (λ p r. i p (of_rep_exact r))) d
+  traced k q l e i (pops_rep_min_max {e = x} {i = c} {j = b} d) = traced k q l e (within_from_to q x c b (λ p r. i p (of_rep_min_max r))) d
 
 whitespace_is_no_builtin : builtin_of whitespace ≡ None
 unfolding whitespace builtins property_names general_categories binary_properties scripts
@@ -201,13 +178,13 @@ no_builtin : (n : Text) → IsSkipped n → builtin_of n ≡ None
 no_builtin n is_whitespace = whitespace_is_no_builtin
 no_builtin n is_comment = comment_is_no_builtin
 
-skipped_keeps : (g h : Grammar) → EachRestored g h → WrappersSuffice h → (n : Text) → IsSkipped n → Pops h (Ident n) → ⊥
-skipped_keeps g h a w n s (pops b) = let i = no_builtin n s in cc
-skipped_keeps g h a w n s (pops_all b) = let i = no_builtin n s in cc
-skipped_keeps g h a w n s (pops_rule {r = q} e d) = traced g h a w.no_pop_all n (w.skipping n s) n q itself e (λ p c. c) d
+skipped_keeps : (h : Grammar) → WrappersSuffice h → (n : Text) → IsSkipped n → Pops h (Ident n) → ⊥
+skipped_keeps h w n s (pops b) = let i = no_builtin n s in cc
+skipped_keeps h w n s (pops_all b) = let i = no_builtin n s in cc
+skipped_keeps h w n s (pops_rule {r = q} e d) = traced h n (w.no_pop n s) (w.no_pop_all n s) n q itself e (λ p c. c) d
 
 pub restored : (g h : Grammar) → EachRestored g h → WrappersSuffice h → Restored h
-restored g h a w = record { bodies = body_safe g h a w.no_pop_all; skipping = skipped_keeps g h a w }
+restored g h a w = record { bodies = body_safe g h a; skipping = skipped_keeps h w }
 
 name_safe : (h : Grammar) (n : Text) → IsSafe h (Ident n)
 name_safe h n p whole = tt

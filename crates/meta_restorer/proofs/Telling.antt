@@ -2,7 +2,7 @@
 use Rattle.std.proofs.Common.{◌≡◌, ℕ, List, Option, Some, Bool, true, inl, inr, slice_get, refl, sym, ◌∙◌, ap, subst, String, Global}
 use Rattle.meta_base.specs.Language.Text.{Text}
 use Rattle.meta_base.specs.Language.Expression.{Expression, Ident, Rule, rule_of}
-use Rattle.meta_base.specs.Rewritings.Wrapping.{ChangesStack, changes_push, changes_pop, changes_drop, changes_rule, changes_pos_pred, changes_neg_pred, changes_seq_left, changes_seq_right, changes_left, changes_right, changes_opt, changes_rep, changes_rep_once, changes_rep_exact, changes_rep_min, changes_rep_max, changes_rep_min_max}
+use Rattle.meta_base.specs.Rewritings.Wrapping.{ChangesStack, changes_push, changes_pop, changes_pop_all, changes_drop, changes_rule, changes_pos_pred, changes_neg_pred, changes_seq_left, changes_seq_right, changes_left, changes_right, changes_opt, changes_rep, changes_rep_once, changes_rep_exact, changes_rep_min, changes_rep_max, changes_rep_min_max}
 use Rattle.meta_ast.specs.Ast.{text_of}
 use Rattle.meta_ast.specs.Optimized.{optimized_expression_of}
 use Rattle.meta_restorer.specs.Bodies.{NamedBody, rule_with, grammar_with}
@@ -12,7 +12,7 @@ use Rattle.meta_restorer.specs.Names.{last_place, number_of, KnowsNames}
 use Rattle.meta_restorer.specs.Noted.{AreClosed, AreNotedOf, AreSound, Holds, holds}
 use Rattle.meta_restorer.specs.declared.names.Names.{Names}
 use Rattle.meta_restorer.specs.declared.noted.Noted.{Noted}
-use Rattle.meta_restorer.proofs.Changers.{changer_is, drop_named, either, pop_named}
+use Rattle.meta_restorer.proofs.Changers.{changer_changes, drop_named, either, pop_all_named, pop_named}
 use Rattle.meta_restorer.proofs.Deciding.{changing, or_left, or_right}
 use Rattle.meta_restorer.proofs.Looking.{shown_at}
 use Rattle.meta_restorer.proofs.Naming.{Named, absent, named, resolved}
@@ -23,7 +23,7 @@ module _ (bs : List NamedBody) (names : Names) (noted : Noted) (known : KnowsNam
   by_number : (marks : List Bool) → ((i : ℕ) (b : NamedBody) → slice_get bs i ≡ Some b → is_set_at marks i ≡ true → ChangesStack (grammar_with bs) (optimized_expression_of b.1))
       → (s : String Global) → name_changes names marks (text_of s) ≡ true → ChangesStack (grammar_with bs) (Ident (text_of s))
   by_number marks f s h = elim (either (is_changer (text_of s)) (number_changes marks (number_of names (text_of s))) h) [
-    | inl k ↦ elim (changer_is (text_of s) k) [ inl e ↦ changes_pop e | inr e ↦ changes_drop e ]
+    | inl k ↦ changer_changes (grammar_with bs) (text_of s) k
     | inr k ↦ go (last_place (grammar_with bs) (text_of s)) (resolved bs (text_of s)) (sym (ap (number_changes marks) (known s)) ∙ k)
   ]
     where
@@ -52,6 +52,7 @@ module _ (bs : List NamedBody) (names : Names) (noted : Noted) (known : KnowsNam
     complete : {e : Expression} → ChangesStack (grammar_with bs) e → IsSaid e → changes_by p e ≡ true
     complete changes_push s = refl
     complete (changes_pop {n = n} b) s = or_left (is_changer n) (number_changes marks (number_of names n)) (pop_named n b)
+    complete (changes_pop_all {n = n} b) s = or_left (is_changer n) (number_changes marks (number_of names n)) (pop_all_named n b)
     complete (changes_drop {n = n} b) s = or_left (is_changer n) (number_changes marks (number_of names n)) (drop_named n b)
     complete (changes_rule {n = n} {r = r} e d) (s, k) = marked_rule n s r k e (λ h. complete d h)
     complete (changes_pos_pred d) s = complete d s

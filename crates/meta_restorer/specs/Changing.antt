@@ -5,7 +5,7 @@ use Rattle.meta_base.specs.Language.Expression.{Expression, Ident, PosPred, NegP
 
 -- the builtins that count as changing the stack
 abbrev pub is_changer : Text → Bool
-is_changer n = bytes_eq n (codes "POP") || bytes_eq n (codes "DROP")
+is_changer n = bytes_eq n (codes "POP") || (bytes_eq n (codes "POP_ALL") || bytes_eq n (codes "DROP"))
 
 -- whether an expression changes the stack, not below a wrapper
 abbrev pub changes_by : (Text → Bool) → Expression → Bool
@@ -42,3 +42,7 @@ restored_by p e = e
 -- no part is a wrapper
 abbrev pub HasNoWrappers : Expression → Type 0
 HasNoWrappers e = (x : Expression) → Part e (RestoreOnErr x) → ⊥
+
+-- each wrapper of the first stands in the second, with what is below it
+abbrev pub KeepsWrappers : Expression → Expression → Type 0
+KeepsWrappers a b = (x : Expression) → Part a (RestoreOnErr x) → Part b (RestoreOnErr x)

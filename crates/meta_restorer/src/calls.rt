@@ -28,7 +28,7 @@ pub(crate) fn is_marked(marks: &[bool], rule: Option<usize>) -> bool
     }
 }
 
-/// Whether a `PUSH`, `POP` or `DROP` is met in an expression, not below a wrapper.
+/// Whether a `PUSH`, `POP`, `POP_ALL` or `DROP` is met in an expression, not below a wrapper.
 pub(crate) fn changes_itself(expr: &OptimizedExpr) -> bool
     ensures { result ≡ changes_by is_changer (optimized_expression_of expr.now) }
 {

@@ -48,5 +48,5 @@ fn is_literal(name: &String, literal: &str) -> bool
 pub(crate) fn is_changer_name(name: &String) -> bool
     ensures { result ≡ is_changer (text_of name.now) }
 {
-    is_literal(name, "POP") || is_literal(name, "DROP")
+    is_literal(name, "POP") || is_literal(name, "POP_ALL") || is_literal(name, "DROP")
 }

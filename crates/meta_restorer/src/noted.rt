@@ -18,7 +18,7 @@ use std::alloc::{AllocError, Global};
 /// What is met in an expression, not below a wrapper.
 #[derive(Clone, Copy)]
 pub struct Share {
-    /// Whether a `PUSH`, `POP` or `DROP` is met.
+    /// Whether a `PUSH`, `POP`, `POP_ALL` or `DROP` is met.
     pub changes: bool,
     /// Where the numbers of its names stand in the list.
     pub start: usize,
@@ -34,8 +34,8 @@ pub struct Noted {
     pub shares: Vec<Share>,
 }
 
-/// Whether a `PUSH`, `POP` or `DROP` is met in an expression, not below a wrapper. The number of each name
-/// that is met goes behind the others.
+/// Whether a `PUSH`, `POP`, `POP_ALL` or `DROP` is met in an expression, not below a wrapper. The number of
+/// each name that is met goes behind the others.
 fn look(
     names: &Names,
     expr: &OptimizedExpr,
@@ -124,7 +124,7 @@ pub(crate) fn noted_of<'a>(
     Ok(Noted { numbers, shares })
 }
 
-/// Whether a `PUSH`, `POP` or `DROP` is met, or a rule that is marked.
+/// Whether a `PUSH`, `POP`, `POP_ALL` or `DROP` is met, or a rule that is marked.
 pub(crate) fn is_shown(numbers: &[Option<usize>], share: Share, marks: &[bool]) -> bool
     requires { IsWithin numbers.now share }
     ensures { result ≡ shows marks.now numbers.now share }

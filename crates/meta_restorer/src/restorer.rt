@@ -7,7 +7,7 @@ ghost use Rattle.meta_base.specs.Rewritings.Wrapping.{ChangesStack, RestoresTo, 
 ghost use Rattle.meta_ast.specs.Ast.{text_of};
 ghost use Rattle.meta_ast.specs.Optimized.{optimized_expression_of, optimized_rule_of, optimized_rules_of};
 ghost use Rattle.meta_restorer.specs.Bodies.{HoldsOptimizedBodies, named_body};
-ghost use Rattle.meta_restorer.specs.Changing.{HasNoWrappers, changes_by};
+ghost use Rattle.meta_restorer.specs.Changing.{HasNoWrappers, KeepsWrappers, changes_by};
 ghost use Rattle.meta_restorer.specs.Faults.{IsMemory};
 ghost use Rattle.meta_restorer.specs.Noted.{AreNotedOf, IsNotedAs};
 ghost use Rattle.meta_restorer.specs.Restoring.{AreQuiet, AreSameErased, HaveNoWrappers, restored_rule_by, restored_rules_by};
@@ -23,9 +23,9 @@ use meta_base::runtime::Fault;
 use std::alloc::{AllocError, Global};
 use std::collections::HashMap;
 
-/// Whether an expression changes the stack: a `PUSH`, `POP` or `DROP` is met in it, not below a wrapper, or
-/// in the body of a rule that is named there. `rules` holds the body of each rule at its name. `POP_ALL` does
-/// not count. The only fault is a want of memory.
+/// Whether an expression changes the stack: a `PUSH`, `POP`, `POP_ALL` or `DROP` is met in it, not below a
+/// wrapper, or in the body of a rule that is named there. `rules` holds the body of each rule at its name. The
+/// only fault is a want of memory.
 pub fn child_modifies_state(
     alloc: Global,
     expr: &OptimizedExpr,
@@ -46,8 +46,8 @@ pub fn child_modifies_state(
 
 /// The rule with wrappers: from the inside out, each operand of `?` and `*` and both sides of each `|` are
 /// wrapped where they change the stack as they then stand. `rules` holds the body of each rule at its name,
-/// as it was before any was restored. Name and type stay, and so does what stands below a wrapper. The only
-/// fault is a want of memory.
+/// as it was before any was restored. Name and type stay, and so does each wrapper that stands there, with all
+/// that is below it. The only fault is a want of memory.
 pub fn restore_on_err(
     alloc: Global,
     rule: OptimizedRule,
@@ -60,6 +60,8 @@ pub fn restore_on_err(
         → RestoresTo g (optimized_expression_of rule.expr) (optimized_expression_of r.expr)) }
     ensures erased { IfOk result
         (λ r. erased (optimized_expression_of r.expr) ≡ erased (optimized_expression_of rule.expr)) }
+    ensures wrappers { IfOk result
+        (λ r. KeepsWrappers (optimized_expression_of rule.expr) (optimized_expression_of r.expr)) }
     ensures memory { IfErr result IsMemory }
 {
     match changes_in_map(alloc, rules) {
@@ -92,7 +94,7 @@ pub fn restore_rules(alloc: Global, rules: Vec<OptimizedRule>) -> Result<Vec<Opt
     }
 }
 
-// Whether a `PUSH`, `POP` or `DROP` is met in any rule; where none is, no rule changes the stack.
+// Whether a `PUSH`, `POP`, `POP_ALL` or `DROP` is met in any rule; where none is, no rule changes the stack.
 fn is_any_changing(rules: &[OptimizedRule]) -> bool
     ensures { result ≡ false → AreQuiet rules.now }
 {

@@ -7,14 +7,15 @@ use Rattle.std.proofs.lemmas.List.{length-map}
 use Rattle.meta_base.specs.Language.Expression.{Grammar}
 use Rattle.meta_base.specs.Language.Text.{Text}
 use Rattle.meta_base.specs.declared.runtime.places.Span as code_span
-use Rattle.meta_nodes.specs.Erasure.{without_spans}
+use Rattle.meta_nodes.specs.Erasure.{rules_without_spans, without_spans}
 use Rattle.meta_nodes.specs.Nodes.{piece_of, view, rule_view, rule_views}
 use Rattle.meta_nodes.specs.Spanned.{Span, Spanned, SpannedRule}
 use Rattle.meta_nodes.specs.declared.node.ParserRule.{ParserRule}
 use Rattle.meta_stacks.specs.Stack.{AbstractStack, In, entry}
 use Rattle.meta_stacks.specs.Reading as says
 use Rattle.meta_stacks.specs.Reading.{reading, name_reading}
-use Rattle.meta_stacks.specs.Reported.{ReportedIn, ReportedFrom, IsCertainAt}
+use Rattle.meta_stacks.specs.Reported.{KnowsNullable, ReportedIn, ReportedFrom, IsCertainAt}
+use Rattle.meta_stacks.specs.Reports.{SkippingAltersStack}
 use Rattle.meta_stacks.specs.Turns.{most_stacks}
 use Rattle.meta_stacks.proofs.AnyLimit.{reported_same}
 use Rattle.meta_stacks.proofs.Routes.{reported_is_certain}
@@ -150,6 +151,22 @@ reported_at R (x ∷ xs) us (ts, vs, q, h, e) s i = elim (in_sides s ts vs (subs
   | inr j ↦ let d = reported_at R xs vs h s j in (suc d.0, d.1, d.2, d.3, d.4, d.5)
 ]
 
+rule_at : (rules : List SpannedRule) (r : ℕ) (x : Spanned) → slice_get (map (λ (q : SpannedRule). q.body) rules) r ≡ Some x → (rule : SpannedRule) × (slice_get rules r ≡ Some rule) × (rule.body ≡ x)
+rule_at rules r x e = go (slice_get rules r) refl (sym (slice_get-map (λ (q : SpannedRule). q.body) rules r) ∙ e)
+  where
+    go : (o : Option SpannedRule) → slice_get rules r ≡ o → option_map (λ q. q.body) o ≡ Some x → (rule : SpannedRule) × (slice_get rules r ≡ Some rule) × (rule.body ≡ x)
+    go None a b = cc
+    go (Some q) a b = (q, a, cc)
+
+-- what is reported in the bodies of rules is certain
+reports_certain : (limit turns : ℕ) (recursive : Text → Bool) (rules : List SpannedRule) (nullable : Spanned → Bool) → KnowsNullable (rules_without_spans rules) nullable → (SkippingAltersStack (rules_without_spans rules) → ⊥)
+    → (spans : List Span) → AllReported (ReportedFrom limit turns recursive (rules_without_spans rules) nullable) (map (λ (r : SpannedRule). r.body) rules) spans → AreCertain limit turns recursive rules spans
+reports_certain limit turns recursive rules nullable knows calm spans h s i =
+    let g = rules_without_spans rules in
+    let (r, x, ts, at, q, j) = reported_at (ReportedFrom limit turns recursive g nullable) (map (λ (r : SpannedRule). r.body) rules) spans h s i in
+    let (rule, here, e) = rule_at rules r x at in
+    (r, rule, here, subst (λ z. IsCertainAt limit turns recursive g z s) (sym e) (reported_is_certain limit turns recursive g nullable knows calm x ts q s j))
+
 -- the bodies of rules
 abbrev bodies : List ParserRule → List Spanned
 bodies rules = map (λ r. view r.node) rules
@@ -209,17 +226,11 @@ module _ (rules : List ParserRule) (t : Table) (h : IsTableOf rules t) (flags : 
       (subst (λ k. AllReported (ReportedIn t.limit t.turns (λ y a. reading t.limit k (name_reading t.limit k (is_flagged (grammar_of rules) t.recursive.items) (grammar_of rules) (length (grammar_of rules))) (without_spans y) a) nullable (λ a. a ≡ entry)) xs (map piece_of found)) h.skips
       (f.value meaning (tied.is_meaning rules t h.tabled h.ordered) read nullable xs (chosen_stand t meaning read nullable p t.roots.items (bodies rules) stand)))
 
-  pub all_certain : (found : List code_span.Span) → FindsAll t (filter p t.roots.items) found → AreCertain (rule_views rules) (map piece_of found)
-  all_certain found f s i =
-      let (r, x, ts, at, q, j) = reported_at _ (bodies rules) (map piece_of found) (reported found f) s i in
-      let (rule, here, e) = body_at rules r x at in (
-        r,
-        rule_view rule,
-        slice_get-map rule_view rules r ∙ ap (option_map rule_view) here,
-        subst (λ z. IsCertainAt (grammar_of rules) z s) (sym e)
-            (reported_is_certain t.limit t.turns (is_flagged (grammar_of rules) t.recursive.items) (grammar_of rules) nullable
-            (answering.knows_nullable rules (nodes_of t) t.roots.items h.tabled t.nullable.items h.nullable) h.calm x ts q s j),
-      )
+  read_to : (found : List code_span.Span) → FindsAll t (filter p t.roots.items) found → (limit : ℕ) → most_stacks < limit
+      → AllReported (ReportedFrom limit t.turns (is_flagged (grammar_of rules) t.recursive.items) (grammar_of rules) nullable) (map (λ (r : SpannedRule). r.body) (rule_views rules)) (map piece_of found)
+  read_to found f limit k =
+      with_limit t.limit h.limit limit k t.turns (is_flagged (grammar_of rules) t.recursive.items) (grammar_of rules) nullable _ _
+      (subst (λ z. AllReported Reports z (map piece_of found)) (same_bodies rules) (reported found f))
 
   -- what is found is what the plain reading reports, in other words
   pub all_plain : (found : List code_span.Span) → FindsAll t (filter p t.roots.items) found → ArePlain (rule_views rules) (map piece_of found)
@@ -235,8 +246,9 @@ module _ (rules : List ParserRule) (t : Table) (h : IsTableOf rules t) (flags : 
       );
       turns = t.turns;
       most_searched = h.turns;
-      read = λ limit k. with_limit t.limit h.limit limit k t.turns (is_flagged (grammar_of rules) t.recursive.items) (grammar_of rules) nullable _ _
-          (subst (λ z. AllReported Reports z (map piece_of found)) (same_bodies rules) (reported found f));
+      read = read_to found f;
+      certain = λ limit k. reports_certain limit t.turns (is_flagged (grammar_of rules) t.recursive.items) (rule_views rules) nullable
+          (answering.knows_nullable rules (nodes_of t) t.roots.items h.tabled t.nullable.items h.nullable) h.calm (map piece_of found) (read_to found f limit k);
     };
   }
 
@@ -272,6 +284,7 @@ module _ (rules : List ParserRule) (ns : List Node) (roots : List ℕ) (tabled :
           );
           turns = 64;
           most_searched = refl;
+          certain = λ limit k s i. absurd i;
           read = λ limit k. with_limit 3067 refl limit k 64 (recursive rules ns roots tabled) (grammar_of rules) takes_nothing _ _
               (subst (λ z. AllReported none_in z []) (same_bodies rules) (all_silent none_in (bodies rules) body_silent));
         };

@@ -24,12 +24,12 @@ use Rattle.meta_stack.specs.Visiting.{AllReported}
 use Rattle.meta_stack.specs.declared.facts.Question.TheVariants as asks
 use Rattle.meta_stack.specs.declared.table.Table.{Table}
 
--- each of these places is that of a repetition in some rule's own body that certainly has no outcome where it
--- is reached
-abbrev pub AreCertain : List SpannedRule → List Span → Type 0
-AreCertain rules spans = (s : Span) → In s spans
+-- each of these places is that of a repetition in some rule's own body that is reported, and that certainly
+-- has no outcome where it is reached on the reported route
+abbrev pub AreCertain : ℕ → ℕ → (Text → Bool) → List SpannedRule → List Span → Type 0
+AreCertain limit turns recursive rules spans = (s : Span) → In s spans
     → (r : ℕ) × (rule : SpannedRule) × (slice_get rules r ≡ Some rule)
-    × IsCertainAt (rules_without_spans rules) rule.body s
+    × IsCertainAt limit turns recursive (rules_without_spans rules) rule.body s
 
 -- one place stands before another: it starts before it, or where it does and ends before it
 abbrev pub is_before : Span → Span → Bool
@@ -52,7 +52,8 @@ pub record IsSorted (found sorted : List Span) : Type 0 where
   pub rising : IsRising sorted
 
 -- what the plain reading reports in the bodies of rules, one body after another; calls of rules that reach
--- themselves are not followed, and turns are, up to any limit beyond the number of stacks
+-- themselves are not followed, and turns are, up to any limit beyond the number of stacks; each report is
+-- certain
 pub record AreRead (rules : List SpannedRule) (spans : List Span) : Type 0 where
   pub recursive : Text → Bool
   pub reaches_itself : (n : Text) → (recursive n ≡ true) ↔ ReachesByCalls (rules_without_spans rules) n n
@@ -63,16 +64,16 @@ pub record AreRead (rules : List SpannedRule) (spans : List Span) : Type 0 where
   pub read : (limit : ℕ) → most_stacks < limit
       → AllReported (ReportedFrom limit turns recursive (rules_without_spans rules) nullable)
       (map (λ r. r.body) rules) spans
+  pub certain : (limit : ℕ) → most_stacks < limit → AreCertain limit turns recursive rules spans
 
 -- these are the reports: none where what is skipped changes the stack, else what the plain reading reports
 pub record ArePlain (rules : List SpannedRule) (spans : List Span) : Type 0 where
   pub silent : SkippingAltersStack (rules_without_spans rules) → spans ≡ []
   pub plain : (SkippingAltersStack (rules_without_spans rules) → ⊥) → AreRead rules spans
 
--- these are the reports in the order of their places; each of them is certain
+-- these are the reports in the order of their places
 pub record AreReports (rules : List SpannedRule) (spans : List Span) : Type 0 where
   pub reports : List Span
-  pub certain : AreCertain rules reports
   pub plain : ArePlain rules reports
   pub sorted : IsSorted reports spans
 

@@ -6,7 +6,7 @@ ghost use Rattle.meta_base.specs.Language.Expression.{whitespace, comment};
 ghost use Rattle.meta_base.specs.Pieces.Saying.{Tell};
 ghost use Rattle.meta_nodes.specs.Nodes.{rule_views, piece_of};
 ghost use Rattle.meta_stacks.specs.Reports.{skips_in};
-ghost use Rattle.meta_stack.specs.Certain.{AreCertain, ArePlain, AreReports, IsSorted, TellReports, complaint_at};
+ghost use Rattle.meta_stack.specs.Certain.{ArePlain, AreReports, IsSorted, TellReports, complaint_at};
 ghost use Rattle.meta_stack.specs.Expressions.{body_flag, name_flag};
 ghost use Rattle.meta_stack.specs.Flags.{is_set_at};
 ghost use Rattle.meta_stack.specs.NameMaps.{KnowsRules};
@@ -309,8 +309,7 @@ fn visit_all<'i>(
 
 /// The places of all reports, one body after another.
 fn all_reports<'i>(alloc: Global, rules: &[ParserRule<'i>]) -> Result<Vec<Span<'i>>, AllocError>
-    ensures certain { IfOk result (λ found. AreCertain (rule_views rules.now) (map piece_of found.items)) }
-    ensures plain { IfOk result (λ found. ArePlain (rule_views rules.now) (map piece_of found.items)) }
+    ensures { IfOk result (λ found. ArePlain (rule_views rules.now) (map piece_of found.items)) }
 {
     match to_visit_in(alloc, rules)? {
         None => Ok(Vec::new(alloc)),

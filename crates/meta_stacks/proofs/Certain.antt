@@ -175,6 +175,8 @@ certain limit turns recursive g e p r a report =
     let loop = loop_of (step report.body) (reading_keeps limit (skips_in g) recursive g (length g) report.body) turns a report.loops_there in
     record {
       leads = report.leads;
+      body = report.body;
+      repeats = report.repeats;
       no_outcome = λ classes m s o real h d.
           repeats_never (step report.body) g classes m report.body (skips_in g) (kept g classes report.calm m)
           (reading_sound limit (skips_in g) recursive g classes (kept g classes report.calm) (length g) report.body m real) loop.0 loop.2 report.repeats s o (made_intact a) loop.1 h d;

@@ -11,3 +11,4 @@ pub mod Counting
 pub mod FewMarks
 pub mod Turning
 pub mod AnyLimit
+pub mod Refuting

@@ -7,7 +7,7 @@ use Rattle.meta_nodes.specs.Erasure.{without_spans}
 use Rattle.meta_nodes.specs.Spanned.{span_of, Span, Spanned, Leaf, One, Two, Unary, PosPred, NegPred, Opt, Rep, RepOnce, RepExact, RepMin, RepMax, RepMinMax, Push, Binary, Seq, Choice}
 use Rattle.meta_stacks.specs.Stack.{AbstractStack, In, entry, is_among}
 use Rattle.meta_stacks.specs.Reading.{Reading, loops, tried, Copy, Required, Optional, Endless}
-use Rattle.meta_stacks.specs.Reports.{Route, Here, First, Second, Inner, Turn, StandsAt, to_itself, to_seq_first, to_seq_second, to_choice_first, to_choice_second, to_opt, to_push, to_pos_pred, to_neg_pred, to_turn, repetition, Repeats, any_times, once_or_more, at_least, next, turn_start, Visits, visit, visit_seq_first, visit_seq_second, visit_choice_first, visit_choice_second, visit_opt, visit_push, visit_pos_pred, visit_neg_pred, visit_turn, IsReport, SkippingAltersStack, reading_in}
+use Rattle.meta_stacks.specs.Reports.{Route, Here, First, Second, Inner, Turn, StandsAt, to_itself, to_seq_first, to_seq_second, to_choice_first, to_choice_second, to_opt, to_push, to_pos_pred, to_neg_pred, to_turn, HasTurn, repetition, Repeats, any_times, once_or_more, at_least, next, turn_start, Visits, visit, visit_seq_first, visit_seq_second, visit_choice_first, visit_choice_second, visit_opt, visit_push, visit_pos_pred, visit_neg_pred, visit_turn, IsReport, SkippingAltersStack, reading_in}
 use Rattle.meta_stacks.specs.Reported.{turn_starts, starts, copies_of, is_endless, is_choice, SomeLoop, Own, ReportedIn, ReportedFrom, node_at, KnowsNullable, IsCertainAt}
 use Rattle.meta_stacks.specs.Walks.{next_after}
 use Rattle.meta_stacks.proofs.Certain.{certain}
@@ -63,6 +63,23 @@ module _ (step : AbstractStack → Reading) where
   starts_turn limit (Endless ∷ cs) (Some a) b h = let r = turn_starts_turn limit [] (Some a) b h in
       (r.0, r.1, (r.2.0, turns_anywhere cs r.2.0 r.0 ∙ r.2.1))
 
+  -- what starts is a copy or turn that there is
+  has_turn : (cs : List Copy) (i : ℕ) (a b : AbstractStack) → turn_start step cs i a ≡ Some b → HasTurn cs i
+  has_turn [] i a b h = cc
+  has_turn (Required ∷ cs) zero a b h = tt
+  has_turn (Required ∷ cs) (suc i) a b h = go (step a).ok h (λ c k. has_turn cs i c b k)
+    where
+      go : (q : Option AbstractStack) → next q (λ z. turn_start step cs i z) ≡ Some b → ((c : AbstractStack) → turn_start step cs i c ≡ Some b → HasTurn cs i) → HasTurn cs i
+      go None h f = cc
+      go (Some c) h f = f c h
+  has_turn (Optional ∷ cs) zero a b h = tt
+  has_turn (Optional ∷ cs) (suc i) a b h = go (tried a (step a)) h (λ c k. has_turn cs i c b k)
+    where
+      go : (q : Option AbstractStack) → next q (λ z. turn_start step cs i z) ≡ Some b → ((c : AbstractStack) → turn_start step cs i c ≡ Some b → HasTurn cs i) → HasTurn cs i
+      go None h f = cc
+      go (Some c) h f = f c h
+  has_turn (Endless ∷ cs) i a b h = tt
+
 module _ (limit turns : ℕ) (step : Expression → AbstractStack → Reading) (nullable : Spanned → Bool) where
   abbrev read : Spanned → AbstractStack → Reading
   read x = step (without_spans x)
@@ -117,7 +134,7 @@ module _ (limit turns : ℕ) (step : Expression → AbstractStack → Reading) (
     here = d.here;
     at = d.at;
     place = d.place;
-    leads = to_turn e d.leads;
+    leads = to_turn e (has_turn (read x) (copies_of f) i a b h) d.leads;
     visits = visit_turn e h d.visits;
     repeats = d.repeats;
     takes = d.takes;
@@ -248,9 +265,9 @@ module _ (limit turns : ℕ) (step : Expression → AbstractStack → Reading) (
       in_second : FoundFrom (λ b. (a : AbstractStack) × S a × (next_after (is_choice f) (read x a) a ≡ Some b)) y t → FoundFrom S (Two s f x y) t
       in_second r = (r.1.0.0, (r.1.0.1, second s f x y t r.1.0.0 r.0 r.1.0.2 r.1.1))
 
--- each span that is reported is that of a repetition that certainly has no outcome
+-- each span that is reported is that of a repetition that certainly has no outcome, on the route that was read
 pub reported_is_certain : (limit turns : ℕ) (recursive : Text → Bool) (g : Grammar) (nullable : Spanned → Bool) → KnowsNullable g nullable → (SkippingAltersStack g → ⊥)
-    → (x : Spanned) (ts : List Span) → ReportedFrom limit turns recursive g nullable x ts → (t : Span) → In t ts → IsCertainAt g x t
+    → (x : Spanned) (ts : List Span) → ReportedFrom limit turns recursive g nullable x ts → (t : Span) → In t ts → IsCertainAt limit turns recursive g x t
 reported_is_certain limit turns recursive g nullable null calm x ts h t i =
     let step : Expression → AbstractStack → Reading = reading_in limit recursive g in
     let r = found limit turns step nullable x (λ a. a ≡ entry) ts h t i in
@@ -271,5 +288,6 @@ reported_is_certain limit turns recursive g nullable null calm x ts h t i =
       node = d.node;
       at = d.at;
       place = d.place;
+      reported = report;
       certain = certain limit turns recursive g (without_spans x) (without_spans d.node) d.route d.here report;
     }

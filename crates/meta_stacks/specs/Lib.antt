@@ -7,3 +7,4 @@ pub mod Walks
 pub mod Reported
 pub mod Recursion
 pub mod Turns
+pub mod Refuted

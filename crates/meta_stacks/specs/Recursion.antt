@@ -1,5 +1,5 @@
 -- Which rules reach themselves.
-use Rattle.std.specs.Prelude.{◌≡◌, Some}
+use Rattle.std.specs.Prelude.{◌≡◌, Some, Bool, true}
 use Rattle.meta_base.specs.Language.Text.{Text}
 use Rattle.meta_base.specs.Language.Expression.{Ident, Part, Rule, Grammar, rule_of}
 
@@ -10,3 +10,7 @@ module _ (g : Grammar) where
     by_call : {n c : Text} {r : Rule} → rule_of g n ≡ Some r → Part r.body (Ident c) → ReachesByCalls n c
     by_calls : {n c d : Text} {r : Rule} → rule_of g n ≡ Some r → Part r.body (Ident c) → ReachesByCalls c d
         → ReachesByCalls n d
+
+-- no call of a rule that reaches itself is followed
+abbrev pub LeavesOutRecursion : (Text → Bool) → Grammar → Type 0
+LeavesOutRecursion recursive g = (n : Text) → ReachesByCalls g n n → recursive n ≡ true

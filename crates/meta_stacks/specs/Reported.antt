@@ -8,7 +8,7 @@ use Rattle.meta_nodes.specs.Spanned.{span_of, Span, Spanned, Leaf, One, Two, Una
 use Rattle.meta_stacks.specs.Stack.{AbstractStack, In, entry, is_among}
 use Rattle.meta_stacks.specs.Reading as says
 use Rattle.meta_stacks.specs.Reading.{loops, tried, Copy, Required, Optional, Endless, at_least_copies, from_to_copies}
-use Rattle.meta_stacks.specs.Reports.{Route, Here, First, Second, Inner, Turn, reading_in, IsCertain}
+use Rattle.meta_stacks.specs.Reports.{Route, Here, First, Second, Inner, Turn, reading_in, IsReport, IsCertain}
 use Rattle.meta_stacks.specs.Walks.{next_after}
 
 -- what is inside is visited as the copies of a repetition are; once where it is none
@@ -102,11 +102,14 @@ ReportedFrom limit turns recursive g nullable x ts =
     ReportedIn limit turns (λ y. reading_in limit recursive g (without_spans y)) nullable
     (λ a. a ≡ entry) x ts
 
--- at this place of a rule's body stands a repetition that certainly has no outcome where it is reached
-pub record IsCertainAt (g : Grammar) (x : Spanned) (t : Span) : Type 0 where
+-- at this place of a rule's body stands a repetition that is reported on a route, and that certainly has no
+-- outcome where it is reached on that route
+pub record IsCertainAt (limit turns : ℕ) (recursive : Text → Bool) (g : Grammar) (x : Spanned) (t : Span)
+    : Type 0 where
   pub route : Route
   pub stack : AbstractStack
   pub node : Spanned
   pub at : node_at x route ≡ Some node
   pub place : span_of node ≡ t
+  pub reported : IsReport limit turns recursive g (without_spans x) (without_spans node) route stack
   pub certain : IsCertain g (without_spans x) (without_spans node) route stack

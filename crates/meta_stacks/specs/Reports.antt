@@ -78,7 +78,16 @@ pub data Route : Type 0 where
   Inner : Route → Route
   Turn : ℕ → Route → Route
 
--- the part at a route
+-- so many of these copies or turns come before one more
+abbrev pub HasTurn : List Copy → ℕ → Type 0
+HasTurn [] i = ⊥
+HasTurn (Required ∷ cs) zero = ⊤
+HasTurn (Required ∷ cs) (suc i) = HasTurn cs i
+HasTurn (Optional ∷ cs) zero = ⊤
+HasTurn (Optional ∷ cs) (suc i) = HasTurn cs i
+HasTurn (Endless ∷ cs) i = ⊤
+
+-- the part at a route, on which each turn is one that its repetition has
 pub data StandsAt : Expression → Route → Expression → Type 0 where
   to_itself : {e : Expression} → StandsAt e Here e
   to_seq_first : {a b p : Expression} {r : Route} → StandsAt a r p → StandsAt (Seq a b) (First r) p
@@ -90,7 +99,7 @@ pub data StandsAt : Expression → Route → Expression → Type 0 where
   to_pos_pred : {e p : Expression} {r : Route} → StandsAt e r p → StandsAt (PosPred e) (Inner r) p
   to_neg_pred : {e p : Expression} {r : Route} → StandsAt e r p → StandsAt (NegPred e) (Inner r) p
   to_turn : {e p : Expression} {q : Repetition} {i : ℕ} {r : Route} → repetition e ≡ Some q
-      → StandsAt q.body r p → StandsAt e (Turn i r) p
+      → HasTurn q.copies i → StandsAt q.body r p → StandsAt e (Turn i r) p
 
 -- where the reading goes on from a stack that may be impossible
 abbrev pub next : Option AbstractStack → (AbstractStack → Option AbstractStack) → Option AbstractStack
@@ -168,9 +177,13 @@ module _ (g : Grammar) (classes : Classes) (m : Mode) where
         → repetition e ≡ Some q → TurnAt q.body q.copies i s t → ReachesRoute q.body r t u
         → ReachesRoute e (Turn i r) s u
 
--- a report of p at a route in the rule's body e is certain: no start that reaches the route has an outcome
+-- the repetition p at a route in the rule's body e is certain: no start of the rule that reaches it on this
+-- route has an outcome
 pub record IsCertain (g : Grammar) (e p : Expression) (r : Route) (a : AbstractStack) : Type 0 where
   pub leads : StandsAt e r p
+  -- p repeats it, and has no greatest number
+  pub body : Expression
+  pub repeats : Repeats p body
   -- from no stack that is described p has an outcome, at any position of any text
   pub no_outcome : (classes : Classes) (m : Mode) (s : State) (o : Outcome) → IsRuleMode m
       → Describes a s.stack → Matches g classes p m s o → ⊥
@@ -178,10 +191,14 @@ pub record IsCertain (g : Grammar) (e p : Expression) (r : Route) (a : AbstractS
   pub described : (classes : Classes) (m : Mode) (s t : State) → IsRuleMode m
       → ReachesRoute g classes m e r s t → Describes a t.stack
 
--- how the rules of a grammar are read; calls are followed as deep as there are rules
+-- how the rules of a grammar are read, where calls are followed so deep
+abbrev pub reading_to_depth : ℕ → ℕ → (Text → Bool) → Grammar → Expression → AbstractStack → Reading
+reading_to_depth depth limit recursive g e a =
+    reading limit (skips_in g) (name_reading limit (skips_in g) recursive g depth) e a
+
+-- the same, where calls are followed as deep as there are rules
 abbrev pub reading_in : ℕ → (Text → Bool) → Grammar → Expression → AbstractStack → Reading
-reading_in limit recursive g e a =
-    reading limit (skips_in g) (name_reading limit (skips_in g) recursive g (length g)) e a
+reading_in limit recursive g e a = reading_to_depth (length g) limit recursive g e a
 
 -- a report of the repetition p at a route in a rule's body e, which is visited with the stack a
 pub record IsReport (limit turns : ℕ) (recursive : Text → Bool) (g : Grammar) (e p : Expression) (r : Route)

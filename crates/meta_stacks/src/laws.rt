@@ -6,23 +6,27 @@ ghost use Rattle.meta_nodes.specs.Spanned.{Spanned, Span};
 ghost use Rattle.meta_stacks.specs.Stack.{AbstractStack, In};
 ghost use Rattle.meta_stacks.specs.Reading.{Reading, Walk, turns, reading, name_reading};
 ghost use Rattle.meta_stacks.specs.Reported.{KnowsNullable, ReportedFrom, IsCertainAt, turn_starts};
-ghost use Rattle.meta_stacks.specs.Reports.{Route, IsReport, IsCertain, SkippingAltersStack, reading_in};
+ghost use Rattle.meta_stacks.specs.Recursion.{LeavesOutRecursion};
+ghost use Rattle.meta_stacks.specs.Refuted.{peeked, peeked_twice, top, top_of_none, alone};
+ghost use Rattle.meta_stacks.specs.Reports.{Route, IsReport, IsCertain, SkippingAltersStack, reading_in, reading_to_depth};
 ghost use Rattle.meta_stacks.specs.Turns.{HasFewMarks, most_stacks, AreDistinct, KeepsFewMarks, TurnsEnd};
 
-/// Each report is certain: no start of the rule that reaches the repetition has an outcome. That holds
-/// however many turns are followed, and whichever rules are taken for recursive.
+/// Each report is certain: it is that of a repetition without a greatest number, and no start of the rule
+/// that reaches it on the reported route has an outcome. That holds however many turns are followed, and
+/// whichever rules are taken for recursive.
 pub fn certain()
     ensures { (limit turns : ℕ) (recursive : Text → Bool) (g : Grammar) (e p : Expression) (r : Route)
         → (a : AbstractStack) → IsReport limit turns recursive g e p r a → IsCertain g e p r a }
 {}
 
-/// Each span that the plain reading of a rule's body reports is that of a repetition in it that certainly
-/// has no outcome, where what is skipped leaves the stack alone.
+/// Each span that the plain reading of a rule's body reports is that of a repetition in it that is reported
+/// on some route, and that certainly has no outcome where it is reached on that route, where what is skipped
+/// leaves the stack alone.
 pub fn reported_is_certain()
     ensures { (limit turns : ℕ) (recursive : Text → Bool) (g : Grammar) (nullable : Spanned → Bool)
         → KnowsNullable g nullable → (SkippingAltersStack g → ⊥)
         → (x : Spanned) (ts : List Span) → ReportedFrom limit turns recursive g nullable x ts
-        → (t : Span) → In t ts → IsCertainAt g x t }
+        → (t : Span) → In t ts → IsCertainAt limit turns recursive g x t }
 {}
 
 /// There are no more stacks with eight marks at most than `most_stacks`. So with any limit above it the turns
@@ -54,4 +58,22 @@ pub fn limits_agree()
         → most_stacks < limit → most_stacks < other
         → ReportedFrom limit turns recursive g nullable x ts
         → ReportedFrom other turns recursive g nullable x ts }
+{}
+
+/// Where no rule that reaches itself is followed, the depth of calls is never met: expressions have the same
+/// readings with any depth from the number of rules on.
+pub fn depths_agree()
+    ensures { (limit depth : ℕ) (recursive : Text → Bool) (g : Grammar) (e : Expression) (a : AbstractStack)
+        → LeavesOutRecursion recursive g → length g ≤ depth
+        → reading_to_depth depth limit recursive g e a ≡ reading_in limit recursive g e a }
+{}
+
+/// What may end is not certain, whatever the route and the stack: in `a = { (PEEK_ALL*){2} }` the inner
+/// repetition, of which there is no third turn. Nor is what is no repetition: in `a = { POP_ALL ~ PEEK }` the
+/// `PEEK`, although it has no outcome there.
+pub fn others_are_not_certain()
+    ensures ends { (r : Route) (a : AbstractStack)
+        → IsCertain (alone peeked_twice) peeked_twice peeked r a → ⊥ }
+    ensures once { (r : Route) (a : AbstractStack)
+        → IsCertain (alone top_of_none) top_of_none top r a → ⊥ }
 {}

@@ -77,7 +77,7 @@ pub(crate) fn close(
     Ok(())
 }
 
-/// AddsEntries a tree with no trees inside it, if there is to be one.
+/// Adds a tree with no trees inside it, if there is to be one.
 pub(crate) fn leaf(
     entries: &mut Vec<Entry>,
     gives: bool,

@@ -22,7 +22,7 @@ impl PestParser {
     /// the failure.
     ///
     /// The rule is matched by the meaning of expressions over the meta-grammar at position 0, in
-    /// NonAtomic, with the empty stack. Text may be left over, unless the rule asks for `EOI`.
+    /// NonAtomic, with the empty stack. It may stop before the end, but where the rule asks for `EOI`.
     /// `Rule::EOI` gives one pair from 0 to 0 on the empty text, and fails at 0 elsewhere.
     ///
     /// The error is a `ParsingError` at the greatest position, in bytes, at which a rule that gives

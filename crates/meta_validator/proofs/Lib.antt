@@ -25,3 +25,5 @@ pub mod WalkLists
 pub mod ClosingLemmas
 pub mod RecursionLemmas
 pub mod OneRecursionList
+pub mod OneOrder
+pub mod OneFindingList

@@ -16,3 +16,4 @@ pub mod Reported
 pub mod LeftRecursion
 pub mod Regions
 pub mod Searching
+pub mod Alike

@@ -1,6 +1,11 @@
 //! What the program does once its input is read.
-ghost use Rattle.std.specs.Prelude.{◌≡◌, ◌≤◌, ◌⊎◌, ◌↔◌, IfNone, IfSome, IsErr, IsOk, IsUtf8};
-ghost use Rattle.pest_meta.specs.Spelling.{HasAnswer, HasRefusal};
+ghost use Rattle.std.specs.Prelude.{◌≡◌, ◌≢◌, ◌≤◌, ◌⊎◌, ◌↔◌, IfNone, IfSome, IsErr, IsOk, IsUtf8, OnOk, codes, encode_utf8_all};
+ghost use Rattle.std.specs.Io.KnownBytes.{Appends};
+ghost use Rattle.meta_ast.specs.Ast.{rule_type_of};
+ghost use Rattle.meta_ast.specs.Optimized.{optimized_rules_of};
+ghost use Rattle.pest_check.specs.Written.{PrintsAnswer, TellsLine, TellsRefusal};
+ghost use Rattle.pest_meta.specs.Spelling.{HasAnswer};
+ghost use Rattle.reading_back.specs.ReadsBack.{grammar_text, modifier};
 
 use meta_ast::optimized::release;
 use pest_meta::ast::RuleType;
@@ -20,18 +25,46 @@ const UNREADABLE: u8 = 3;
 /// Standard output refused a write.
 const UNWRITABLE: u8 = 4;
 
+/// How a run ends.
+#[derive(Drop)]
+pub struct Exit {
+    /// The status that the program ends with.
+    pub status: u8,
+    /// Whether `err` took the line that it was given: an error where it refused a write.
+    pub told: io::Result<()>,
+}
+
 /// Prints the rules of a grammar to `out`, a line each as `name = modifier{ expr }`, and answers 0.
 ///
 /// Otherwise one text with a line break behind it goes to `err`: the report of a text that is refused (1),
 /// `out of memory` (2), `cannot read` where there is no input or it isn't UTF-8 (3), `cannot write` where
-/// `out` refuses a write (4). A write that `err` refuses changes no answer.
-pub fn run<W: Write, E: Write>(alloc: Global, input: Option<&[u8]>, out: &mut W, err: &mut E) -> u8
-    ensures known { result ≤ 4 }
-    ensures unread { IfNone input.entry (result ≡ 3) }
-    ensures decoded { IfSome input.entry (λ bytes. result ≡ 3 ↔ ¬ (IsUtf8 bytes.now)) }
-    ensures refused { IfSome input.entry (λ bytes. result ≡ 1 → HasRefusal bytes.now) }
-    ensures printed { IfSome input.entry (λ bytes. result ≡ 0 → HasAnswer bytes.now) }
-    ensures unwritten { IfSome input.entry (λ bytes. result ≡ 4 → HasAnswer bytes.now) }
+/// `out` refuses a write (4), which leaves what it took before. A write that `err` refuses changes no status.
+pub fn run<W: Write, E: Write>(
+    alloc: Global,
+    input: Option<&[u8]>,
+    out: &mut W,
+    err: &mut E,
+) -> Exit
+    ensures known { result.status ≤ 4 }
+    ensures unread { IfNone input.entry (result.status ≡ 3) }
+    ensures decoded { IfSome input.entry (λ bytes. result.status ≡ 3 ↔ ¬ (IsUtf8 bytes.now)) }
+    ensures unwritten { IfSome input.entry (λ bytes. result.status ≡ 4 → HasAnswer bytes.now) }
+
+    // What goes to `out`.
+    ensures printed { IfSome input.entry (λ bytes. result.status ≡ 0
+        → PrintsAnswer bytes.now (W.contents out.old) (W.contents out.new)) }
+    ensures unprinted { result.status ≢ 0 → result.status ≢ 4 → out.new ≡ out.old }
+
+    // What goes to `err`.
+    ensures silent { result.status ≡ 0 → err.new ≡ err.old }
+    ensures refused { IfSome input.entry (λ bytes. result.status ≡ 1
+        → TellsRefusal bytes.now result.told (E.contents err.old) (E.contents err.new)) }
+    ensures tells_memory { result.status ≡ 2
+        → TellsLine (codes "out of memory") result.told (E.contents err.old) (E.contents err.new) }
+    ensures tells_unread { result.status ≡ 3
+        → TellsLine (codes "cannot read") result.told (E.contents err.old) (E.contents err.new) }
+    ensures tells_unwritten { result.status ≡ 4
+        → TellsLine (codes "cannot write") result.told (E.contents err.old) (E.contents err.new) }
 {
     let Some(bytes) = input else {
         return told(err, "cannot read", UNREADABLE);
@@ -46,44 +79,59 @@ pub fn run<W: Write, E: Write>(alloc: Global, input: Option<&[u8]>, out: &mut W,
     }
 }
 
-/// The status where the rules were printed or a write of them was refused, which is told.
-fn written<E: Write>(err: &mut E, outcome: io::Result<()>) -> u8
-    ensures known { (result ≡ 0) ⊎ (result ≡ 4) }
-    ensures printed { IsOk outcome → result ≡ 0 }
-    ensures unwritten { IsErr outcome → result ≡ 4 }
+/// How a run ends where the rules were printed or a write of them was refused, which is told.
+fn written<E: Write>(err: &mut E, outcome: io::Result<()>) -> Exit
+    ensures known { (result.status ≡ 0) ⊎ (result.status ≡ 4) }
+    ensures printed { IsOk outcome → result.status ≡ 0 }
+    ensures silent { IsOk outcome → err.new ≡ err.old }
+    ensures unwritten { IsErr outcome → result.status ≡ 4 }
+    ensures tells { IsErr outcome
+        → TellsLine (codes "cannot write") result.told (E.contents err.old) (E.contents err.new) }
 {
     match outcome {
-        Ok(()) => PRINTED,
+        Ok(()) => Exit {
+            status: PRINTED,
+            told: Ok(()),
+        },
         Err(_) => told(err, "cannot write", UNWRITABLE),
     }
 }
 
-/// Writes a text and a line break to `err`, and answers the status.
-fn told<E: Write>(err: &mut E, text: &str, status: u8) -> u8
-    ensures { result ≡ status }
+/// Writes a message and a line break to `err`, whatever comes of it.
+fn told<E: Write>(err: &mut E, message: &str, status: u8) -> Exit
+    ensures status { result.status ≡ status }
+    ensures tells { TellsLine message.now result.told (E.contents err.old) (E.contents err.new) }
 {
-    let _ = writeln!(err, "{text}");
-    status
+    let told = writeln!(err, "{message}");
+    Exit { status, told }
 }
 
 /// Writes rules, and lets them go by a loop: a wide rule takes no deep stack.
-fn print<W: Write>(out: &mut W, rules: Vec<OptimizedRule>) -> io::Result<()> {
+fn print<W: Write>(out: &mut W, rules: Vec<OptimizedRule>) -> io::Result<()>
+    ensures { OnOk result (Appends (W.contents out.old) (W.contents out.new)
+        (encode_utf8_all (grammar_text (optimized_rules_of rules.items)))) }
+{
     let outcome = write_lines(out, &rules);
     release(rules);
     outcome
 }
 
 /// Writes each rule on a line of its own.
-fn write_lines<W: Write>(out: &mut W, rules: &[OptimizedRule]) -> io::Result<()> {
+fn write_lines<W: Write>(out: &mut W, rules: &[OptimizedRule]) -> io::Result<()>
+    ensures { OnOk result (Appends (W.contents out.old) (W.contents out.new)
+        (encode_utf8_all (grammar_text (optimized_rules_of rules.now)))) }
+{
     for rule in rules {
-        let modifier = modifier(rule.ty);
+        let modifier = sign_of(rule.ty);
         writeln!(out, "{} = {modifier}{{ {} }}", rule.name, rule.expr)?;
     }
     out.flush()
 }
 
 /// The sign of a rule's type before its brace.
-fn modifier(ty: RuleType) -> &'static str {
+fn sign_of(ty: RuleType) -> &'static str
+    ensures { result.now ≡ modifier (rule_type_of ty) }
+{
     match ty {
         RuleType::Normal => "",
         RuleType::Silent => "_",

@@ -26,6 +26,6 @@ fn input(rt: &HostRuntime) -> Option<Vec<u8>> {
 fn main(rt: HostRuntime) -> ExitCode {
     let grammar = input(&rt);
     let bytes = grammar.as_ref().map(|bytes| bytes.as_slice());
-    let status = checks::run(rt.alloc(), bytes, &mut rt.stdout(), &mut rt.stderr());
-    ExitCode::from(status)
+    let exit = checks::run(rt.alloc(), bytes, &mut rt.stdout(), &mut rt.stderr());
+    ExitCode::from(exit.status)
 }

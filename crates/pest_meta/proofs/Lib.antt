@@ -8,3 +8,6 @@ pub mod ReportsAgree
 pub mod Spelled
 pub mod WellNamed
 pub mod WholeCharacters
+pub mod OneText
+pub mod OneReportList
+pub mod OneRefusal

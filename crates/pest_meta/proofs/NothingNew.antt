@@ -8,7 +8,7 @@ use Rattle.meta_base.proofs.OneOutcome.{same_rule}
 use Rattle.meta_base.proofs.StepsKeepOutcomes.{Matched, each_body, each_pair, neither, pairs, two}
 use Rattle.meta_base.specs.Language.Expression.{Expression, Grammar, Ident, Part, RepMin, Rule, RuleType, rule_of}
 use Rattle.meta_base.specs.Language.Text.{Text}
-use Rattle.meta_base.specs.Language.WellFormed.{InRules, Reaches, itself, onward}
+use Rattle.meta_base.specs.Language.WellFormed.{Reaches, itself, onward}
 use Rattle.meta_base.specs.Rewritings.Rewriting.{Chain, Many, Rewrites, Within, by_factoring, by_joining, by_rotating, by_skipping, by_unrolling, done, factor_absorbed, factor_optional, factor_optional_compound, factor_prefix, join_insensitive, join_literals, no_step, one_step, rotate_choice, rotate_sequence, skip_until, step, unroll_exact, unroll_max, unroll_min, unroll_min_max, unroll_once}
 use Rattle.meta_restorer.specs.Agreeing.{WrappersSuffice}
 
@@ -58,17 +58,14 @@ before neither e = cc
 before (two {r = s} {b = b} x) e = (s, refl, subst (λ r. NamesNothingNew r.type_of s.body r.body) (same_rule e) x)
 
 module _ (g h : Grammar) (f : Follows g h) where
-  named_to : {n : Text} → InRules h (Ident n) → InRules g (Ident n)
-  named_to x = let b = before (f x.0) x.2 in (x.0, b.0, b.1, b.2 _ x.3)
-
   reaches_to : {n k : Text} → Reaches h n k → Reaches g n k
   reaches_to itself = itself
   reaches_to (onward {j = j} x i d) = let b = before (f j) i in onward (reaches_to x) b.1 (b.2 _ d)
 
   suffices_to : WrappersSuffice g → WrappersSuffice h
   suffices_to w = record {
-    no_pop_all = λ i. w.no_pop_all (named_to i);
-    skipping = λ n s x. w.skipping n s (reaches_to x);
+    no_pop = λ n s x. w.no_pop n s (reaches_to x);
+    no_pop_all = λ n s x. w.no_pop_all n s (reaches_to x);
   }
 
 -- 4. wrappers suffice behind steps, and behind the listing and the wrappers

@@ -67,12 +67,12 @@ read_once rules xs ys a b recursive =
     (subst (λ r. R b.turns r a.nullable) (sym recursive)
     (subst (λ n. R b.turns b.recursive n) nullable (b.read 3067 enough))))
 
-read_alike : (rules : List SpannedRule) (xs ys : List Span) → AreRead rules xs → AreRead rules ys → xs ≡ ys
+pub read_alike : (rules : List SpannedRule) (xs ys : List Span) → AreRead rules xs → AreRead rules ys → xs ≡ ys
 read_alike rules xs ys a b =
     read_once rules xs ys a b (fun_ext (λ n. same_test (a.recursive n) (b.recursive n) _ (a.reaches_itself n) (b.reaches_itself n)))
 
--- a list of reports has no other members than another
-plain_empty : (rules : List SpannedRule) (xs ys : List Span) → ArePlain rules xs → ArePlain rules ys → xs ≡ [] → ys ≡ []
+-- where one list of reports is empty, so is another
+pub plain_empty : (rules : List SpannedRule) (xs ys : List Span) → ArePlain rules xs → ArePlain rules ys → xs ≡ [] → ys ≡ []
 plain_empty rules xs ys a b none = go ys refl
   where
     go : (zs : List Span) → ys ≡ zs → zs ≡ []

@@ -31,10 +31,10 @@ use Rattle.meta_validator.proofs.NothingElse.{nothing_else}
 use Rattle.pest_meta.specs.Findings.{TellFindings}
 use Rattle.pest_meta.proofs.ReportsAgree.{reports_agree}
 use Rattle.pest_meta.specs.Promises.{OfRead}
-use Rattle.pest_meta.specs.Spelling.{AreAccepted, AreFlawed, AreRejected, Give, HasAnswer, HasRefusal, HasTrees, HaveFindings, IsAnswer, complaints_in, IsMisnamed, IsNoGrammar, IsRefusal, IsRefusedGrammar, SpellsGrammar}
+use Rattle.pest_meta.specs.Spelling.{AreAccepted, AreFlawed, AreRejected, Give, HasAnswer, HasRefusal, HasTrees, HaveFindings, IsAnswer, complaints_in, HasWrongRules, IsMisnamed, IsNoGrammar, IsRefusal, IsRefusedGrammar, SpellsGrammar}
 
 -- no property name stands for anything
-abbrev empty_classes : Classes
+abbrev pub empty_classes : Classes
 empty_classes n c = false
 
 same_trees : {s t : State} {us vs : Trees} → Success s us ≡ Success t vs → us ≡ vs
@@ -81,10 +81,13 @@ answered_or_refused text builtins answer errors a r = go r.why
     trees : r.trees ≡ a.trees
     trees = trees_once text r.trees a.trees r.of_text a.of_text
 
-    go : IsMisnamed text r.trees errors ⊎ (AreFlawed text r.trees errors ⊎ HaveFindings text r.trees errors) → ⊥
+    rules : AreFlawed text r.trees errors ⊎ HaveFindings text r.trees errors → ⊥
+    rules (inl f) = flawed_give_none text a.trees errors a.spelled (subst (λ us. AreFlawed text us errors) trees f) a.accepted.give
+    rules (inr h) = accepted_or_found text a.trees a.spelled errors a.accepted (subst (λ us. HaveFindings text us errors) trees h)
+
+    go : IsMisnamed text r.trees errors ⊎ HasWrongRules text r.trees errors → ⊥
     go (inl m) = m.some (subst (λ us. complaints_in text us ≡ []) (sym trees) a.well_named)
-    go (inr (inl f)) = flawed_give_none text a.trees errors a.spelled (subst (λ us. AreFlawed text us errors) trees f) a.accepted.give
-    go (inr (inr h)) = accepted_or_found text a.trees a.spelled errors a.accepted (subst (λ us. HaveFindings text us errors) trees h)
+    go (inr i) = rules i.why
 
 pub not_both : (text : List ℕ) → HasAnswer text → HasRefusal text → ⊥
 not_both text (builtins, answer, a) (errors, inl n) = trees_or_fails text a.trees errors a.of_text n
@@ -132,11 +135,14 @@ misnamed text pairs copy (fault_is.Grammar errors) t h s k =
     let tell = subst (λ cs. Tell cs errors.items) same k.1 in
     inr (record { trees = named (pairs_trees pairs); of_text = of_text; why = inl (record { some = some; tell = tell }) })
 
--- what is refused for its rules
-pub rejected : (text : List ℕ) (pairs : Pairs Rule) (fault : code.Fault) → pairs_text pairs ≡ text → AreOfAGrammar pairs → AreRejected (pairs_text pairs) (named (pairs_trees pairs)) fault → IsRefusal text fault
-rejected text pairs (fault_is.Memory e) t h k = tt
-rejected text pairs (fault_is.Grammar errors) t h k =
-    subst (λ v. IsRefusal v (fault_is.Grammar errors)) t (inr (record { trees = named (pairs_trees pairs); of_text = h; why = inr k }))
+-- what is refused for its rules, where there is nothing to say of its names
+pub rejected : (text : List ℕ) (pairs copy : Pairs Rule) (fault : code.Fault) → pairs_text pairs ≡ text → AreOfAGrammar pairs → IsSamePairs pairs copy → complaints_of copy ≡ []
+    → AreRejected (pairs_text pairs) (named (pairs_trees pairs)) fault → IsRefusal text fault
+rejected text pairs copy (fault_is.Memory e) t h s n k = tt
+rejected text pairs copy (fault_is.Grammar errors) t h s n k =
+    let well_named : complaints_in (pairs_text pairs) (named (pairs_trees pairs)) ≡ [] = rw (s.0, s.1) at n in
+    subst (λ v. IsRefusal v (fault_is.Grammar errors)) t
+    (inr (record { trees = named (pairs_trees pairs); of_text = h; why = inr (record { well_named = well_named; why = k }) }))
 
 -- what is answered
 pub answered : (text : List ℕ) (pairs copy : Pairs Rule) (builtins : List (Bor (List ℕ))) (rules : Grammar) (answer : List OptimizedRule)

@@ -101,16 +101,25 @@ pub record IsMisnamed (text : List ℕ) (trees : Trees) (errors : List (Error Ru
   pub some : complaints_in text trees ≢ []
   pub tell : Tell (complaints_in text trees) errors
 
--- the text is a grammar that is refused: for its names, or else for what its trees give
+-- the names in a text's trees are in order, and the errors tell of the first flaw, or of what is found
+pub record HasWrongRules (text : List ℕ) (trees : Trees) (errors : List (Error Rule)) : Type 0 where
+  pub well_named : complaints_in text trees ≡ []
+  pub why : AreFlawed text trees errors ⊎ HaveFindings text trees errors
+
+-- the text is a grammar that is refused: for its names, or else for its rules
 pub record IsRefusedGrammar (text : List ℕ) (errors : List (Error Rule)) : Type 0 where
   pub trees : Trees
   pub of_text : HasTrees text trees
-  pub why : IsMisnamed text trees errors ⊎ (AreFlawed text trees errors ⊎ HaveFindings text trees errors)
+  pub why : IsMisnamed text trees errors ⊎ HasWrongRules text trees errors
 
--- why a text has no answer: memory is wanting, or it is no grammar, or a grammar that is refused
+-- the text is refused with these errors: it is no grammar, or a grammar that is refused
+abbrev pub IsRefusedWith : List ℕ → List (Error Rule) → Type 0
+IsRefusedWith text errors = IsNoGrammar text errors ⊎ IsRefusedGrammar text errors
+
+-- why a text has no answer: memory is wanting, or it is refused with errors
 abbrev pub IsRefusal : List ℕ → code.Fault → Type 0
 IsRefusal text (fault_is.Memory e) = ⊤
-IsRefusal text (fault_is.Grammar errors) = IsNoGrammar text errors.items ⊎ IsRefusedGrammar text errors.items
+IsRefusal text (fault_is.Grammar errors) = IsRefusedWith text errors.items
 
 -- there is an answer for the text
 abbrev pub HasAnswer : List ℕ → Type 0
@@ -119,4 +128,4 @@ HasAnswer text = (builtins : List (Bor (List ℕ))) × (answer : List OptimizedR
 
 -- there is a reason to refuse the text
 abbrev pub HasRefusal : List ℕ → Type 0
-HasRefusal text = (errors : List (Error Rule)) × (IsNoGrammar text errors ⊎ IsRefusedGrammar text errors)
+HasRefusal text = (errors : List (Error Rule)) × IsRefusedWith text errors

@@ -4,7 +4,8 @@ ghost use Rattle.meta_base.specs.Rewritings.Listing.{EachListed};
 ghost use Rattle.meta_base.specs.Rewritings.Rewriting.{Chain};
 ghost use Rattle.meta_base.specs.Rewritings.Wrapping.{EachRestored};
 ghost use Rattle.meta_restorer.specs.Agreeing.{WrappersSuffice};
-ghost use Rattle.pest_meta.specs.Laws.{FlawedGiveNothing, HasOneListOfTrees, HasTreesOrFails, IsNotBoth, SpellsOneGrammar};
+ghost use Rattle.pest_meta.specs.Laws.{FlawedGiveNothing, HasOneListOfTrees, HasOneRefusal, HasTreesOrFails, IsNotBoth, NamesComeFirst};
+ghost use Rattle.pest_meta.specs.Laws.{SpellsOneGrammar};
 
 /// A text spells one list of rules at most.
 pub fn spells_one_grammar()
@@ -20,8 +21,15 @@ pub fn one_kind_of_answer()
     ensures exclusive { IsNotBoth }
 {}
 
-/// Steps, the listing of every body and the wrappers bring in no `POP_ALL`, and no way from `WHITESPACE` or
-/// `COMMENT` to `POP`.
+/// A text is refused with one list of errors at most: two lists are as long, and error by error they have one
+/// message and one place. Errors of names come first: where they are told, no flaw is, and no finding.
+pub fn one_refusal()
+    ensures names { NamesComeFirst }
+    ensures errors { HasOneRefusal }
+{}
+
+/// Steps, the listing of every body and the wrappers bring in no way from `WHITESPACE` or `COMMENT` to `POP` or
+/// `POP_ALL`.
 pub fn wrappers_still_suffice()
     ensures steps { (g h : Grammar) → Chain g h → WrappersSuffice g → WrappersSuffice h }
     ensures listing { (g h : Grammar) → EachListed g h → WrappersSuffice g → WrappersSuffice h }

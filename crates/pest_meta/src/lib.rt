@@ -34,8 +34,9 @@ use validator::validate_pairs;
 /// those that the text spells, in order, with their names and types. Their bodies are rewritten, by steps
 /// that keep what they do from every start, then listed, which may change what some of them match, and then
 /// given wrappers. If the text's grammar is plain, each rule has exactly one outcome from every start. Where
-/// no rule of the text names `POP_ALL`, and its `WHITESPACE` and `COMMENT` reach no `POP`, it does not matter
-/// for them what a failed `POP` leaves of the stack. Of an accepted text the stack pass reports nothing.
+/// the text's `WHITESPACE` and `COMMENT` reach no `POP` and no `POP_ALL`, it does not matter for the answered
+/// rules what a failed `POP` or `POP_ALL` leaves of the stack. Of an accepted text the stack pass reports
+/// nothing.
 ///
 /// Refused for want of memory; where the text is no grammar, with one syntax error; where its names are not
 /// in order, with the errors of `validator::validate_pairs`; and where its rules are not, with those of

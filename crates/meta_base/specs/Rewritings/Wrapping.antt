@@ -2,15 +2,16 @@
 use Rattle.std.specs.Prelude.{◌≡◌, ℕ, List, Option, Some, ℤ}
 use Rattle.meta_base.specs.Language.Text.{Text}
 use Rattle.meta_base.specs.Language.Expression.{Expression, Str, Insens, Range, Ident, PeekSlice, PosPred, NegPred, Seq, Choice, Opt, Rep, RepOnce, RepExact, RepMin, RepMax, RepMinMax, Skip, Push, RestoreOnErr, Rule, Grammar, rule_of}
-use Rattle.meta_base.specs.Language.Builtins.{builtin_of, Pop, Drop}
+use Rattle.meta_base.specs.Language.Builtins.{builtin_of, Pop, PopAll, Drop}
 use Rattle.meta_base.specs.Rewritings.Rewriting.{EachBody}
 
 module _ (g : Grammar) where
-  -- a `PUSH`, `POP` or `DROP` is met, not below a wrapper, or in the body of a rule that is named there;
-  -- `POP_ALL` does not count
+  -- a `PUSH`, `POP`, `POP_ALL` or `DROP` is met, not below a wrapper, or in the body of a rule that is named
+  -- there
   pub data ChangesStack : Expression → Type 0 where
     changes_push : {e : Expression} → ChangesStack (Push e)
     changes_pop : {n : Text} → builtin_of n ≡ Some Pop → ChangesStack (Ident n)
+    changes_pop_all : {n : Text} → builtin_of n ≡ Some PopAll → ChangesStack (Ident n)
     changes_drop : {n : Text} → builtin_of n ≡ Some Drop → ChangesStack (Ident n)
     changes_rule : {n : Text} {r : Rule} → rule_of g n ≡ Some r → ChangesStack r.body → ChangesStack (Ident n)
     changes_pos_pred : {e : Expression} → ChangesStack e → ChangesStack (PosPred e)

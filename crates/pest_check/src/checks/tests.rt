@@ -6,8 +6,11 @@ use std::io::{self, ErrorKind, Write};
 fn is_answer(alloc: Global, input: Option<&[u8]>, status: u8, printed: &str, told: &str) -> bool {
     let mut out = Vec::new(alloc);
     let mut err = Vec::new(alloc);
-    let answered = run(alloc, input, &mut out, &mut err);
-    answered == status && out.as_slice() == printed.as_bytes() && err.as_slice() == told.as_bytes()
+    let exit = run(alloc, input, &mut out, &mut err);
+    exit.status == status
+        && exit.told.is_ok()
+        && out.as_slice() == printed.as_bytes()
+        && err.as_slice() == told.as_bytes()
 }
 
 /// Texts with what is printed for them.
@@ -373,8 +376,8 @@ fn what_is_no_text_can_not_be_read(rt: HostRuntime) {
 fn answered(alloc: Global, text: &[u8]) -> (u8, bool, bool) {
     let mut out = Vec::new(alloc);
     let mut err = Vec::new(alloc);
-    let status = run(alloc, Some(text), &mut out, &mut err);
-    (status, out.is_empty(), err.is_empty())
+    let exit = run(alloc, Some(text), &mut out, &mut err);
+    (exit.status, out.is_empty(), err.is_empty())
 }
 
 #[test]
@@ -395,16 +398,16 @@ fn each_beginning_of_a_grammar_has_its_answer(rt: HostRuntime) {
 struct Narrow {
     left: usize,
     width: usize,
-    taken: usize,
+    held: Vec<u8>,
     refused: bool,
 }
 
 impl Narrow {
-    fn new(left: usize, width: usize) -> Narrow {
+    fn new(alloc: Global, left: usize, width: usize) -> Narrow {
         Narrow {
             left,
             width,
-            taken: 0,
+            held: Vec::new(alloc),
             refused: false,
         }
     }
@@ -418,7 +421,7 @@ impl Write for Narrow {
         }
         self.left -= 1;
         let taken = buf.len().min(self.width);
-        self.taken = self.taken.saturating_add(taken);
+        self.held.extend_from_slice(&buf[..taken])?;
         Ok(taken)
     }
 
@@ -428,37 +431,39 @@ impl Write for Narrow {
 }
 
 /// Whether a write was refused to the program on a text, where so many are taken and so many bytes of each;
-/// nothing where it answers otherwise than it should.
-fn was_refused(alloc: Global, text: &str, left: usize, width: usize, whole: usize) -> Option<bool> {
-    let mut out = Narrow::new(left, width);
+/// nothing where it answers otherwise than it should: what is held then is a beginning of the lines.
+fn was_refused(alloc: Global, text: &str, left: usize, width: usize, lines: &[u8]) -> Option<bool> {
+    let mut out = Narrow::new(alloc, left, width);
     let mut err = Vec::new(alloc);
-    let status = run(alloc, Some(text.as_bytes()), &mut out, &mut err);
+    let exit = run(alloc, Some(text.as_bytes()), &mut out, &mut err);
     let is_right = if out.refused || width == 0 {
-        status == 4 && err.as_slice() == "cannot write\n".as_bytes()
+        exit.status == 4
+            && err.as_slice() == "cannot write\n".as_bytes()
+            && lines.starts_with(out.held.as_slice())
     } else {
-        status == 0 && out.taken == whole
+        exit.status == 0 && out.held.as_slice() == lines
     };
     is_right.then_some(out.refused)
 }
 
-/// How many bytes the program prints for a text.
-fn printed_bytes(alloc: Global, text: &str) -> usize {
+/// What the program prints for a text.
+fn printed_lines(alloc: Global, text: &str) -> Vec<u8> {
     let mut out = Vec::new(alloc);
     let mut err = Vec::new(alloc);
     run(alloc, Some(text.as_bytes()), &mut out, &mut err);
-    out.len()
+    out
 }
 
 /// The Nth write is refused, for each N, where writes are taken whole, three bytes at a time, and one.
 #[test]
 fn each_refused_write_is_told(rt: HostRuntime) {
     let text = "a = @{ (\"x\" ~ b) | \"c\" } b = { \"y\" }";
-    let whole = printed_bytes(rt.alloc(), text);
+    let lines = printed_lines(rt.alloc(), text);
     for width in [1000, 3, 1] {
         let mut some_are = false;
         let mut all_are = true;
         for left in 0..100 {
-            let refused = was_refused(rt.alloc(), text, left, width, whole);
+            let refused = was_refused(rt.alloc(), text, left, width, &lines);
             assert!(rt; refused.is_some(), "at {left}");
             some_are = some_are || refused == Some(true);
             all_are = all_are && refused == Some(true);
@@ -470,7 +475,7 @@ fn each_refused_write_is_told(rt: HostRuntime) {
 /// A writer that takes nothing.
 #[test]
 fn a_write_that_takes_nothing_is_told(rt: HostRuntime) {
-    let answer = was_refused(rt.alloc(), "a = { \"x\" }", 100, 0, 0);
+    let answer = was_refused(rt.alloc(), "a = { \"x\" }", 100, 0, &[]);
     assert!(rt; answer == Some(false));
 }
 
@@ -478,9 +483,9 @@ fn a_write_that_takes_nothing_is_told(rt: HostRuntime) {
 /// so many writes.
 fn is_refused_untold(alloc: Global, text: &str, left: usize) -> bool {
     let mut out = Vec::new(alloc);
-    let mut err = Narrow::new(left, 5);
-    let status = run(alloc, Some(text.as_bytes()), &mut out, &mut err);
-    status == 1 && err.refused && out.is_empty()
+    let mut err = Narrow::new(alloc, left, 5);
+    let exit = run(alloc, Some(text.as_bytes()), &mut out, &mut err);
+    exit.status == 1 && exit.told.is_err() && err.refused && out.is_empty()
 }
 
 #[test]

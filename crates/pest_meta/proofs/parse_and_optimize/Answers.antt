@@ -20,7 +20,8 @@ pub returns-in_err-rules-clause-refused : goal.returns-in_err-rules-clause-refus
 returns-in_err-rules-clause-refused c =
     let p = err_from_is_err_and c.from_residual-in_err-rules.result c.from_residual-in_err-rules.ensures.1 in
     let parsed = c.in_ok-pairs.ensures in
-    rw (p.1, p.2) (rejected c.args.grammar.now c.in_ok-pairs.pairs c.in_err-rules.field-0.0 parsed.text parsed.spelled c.in_err-rules.ensures.refused)
+    rw (p.1, p.2)
+    (rejected c.args.grammar.now c.in_ok-pairs.pairs c.in-Ok.copy c.in_err-rules.field-0.0 parsed.text parsed.spelled c.in-Ok.ensures.cases c.in_ok-builtins.ensures.no_complaints c.in_err-rules.ensures.refused)
 
 pub returns-clause-answer : goal.returns-clause-answer
 returns-clause-answer c =

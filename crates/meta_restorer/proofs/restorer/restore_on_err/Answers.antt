@@ -3,9 +3,9 @@ use Rattle.meta_base.specs.Rewritings.Erased.{erased}
 use Rattle.meta_base.specs.Language.Expression.{Rule}
 use Rattle.meta_base.specs.Rewritings.Wrapping.{RestoresTo}
 use Rattle.meta_ast.specs.Optimized.{optimized_expression_of}
-use Rattle.meta_restorer.specs.Changing.{restored_by}
+use Rattle.meta_restorer.specs.Changing.{KeepsWrappers, restored_by}
 use Rattle.meta_restorer.specs.Telling.{told}
-use Rattle.meta_restorer.proofs.Restoring.{restores, restored_same}
+use Rattle.meta_restorer.proofs.Restoring.{restores, restored_keeps, restored_same}
 use Rattle.meta_restorer.proofs.restorer.restore_on_err.Goals as goal
 
 pub returns-in-Ok-noted_rule-clause-restores : goal.returns-in-Ok-noted_rule-clause-restores
@@ -18,3 +18,9 @@ returns-in-Ok-noted_rule-clause-restores c = λ g h k.
 pub returns-in-Ok-noted_rule-clause-erased : goal.returns-in-Ok-noted_rule-clause-erased
 returns-in-Ok-noted_rule-clause-erased c =
     ap (λ (r : Rule). erased r.body) c.in-Ok-noted_rule.ensures.whole ∙ restored_same (told c.in-Ok.changes) (optimized_expression_of c.args.rule.expr)
+
+pub returns-in-Ok-noted_rule-clause-wrappers : goal.returns-in-Ok-noted_rule-clause-wrappers
+returns-in-Ok-noted_rule-clause-wrappers c =
+    let x = c.args.rule.expr in
+    let p = told c.in-Ok.changes in
+    subst (λ (r : Rule). KeepsWrappers (optimized_expression_of x) r.body) (sym c.in-Ok-noted_rule.ensures.whole) (restored_keeps p (optimized_expression_of x))

@@ -5,28 +5,20 @@ use Rattle.meta_stack.specs.Certain.{ArePlain}
 use Rattle.meta_stack.specs.Flags.{is_set_at}
 use Rattle.meta_stack.specs.Reportable.{IsToVisit}
 use Rattle.meta_stack.specs.Visiting.{FindsAll}
-use Rattle.meta_stack.proofs.Whole.{all_certain, all_plain}
+use Rattle.meta_stack.proofs.Whole.{all_plain}
 use Rattle.meta_stack.proofs.Work.{where_ok}
 use Rattle.meta_stack.proofs.validate.all_reports.Goals as goal
 
-pub returns-in-Some-clause-certain : goal.returns-in-Some-clause-certain
-returns-in-Some-clause-certain c =
-    let rs = c.args.rules.now in
-    let v = c.in-Some.visited in
-    let h : IsToVisit rs v = subst (λ o. MatchOption o (ArePlain (rule_views rs) []) (λ v. IsToVisit rs v)) c.in-Some.is c.in_ok-to_visit_in.ensures in
-    where_ok c.visit_all.result (λ found g. all_certain rs v.table h.table v.reportable.items h.silent found.items
-    (subst (λ l. FindsAll v.table (filter (is_set_at l) v.table.roots.items) found.items) c.as_slice.ensures.value g)) c.visit_all.ensures
-
-pub returns-in-Some-clause-plain : goal.returns-in-Some-clause-plain
-returns-in-Some-clause-plain c =
+pub returns-in-Some : goal.returns-in-Some
+returns-in-Some c =
     let rs = c.args.rules.now in
     let v = c.in-Some.visited in
     let h : IsToVisit rs v = subst (λ o. MatchOption o (ArePlain (rule_views rs) []) (λ v. IsToVisit rs v)) c.in-Some.is c.in_ok-to_visit_in.ensures in
     where_ok c.visit_all.result (λ found g. all_plain rs v.table h.table v.reportable.items h.silent found.items
     (subst (λ l. FindsAll v.table (filter (is_set_at l) v.table.roots.items) found.items) c.as_slice.ensures.value g)) c.visit_all.ensures
 
-pub returns-in-None-clause-plain : goal.returns-in-None-clause-plain
-returns-in-None-clause-plain c =
+pub returns-in-None : goal.returns-in-None
+returns-in-None c =
     let rs = c.args.rules.now in
     let h : ArePlain (rule_views rs) [] = subst (λ o. MatchOption o (ArePlain (rule_views rs) []) (λ v. IsToVisit rs v)) c.in-None.is c.in_ok-to_visit_in.ensures in
     subst (λ z. ArePlain (rule_views rs) (map piece_of z)) (sym c.new.ensures.items) h

@@ -6,8 +6,7 @@ pub returns : goal.returns
 returns c = record {
   exact = record {
     reports = map piece_of c.in_ok-found.found.items;
-    certain = c.in_ok-found.ensures.certain;
-    plain = c.in_ok-found.ensures.plain;
+    plain = c.in_ok-found.ensures;
     sorted = c.in_ok-sort_spans.ensures;
   };
 }

@@ -1,0 +1,12 @@
+use Rattle.meta_base.proofs.ListingKeepsGrammars.{finished_well_formed, listing_finishes, restoring_finishes}
+use Rattle.meta_base.proofs.StepsKeepGrammars.{well_formed_along}
+use Rattle.meta_base.proofs.laws.stays_well_formed.Goals as goal
+
+pub returns-clause-steps : goal.returns-clause-steps
+returns-clause-steps c = well_formed_along
+
+pub returns-clause-listing : goal.returns-clause-listing
+returns-clause-listing c = λ g h e. finished_well_formed g h (listing_finishes g h e)
+
+pub returns-clause-wrappers : goal.returns-clause-wrappers
+returns-clause-wrappers c = λ g h e. finished_well_formed g h (restoring_finishes g h e)
