@@ -81,7 +81,8 @@ pub fn wrappers_keep_grammars()
 /// A well-formed grammar stays well-formed: by every chain of steps, if no count is 0 where it should not be,
 /// by the listing of every body, and by the wrappers, put where the restorer puts them.
 pub fn stays_well_formed()
-    ensures steps { (g h : Grammar) → Chain g h → NamesHaveReadableCounts g → IsWellFormed g → IsWellFormed h }
+    ensures steps { (g h : Grammar)
+        → Chain g h → NamesHaveReadableCounts g → IsWellFormed g → IsWellFormed h }
     ensures listing { (g h : Grammar) → EachListed g h → IsWellFormed g → IsWellFormed h }
     ensures wrappers { (g h : Grammar) → EachRestored g h → IsWellFormed g → IsWellFormed h }
 {}

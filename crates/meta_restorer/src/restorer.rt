@@ -24,8 +24,8 @@ use std::alloc::{AllocError, Global};
 use std::collections::HashMap;
 
 /// Whether an expression changes the stack: a `PUSH`, `POP`, `POP_ALL` or `DROP` is met in it, not below a
-/// wrapper, or in the body of a rule that is named there. `rules` holds the body of each rule at its name. The
-/// only fault is a want of memory.
+/// wrapper, or in the body of a rule that is named there. `rules` holds the body of each rule at its name.
+/// The only fault is a want of memory.
 pub fn child_modifies_state(
     alloc: Global,
     expr: &OptimizedExpr,
@@ -46,8 +46,8 @@ pub fn child_modifies_state(
 
 /// The rule with wrappers: from the inside out, each operand of `?` and `*` and both sides of each `|` are
 /// wrapped where they change the stack as they then stand. `rules` holds the body of each rule at its name,
-/// as it was before any was restored. Name and type stay, and so does each wrapper that stands there, with all
-/// that is below it. The only fault is a want of memory.
+/// as it was before any was restored. Name and type stay, and so does each wrapper that stands there, with
+/// all that is below it. The only fault is a want of memory.
 pub fn restore_on_err(
     alloc: Global,
     rule: OptimizedRule,

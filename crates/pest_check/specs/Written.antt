@@ -1,5 +1,5 @@
 -- What the program writes.
-use Rattle.std.specs.Prelude.{◌⊎◌, ℕ, List, [], ◌∷◌, ◌++◌, Option, Result, OnOk, encode_utf8_all}
+use Rattle.std.specs.Prelude.{ℕ, List, [], ◌∷◌, ◌++◌, Option, Result, OnOk, encode_utf8_all}
 use Rattle.std.specs.Borrow.{Bor}
 use Rattle.std.specs.Io.KnownBytes.{Appends}
 use Rattle.meta_base.specs.declared.grammar.Rule.{Rule}
@@ -7,7 +7,7 @@ use Rattle.meta_base.specs.declared.runtime.errors.Error.{Error}
 use Rattle.meta_ast.specs.Optimized.{optimized_rules_of}
 use Rattle.meta_ast.specs.declared.optimized.OptimizedRule.{OptimizedRule}
 use Rattle.pest_meta.specs.Reports.{report_text}
-use Rattle.pest_meta.specs.Spelling.{IsAnswer, IsNoGrammar, IsRefusedGrammar}
+use Rattle.pest_meta.specs.Spelling.{IsAnswer, IsRefusedWith}
 use Rattle.reading_back.specs.ReadsBack.{grammar_text}
 
 -- there is an answer for the text, and what the writer holds grew by its rules, a line each
@@ -22,7 +22,8 @@ abbrev pub TellsLine : {X E : Type 0} → List ℕ → Result X E → Option (Li
 TellsLine message written old new = OnOk written (Appends old new (message ++ 10 ∷ []))
 
 -- there is a reason to refuse the text, and its report is the line
-pub record TellsRefusal {X E : Type 0} (text : List ℕ) (written : Result X E) (old new : Option (List ℕ)) : Type 0 where
+pub record TellsRefusal {X E : Type 0} (text : List ℕ) (written : Result X E)
+    (old new : Option (List ℕ)) : Type 0 where
   pub errors : List (Error Rule)
-  pub reason : IsNoGrammar text errors ⊎ IsRefusedGrammar text errors
+  pub reason : IsRefusedWith text errors
   pub line : TellsLine (report_text errors) written old new

@@ -28,8 +28,8 @@ pub fn one_refusal()
     ensures errors { HasOneRefusal }
 {}
 
-/// Steps, the listing of every body and the wrappers bring in no way from `WHITESPACE` or `COMMENT` to `POP` or
-/// `POP_ALL`.
+/// Steps, the listing of every body and the wrappers bring in no way from `WHITESPACE` or `COMMENT` to `POP`
+/// or `POP_ALL`.
 pub fn wrappers_still_suffice()
     ensures steps { (g h : Grammar) → Chain g h → WrappersSuffice g → WrappersSuffice h }
     ensures listing { (g h : Grammar) → EachListed g h → WrappersSuffice g → WrappersSuffice h }
