@@ -11,7 +11,7 @@ use Rattle.meta_ast.specs.declared.ast.walked.ExprTopDownIterator.{ExprTopDownIt
 
 -- the expressions that an iterator has still to give
 abbrev pub expressions_left : ExprTopDownIterator → List Expression
-expressions_left i = waiting expression_of i.stack.items
+expressions_left i = waiting expression_of i.stack.value.items
 
 abbrev pub unary_of : Sign → Unary
 unary_of PosPred = frames.PosPred

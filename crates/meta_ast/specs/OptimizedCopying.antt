@@ -17,8 +17,8 @@ with_operand sign.Push x = e.Push x
 with_operand sign.RestoreOnErr x = e.RestoreOnErr x
 with_operand (sign.FirstOfSeq right) x = e.Seq x (optimized_expression_of right.now.value)
 with_operand (sign.FirstOfChoice right) x = e.Choice x (optimized_expression_of right.now.value)
-with_operand (sign.SecondOfSeq left) x = e.Seq (optimized_expression_of left.value) x
-with_operand (sign.SecondOfChoice left) x = e.Choice (optimized_expression_of left.value) x
+with_operand (sign.SecondOfSeq left) x = e.Seq (optimized_expression_of left.value.value) x
+with_operand (sign.SecondOfChoice left) x = e.Choice (optimized_expression_of left.value.value) x
 
 -- how much there is to be done once the operand is copied
 abbrev pub waits_of : Sign → ℕ

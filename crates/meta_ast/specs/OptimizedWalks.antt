@@ -11,7 +11,7 @@ use Rattle.meta_ast.specs.declared.optimized.walked.OptimizedExprTopDownIterator
 
 -- the expressions that an iterator has still to give
 abbrev pub optimized_expressions_left : OptimizedExprTopDownIterator → List Expression
-optimized_expressions_left i = waiting optimized_expression_of i.stack.items
+optimized_expressions_left i = waiting optimized_expression_of i.stack.value.items
 
 abbrev pub optimized_unary_of : Sign → Unary
 optimized_unary_of PosPred = frames.PosPred

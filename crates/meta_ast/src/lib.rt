@@ -2,6 +2,7 @@
 #![tactic(auto)]
 
 pub mod ast;
+pub mod deep;
 pub mod derived;
 pub mod optimized;
 pub mod printing;

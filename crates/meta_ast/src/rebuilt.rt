@@ -2,6 +2,7 @@
 ghost use Rattle.std.specs.Prelude.{◌≡◌, ◌≤◌, ◌<◌, ℕ, IfOk};
 ghost use Rattle.meta_ast.specs.Rebuilding.{meaning_of, work_of, GoesOn};
 
+use crate::deep::{Deep, Release};
 use std::alloc::{AllocError, Global};
 
 /// What comes of a step.
@@ -16,9 +17,9 @@ pub enum Step<S, A, T> {
 /// What stands around an operand while a tree is made of the operand.
 pub trait Rebuild: Drop {
     /// What a tree is made of.
-    type Source: Drop;
+    type Source: Release;
     /// What is made.
-    type Target: Drop;
+    type Target: Release;
 
     // what trees mean, and what an operand means inside this
     ghost Meaning: { Type 0 };
@@ -69,8 +70,9 @@ pub fn rebuilt<R: Rebuild>(alloc: Global, source: R::Source) -> Result<R::Target
     'steps: loop {
         match step {
             Step::Inside(around, operand) => {
+                let operand = Deep { value: operand };
                 outside.push(around)?;
-                step = R::open(operand)?;
+                step = R::open(operand.into_inner())?;
             }
             Step::Made(tree) => match outside.pop() {
                 Some(around) => step = R::close(around, alloc, tree)?,

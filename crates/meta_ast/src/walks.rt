@@ -12,6 +12,7 @@ ghost use Rattle.std.specs.Prelude.{◌≡◌, alloc_error, IfErr, IfOk};
 ghost use Rattle.meta_base.specs.Language.Expression.{Expression};
 ghost use Rattle.meta_ast.specs.Frames.{Unary, around, joined, IsOpened};
 
+use crate::deep::{Deep, Release};
 pub(crate) use bottom_up::map_bottom_up;
 use meta_base::runtime::Fault;
 pub(crate) use preorder::take_first;
@@ -35,13 +36,24 @@ pub(crate) enum Node<E, S> {
 }
 
 /// What stands round an operand that a map is at.
-#[derive(Drop)]
-pub(crate) enum Frame<E, S> {
+pub(crate) enum Frame<E: Release, S: Drop> {
     Around(S),
     /// The operand is the left one, and the right one is still to be met.
     Before(Joint, E),
     /// The operand is the right one, and the left one is done.
     After(Joint, E),
+}
+
+impl<E: Release, S: Drop> Drop for Frame<E, S> {
+    fn drop(self) {
+        match self {
+            Frame::Around(sign) => drop(sign),
+            Frame::Before(joint, operand) | Frame::After(joint, operand) => {
+                drop(joint);
+                operand.release();
+            }
+        }
+    }
 }
 
 /// How a map goes on.
@@ -54,7 +66,7 @@ pub(crate) enum Onward<E> {
 }
 
 /// Expressions that can be taken apart and put together again.
-pub(crate) trait Tree: Drop {
+pub(crate) trait Tree: Release {
     /// What may stand round one operand.
     type Sign: Drop;
 
@@ -82,13 +94,13 @@ pub(crate) trait Tree: Drop {
 }
 
 /// An operand in a box of its own.
-pub(crate) fn boxed<E: Drop>(alloc: Global, operand: E) -> Result<Box<E>, Fault>
-    ensures boxed { IfOk result (λ b. b.value ≡ operand) }
+pub(crate) fn boxed<E: Release>(alloc: Global, operand: Deep<E>) -> Result<Deep<Box<E>>, Fault>
+    ensures boxed { IfOk result (λ b. b.value.value ≡ operand.value) }
     ensures memory { IfErr result (λ fault. fault ≡ Fault.Memory alloc_error) }
 {
-    match Box::new(alloc, operand) {
+    match operand.boxed(alloc) {
         Ok(boxed) => Ok(boxed),
-        Err(refused) => Err(Fault::Memory(refused.into())),
+        Err(error) => Err(Fault::Memory(error)),
     }
 }
 

@@ -6,6 +6,7 @@ ghost use Rattle.meta_ast.specs.Weight.{weight};
 ghost use Rattle.meta_ast.specs.Copying.{with_operand, waits_of};
 
 use super::{Expr, Rule};
+use crate::deep::Deep;
 use crate::rebuilt::{Rebuild, Step, rebuilt};
 use crate::texts::copy_texts;
 use std::alloc::{AllocError, Global};
@@ -63,8 +64,8 @@ enum Sign<'a> {
     // A `~` or a `|` whose left side is copied, with the right one; and with the copy of the left one.
     FirstOfSeq(&'a Box<Expr>),
     FirstOfChoice(&'a Box<Expr>),
-    SecondOfSeq(Box<Expr>),
-    SecondOfChoice(Box<Expr>),
+    SecondOfSeq(Deep<Box<Expr>>),
+    SecondOfChoice(Deep<Box<Expr>>),
 }
 
 impl<'a> Rebuild for Around<'a> {
@@ -120,14 +121,14 @@ impl<'a> Rebuild for Around<'a> {
         alloc: Global,
         copy: Expr,
     ) -> Result<Step<&'a Expr, Around<'a>, Expr>, AllocError> {
-        let copy = Box::new(alloc, copy)?;
+        let copy = Deep { value: copy }.boxed(alloc)?.into_inner();
         let whole = match self.sign {
             Sign::FirstOfSeq(operand) => {
-                let sign = Sign::SecondOfSeq(copy);
+                let sign = Sign::SecondOfSeq(Deep { value: copy });
                 return Ok(Step::Inside(Around { operand, sign }, operand));
             }
             Sign::FirstOfChoice(operand) => {
-                let sign = Sign::SecondOfChoice(copy);
+                let sign = Sign::SecondOfChoice(Deep { value: copy });
                 return Ok(Step::Inside(Around { operand, sign }, operand));
             }
             Sign::PosPred => Expr::PosPred(copy),
@@ -140,8 +141,8 @@ impl<'a> Rebuild for Around<'a> {
             Sign::RepMax(greatest) => Expr::RepMax(copy, greatest),
             Sign::RepMinMax(least, greatest) => Expr::RepMinMax(copy, least, greatest),
             Sign::Push => Expr::Push(copy),
-            Sign::SecondOfSeq(left) => Expr::Seq(left, copy),
-            Sign::SecondOfChoice(left) => Expr::Choice(left, copy),
+            Sign::SecondOfSeq(left) => Expr::Seq(left.into_inner(), copy),
+            Sign::SecondOfChoice(left) => Expr::Choice(left.into_inner(), copy),
         };
         Ok(Step::Made(whole))
     }

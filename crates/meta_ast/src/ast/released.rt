@@ -4,11 +4,22 @@ ghost use Rattle.meta_ast.specs.Ast.{expression_of};
 ghost use Rattle.meta_ast.specs.Weight.{weight};
 
 use super::{Expr, Rule};
+use crate::deep::Release;
 
 /// Lets rules go, the body of each as [`Expr::release`] does.
 pub fn release(rules: Vec<Rule>) {
-    for rule in rules {
-        rule.expr.release();
+    rules.release();
+}
+
+impl Release for Rule {
+    fn release(self) {
+        self.expr.release();
+    }
+}
+
+impl Release for Expr {
+    fn release(self) {
+        Expr::release(self);
     }
 }
 

@@ -6,6 +6,7 @@ ghost use Rattle.meta_ast.specs.Maps.{MapsTopDown, RefusesTopDown, MapsBottomUp,
 ghost use Rattle.meta_ast.specs.Operands.{preorder};
 
 use super::Expr;
+use crate::deep::Deep;
 use crate::walks::{Joint, Node, Tree, boxed, map_bottom_up, map_top_down, take_first, two};
 use meta_base::runtime::Fault;
 use std::alloc::{AllocError, Global};
@@ -53,7 +54,7 @@ impl Expr {
 #[derive(Drop)]
 pub struct ExprTopDownIterator {
     /// Those whose turn is still to come, with what stands in them. The last comes first.
-    stack: Vec<Expr>,
+    stack: Deep<Vec<Expr>>,
 }
 
 impl ExprTopDownIterator {
@@ -62,10 +63,15 @@ impl ExprTopDownIterator {
         ensures whole { IfOk result (λ iter. expressions_left iter ≡ preorder (expression_of expr.now)) }
         ensures memory { IfErr result (λ fault. fault ≡ Fault.Memory alloc_error) }
     {
-        let mut stack = Vec::new(alloc);
-        match stack.push(expr.copy().map_err(Fault::Memory)?) {
+        let copy = Deep {
+            value: expr.copy().map_err(Fault::Memory)?,
+        };
+        let mut stack = Deep {
+            value: Vec::new(alloc),
+        };
+        match stack.push(copy) {
             Ok(()) => Ok(ExprTopDownIterator { stack }),
-            Err(refused) => Err(Fault::Memory(refused.into())),
+            Err(error) => Err(Fault::Memory(error)),
         }
     }
 }
@@ -85,7 +91,7 @@ impl Iterator for ExprTopDownIterator {
         match take_first(&mut self.stack) {
             Ok(given) => given.map(Ok),
             Err(error) => {
-                self.stack.clear();
+                self.stack.value.clear();
                 Some(Err(Fault::Memory(error)))
             }
         }
@@ -135,7 +141,7 @@ impl Tree for Expr {
     }
 
     fn enclose(alloc: Global, sign: Sign, operand: Expr) -> Result<Expr, Fault> {
-        let inner = boxed(alloc, operand)?;
+        let inner = boxed(alloc, Deep { value: operand })?.into_inner();
         let whole = match sign {
             Sign::PosPred => Expr::PosPred(inner),
             Sign::NegPred => Expr::NegPred(inner),
@@ -152,8 +158,10 @@ impl Tree for Expr {
     }
 
     fn join(alloc: Global, joint: Joint, left: Expr, right: Expr) -> Result<Expr, Fault> {
-        let left = boxed(alloc, left)?;
-        let right = boxed(alloc, right)?;
+        let right = Deep { value: right };
+        let left = boxed(alloc, Deep { value: left })?;
+        let right = boxed(alloc, right)?.into_inner();
+        let left = left.into_inner();
         let whole = match joint {
             Joint::Sequence => Expr::Seq(left, right),
             Joint::Choice => Expr::Choice(left, right),

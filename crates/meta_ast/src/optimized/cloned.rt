@@ -6,6 +6,7 @@ ghost use Rattle.meta_ast.specs.Weight.{weight};
 ghost use Rattle.meta_ast.specs.OptimizedCopying.{with_operand, waits_of};
 
 use super::{OptimizedExpr, OptimizedRule};
+use crate::deep::Deep;
 use crate::rebuilt::{Rebuild, Step, rebuilt};
 use crate::texts::copy_texts;
 use std::alloc::{AllocError, Global};
@@ -59,8 +60,8 @@ enum Sign<'a> {
     // A `~` or a `|` whose left side is copied, with the right one; and with the copy of the left one.
     FirstOfSeq(&'a Box<OptimizedExpr>),
     FirstOfChoice(&'a Box<OptimizedExpr>),
-    SecondOfSeq(Box<OptimizedExpr>),
-    SecondOfChoice(Box<OptimizedExpr>),
+    SecondOfSeq(Deep<Box<OptimizedExpr>>),
+    SecondOfChoice(Deep<Box<OptimizedExpr>>),
 }
 
 impl<'a> Rebuild for Around<'a> {
@@ -115,14 +116,14 @@ impl<'a> Rebuild for Around<'a> {
         copy: OptimizedExpr,
     ) -> Result<Step<&'a OptimizedExpr, Around<'a>, OptimizedExpr>, AllocError> {
         use OptimizedExpr as E;
-        let copy = Box::new(alloc, copy)?;
+        let copy = Deep { value: copy }.boxed(alloc)?.into_inner();
         let whole = match self.sign {
             Sign::FirstOfSeq(operand) => {
-                let sign = Sign::SecondOfSeq(copy);
+                let sign = Sign::SecondOfSeq(Deep { value: copy });
                 return Ok(Step::Inside(Around { operand, sign }, operand));
             }
             Sign::FirstOfChoice(operand) => {
-                let sign = Sign::SecondOfChoice(copy);
+                let sign = Sign::SecondOfChoice(Deep { value: copy });
                 return Ok(Step::Inside(Around { operand, sign }, operand));
             }
             Sign::PosPred => E::PosPred(copy),
@@ -131,8 +132,8 @@ impl<'a> Rebuild for Around<'a> {
             Sign::Rep => E::Rep(copy),
             Sign::Push => E::Push(copy),
             Sign::RestoreOnErr => E::RestoreOnErr(copy),
-            Sign::SecondOfSeq(left) => E::Seq(left, copy),
-            Sign::SecondOfChoice(left) => E::Choice(left, copy),
+            Sign::SecondOfSeq(left) => E::Seq(left.into_inner(), copy),
+            Sign::SecondOfChoice(left) => E::Choice(left.into_inner(), copy),
         };
         Ok(Step::Made(whole))
     }

@@ -4,11 +4,22 @@ ghost use Rattle.meta_ast.specs.Optimized.{optimized_expression_of};
 ghost use Rattle.meta_ast.specs.Weight.{weight};
 
 use super::{OptimizedExpr, OptimizedRule};
+use crate::deep::Release;
 
 /// Lets rules go, the body of each as [`OptimizedExpr::release`] does.
 pub fn release(rules: Vec<OptimizedRule>) {
-    for rule in rules {
-        rule.expr.release();
+    rules.release();
+}
+
+impl Release for OptimizedRule {
+    fn release(self) {
+        self.expr.release();
+    }
+}
+
+impl Release for OptimizedExpr {
+    fn release(self) {
+        OptimizedExpr::release(self);
     }
 }
 

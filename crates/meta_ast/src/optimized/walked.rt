@@ -7,6 +7,7 @@ ghost use Rattle.meta_ast.specs.Maps.{MapsTopDown, RefusesTopDown, MapsBottomUp,
 ghost use Rattle.meta_ast.specs.Operands.{preorder};
 
 use super::OptimizedExpr;
+use crate::deep::Deep;
 use crate::walks::{Joint, Node, Tree, boxed, map_bottom_up, map_top_down, take_first, two};
 use meta_base::runtime::Fault;
 use std::alloc::{AllocError, Global};
@@ -55,7 +56,7 @@ impl OptimizedExpr {
 #[derive(Drop)]
 pub struct OptimizedExprTopDownIterator {
     /// Those whose turn is still to come, with what stands in them. The last comes first.
-    stack: Vec<OptimizedExpr>,
+    stack: Deep<Vec<OptimizedExpr>>,
 }
 
 impl OptimizedExprTopDownIterator {
@@ -65,10 +66,15 @@ impl OptimizedExprTopDownIterator {
             (λ iter. optimized_expressions_left iter ≡ preorder (optimized_expression_of expr.now)) }
         ensures memory { IfErr result (λ fault. fault ≡ Fault.Memory alloc_error) }
     {
-        let mut stack = Vec::new(alloc);
-        match stack.push(expr.copy().map_err(Fault::Memory)?) {
+        let copy = Deep {
+            value: expr.copy().map_err(Fault::Memory)?,
+        };
+        let mut stack = Deep {
+            value: Vec::new(alloc),
+        };
+        match stack.push(copy) {
             Ok(()) => Ok(OptimizedExprTopDownIterator { stack }),
-            Err(refused) => Err(Fault::Memory(refused.into())),
+            Err(error) => Err(Fault::Memory(error)),
         }
     }
 }
@@ -88,7 +94,7 @@ impl Iterator for OptimizedExprTopDownIterator {
         match take_first(&mut self.stack) {
             Ok(given) => given.map(Ok),
             Err(error) => {
-                self.stack.clear();
+                self.stack.value.clear();
                 Some(Err(Fault::Memory(error)))
             }
         }
@@ -129,7 +135,7 @@ impl Tree for OptimizedExpr {
 
     fn enclose(alloc: Global, sign: Sign, operand: OptimizedExpr) -> Result<OptimizedExpr, Fault> {
         use OptimizedExpr as E;
-        let inner = boxed(alloc, operand)?;
+        let inner = boxed(alloc, Deep { value: operand })?.into_inner();
         let whole = match sign {
             Sign::PosPred => E::PosPred(inner),
             Sign::NegPred => E::NegPred(inner),
@@ -146,8 +152,10 @@ impl Tree for OptimizedExpr {
         left: OptimizedExpr,
         right: OptimizedExpr,
     ) -> Result<OptimizedExpr, Fault> {
-        let left = boxed(alloc, left)?;
-        let right = boxed(alloc, right)?;
+        let right = Deep { value: right };
+        let left = boxed(alloc, Deep { value: left })?;
+        let right = boxed(alloc, right)?.into_inner();
+        let left = left.into_inner();
         let whole = match joint {
             Joint::Sequence => OptimizedExpr::Seq(left, right),
             Joint::Choice => OptimizedExpr::Choice(left, right),

@@ -2,7 +2,7 @@
 ghost use Rattle.std.specs.Prelude.{IfErr, IfOk};
 ghost use Rattle.meta_ast.specs.Maps.{MapsBottomUp, RefusesBottomUp};
 
-use super::frames::{closed, opened};
+use super::frames::opened;
 use super::{Onward, Tree};
 use meta_base::runtime::Fault;
 use std::alloc::Global;
@@ -26,7 +26,7 @@ pub(crate) fn map_bottom_up<E: Tree, F: FnMut(E) -> Result<E, Fault> + Drop>(
             Onward::Done(whole) => {
                 let done = f(whole)?;
                 match frames.pop() {
-                    Some(frame) => next = closed(alloc, &mut frames, frame, done)?,
+                    Some(frame) => next = frame.closed(alloc, &mut frames, done)?,
                     None => return Ok(done),
                 }
             }

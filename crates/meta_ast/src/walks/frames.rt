@@ -3,6 +3,7 @@ ghost use Rattle.std.specs.Prelude.{◌≡◌, ◌++◌, ◌∷◌, [], alloc_er
 ghost use Rattle.meta_ast.specs.Frames.{Closes, Opens};
 
 use super::{Frame, Node, Onward, Tree};
+use crate::deep::{Deep, Release};
 use meta_base::runtime::Fault;
 use std::alloc::Global;
 
@@ -19,39 +20,45 @@ pub(crate) fn opened<E: Tree>(
     match expr.open() {
         Node::Leaf(leaf) => Ok(Onward::Done(leaf)),
         Node::One(sign, operand) => {
+            let operand = Deep { value: operand };
             keep(frames, Frame::Around(sign))?;
-            Ok(Onward::Next(operand))
+            Ok(Onward::Next(operand.into_inner()))
         }
         Node::Two(joint, left, right) => {
+            let left = Deep { value: left };
             keep(frames, Frame::Before(joint, right))?;
-            Ok(Onward::Next(left))
+            Ok(Onward::Next(left.into_inner()))
         }
     }
 }
 
-/// What becomes of a frame, the last one, once what stands in it is done. The only fault is a want of memory.
-pub(crate) fn closed<E: Tree>(
-    alloc: Global,
-    frames: &mut Vec<Frame<E, E::Sign>>,
-    frame: Frame<E, E::Sign>,
-    done: E,
-) -> Result<Onward<E>, Fault>
-    ensures closes { IfOk result (λ next.
-        Closes E.says E.stands_for frames.old.items done frame next frames.new.items) }
-    ensures memory { IfErr result (λ fault. fault ≡ Fault.Memory alloc_error) }
-{
-    match frame {
-        Frame::Around(sign) => Ok(Onward::Done(E::enclose(alloc, sign, done)?)),
-        Frame::After(joint, left) => Ok(Onward::Done(E::join(alloc, joint, left, done)?)),
-        Frame::Before(joint, right) => {
-            keep(frames, Frame::After(joint, done))?;
-            Ok(Onward::Next(right))
+impl<E: Tree> Frame<E, E::Sign> {
+    /// What becomes of the frame, which stood behind these, once what stands in it is done. The only fault is
+    /// a want of memory.
+    pub(crate) fn closed(
+        self,
+        alloc: Global,
+        frames: &mut Vec<Frame<E, E::Sign>>,
+        done: E,
+    ) -> Result<Onward<E>, Fault>
+        ensures closes { IfOk result (λ next.
+            Closes E.says E.stands_for frames.old.items done self next frames.new.items) }
+        ensures memory { IfErr result (λ fault. fault ≡ Fault.Memory alloc_error) }
+    {
+        match self {
+            Frame::Around(sign) => Ok(Onward::Done(E::enclose(alloc, sign, done)?)),
+            Frame::After(joint, left) => Ok(Onward::Done(E::join(alloc, joint, left, done)?)),
+            Frame::Before(joint, right) => {
+                let right = Deep { value: right };
+                keep(frames, Frame::After(joint, done))?;
+                Ok(Onward::Next(right.into_inner()))
+            }
         }
     }
 }
 
 // Puts a frame behind the others.
-fn keep<E: Drop, S: Drop>(frames: &mut Vec<Frame<E, S>>, frame: Frame<E, S>) -> Result<(), Fault>
+fn keep<E: Release, S: Drop>(frames: &mut Vec<Frame<E, S>>, frame: Frame<E, S>) -> Result<(), Fault>
     ensures kept { OnOk result (frames.new.items ≡ frames.old.items ++ (frame ∷ [])) }
     ensures memory { IfErr result (λ fault. fault ≡ Fault.Memory alloc_error) }
 {

@@ -3,30 +3,35 @@ ghost use Rattle.std.specs.Prelude.{◌≡◌, ◌<◌, ◌∷◌, [], length, I
 ghost use Rattle.meta_ast.specs.TopDownIterators.{waiting};
 
 use super::{Node, Tree};
+use crate::deep::Deep;
 use std::alloc::AllocError;
 
 /// A copy of the expression on top of a stack, which gives way to its operands. After an error it is lost.
-pub(crate) fn take_first<E: Tree>(stack: &mut Vec<E>) -> Result<Option<E>, AllocError>
+pub(crate) fn take_first<E: Tree>(stack: &mut Deep<Vec<E>>) -> Result<Option<E>, AllocError>
     ensures given { IfOk result (λ given. MatchOption given
-        ((waiting E.says stack.old.items ≡ []) × (waiting E.says stack.new.items ≡ []))
-        (λ x. waiting E.says stack.old.items ≡ E.says x ∷ waiting E.says stack.new.items)) }
-    ensures some { OnErr result (0 < length (waiting E.says stack.old.items)) }
+        ((waiting E.says stack.old.value.items ≡ []) × (waiting E.says stack.new.value.items ≡ []))
+        (λ x. waiting E.says stack.old.value.items ≡ E.says x ∷ waiting E.says stack.new.value.items)) }
+    ensures some { OnErr result (0 < length (waiting E.says stack.old.value.items)) }
 {
-    let Some(expr) = stack.pop() else {
+    let Some(expr) = stack.value.pop() else {
         return Ok(None);
     };
-    let copy = expr.copy()?;
-    match expr.open() {
-        Node::Leaf(leaf) => drop(leaf),
+    let expr = Deep { value: expr };
+    let copy = Deep {
+        value: expr.value.copy()?,
+    };
+    match expr.into_inner().open() {
+        Node::Leaf(leaf) => leaf.release(),
         Node::One(sign, operand) => {
             drop(sign);
-            stack.push(operand)?;
+            stack.push(Deep { value: operand })?;
         }
         Node::Two(joint, left, right) => {
             drop(joint);
-            stack.push(right)?;
+            let left = Deep { value: left };
+            stack.push(Deep { value: right })?;
             stack.push(left)?;
         }
     }
-    Ok(Some(copy))
+    Ok(Some(copy.into_inner()))
 }

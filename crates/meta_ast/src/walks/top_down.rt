@@ -2,7 +2,7 @@
 ghost use Rattle.std.specs.Prelude.{IfErr, IfOk};
 ghost use Rattle.meta_ast.specs.Maps.{MapsTopDown, RefusesTopDown, NeverGrows};
 
-use super::frames::{closed, opened};
+use super::frames::opened;
 use super::{Onward, Tree};
 use meta_base::runtime::Fault;
 use std::alloc::Global;
@@ -25,7 +25,7 @@ pub(crate) fn map_top_down<E: Tree, F: FnMut(E) -> Result<E, Fault> + Drop>(
         match next {
             Onward::Next(expr) => next = opened(&mut frames, f(expr)?)?,
             Onward::Done(done) => match frames.pop() {
-                Some(frame) => next = closed(alloc, &mut frames, frame, done)?,
+                Some(frame) => next = frame.closed(alloc, &mut frames, done)?,
                 None => return Ok(done),
             },
         }
