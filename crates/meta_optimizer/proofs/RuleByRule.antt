@@ -1,5 +1,6 @@
 -- A pass over all rules.
-use Rattle.std.proofs.Common.{◌≡◌, [], ◌∷◌, ◌++◌, refl, sym, ap, ap₂, subst, append_assoc}
+use Rattle.std.proofs.Common.{◌≡◌, [], ◌∷◌, ◌++◌, refl, sym, ap, ap₂, subst, append_assoc, Result, Ok, Err, IfOk}
+use Rattle.std.specs.Prelude.{IsOkAnd}
 use Rattle.meta_base.specs.Language.Expression.{Expression, RuleType, Rule, Grammar}
 use Rattle.meta_base.specs.Rewritings.Rewriting.{EachBody, no_rules, also_rule}
 
@@ -25,3 +26,9 @@ module _ (P : RuleType → Expression → Expression → Type 0) where
 
   pub all_done : {all done : Grammar} → SoFar P all done [] → EachBody P all done
   all_done {all} {done} s = subst (EachBody P all) (append-none done) (s.finished [] no_rules)
+
+-- what is so of an answer so far is so of it with one more, where there is one
+pub with_one_more : {A E : Type 0} {P Q : A → Type 0} {R : A → A → Type 0} (old new : Result A E) → IfOk old P → IfOk new (λ n. IsOkAnd old (λ o. R o n)) → ((o n : A) → P o → R o n → Q n) → IfOk new Q
+with_one_more (Ok o) (Ok n) p r f = f o n p r
+with_one_more (Err e) (Ok n) p r f = absurd r
+with_one_more old (Err e) p r f = tt

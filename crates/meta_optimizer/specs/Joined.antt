@@ -51,13 +51,13 @@ joined_with (around.RepMin i) x = e.RepMin x i
 joined_with (around.RepMax i) x = e.RepMax x i
 joined_with (around.RepMinMax i j) x = e.RepMinMax x i j
 joined_with around.Push x = e.Push x
-joined_with (around.FirstOfSeq right) x = joined_here (e.Seq x (concatenated (expression_of right.value)))
-joined_with (around.FirstOfChoice right) x = e.Choice x (concatenated (expression_of right.value))
-joined_with (around.SecondOfSeq left) x = joined_here (e.Seq (expression_of left) x)
-joined_with (around.SecondOfChoice left) x = e.Choice (expression_of left.value) x
+joined_with (around.FirstOfSeq right) x = joined_here (e.Seq x (concatenated (expression_of right.value.value)))
+joined_with (around.FirstOfChoice right) x = e.Choice x (concatenated (expression_of right.value.value))
+joined_with (around.SecondOfSeq left) x = joined_here (e.Seq (expression_of left.value) x)
+joined_with (around.SecondOfChoice left) x = e.Choice (expression_of left.value.value) x
 
 -- how much there is to be done once the operand is made
 abbrev pub waits_of : Around → ℕ
-waits_of (around.FirstOfSeq right) = 4 * weight (expression_of right.value) + 3
-waits_of (around.FirstOfChoice right) = 4 * weight (expression_of right.value) + 3
+waits_of (around.FirstOfSeq right) = 4 * weight (expression_of right.value.value) + 3
+waits_of (around.FirstOfChoice right) = 4 * weight (expression_of right.value.value) + 3
 waits_of _ = 1

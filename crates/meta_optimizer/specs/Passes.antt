@@ -1,11 +1,16 @@
 -- What the passes one after another make of rules.
-use Rattle.std.specs.Prelude.{◌≡◌}
-use Rattle.meta_base.specs.Language.Expression.{Expression, RuleType, Grammar}
+use Rattle.std.specs.Prelude.{◌≡◌, ◌++◌, ◌∷◌, []}
+use Rattle.std.specs.HashMap.{HashMap}
+use Rattle.std.specs.declared.alloc.Global.{Global}
+use Rattle.std.specs.declared.string.String.{String}
+use Rattle.meta_base.specs.Language.Expression.{Expression, RuleType, Rule, Grammar}
 use Rattle.meta_base.specs.Rewritings.Erased.{erased}
 use Rattle.meta_base.specs.Rewritings.Listing.{listed, EachListed}
 use Rattle.meta_base.specs.Rewritings.Rewriting.{Chain, EachBody, Factors, IsDone, Joins, KeepsAny, Many, Rotates, SameOutcomes, SkipsUntil, Unrolls}
 use Rattle.meta_base.specs.Rewritings.Wrapping.{EachRestored}
 use Rattle.meta_restorer.specs.Changing.{HasNoWrappers}
+use Rattle.meta_ast.specs.declared.ast.Expr.{Expr}
+use Rattle.meta_optimizer.specs.Bodies.{SufficeFor}
 use Rattle.meta_optimizer.specs.Here.{factored_here}
 use Rattle.meta_optimizer.specs.Traversals.{TopDown}
 use Rattle.meta_optimizer.specs.Unrolled.{IsUnrolled}
@@ -38,6 +43,14 @@ pub record IsOptimizedBody (rules : Grammar) (y : RuleType) (a b : Expression) :
   pub factors : IsFactoring y joined factored
   pub lists : b ≡ listed factored
   pub bare : HasNoWrappers b
+
+-- to optimized rules that of one more rule is added, `skip` looking names up in any rules that suffice for it
+pub record AddsOptimized {S : Type 0} (bodies : HashMap (String Global) Expr S) (rule : Rule)
+    (old new : Grammar) : Type 0 where
+  pub body : Expression
+  pub added : new ≡ old ++ (record rule { body = body } ∷ [])
+  pub optimized : (g : Grammar) → SufficeFor bodies g (rule ∷ [])
+      → IsOptimizedBody g rule.type_of rule.body body
 
 -- the passes up to the listing, with the grammar behind each; `skip` looks names up in the rules as they were
 -- at first

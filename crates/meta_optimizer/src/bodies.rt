@@ -8,6 +8,7 @@ ghost use Rattle.meta_optimizer.specs.Bodies.{HoldsBodies, HasNoTurn, HaveNoTurn
 use crate::skipper::is_no_turn;
 use crate::traversal::{Pass, all_stay};
 use meta_ast::ast::{Expr, Rule, RuleType};
+use meta_ast::deep::Deep;
 use std::alloc::{AllocError, Global};
 use std::collections::HashMap;
 
@@ -15,12 +16,14 @@ use std::collections::HashMap;
 pub(crate) fn bodies_of(
     alloc: Global,
     rules: &Vec<Rule>,
-) -> Result<HashMap<String, Expr>, AllocError>
-    ensures { IfOk result (λ bodies. HoldsBodies bodies (rules_of rules.now.items)) }
+) -> Result<Deep<HashMap<String, Expr>>, AllocError>
+    ensures { IfOk result (λ bodies. HoldsBodies bodies.value (rules_of rules.now.items)) }
 {
-    let mut bodies = HashMap::new(alloc);
+    let mut bodies = Deep {
+        value: HashMap::new(alloc),
+    };
     for rule in rules {
-        add_body(&mut bodies, rule)?;
+        add_body(&mut bodies.value, rule)?;
     }
     Ok(bodies)
 }
@@ -32,8 +35,18 @@ fn add_body(bodies: &mut HashMap<String, Expr>, rule: &Rule) -> Result<(), Alloc
 {
     let name = rule.name.clone()?;
     let body = rule.expr.clone()?;
-    bodies.insert(name, body)?;
-    Ok(())
+    match bodies.insert(name, body) {
+        Ok(None) => Ok(()),
+        Ok(Some(hidden)) => {
+            hidden.release();
+            Ok(())
+        }
+        Err(refused) => {
+            let (_, body) = refused.value;
+            body.release();
+            Err(AllocError)
+        }
+    }
 }
 
 /// What `skip` looks up in these rules: their bodies; none where no Atomic rule has anything in place of which
@@ -41,13 +54,15 @@ fn add_body(bodies: &mut HashMap<String, Expr>, rule: &Rule) -> Result<(), Alloc
 pub(crate) fn bodies_for_skip(
     alloc: Global,
     rules: &Vec<Rule>,
-) -> Result<HashMap<String, Expr>, AllocError>
+) -> Result<Deep<HashMap<String, Expr>>, AllocError>
     ensures { IfOk result
-        (λ bodies. SufficeFor bodies (rules_of rules.now.items) (rules_of rules.now.items)) }
+        (λ bodies. SufficeFor bodies.value (rules_of rules.now.items) (rules_of rules.now.items)) }
 {
     let are_free = are_free_of_turns(alloc, rules)?;
     if are_free {
-        return Ok(HashMap::new(alloc));
+        return Ok(Deep {
+            value: HashMap::new(alloc),
+        });
     }
     bodies_of(alloc, rules)
 }
@@ -84,12 +99,5 @@ impl Pass for Turns {
 
     fn stays_at(&self, node: &Expr) -> bool {
         is_no_turn(node)
-    }
-}
-
-/// Lets bodies go by a loop each, since as they were read they may be very wide.
-pub(crate) fn release_bodies(bodies: HashMap<String, Expr>) {
-    for (_, body) in bodies {
-        body.release();
     }
 }

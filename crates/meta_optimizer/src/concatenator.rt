@@ -11,6 +11,7 @@ use crate::Fault;
 use crate::joined::with_literals_joined;
 use crate::traversal::{Pass, all_stay};
 use meta_ast::ast::{Expr, Rule, RuleType};
+use meta_ast::deep::Deep;
 use std::alloc::{AllocError, Global};
 
 /// The rule; if it is Atomic, with literals in sequence put together: `"a" ~ "b"` becomes `"ab"`, and
@@ -57,7 +58,9 @@ fn joined(alloc: Global, expr: Expr) -> Result<Expr, AllocError>
     ensures { IfOk result
         (λ e. BottomUp (λ a b. joined_here a ≡ b) (expression_of expr) (expression_of e)) }
 {
-    let is_done = all_stay(alloc, &Concatenator, &expr)?;
+    let expr = Deep { value: expr };
+    let is_done = all_stay(alloc, &Concatenator, &expr.value)?;
+    let expr = expr.into_inner();
     if is_done {
         return Ok(expr);
     }

@@ -9,6 +9,7 @@ ghost use Rattle.meta_optimizer.specs.Unrolled.{IsUnrolled};
 
 use crate::{OptimizedExpr, OptimizedRule};
 use meta_ast::ast::{Expr, Rule};
+use meta_ast::deep::Deep;
 use meta_ast::rebuilt::{Rebuild, Step, rebuilt};
 use std::alloc::{AllocError, Global};
 
@@ -31,10 +32,10 @@ enum Around {
     Rep,
     Push,
     // A `~` or a `|` whose left side is at hand, with the right one; and with the left one as it is made.
-    FirstOfSeq(Box<Expr>),
-    FirstOfChoice(Box<Expr>),
-    SecondOfSeq(Box<OptimizedExpr>),
-    SecondOfChoice(Box<OptimizedExpr>),
+    FirstOfSeq(Deep<Box<Expr>>),
+    FirstOfChoice(Deep<Box<Expr>>),
+    SecondOfSeq(Deep<Box<OptimizedExpr>>),
+    SecondOfChoice(Deep<Box<OptimizedExpr>>),
 }
 
 impl Rebuild for Around {
@@ -72,8 +73,8 @@ impl Rebuild for Around {
             Expr::Opt(inner) => (Around::Opt, inner),
             Expr::Rep(inner) => (Around::Rep, inner),
             Expr::Push(inner) => (Around::Push, inner),
-            Expr::Seq(left, right) => (Around::FirstOfSeq(right), left),
-            Expr::Choice(left, right) => (Around::FirstOfChoice(right), left),
+            Expr::Seq(left, right) => (Around::FirstOfSeq(Deep { value: right }), left),
+            Expr::Choice(left, right) => (Around::FirstOfChoice(Deep { value: right }), left),
             Expr::RepOnce(_)
             | Expr::RepExact(..)
             | Expr::RepMin(..)
@@ -89,21 +90,23 @@ impl Rebuild for Around {
         operand: OptimizedExpr,
     ) -> Result<Step<Expr, Around, OptimizedExpr>, AllocError> {
         use OptimizedExpr as E;
-        let operand = Box::new(alloc, operand)?;
+        let operand = Deep { value: operand }.boxed(alloc)?.into_inner();
         let whole = match self {
             Around::FirstOfSeq(right) => {
-                return Ok(Step::Inside(Around::SecondOfSeq(operand), Box::into_inner(right)));
+                let around = Around::SecondOfSeq(Deep { value: operand });
+                return Ok(Step::Inside(around, Box::into_inner(right.into_inner())));
             }
             Around::FirstOfChoice(right) => {
-                return Ok(Step::Inside(Around::SecondOfChoice(operand), Box::into_inner(right)));
+                let around = Around::SecondOfChoice(Deep { value: operand });
+                return Ok(Step::Inside(around, Box::into_inner(right.into_inner())));
             }
             Around::PosPred => E::PosPred(operand),
             Around::NegPred => E::NegPred(operand),
             Around::Opt => E::Opt(operand),
             Around::Rep => E::Rep(operand),
             Around::Push => E::Push(operand),
-            Around::SecondOfSeq(left) => E::Seq(left, operand),
-            Around::SecondOfChoice(left) => E::Choice(left, operand),
+            Around::SecondOfSeq(left) => E::Seq(left.into_inner(), operand),
+            Around::SecondOfChoice(left) => E::Choice(left.into_inner(), operand),
         };
         Ok(Step::Made(whole))
     }

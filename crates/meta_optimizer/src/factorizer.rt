@@ -1,7 +1,7 @@
 //! Takes out what two alternatives have in common.
 ghost use Rattle.std.specs.Prelude.{◌≡◌, ◌≤◌, IfErr, IfOk};
 ghost use Rattle.std.specs.Bool.{OnTrue};
-ghost use Rattle.meta_base.specs.Language.Expression.{Choice};
+ghost use Rattle.meta_base.specs.Language.Expression.{Choice, Seq};
 ghost use Rattle.meta_base.specs.Rewritings.Replacing.{KeepsOutcomes, IsChained};
 ghost use Rattle.meta_base.specs.Rewritings.Rewriting.{Many, Factors};
 ghost use Rattle.meta_ast.specs.Ast.{text_of, expression_of, rule_of_code, rule_type_of};
@@ -11,8 +11,10 @@ ghost use Rattle.meta_ast.specs.Operands.{count_of_nodes};
 ghost use Rattle.meta_optimizer.specs.Traversals.{TopDown};
 
 use crate::Fault;
+use crate::pairs::choice_of;
 use crate::traversal::{Pass, Shrink, top_down};
 use meta_ast::ast::{Expr, Rule, RuleType};
+use meta_ast::deep::Deep;
 use std::alloc::{AllocError, Global};
 
 /// The rule with what two alternatives have in common taken out, once at each choice, from the root down:
@@ -96,20 +98,18 @@ fn factored(
             (_, Expr::Seq(other_front, other_back)) => {
                 if *front == *other_front {
                     Box::into_inner(other_front).release();
-                    let back = Box::new(alloc, Expr::Choice(back, other_back))?;
-                    return Ok(Expr::Seq(front, back));
+                    return before(alloc, front, Expr::Choice(back, other_back));
                 }
-                let left = Box::new(alloc, Expr::Seq(front, back))?;
-                let right = Box::new(alloc, Expr::Seq(other_front, other_back))?;
-                Ok(Expr::Choice(left, right))
+                beside(
+                    alloc,
+                    Expr::Seq(front, back),
+                    Expr::Seq(other_front, other_back),
+                )
             }
             (RuleType::Atomic | RuleType::CompoundAtomic, right) => optional(
                 alloc, front, back, right,
             ),
-            (_, right) => {
-                let left = Box::new(alloc, Expr::Seq(front, back))?;
-                Ok(Expr::Choice(left, Box::new(alloc, right)?))
-            }
+            (_, right) => beside(alloc, Expr::Seq(front, back), right),
         },
         left => match Box::into_inner(right) {
             Expr::Seq(front, back) => {
@@ -117,12 +117,29 @@ fn factored(
                     Expr::Seq(front, back).release();
                     return Ok(left);
                 }
-                let right = Box::new(alloc, Expr::Seq(front, back))?;
-                Ok(Expr::Choice(Box::new(alloc, left)?, right))
+                beside(alloc, left, Expr::Seq(front, back))
             }
-            right => Ok(Expr::Choice(Box::new(alloc, left)?, Box::new(alloc, right)?)),
+            right => beside(alloc, left, right),
         },
     }
+}
+
+// `front ~ back`.
+fn before(alloc: Global, front: Box<Expr>, back: Expr) -> Result<Expr, AllocError>
+    ensures { IfOk result
+        (λ e. expression_of e ≡ Seq (expression_of front.value) (expression_of back)) }
+{
+    let front = Deep { value: front };
+    let back = Deep { value: back }.boxed(alloc)?;
+    Ok(Expr::Seq(front.into_inner(), back.into_inner()))
+}
+
+// `left | right`.
+fn beside(alloc: Global, left: Expr, right: Expr) -> Result<Expr, AllocError>
+    ensures { IfOk result
+        (λ e. expression_of e ≡ Choice (expression_of left) (expression_of right)) }
+{
+    choice_of(alloc, Deep { value: left }, Deep { value: right })
 }
 
 // `(front ~ back) | right` in the atomic types, factored.
@@ -138,9 +155,7 @@ fn optional(
 {
     if *front == right {
         right.release();
-        let back = Box::new(alloc, Expr::Opt(back))?;
-        return Ok(Expr::Seq(front, back));
+        return before(alloc, front, Expr::Opt(back));
     }
-    let left = Box::new(alloc, Expr::Seq(front, back))?;
-    Ok(Expr::Choice(left, Box::new(alloc, right)?))
+    beside(alloc, Expr::Seq(front, back), right)
 }

@@ -7,6 +7,7 @@ ghost use Rattle.meta_optimizer.specs.Here.{joined_here};
 ghost use Rattle.meta_optimizer.specs.Joined.{backwards, concatenated, joined_with, said_by, waits_of};
 
 use meta_ast::ast::Expr;
+use meta_ast::deep::{Deep, Release};
 use meta_ast::rebuilt::{Rebuild, Step, rebuilt};
 use std::alloc::{AllocError, Global};
 
@@ -28,6 +29,15 @@ enum Joined {
     Other(Expr),
 }
 
+impl Release for Joined {
+    fn release(self) {
+        match self {
+            Joined::Texts(_) | Joined::Insensitive(_) => {}
+            Joined::Other(expr) => expr.release(),
+        }
+    }
+}
+
 // What stands around an operand.
 #[derive(Drop)]
 enum Around {
@@ -42,10 +52,10 @@ enum Around {
     RepMinMax(u32, u32),
     Push,
     // A `~` or a `|` whose left side is at hand, with the right one; and with the left one as it is made.
-    FirstOfSeq(Box<Expr>),
-    FirstOfChoice(Box<Expr>),
-    SecondOfSeq(Expr),
-    SecondOfChoice(Box<Expr>),
+    FirstOfSeq(Deep<Box<Expr>>),
+    FirstOfChoice(Deep<Box<Expr>>),
+    SecondOfSeq(Deep<Expr>),
+    SecondOfChoice(Deep<Box<Expr>>),
 }
 
 impl Rebuild for Around {
@@ -81,8 +91,8 @@ impl Rebuild for Around {
             Expr::RepMax(inner, max) => (Around::RepMax(max), inner),
             Expr::RepMinMax(inner, min, max) => (Around::RepMinMax(min, max), inner),
             Expr::Push(inner) => (Around::Push, inner),
-            Expr::Seq(left, right) => (Around::FirstOfSeq(right), left),
-            Expr::Choice(left, right) => (Around::FirstOfChoice(right), left),
+            Expr::Seq(left, right) => (Around::FirstOfSeq(Deep { value: right }), left),
+            Expr::Choice(left, right) => (Around::FirstOfChoice(Deep { value: right }), left),
             leaf => return Ok(Step::Made(Joined::Other(leaf))),
         };
         Ok(Step::Inside(around, Box::into_inner(operand)))
@@ -95,18 +105,24 @@ impl Rebuild for Around {
     ) -> Result<Step<Expr, Around, Joined>, AllocError> {
         let around = match self {
             Around::FirstOfSeq(right) => {
-                let left = whole(alloc, operand)?;
-                return Ok(Step::Inside(Around::SecondOfSeq(left), Box::into_inner(right)));
+                let left = Deep {
+                    value: whole(alloc, operand)?,
+                };
+                let right = Box::into_inner(right.into_inner());
+                return Ok(Step::Inside(Around::SecondOfSeq(left), right));
             }
-            Around::SecondOfSeq(left) => return Ok(Step::Made(beside(alloc, left, operand)?)),
+            Around::SecondOfSeq(left) => {
+                return Ok(Step::Made(beside(alloc, left.into_inner(), operand)?));
+            }
             around => around,
         };
         let operand = boxed(alloc, operand)?;
         let whole = match around {
             Around::FirstOfChoice(right) => {
-                return Ok(Step::Inside(Around::SecondOfChoice(operand), Box::into_inner(right)));
+                let right = Box::into_inner(right.into_inner());
+                return Ok(Step::Inside(Around::SecondOfChoice(Deep { value: operand }), right));
             }
-            Around::SecondOfChoice(left) => Expr::Choice(left, operand),
+            Around::SecondOfChoice(left) => Expr::Choice(left.into_inner(), operand),
             Around::PosPred => Expr::PosPred(operand),
             Around::NegPred => Expr::NegPred(operand),
             Around::Opt => Expr::Opt(operand),
@@ -137,8 +153,10 @@ fn whole(alloc: Global, joined: Joined) -> Result<Expr, AllocError>
 fn boxed(alloc: Global, joined: Joined) -> Result<Box<Expr>, AllocError>
     ensures { IfOk result (λ e. expression_of e.value ≡ said_by joined) }
 {
-    let expr = whole(alloc, joined)?;
-    Ok(Box::new(alloc, expr)?)
+    let expr = Deep {
+        value: whole(alloc, joined)?,
+    };
+    Ok(expr.boxed(alloc)?.into_inner())
 }
 
 // The texts one after another, from the last to the first.
@@ -170,8 +188,10 @@ fn beside(alloc: Global, left: Expr, right: Joined) -> Result<Joined, AllocError
             Ok(Joined::Insensitive(vec![in alloc; last, first]?))
         }
         (left, right) => {
-            let left = Box::new(alloc, left)?;
-            Ok(Joined::Other(Expr::Seq(left, boxed(alloc, right)?)))
+            let right = Deep { value: right };
+            let left = Deep { value: left }.boxed(alloc)?;
+            let right = boxed(alloc, right.into_inner())?;
+            Ok(Joined::Other(Expr::Seq(left.into_inner(), right)))
         }
     }
 }

@@ -8,6 +8,7 @@ mod counts;
 mod factorizer;
 mod joined;
 mod lister;
+mod pairs;
 mod passes;
 mod rotator;
 mod skipper;

@@ -1,7 +1,7 @@
 //! Lists: `(x ~ y)* ~ x` as `x ~ (y ~ x)*`.
 ghost use Rattle.std.specs.Prelude.{◌≡◌, IfErr, IfOk};
 ghost use Rattle.std.specs.Bool.{OnTrue};
-ghost use Rattle.meta_base.specs.Language.Expression.{Seq};
+ghost use Rattle.meta_base.specs.Language.Expression.{Rep, Seq};
 ghost use Rattle.meta_base.specs.Rewritings.Listing.{listed, listed_sequence};
 ghost use Rattle.meta_ast.specs.Ast.{text_of, expression_of, rule_type_of};
 ghost use Rattle.meta_optimizer.specs.Faults.{IsMemory};
@@ -9,8 +9,10 @@ ghost use Rattle.meta_optimizer.specs.Here.{listed_here};
 ghost use Rattle.meta_optimizer.specs.Listed.{KeepsMatches};
 
 use crate::Fault;
+use crate::pairs::sequence_of;
 use crate::traversal::{Finish, Pass, bottom_up};
 use meta_ast::ast::{Expr, Rule};
+use meta_ast::deep::Deep;
 use std::alloc::{AllocError, Global};
 
 /// The rule with each `(x ~ y)* ~ x` as `x ~ (y ~ x)*`, what stands inside first. Name and type stay. Of an
@@ -78,22 +80,47 @@ fn sequence(alloc: Global, left: Expr, right: Expr) -> Result<Expr, AllocError>
     ensures { IfOk result
         (λ e. expression_of e ≡ listed_sequence (expression_of left) (expression_of right)) }
 {
+    let right = Deep { value: right };
     match left {
         Expr::Rep(inner) => match Box::into_inner(inner) {
             Expr::Seq(x, y) => {
-                let right = Box::new(alloc, right)?;
-                if *x == *right {
-                    let more = Box::new(alloc, Expr::Seq(y, right))?;
-                    return Ok(Expr::Seq(x, Box::new(alloc, Expr::Rep(more))?));
+                if *x == right.value {
+                    let (x, y) = (Deep { value: x }, Deep { value: y });
+                    return turned(alloc, x, y, right);
                 }
-                let inner = Box::new(alloc, Expr::Seq(x, y))?;
-                Ok(Expr::Seq(Box::new(alloc, Expr::Rep(inner))?, right))
+                let turn = Expr::Seq(x, y);
+                again(alloc, Deep { value: turn }, right)
             }
-            inner => {
-                let left = Expr::Rep(Box::new(alloc, inner)?);
-                Ok(Expr::Seq(Box::new(alloc, left)?, Box::new(alloc, right)?))
-            }
+            turn => again(alloc, Deep { value: turn }, right),
         },
-        left => Ok(Expr::Seq(Box::new(alloc, left)?, Box::new(alloc, right)?)),
+        left => sequence_of(alloc, Deep { value: left }, right),
     }
+}
+
+// `x ~ (y ~ right)*`.
+fn turned(
+    alloc: Global,
+    x: Deep<Box<Expr>>,
+    y: Deep<Box<Expr>>,
+    right: Deep<Expr>,
+) -> Result<Expr, AllocError>
+    ensures { IfOk result (λ e. expression_of e ≡ Seq (expression_of x.value.value)
+        (Rep (Seq (expression_of y.value.value) (expression_of right.value)))) }
+{
+    let right = right.boxed(alloc)?;
+    let turn = Expr::Seq(y.into_inner(), right.into_inner());
+    let turn = Deep { value: turn }.boxed(alloc)?;
+    let turns = Expr::Rep(turn.into_inner());
+    let turns = Deep { value: turns }.boxed(alloc)?;
+    Ok(Expr::Seq(x.into_inner(), turns.into_inner()))
+}
+
+// `turn* ~ right`.
+fn again(alloc: Global, turn: Deep<Expr>, right: Deep<Expr>) -> Result<Expr, AllocError>
+    ensures { IfOk result
+        (λ e. expression_of e ≡ Seq (Rep (expression_of turn.value)) (expression_of right.value)) }
+{
+    let turn = turn.boxed(alloc)?;
+    let turns = Expr::Rep(turn.into_inner());
+    sequence_of(alloc, Deep { value: turns }, right)
 }

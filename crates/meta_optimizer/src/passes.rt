@@ -1,5 +1,5 @@
 //! All passes over all rules.
-ghost use Rattle.std.specs.Prelude.{◌≡◌, ◌∷◌, [], IfErr, IfOk};
+ghost use Rattle.std.specs.Prelude.{◌≡◌, ◌∷◌, [], IfErr, IfOk, IsOkAnd};
 ghost use Rattle.meta_ast.specs.Ast.{text_of, expression_of, rule_of_code, rule_type_of, rules_of};
 ghost use Rattle.meta_ast.specs.Optimized.{optimized_expression_of, optimized_rules_of};
 ghost use Rattle.meta_base.specs.Language.Expression.{Grammar};
@@ -7,12 +7,13 @@ ghost use Rattle.meta_base.specs.Rewritings.Rewriting.{EachBody};
 ghost use Rattle.meta_restorer.specs.Agreeing.{AgreesLoosely, WrappersSuffice};
 ghost use Rattle.meta_optimizer.specs.Bodies.{SufficeFor};
 ghost use Rattle.meta_optimizer.specs.Faults.{IsMemory};
-ghost use Rattle.meta_optimizer.specs.Passes.{IsOptimized, IsOptimizedBody};
+ghost use Rattle.meta_optimizer.specs.Passes.{AddsOptimized, IsOptimized, IsOptimizedBody};
 
-use crate::bodies::{bodies_for_skip, release_bodies};
+use crate::bodies::bodies_for_skip;
 use crate::converted::rule_to_optimized_rule;
 use crate::{Fault, OptimizedRule, concatenate, factor, list, rotate, skip, unroll};
 use meta_ast::ast::{Expr, Rule};
+use meta_ast::deep::Deep;
 use meta_restorer::restore_rules;
 use std::alloc::Global;
 use std::collections::HashMap;
@@ -30,10 +31,11 @@ pub fn optimize(alloc: Global, rules: Vec<Rule>) -> Result<Vec<OptimizedRule>, F
         → AgreesLoosely (optimized_rules_of answer.items)) }
     ensures memory { IfErr result IsMemory }
 {
-    match bodies_for_skip(alloc, &rules) {
+    let rules = Deep { value: rules };
+    match bodies_for_skip(alloc, &rules.value) {
         Ok(bodies) => {
-            let listing = optimized_rules(alloc, rules, &bodies);
-            release_bodies(bodies);
+            let listing = optimized_rules(alloc, rules.into_inner(), &bodies.value);
+            drop(bodies);
             restore_rules(alloc, listing?)
         }
         Err(error) => Err(Fault::Memory(error)),
@@ -51,15 +53,36 @@ fn optimized_rules(
         → EachBody (IsOptimizedBody g) (rules_of rules.items) (optimized_rules_of answer.items)) }
     ensures memory { IfErr result IsMemory }
 {
-    let mut answer = Vec::new(alloc);
+    let mut answer = Ok(Deep {
+        value: Vec::new(alloc),
+    });
     for rule in rules {
-        let rule = optimized_rule(alloc, rule, bodies)?;
-        match answer.push(rule) {
-            Ok(()) => {}
-            Err(error) => return Err(Fault::Memory(error.into())),
-        }
+        answer = with_rule(alloc, answer, rule, bodies);
     }
-    Ok(answer)
+    match answer {
+        Ok(answer) => Ok(answer.into_inner()),
+        Err(fault) => Err(fault),
+    }
+}
+
+// What is answered for the rules before this one and for this one: a refusal among those before stays.
+fn with_rule(
+    alloc: Global,
+    answer: Result<Deep<Vec<OptimizedRule>>, Fault>,
+    rule: Rule,
+    bodies: &HashMap<String, Expr>,
+) -> Result<Deep<Vec<OptimizedRule>>, Fault>
+    ensures added { IfOk result (λ made. IsOkAnd answer (λ so_far. AddsOptimized bodies.now
+        (rule_of_code rule) (optimized_rules_of so_far.value.items) (optimized_rules_of made.value.items))) }
+    ensures memory { IfErr answer IsMemory → IfErr result IsMemory }
+{
+    let rule = Deep { value: rule };
+    let mut answer = answer?;
+    let rule = optimized_rule(alloc, rule.into_inner(), bodies)?;
+    match answer.push(Deep { value: rule }) {
+        Ok(()) => Ok(answer),
+        Err(error) => Err(Fault::Memory(error)),
+    }
 }
 
 // The passes up to the listing over one rule, names being looked up in `bodies`.

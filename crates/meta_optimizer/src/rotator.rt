@@ -11,6 +11,7 @@ ghost use Rattle.meta_ast.specs.Operands.{count_of_nodes};
 use crate::Fault;
 use crate::traversal::{Pass, Shrink, top_down};
 use meta_ast::ast::{Expr, Rule};
+use meta_ast::deep::Deep;
 use std::alloc::{AllocError, Global};
 
 /// The rule with `~` and `|` nested to the right: `(a ~ b) ~ c` becomes `a ~ (b ~ c)`, and so for `|`, until
@@ -72,14 +73,19 @@ fn sequence(alloc: Global, left: Box<Expr>, right: Box<Expr>) -> Result<Expr, Al
         ≤ count_of_nodes (expression_of left.value) + count_of_nodes (expression_of right.value) + 1) }
 {
     let mut left = left;
-    let mut right = right;
+    let mut right = Deep { value: right };
     'turn: loop {
         match Box::into_inner(left) {
             Expr::Seq(first, second) => {
-                right = Box::new(alloc, Expr::Seq(second, right))?;
-                left = first;
+                let first = Deep { value: first };
+                let moved = Expr::Seq(second, right.into_inner());
+                right = Deep { value: moved }.boxed(alloc)?;
+                left = first.into_inner();
             }
-            other => return Ok(Expr::Seq(Box::new(alloc, other)?, right)),
+            other => {
+                let left = Deep { value: other }.boxed(alloc)?;
+                return Ok(Expr::Seq(left.into_inner(), right.into_inner()));
+            }
         }
     }
 }
@@ -94,14 +100,19 @@ fn choice(alloc: Global, left: Box<Expr>, right: Box<Expr>) -> Result<Expr, Allo
         ≤ count_of_nodes (expression_of left.value) + count_of_nodes (expression_of right.value) + 1) }
 {
     let mut left = left;
-    let mut right = right;
+    let mut right = Deep { value: right };
     'turn: loop {
         match Box::into_inner(left) {
             Expr::Choice(first, second) => {
-                right = Box::new(alloc, Expr::Choice(second, right))?;
-                left = first;
+                let first = Deep { value: first };
+                let moved = Expr::Choice(second, right.into_inner());
+                right = Deep { value: moved }.boxed(alloc)?;
+                left = first.into_inner();
             }
-            other => return Ok(Expr::Choice(Box::new(alloc, other)?, right)),
+            other => {
+                let left = Deep { value: other }.boxed(alloc)?;
+                return Ok(Expr::Choice(left.into_inner(), right.into_inner()));
+            }
         }
     }
 }

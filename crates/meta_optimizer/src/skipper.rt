@@ -12,6 +12,7 @@ use crate::Fault;
 use crate::strings::strings_of;
 use crate::traversal::{Pass, Shrink, top_down};
 use meta_ast::ast::{Expr, Rule, RuleType};
+use meta_ast::deep::Deep;
 use std::alloc::{AllocError, Global};
 use std::collections::HashMap;
 
@@ -56,13 +57,13 @@ impl Pass for Skipper<'_> {
 impl Shrink for Skipper<'_> {
     fn shrink(&self, alloc: Global, expr: Expr) -> Result<Expr, AllocError> {
         match expr {
-            Expr::Rep(inner) => match texts_until(alloc, self.bodies, &inner)? {
-                Some(texts) => {
-                    Box::into_inner(inner).release();
-                    Ok(Expr::Skip(texts))
+            Expr::Rep(inner) => {
+                let inner = Deep { value: inner };
+                match texts_until(alloc, self.bodies, &inner.value)? {
+                    Some(texts) => Ok(Expr::Skip(texts)),
+                    None => Ok(Expr::Rep(inner.into_inner())),
                 }
-                None => Ok(Expr::Rep(inner)),
-            },
+            }
             other => Ok(other),
         }
     }

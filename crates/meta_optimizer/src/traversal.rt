@@ -10,6 +10,7 @@ ghost use Rattle.meta_optimizer.specs.Held.{said_of};
 ghost use Rattle.meta_optimizer.specs.Traversals.{TopDown, BottomUp, AllStay};
 
 use meta_ast::ast::Expr;
+use meta_ast::deep::Deep;
 use meta_base::runtime::Fault;
 use std::alloc::{AllocError, Global};
 
@@ -34,7 +35,9 @@ pub(crate) trait Shrink: Pass {
 pub(crate) fn top_down<P: Shrink>(alloc: Global, pass: &P, expr: Expr) -> Result<Expr, AllocError>
     ensures { IfOk result (λ e. TopDown (P.gives pass.now) (expression_of expr) (expression_of e)) }
 {
-    let is_done = all_stay(alloc, pass, &expr)?;
+    let expr = Deep { value: expr };
+    let is_done = all_stay(alloc, pass, &expr.value)?;
+    let expr = expr.into_inner();
     if is_done {
         return Ok(expr);
     }
@@ -55,7 +58,9 @@ pub(crate) trait Finish: Pass {
 pub(crate) fn bottom_up<P: Finish>(alloc: Global, pass: &P, expr: Expr) -> Result<Expr, AllocError>
     ensures { IfOk result (λ e. BottomUp (P.gives pass.now) (expression_of expr) (expression_of e)) }
 {
-    let is_done = all_stay(alloc, pass, &expr)?;
+    let expr = Deep { value: expr };
+    let is_done = all_stay(alloc, pass, &expr.value)?;
+    let expr = expr.into_inner();
     if is_done {
         return Ok(expr);
     }

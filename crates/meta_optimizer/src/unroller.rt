@@ -1,6 +1,6 @@
 //! Writes `+` and counted repetitions out.
-ghost use Rattle.std.specs.Prelude.{◌≡◌, ◌∷◌, ◌++◌, replicate, IfErr, IfOk, List};
-ghost use Rattle.meta_base.specs.Language.Expression.{Expression};
+ghost use Rattle.std.specs.Prelude.{◌≡◌, ◌<◌, ◌∷◌, ◌++◌, replicate, IfErr, IfOk, List};
+ghost use Rattle.meta_base.specs.Language.Expression.{Expression, Opt};
 ghost use Rattle.meta_base.specs.Language.Meaning.{in_sequence, once_or_more, exactly, at_least, from_to};
 ghost use Rattle.meta_base.specs.Rewritings.Replacing.{KeepsOutcomes, IsChained};
 ghost use Rattle.meta_base.specs.Rewritings.Rewriting.{Many, Unrolls};
@@ -10,8 +10,10 @@ ghost use Rattle.meta_optimizer.specs.Here.{unrolled_here};
 ghost use Rattle.meta_optimizer.specs.Unrolled.{IsUnrolled};
 
 use crate::Fault;
+use crate::pairs::sequence_of;
 use crate::traversal::{Finish, Pass, bottom_up};
 use meta_ast::ast::{Expr, Rule};
+use meta_ast::deep::Deep;
 use std::alloc::{AllocError, Global};
 
 /// The rule with `+` and counted repetitions written out as the copies that they mean, nested to the right:
@@ -53,12 +55,26 @@ impl Finish for Unroller {
     fn finish(&self, alloc: Global, expr: Expr) -> Result<Expr, AllocError> {
         match expr {
             Expr::RepOnce(inner) => one_or_more(alloc, inner),
-            Expr::RepExact(inner, count) => exact(alloc, Box::into_inner(inner), count),
-            Expr::RepMin(inner, min) => min_or_more(alloc, Box::into_inner(inner), min),
-            Expr::RepMax(inner, max) => exact(alloc, Expr::Opt(inner), max),
-            Expr::RepMinMax(inner, min, max) => between(alloc, Box::into_inner(inner), min, max),
+            Expr::RepExact(inner, count) => exact(alloc, unboxed(inner), count),
+            Expr::RepMin(inner, min) => min_or_more(alloc, unboxed(inner), min),
+            Expr::RepMax(inner, max) => exact(
+                alloc,
+                Deep {
+                    value: Expr::Opt(inner),
+                },
+                max,
+            ),
+            Expr::RepMinMax(inner, min, max) => between(alloc, unboxed(inner), min, max),
             other => Ok(other),
         }
+    }
+}
+
+fn unboxed(inner: Box<Expr>) -> Deep<Expr>
+    ensures { result.value ≡ inner.value }
+{
+    Deep {
+        value: Box::into_inner(inner),
     }
 }
 
@@ -66,77 +82,109 @@ impl Finish for Unroller {
 fn one_or_more(alloc: Global, inner: Box<Expr>) -> Result<Expr, AllocError>
     ensures { IfOk result (λ e. expression_of e ≡ once_or_more (expression_of inner.value)) }
 {
-    let copy = Box::new(alloc, (*inner).clone()?)?;
-    let others = Box::new(alloc, Expr::Rep(copy))?;
-    Ok(Expr::Seq(inner, others))
+    let inner = Deep { value: inner };
+    let copy = copy_of(&inner.value)?.boxed(alloc)?;
+    let others = Deep {
+        value: Expr::Rep(copy.into_inner()),
+    };
+    let others = others.boxed(alloc)?;
+    Ok(Expr::Seq(inner.into_inner(), others.into_inner()))
+}
+
+fn copy_of(expr: &Expr) -> Result<Deep<Expr>, AllocError>
+    ensures { IfOk result (λ copy. expression_of copy.value ≡ expression_of expr.now) }
+{
+    Ok(Deep {
+        value: expr.clone()?,
+    })
 }
 
 // So many copies, and then `e*`.
-fn min_or_more(alloc: Global, expr: Expr, min: u32) -> Result<Expr, AllocError>
-    ensures { IfOk result (λ e. expression_of e ≡ at_least (expression_of expr) min) }
+fn min_or_more(alloc: Global, expr: Deep<Expr>, min: u32) -> Result<Expr, AllocError>
+    ensures { IfOk result (λ e. expression_of e ≡ at_least (expression_of expr.value) min) }
 {
     if min == 0 {
-        return Ok(Expr::Rep(Box::new(alloc, expr)?));
+        return Ok(Expr::Rep(expr.boxed(alloc)?.into_inner()));
     }
-    let others = Expr::Rep(Box::new(alloc, expr.clone()?)?);
+    let copy = copy_of(&expr.value)?.boxed(alloc)?;
+    let others = Deep {
+        value: Expr::Rep(copy.into_inner()),
+    };
     repeated(alloc, expr, min, others)
 }
 
 // So many copies in sequence.
-fn exact(alloc: Global, expr: Expr, count: u32) -> Result<Expr, AllocError>
-    ensures { IfOk result (λ e. expression_of e ≡ exactly (expression_of expr) count) }
+fn exact(alloc: Global, expr: Deep<Expr>, count: u32) -> Result<Expr, AllocError>
+    ensures { IfOk result (λ e. expression_of e ≡ exactly (expression_of expr.value) count) }
 {
     if count == 0 {
-        expr.release();
         return Ok(Expr::Str(String::new(alloc)));
     }
     if count == 1 {
-        return Ok(expr);
+        return Ok(expr.into_inner());
     }
-    let last = expr.clone()?;
+    let last = copy_of(&expr.value)?;
     repeated(alloc, expr, count - 1, last)
 }
 
 // From `min` to `max` of them.
-fn between(alloc: Global, expr: Expr, min: u32, max: u32) -> Result<Expr, AllocError>
-    ensures { IfOk result (λ e. expression_of e ≡ from_to (expression_of expr) min max) }
+fn between(alloc: Global, expr: Deep<Expr>, min: u32, max: u32) -> Result<Expr, AllocError>
+    ensures { IfOk result (λ e. expression_of e ≡ from_to (expression_of expr.value) min max) }
 {
     if max <= min {
         return exact(alloc, expr, max);
     }
     if min == 0 {
-        return exact(alloc, Expr::Opt(Box::new(alloc, expr)?), max);
+        return exact(alloc, optional(alloc, expr)?, max);
     }
-    let optional = Expr::Opt(Box::new(alloc, expr.clone()?)?);
-    let others = exact(alloc, optional, max - min)?;
-    repeated(alloc, expr, min, others)
+    let copy = copy_of(&expr.value)?;
+    let others = exact(alloc, optional(alloc, copy)?, max - min)?;
+    repeated(alloc, expr, min, Deep { value: others })
 }
 
-// So many copies, the first of which is the expression itself, and what stands behind them.
-fn repeated(alloc: Global, expr: Expr, count: u32, others: Expr) -> Result<Expr, AllocError>
-    ensures { IfOk result (λ r. (f : Expression) (fs : List Expression)
-        → expression_of others ≡ in_sequence (f ∷ fs)
-        → expression_of r ≡ in_sequence (replicate count (expression_of expr) ++ (f ∷ fs))) }
+// The expression, or nothing where it fails.
+fn optional(alloc: Global, expr: Deep<Expr>) -> Result<Deep<Expr>, AllocError>
+    ensures { IfOk result (λ e. expression_of e.value ≡ Opt (expression_of expr.value)) }
 {
-    if count == 0 {
-        expr.release();
-        return Ok(others);
-    }
-    let behind = copies(alloc, &expr, count - 1, others)?;
-    let first = Box::new(alloc, expr)?;
-    Ok(Expr::Seq(first, Box::new(alloc, behind)?))
+    let inner = expr.boxed(alloc)?;
+    Ok(Deep {
+        value: Expr::Opt(inner.into_inner()),
+    })
+}
+
+// So many copies, of which there is one at least and the first is the expression itself, and what stands
+// behind them.
+fn repeated(
+    alloc: Global,
+    expr: Deep<Expr>,
+    count: u32,
+    others: Deep<Expr>,
+) -> Result<Expr, AllocError>
+    requires { 0 < count }
+    ensures { IfOk result (λ r. (f : Expression) (fs : List Expression)
+        → expression_of others.value ≡ in_sequence (f ∷ fs)
+        → expression_of r ≡ in_sequence (replicate count (expression_of expr.value) ++ (f ∷ fs))) }
+{
+    let behind = copies(alloc, &expr.value, count - 1, others)?;
+    sequence_of(alloc, expr, behind)
 }
 
 // So many copies, and what stands behind them.
-fn copies(alloc: Global, expr: &Expr, count: u32, others: Expr) -> Result<Expr, AllocError>
+fn copies(
+    alloc: Global,
+    expr: &Expr,
+    count: u32,
+    others: Deep<Expr>,
+) -> Result<Deep<Expr>, AllocError>
     ensures { IfOk result (λ r. (f : Expression) (fs : List Expression)
-        → expression_of others ≡ in_sequence (f ∷ fs)
-        → expression_of r ≡ in_sequence (replicate count (expression_of expr.now) ++ (f ∷ fs))) }
+        → expression_of others.value ≡ in_sequence (f ∷ fs)
+        → expression_of r.value ≡ in_sequence (replicate count (expression_of expr.now) ++ (f ∷ fs))) }
 {
     let mut chain = others;
     for turn in 0..count {
-        let copy = Box::new(alloc, expr.clone()?)?;
-        chain = Expr::Seq(copy, Box::new(alloc, chain)?);
+        let copy = copy_of(expr)?;
+        let longer = sequence_of(alloc, copy, chain)?;
+        chain = Deep { value: longer };
     }
     Ok(chain)
 }

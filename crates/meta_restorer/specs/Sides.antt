@@ -18,16 +18,16 @@ module _ (p : Text → Bool) where
   IsTold b e = b ≡ changes_by p e
 
   abbrev pub IsSideTold : Side → Type 0
-  IsSideTold s = IsTold (left_of s).changes (optimized_expression_of (left_of s).expr.value)
+  IsSideTold s = IsTold (left_of s).changes (optimized_expression_of (left_of s).expr.value.value)
 
   abbrev pub AreTold : List Side → Type 0
   AreTold [] = ⊤
   AreTold (s ∷ ss) = IsSideTold s × AreTold ss
 
   abbrev pub beside : Side → Expression → Expression
-  beside (side.Sequence left) e = Seq (optimized_expression_of left.expr.value) e
+  beside (side.Sequence left) e = Seq (optimized_expression_of left.expr.value.value) e
   beside (side.Choice left) e =
-      Choice (wrapped_by p (optimized_expression_of left.expr.value)) (wrapped_by p e)
+      Choice (wrapped_by p (optimized_expression_of left.expr.value.value)) (wrapped_by p e)
 
   -- an expression behind left sides, the last of which stands next to it
   abbrev pub put_behind : List Side → Expression → Expression

@@ -9,6 +9,7 @@ ghost use Rattle.meta_ast.specs.Optimized.{optimized_expression_of};
 use crate::calls::is_plain;
 use crate::changes::{Changes, is_changing};
 use crate::sides::{Left, Restored, Side, behind, nothing, wrap};
+use meta_ast::deep::Deep;
 use meta_ast::optimized::OptimizedExpr;
 use std::alloc::{AllocError, Global};
 use std::mem;
@@ -116,7 +117,7 @@ fn restore_deep(
                 expr: chain,
                 changes: is_changing,
             } = restored_chain(alloc, changes, place, chain)?;
-            *expr = chain;
+            *expr = chain.into_inner();
             Ok(is_changing)
         }
         _ => restore_one(alloc, changes, place, 0, expr),
@@ -177,8 +178,8 @@ fn restored_chain(
     requires noted { IsNotedFrom changes.now (optimized_expression_of expr) place.old }
     ensures place { OnOk result (place.new ≡ place.old + length (names_in (optimized_expression_of expr))) }
     ensures told { IfOk result
-        (λ r. IsTold (told changes.now) r.changes (optimized_expression_of r.expr)) }
-    ensures made { IfOk result (λ r. optimized_expression_of r.expr
+        (λ r. IsTold (told changes.now) r.changes (optimized_expression_of r.expr.value)) }
+    ensures made { IfOk result (λ r. optimized_expression_of r.expr.value
         ≡ restored_by (told changes.now) (optimized_expression_of expr)) }
 {
     let mut sides = Vec::new(alloc);
@@ -186,30 +187,36 @@ fn restored_chain(
     'along: loop {
         match rest {
             OptimizedExpr::Seq(left, right) => {
-                let mut left = left;
-                let mut room = right;
-                let is_changing = restore(alloc, changes, place, 0, &mut left)?;
-                rest = Box::replace(&mut room, nothing());
+                let mut left = Deep { value: left };
+                let mut right = Deep { value: right };
+                let is_changing = restore(alloc, changes, place, 0, &mut left.value)?;
+                let next = Deep {
+                    value: Box::replace(&mut right.value, nothing()),
+                };
                 sides.push(Side::Sequence(Left {
                     expr: left,
                     changes: is_changing,
-                    room,
+                    room: right.into_inner(),
                 }))?;
+                rest = next.into_inner();
             }
             OptimizedExpr::Choice(left, right) => {
-                let mut left = left;
-                let mut room = right;
-                let is_changing = restore(alloc, changes, place, 0, &mut left)?;
-                rest = Box::replace(&mut room, nothing());
+                let mut left = Deep { value: left };
+                let mut right = Deep { value: right };
+                let is_changing = restore(alloc, changes, place, 0, &mut left.value)?;
+                let next = Deep {
+                    value: Box::replace(&mut right.value, nothing()),
+                };
                 sides.push(Side::Choice(Left {
                     expr: left,
                     changes: is_changing,
-                    room,
+                    room: right.into_inner(),
                 }))?;
+                rest = next.into_inner();
             }
             last => {
-                let mut last = last;
-                let is_changing = restore_one(alloc, changes, place, 0, &mut last)?;
+                let mut last = Deep { value: last };
+                let is_changing = restore_one(alloc, changes, place, 0, &mut last.value)?;
                 let last = Restored {
                     expr: last,
                     changes: is_changing,

@@ -1,5 +1,5 @@
 //! Wrappers round what may fail and changes the stack.
-ghost use Rattle.std.specs.Prelude.{◌≡◌, IfErr, IfOk, false, map};
+ghost use Rattle.std.specs.Prelude.{◌≡◌, IfErr, IfOk, OnOk, false, map};
 ghost use Rattle.std.specs.Bool.{Decides};
 ghost use Rattle.meta_base.specs.Rewritings.Erased.{erased};
 ghost use Rattle.meta_base.specs.Language.Expression.{Grammar};
@@ -18,6 +18,7 @@ use crate::calls::changes_itself;
 use crate::changes::{Changes, changes_of};
 use crate::noted::{Share, is_shown, note};
 use crate::restored::{LEVELS, restore};
+use meta_ast::deep::Deep;
 use meta_ast::optimized::{OptimizedExpr, OptimizedRule};
 use meta_base::runtime::Fault;
 use std::alloc::{AllocError, Global};
@@ -64,6 +65,7 @@ pub fn restore_on_err(
         (λ r. KeepsWrappers (optimized_expression_of rule.expr) (optimized_expression_of r.expr)) }
     ensures memory { IfErr result IsMemory }
 {
+    let rule = Deep { value: rule };
     match changes_in_map(alloc, rules) {
         Ok(changes) => match noted_rule(alloc, changes, rule) {
             Ok(rule) => Ok(rule),
@@ -85,9 +87,10 @@ pub fn restore_rules(alloc: Global, rules: Vec<OptimizedRule>) -> Result<Vec<Opt
     if !is_any_changing(&rules) {
         return Ok(rules);
     }
-    match changes_in_rules(alloc, &rules) {
-        Ok(changes) => match restored_rules(alloc, &changes, rules) {
-            Ok(rules) => Ok(rules),
+    let mut rules = Deep { value: rules };
+    match changes_in_rules(alloc, &rules.value) {
+        Ok(changes) => match restore_all(alloc, &changes, &mut rules.value) {
+            Ok(()) => Ok(rules.into_inner()),
             Err(error) => Err(Fault::Memory(error)),
         },
         Err(error) => Err(Fault::Memory(error)),
@@ -138,60 +141,58 @@ fn is_changed(alloc: Global, changes: &Changes, expr: &OptimizedExpr) -> Result<
     Ok(is_shown(&numbers, share, &changes.marks))
 }
 
-// A rule with wrappers, where what is met in its body is noted. Where that changes nothing, it stays.
-fn restored_rule(
+// Puts wrappers into a rule, where what is met in its body is noted. Where that changes nothing, it stays.
+fn restore_rule(
     alloc: Global,
     changes: &Changes,
     share: Share,
-    rule: OptimizedRule,
-) -> Result<OptimizedRule, AllocError>
-    requires { IsNotedAs changes.now.names (optimized_expression_of rule.expr)
+    rule: &mut OptimizedRule,
+) -> Result<(), AllocError>
+    requires { IsNotedAs changes.now.names (optimized_expression_of rule.old.expr)
         changes.now.noted.numbers.items share }
-    ensures name { IfOk result (λ r. r.name ≡ rule.name) }
-    ensures ty { IfOk result (λ r. r.ty ≡ rule.ty) }
-    ensures whole { IfOk result
-        (λ r. optimized_rule_of r ≡ restored_rule_by (told changes.now) (optimized_rule_of rule)) }
+    ensures name { OnOk result (rule.new.name ≡ rule.old.name) }
+    ensures ty { OnOk result (rule.new.ty ≡ rule.old.ty) }
+    ensures whole { OnOk result (optimized_rule_of rule.new
+        ≡ restored_rule_by (told changes.now) (optimized_rule_of rule.old)) }
 {
     if !is_shown(&changes.noted.numbers, share, &changes.marks) {
-        return Ok(rule);
+        return Ok(());
     }
-    let mut rule = rule;
     let mut place = share.start;
     restore(alloc, changes, &mut place, LEVELS, &mut rule.expr)?;
-    Ok(rule)
+    Ok(())
 }
 
 // A rule with wrappers, what is met in whose body is noted first.
 fn noted_rule(
     alloc: Global,
     changes: Changes,
-    rule: OptimizedRule,
+    rule: Deep<OptimizedRule>,
 ) -> Result<OptimizedRule, AllocError>
-    ensures name { IfOk result (λ r. r.name ≡ rule.name) }
-    ensures ty { IfOk result (λ r. r.ty ≡ rule.ty) }
+    ensures name { IfOk result (λ r. r.name ≡ rule.value.name) }
+    ensures ty { IfOk result (λ r. r.ty ≡ rule.value.ty) }
     ensures whole { IfOk result
-        (λ r. optimized_rule_of r ≡ restored_rule_by (told changes) (optimized_rule_of rule)) }
+        (λ r. optimized_rule_of r ≡ restored_rule_by (told changes) (optimized_rule_of rule.value)) }
 {
     let mut changes = changes;
-    let share = note(&changes.names, &rule.expr, &mut changes.noted.numbers)?;
-    restored_rule(alloc, &changes, share, rule)
+    let mut rule = rule;
+    let share = note(&changes.names, &rule.value.expr, &mut changes.noted.numbers)?;
+    restore_rule(alloc, &changes, share, &mut rule.value)?;
+    Ok(rule.into_inner())
 }
 
-// Rules with wrappers, where what is met in each body is noted.
-fn restored_rules(
+// Puts wrappers into rules, where what is met in each body is noted.
+fn restore_all(
     alloc: Global,
     changes: &Changes,
-    rules: Vec<OptimizedRule>,
-) -> Result<Vec<OptimizedRule>, AllocError>
-    requires { AreNotedOf changes.now.names (map named_body rules.items) changes.now.noted }
-    ensures { IfOk result (λ answer. optimized_rules_of answer.items
-        ≡ restored_rules_by (told changes.now) (optimized_rules_of rules.items)) }
+    rules: &mut [OptimizedRule],
+) -> Result<(), AllocError>
+    requires { AreNotedOf changes.now.names (map named_body rules.old) changes.now.noted }
+    ensures { OnOk result (optimized_rules_of rules.new
+        ≡ restored_rules_by (told changes.now) (optimized_rules_of rules.old)) }
 {
-    let mut answer = Vec::with_capacity(alloc, rules.len())?;
-    for rule in rules {
-        let place = answer.len();
-        let rule = restored_rule(alloc, changes, changes.noted.shares[place], rule)?;
-        answer.push(rule)?;
+    for (place, rule) in rules.iter_mut().enumerate() {
+        restore_rule(alloc, changes, changes.noted.shares[place], rule)?;
     }
-    Ok(answer)
+    Ok(())
 }

@@ -6,6 +6,7 @@ ghost use Rattle.meta_restorer.specs.Telling.{told};
 ghost use Rattle.meta_ast.specs.Optimized.{optimized_expression_of};
 
 use crate::changes::Changes;
+use meta_ast::deep::Deep;
 use meta_ast::optimized::OptimizedExpr;
 use std::alloc::{AllocError, Global};
 use std::mem;
@@ -13,7 +14,7 @@ use std::mem;
 /// A restored expression.
 #[derive(Drop)]
 pub struct Restored {
-    pub expr: OptimizedExpr,
+    pub expr: Deep<OptimizedExpr>,
     /// Whether it changes the stack.
     pub changes: bool,
 }
@@ -21,7 +22,7 @@ pub struct Restored {
 /// The left side of a `~` or `|`, restored.
 #[derive(Drop)]
 pub struct Left {
-    pub expr: Box<OptimizedExpr>,
+    pub expr: Deep<Box<OptimizedExpr>>,
     /// Whether it changes the stack.
     pub changes: bool,
     /// Where the right side has its room.
@@ -67,11 +68,11 @@ fn pair(
     right: Restored,
 ) -> Result<Restored, AllocError>
     requires left { IsSideTold (told changes.now) side }
-    requires right { IsTold (told changes.now) right.changes (optimized_expression_of right.expr) }
+    requires right { IsTold (told changes.now) right.changes (optimized_expression_of right.expr.value) }
     ensures told { IfOk result
-        (λ r. IsTold (told changes.now) r.changes (optimized_expression_of r.expr)) }
-    ensures made { IfOk result (λ r. optimized_expression_of r.expr
-        ≡ beside (told changes.now) side (optimized_expression_of right.expr)) }
+        (λ r. IsTold (told changes.now) r.changes (optimized_expression_of r.expr.value)) }
+    ensures made { IfOk result (λ r. optimized_expression_of r.expr.value
+        ≡ beside (told changes.now) side (optimized_expression_of right.expr.value)) }
 {
     let Restored {
         expr: second,
@@ -84,8 +85,9 @@ fn pair(
                 changes: is_first_changing,
                 room,
             } = left;
+            let pair = OptimizedExpr::Seq(first.into_inner(), put(room, second.into_inner()));
             Ok(Restored {
-                expr: OptimizedExpr::Seq(first, put(room, second)),
+                expr: Deep { value: pair },
                 changes: is_first_changing || is_second_changing,
             })
         }
@@ -96,11 +98,14 @@ fn pair(
                 room,
             } = left;
             let mut first = expr;
-            let mut second = put(room, second);
-            wrap(alloc, changes, &mut first, is_first_changing)?;
-            wrap(alloc, changes, &mut second, is_second_changing)?;
+            let mut second = Deep {
+                value: put(room, second.into_inner()),
+            };
+            wrap(alloc, changes, &mut first.value, is_first_changing)?;
+            wrap(alloc, changes, &mut second.value, is_second_changing)?;
+            let pair = OptimizedExpr::Choice(first.into_inner(), second.into_inner());
             Ok(Restored {
-                expr: OptimizedExpr::Choice(first, second),
+                expr: Deep { value: pair },
                 changes: false,
             })
         }
@@ -124,11 +129,11 @@ pub(crate) fn behind(
     last: Restored,
 ) -> Result<Restored, AllocError>
     requires sides { AreTold (told changes.now) sides.items }
-    requires last { IsTold (told changes.now) last.changes (optimized_expression_of last.expr) }
+    requires last { IsTold (told changes.now) last.changes (optimized_expression_of last.expr.value) }
     ensures told { IfOk result
-        (λ r. IsTold (told changes.now) r.changes (optimized_expression_of r.expr)) }
-    ensures made { IfOk result (λ r. optimized_expression_of r.expr
-        ≡ put_behind (told changes.now) sides.items (optimized_expression_of last.expr)) }
+        (λ r. IsTold (told changes.now) r.changes (optimized_expression_of r.expr.value)) }
+    ensures made { IfOk result (λ r. optimized_expression_of r.expr.value
+        ≡ put_behind (told changes.now) sides.items (optimized_expression_of last.expr.value)) }
 {
     let mut sides = sides;
     let mut whole = last;

@@ -8,7 +8,10 @@ use Rattle.meta_optimizer.proofs.Staying.{stays_up}
 use Rattle.meta_optimizer.proofs.concatenator.joined.Goals as goal
 
 pub returns-then-is_done : goal.returns-then-is_done
-returns-then-is_done c = stays_up Joined c.args.expr (rw c.if-is_done.true at c.in_ok-is_done.ensures)
+returns-then-is_done c = rw c.into_inner-expr.ensures (stays_up Joined c.args.expr (rw c.if-is_done.true at c.in_ok-is_done.ensures))
 
 pub returns : goal.returns
-returns c = IfOk-weaker c.with_literals_joined.result _ _ (λ y h. subst (BottomUp Joined (expression_of c.args.expr)) (sym h) (from_the_leaves c.args.expr)) c.with_literals_joined.ensures
+returns c =
+    IfOk-weaker c.with_literals_joined.result _ _
+    (λ y h. subst (λ x. BottomUp Joined (expression_of x) (expression_of y)) c.into_inner-expr.ensures (subst (BottomUp Joined (expression_of c.into_inner-expr.result)) (sym h) (from_the_leaves c.into_inner-expr.result)))
+    c.with_literals_joined.ensures

@@ -10,7 +10,7 @@ pub returns-in_ok-listing-in-Ok-clause-rules : goal.returns-in_ok-listing-in-Ok-
 returns-in_ok-listing-in-Ok-clause-rules c =
     let rules = rules_of c.args.rules.items in
     let listing = optimized_rules_of c.in_ok-listing-in-Ok.field-0.items in
-    let each = c.in_ok-listing-in-Ok.ensures.rules rules c.in-Ok.ensures in
+    let each = (rw c.into_inner.ensures at c.in_ok-listing-in-Ok.ensures.rules) rules c.in-Ok.ensures in
     answered_both c.restore_rules.result
     (λ a f s. optimized rules listing (optimized_rules_of a.items) each (f (have_no_wrappers rules each)) s) c.restore_rules.ensures.restores c.restore_rules.ensures.erased
 
@@ -18,5 +18,5 @@ pub returns-in_ok-listing-in-Ok-clause-agrees : goal.returns-in_ok-listing-in-Ok
 returns-in_ok-listing-in-Ok-clause-agrees c =
     let rules = rules_of c.args.rules.items in
     let listing = optimized_rules_of c.in_ok-listing-in-Ok.field-0.items in
-    let each = c.in_ok-listing-in-Ok.ensures.rules rules c.in-Ok.ensures in
+    let each = (rw c.into_inner.ensures at c.in_ok-listing-in-Ok.ensures.rules) rules c.in-Ok.ensures in
     IfOk-weaker c.restore_rules.result _ _ (λ a f w. agree listing (optimized_rules_of a.items) (f (have_no_wrappers rules each)) w) c.restore_rules.ensures.restores

@@ -1,29 +1,29 @@
-use Rattle.std.proofs.Common.{length, arith, ◌∙◌, [], ◌∷◌, sym, ap}
-use Rattle.std.proofs.lemmas.List.{map-append, nil_from_length}
-use Rattle.meta_ast.specs.Ast.{rule_of_code, rule_type_of}
-use Rattle.meta_ast.specs.Optimized.{optimized_rule_of}
+use Rattle.std.proofs.Common.{length, arith, ◌∙◌, sym, ap}
+use Rattle.std.proofs.lemmas.List.{nil_from_length}
+use Rattle.meta_ast.specs.Ast.{rule_of_code}
 use Rattle.meta_optimizer.specs.Passes.{IsOptimizedBody}
-use Rattle.meta_optimizer.proofs.RuleByRule.{one_more, all_done, same_parts}
+use Rattle.meta_optimizer.proofs.RuleByRule.{one_more, all_done, with_one_more}
 use Rattle.meta_optimizer.proofs.Turning.{for_first, for_others}
 use Rattle.meta_optimizer.proofs.passes.optimized_rules.Goals as goal
 
 pub loop-rule-preserved : goal.loop-rule-preserved
-loop-rule-preserved c =
-    let same = same_parts (rule_of_code c.in-Some.rule) (optimized_rule_of c.in_ok-rule.rule) c.in_ok-rule.ensures.name (ap rule_type_of c.in_ok-rule.ensures.ty) in (
-      tt,
-      tt,
-      (λ g h.
-          let before = c.loop-rule.invariant.2 g h in
-          let so_far = rw c.in-Some.ensures.steps.0 at before.0 in
-          let suffice = rw c.in-Some.ensures.steps.0 at before.1 in (
-            rw (c.in-Ok.ensures.items, map-append optimized_rule_of c.loop-rule.answer.items (c.in_ok-rule.rule ∷ []), same)
-                (one_more (IsOptimizedBody g) so_far (c.in_ok-rule.ensures.body g (for_first c.args.bodies.now g (rule_of_code c.in-Some.rule) _ suffice))),
+loop-rule-preserved c = (
+  tt,
+  tt,
+  with_one_more c.loop-rule.answer c.with_rule-answer.result c.loop-rule.invariant.2 c.with_rule-answer.ensures.added
+      (λ so_far made before adds g h.
+          let known = before g h in
+          let done = rw c.in-Some.ensures.steps.0 at known.0 in
+          let suffice = rw c.in-Some.ensures.steps.0 at known.1 in (
+            rw adds.added (one_more (IsOptimizedBody g) done (adds.optimized g (for_first c.args.bodies.now g (rule_of_code c.in-Some.rule) _ suffice))),
             for_others c.args.bodies.now g (rule_of_code c.in-Some.rule) _ suffice,
           )),
-      (let left = ap length c.in-Some.ensures.steps.0 in omega (arith, left, c.in-Some.ensures.steps.1, c.loop-rule.invariant.3)),
-    )
+  (let left = ap length c.in-Some.ensures.steps.0 in omega (arith, left, c.in-Some.ensures.steps.1, c.loop-rule.invariant.3)),
+  c.with_rule-answer.ensures.memory c.loop-rule.invariant.4,
+)
 
-pub returns-clause-rules : goal.returns-clause-rules
-returns-clause-rules c =
+pub returns-in-Ok-clause-rules : goal.returns-in-Ok-clause-rules
+returns-in-Ok-clause-rules c =
     let nothing = nil_from_length _ (sym c.loop-rule.invariant.3 ∙ c.in-None.ensures.steps.0) in
-    λ g h. let before = c.loop-rule.invariant.2 g h in let so_far = rw nothing at before.0 in all_done (IsOptimizedBody g) so_far
+    let known = rw c.in-Ok.is at c.loop-rule.invariant.2 in
+    λ g h. rw c.into_inner.ensures (all_done (IsOptimizedBody g) (rw nothing at (known g h).0))

@@ -11,14 +11,14 @@ returns-then-max-min c = carried c.exact.result (λ e h. h ∙ few _ _ _ c.if-ma
 
 pub returns-then-min-eq0 : goal.returns-then-min-eq0
 returns-then-min-eq0 c =
-    let x = expression_of c.args.expr in
-    let optional : IfOk c.exact-then-min-eq0.result (λ e. expression_of e ≡ exactly (Opt x) c.args.max) = rw c.in_ok-new.ensures.ok at c.exact-then-min-eq0.ensures in
+    let x = expression_of c.args.expr.value in
+    let optional : IfOk c.exact-then-min-eq0.result (λ e. expression_of e ≡ exactly (Opt x) c.args.max) = rw c.in_ok-optional.ensures at c.exact-then-min-eq0.ensures in
     carried c.exact-then-min-eq0.result (λ e h. h ∙ all_optional x c.args.min c.args.max c.if-min-eq0.true) optional
 
 pub returns : goal.returns
 returns c =
-    let x = expression_of c.args.expr in
-    let others : expression_of c.in_ok-others.others ≡ exactly (Opt (expression_of c.args.expr)) (c.args.max - c.args.min) = rw (c.in_ok-new-2.ensures.ok, c.in_ok-clone.ensures.cases) at c.in_ok-others.ensures in
+    let x = expression_of c.args.expr.value in
+    let others : expression_of c.in_ok-others.others ≡ exactly (Opt (expression_of c.args.expr.value)) (c.args.max - c.args.min) = rw (c.in_ok-optional-2.ensures, c.in_ok-copy.ensures) at c.in_ok-others.ensures in
     carried c.repeated.result
     (λ e h. h (Opt x) (replicate (c.args.max - c.args.min - 1) (Opt x)) (others ∙ first_optional x c.args.min c.args.max c.if-max-min.false) ∙ more x c.args.min c.args.max c.if-max-min.false)
     c.repeated.ensures

@@ -5,5 +5,5 @@ use Rattle.meta_ast.specs.Ast.{expression_of}
 use Rattle.meta_optimizer.proofs.unroller.copies.Given as goal
 
 abbrev pub invariant-loop-turn : goal.invariant-loop-turn
-invariant-loop-turn l = (f : Expression) (fs : List Expression) → expression_of l.fn.others ≡ in_sequence (f ∷ fs)
-    → expression_of l.chain ≡ in_sequence (replicate l.turn (expression_of l.expr) ++ (f ∷ fs))
+invariant-loop-turn l = (f : Expression) (fs : List Expression) → expression_of l.fn.others.value ≡ in_sequence (f ∷ fs)
+    → expression_of l.chain.value ≡ in_sequence (replicate l.turn (expression_of l.expr) ++ (f ∷ fs))

@@ -7,8 +7,8 @@ use Rattle.meta_restorer.proofs.sides.behind.Given as goal
 abbrev pub invariant-loop-side : goal.invariant-loop-side
 invariant-loop-side l = record {
   left : AreTold (told l.changes) l.sides.items;
-  here : IsTold (told l.changes) l.whole.changes (optimized_expression_of l.whole.expr);
-  same : put_behind (told l.changes) l.sides.items (optimized_expression_of l.whole.expr) ≡ put_behind (told l.changes) l.fn.sides.items (optimized_expression_of l.fn.last.expr);
+  here : IsTold (told l.changes) l.whole.changes (optimized_expression_of l.whole.expr.value);
+  same : put_behind (told l.changes) l.sides.items (optimized_expression_of l.whole.expr.value) ≡ put_behind (told l.changes) l.fn.sides.items (optimized_expression_of l.fn.last.expr.value);
 }
 
 abbrev pub decreases-loop-side : goal.decreases-loop-side

@@ -5,7 +5,7 @@ use Rattle.meta_restorer.specs.Telling.{told}
 use Rattle.meta_restorer.proofs.Looking.{shown}
 use Rattle.meta_restorer.proofs.Noting.{noted_from}
 use Rattle.meta_restorer.proofs.Quiet.{restored_stays}
-use Rattle.meta_restorer.proofs.restorer.restored_rule.Goals as goal
+use Rattle.meta_restorer.proofs.restorer.restore_rule.Goals as goal
 
 pub is_shown-requires : goal.is_shown-requires
 is_shown-requires c = subst (λ qs. IsWithin qs c.args.share) (sym c.deref.ensures.value) c.requires.within
@@ -14,12 +14,12 @@ pub returns-then-not-is_shown-clause-whole : goal.returns-then-not-is_shown-clau
 returns-then-not-is_shown-clause-whole c =
     let changes = c.args.changes.now in
     let marks = changes.marks.items in
-    let rule = c.args.rule in
+    let rule = c.args.rule.now in
     let qs = changes.noted.numbers.items in
     let off : shows marks qs c.args.share ≡ false = search rules in
     ap (λ b. record (optimized_rule_of rule) { body = b }) (sym (restored_stays (told changes) (optimized_expression_of rule.expr) (sym (shown changes.names marks rule.expr qs c.args.share c.requires) ∙ off)))
 
 pub restore-requires : goal.restore-requires
 restore-requires c = record {
-  noted = noted_from c.args.changes.now.names (optimized_expression_of c.args.rule.expr) c.args.changes.now.noted.numbers.items c.args.share c.requires;
+  noted = noted_from c.args.changes.now.names (optimized_expression_of c.args.rule.now.expr) c.args.changes.now.noted.numbers.items c.args.share c.requires;
 }

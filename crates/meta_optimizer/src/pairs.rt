@@ -1,0 +1,36 @@
+//! Two expressions side by side.
+ghost use Rattle.std.specs.Prelude.{◌≡◌, IfOk};
+ghost use Rattle.meta_base.specs.Language.Expression.{Choice, Seq};
+ghost use Rattle.meta_ast.specs.Ast.{expression_of};
+
+use meta_ast::ast::Expr;
+use meta_ast::deep::Deep;
+use std::alloc::{AllocError, Global};
+
+/// `left ~ right`. Where memory is refused, both are let go by a loop.
+pub(crate) fn sequence_of(
+    alloc: Global,
+    left: Deep<Expr>,
+    right: Deep<Expr>,
+) -> Result<Expr, AllocError>
+    ensures { IfOk result
+        (λ e. expression_of e ≡ Seq (expression_of left.value) (expression_of right.value)) }
+{
+    let left = left.boxed(alloc)?;
+    let right = right.boxed(alloc)?;
+    Ok(Expr::Seq(left.into_inner(), right.into_inner()))
+}
+
+/// `left | right`. Where memory is refused, both are let go by a loop.
+pub(crate) fn choice_of(
+    alloc: Global,
+    left: Deep<Expr>,
+    right: Deep<Expr>,
+) -> Result<Expr, AllocError>
+    ensures { IfOk result
+        (λ e. expression_of e ≡ Choice (expression_of left.value) (expression_of right.value)) }
+{
+    let left = left.boxed(alloc)?;
+    let right = right.boxed(alloc)?;
+    Ok(Expr::Choice(left.into_inner(), right.into_inner()))
+}
