@@ -1,5 +1,5 @@
 -- Rules in which no `PUSH`, `POP`, `POP_ALL` or `DROP` is met change nothing, and are restored as they are.
-use Rattle.std.proofs.Common.{◌≡◌, List, [], ◌∷◌, Option, Some, None, Bool, true, false, ◌||◌, if◌then◌else◌, bytes_eq, refl, ◌∙◌, ap, ap₂, subst, inl, inr, String, Global}
+use Rattle.std.proofs.Common.{◌≡◌, List, [], ◌∷◌, Option, Some, None, Bool, true, false, ◌||◌, if◌then◌else◌, bytes_eq, refl, ◌∙◌, ap, ap₂, subst, String, Global}
 use Rattle.std.specs.Bool.{Decides}
 use Rattle.std.proofs.lemmas.List.Elements.{All-head, All-tail}
 use Rattle.meta_base.specs.Language.Text.{Text}

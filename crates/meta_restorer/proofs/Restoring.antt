@@ -1,5 +1,7 @@
 -- What the restorer makes of expressions and rules.
-use Rattle.std.proofs.Common.{◌≡◌, List, [], ◌∷◌, Bool, true, false, if◌then◌else◌, refl, ap, ap₂, ◌∙◌, String, Global}
+use Rattle.std.proofs.Common.{◌≡◌, List, [], ◌∷◌, Bool, true, false, if◌then◌else◌, refl, ap, ap₂, sym, ◌∙◌, ℕ, ◌+◌, ◌<◌, ◌++◌, suc, length, take, drop, get_or, set, arith, add-one, length-drop, String, Global}
+use Rattle.std.proofs.Math.Seq.{drop-cons}
+use Rattle.std.proofs.lemmas.List.{drop-set-lt, map-append, take_more, take_more_set}
 use Rattle.std.specs.Bool.{Decides}
 use Rattle.std.specs.List.{All}
 use Rattle.std.proofs.lemmas.List.Elements.{All-head, All-tail}
@@ -14,7 +16,7 @@ use Rattle.meta_ast.specs.Optimized.{optimized_expression_of, optimized_rule_of,
 use Rattle.meta_ast.specs.declared.optimized.OptimizedExpr as code
 use Rattle.meta_ast.specs.declared.optimized.OptimizedRule.{OptimizedRule}
 use Rattle.meta_restorer.specs.Changing.{changes_by, wrapped_by, restored_by, HasNoWrappers, KeepsWrappers}
-use Rattle.meta_restorer.specs.Restoring.{HaveNoWrappers, AreSameErased, restored_rules_by}
+use Rattle.meta_restorer.specs.Restoring.{HaveNoWrappers, AreSameErased, restored_rule_by, restored_rules_by}
 use Rattle.meta_restorer.proofs.Deciding.{decided}
 use Rattle.meta_restorer.proofs.Said.{IsSaid, said, restored_said}
 
@@ -94,3 +96,18 @@ module _ (p : Text → Bool) where
 
     pub each_restored : (rs : List OptimizedRule) → HaveNoWrappers (optimized_rules_of rs) → EachBody (λ y. RestoresTo g) (optimized_rules_of rs) (restored_rules_by p (optimized_rules_of rs))
     each_restored rs h = each rs (each_rule IsBare (optimized_rules_of rs) (λ r c e k. h e (r, c, k)))
+
+-- one rule more has its wrappers, and those behind it stand as they were
+pub one_more_restored : (p : Text → Bool) (rs xs : List OptimizedRule) (n : ℕ) (d v : OptimizedRule) → n < length xs
+    → optimized_rules_of (take n xs) ≡ restored_rules_by p (optimized_rules_of (take n rs)) → drop n xs ≡ drop n rs
+    → optimized_rule_of v ≡ restored_rule_by p (optimized_rule_of (get_or xs n d))
+    → (optimized_rules_of (take (n + 1) (set xs n v)) ≡ restored_rules_by p (optimized_rules_of (take (n + 1) rs))) × (drop (n + 1) (set xs n v) ≡ drop (n + 1) rs)
+one_more_restored p rs xs n d v inside made others restored =
+    let inside_too : n < length rs = omega (arith, length-drop n xs, length-drop n rs, ap length others) in
+    let both : get_or xs n d ∷ drop (suc n) xs ≡ get_or rs n d ∷ drop (suc n) rs = sym (drop-cons xs n d inside) ∙ (others ∙ drop-cons rs n d inside_too) in
+    let same : get_or xs n d ≡ get_or rs n d = cc in
+    let behind : drop (suc n) xs ≡ drop (suc n) rs = cc in (
+      rw (take_more_set xs n v inside, take_more rs n d inside_too, map-append optimized_rule_of (take n xs) (v ∷ []), map-append optimized_rule_of (take n rs) (get_or rs n d ∷ []), map-append (restored_rule_by p) (optimized_rules_of (take n rs)) (optimized_rule_of (get_or rs n d) ∷ []))
+          (ap₂ (λ before b. before ++ (b ∷ [])) made (restored ∙ ap (λ r. restored_rule_by p (optimized_rule_of r)) same)),
+      drop-set-lt (n + 1) xs n v (omega arith) ∙ rw add-one behind,
+    )

@@ -12,12 +12,12 @@ loop-rule-preserved c = (
   tt,
   with_one_more c.loop-rule.answer c.with_rule-answer.result c.loop-rule.invariant.2 c.with_rule-answer.ensures.added
       (λ so_far made before adds g h.
-          let known = before g h in
-          let done = rw c.in-Some.ensures.steps.0 at known.0 in
-          let suffice = rw c.in-Some.ensures.steps.0 at known.1 in (
-            rw adds.added (one_more (IsOptimizedBody g) done (adds.optimized g (for_first c.args.bodies.now g (rule_of_code c.in-Some.rule) _ suffice))),
-            for_others c.args.bodies.now g (rule_of_code c.in-Some.rule) _ suffice,
-          )),
+      let known = before g h in
+      let done = rw c.in-Some.ensures.steps.0 at known.0 in
+      let suffice = rw c.in-Some.ensures.steps.0 at known.1 in (
+        rw adds.added (one_more (IsOptimizedBody g) done (adds.optimized g (for_first c.args.bodies.now g (rule_of_code c.in-Some.rule) _ suffice))),
+        for_others c.args.bodies.now g (rule_of_code c.in-Some.rule) _ suffice,
+      )),
   (let left = ap length c.in-Some.ensures.steps.0 in omega (arith, left, c.in-Some.ensures.steps.1, c.loop-rule.invariant.3)),
   c.with_rule-answer.ensures.memory c.loop-rule.invariant.4,
 )

@@ -1,4 +1,4 @@
-use Rattle.std.proofs.Common.{◌≡◌, ap, refl, [], ◌∷◌}
+use Rattle.std.proofs.Common.{ap, refl, [], ◌∷◌}
 use Rattle.std.proofs.lemmas.List.{map-append}
 use Rattle.meta_ast.specs.Ast.{rule_of_code, rule_type_of}
 use Rattle.meta_ast.specs.Optimized.{optimized_expression_of, optimized_rule_of}
