@@ -2,3 +2,4 @@ pub mod Copies
 pub mod NodeTests
 pub mod Walks
 pub mod Sameness
+pub mod Unplaced

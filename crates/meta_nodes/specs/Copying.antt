@@ -23,8 +23,8 @@ signed (sign.RepMinMax m n) t x = One t (spanned.RepMinMax m n) x
 signed sign.Push t x = One t spanned.Push x
 signed (sign.FirstOfSeq right) t x = Two t spanned.Seq x (view right.now.value)
 signed (sign.FirstOfChoice right) t x = Two t spanned.Choice x (view right.now.value)
-signed (sign.SecondOfSeq left) t x = Two t spanned.Seq (view left.value) x
-signed (sign.SecondOfChoice left) t x = Two t spanned.Choice (view left.value) x
+signed (sign.SecondOfSeq left) t x = Two t spanned.Seq (view left.value.value) x
+signed (sign.SecondOfChoice left) t x = Two t spanned.Choice (view left.value.value) x
 
 -- what the whole says at each place, where the operand says `x` at each
 abbrev pub with_operand : Around → (Span → Spanned) → Span → Spanned

@@ -21,13 +21,13 @@ with_operand (around.RepMin m) x = e.RepMin x m
 with_operand (around.RepMax n) x = e.RepMax x n
 with_operand (around.RepMinMax m n) x = e.RepMinMax x m n
 with_operand around.Push x = e.Push x
-with_operand (around.FirstOfSeq right) x = e.Seq x (without_spans (view right))
-with_operand (around.FirstOfChoice right) x = e.Choice x (without_spans (view right))
-with_operand (around.SecondOfSeq left) x = e.Seq (expression_of left.value) x
-with_operand (around.SecondOfChoice left) x = e.Choice (expression_of left.value) x
+with_operand (around.FirstOfSeq right) x = e.Seq x (without_spans (view right.value))
+with_operand (around.FirstOfChoice right) x = e.Choice x (without_spans (view right.value))
+with_operand (around.SecondOfSeq left) x = e.Seq (expression_of left.value.value) x
+with_operand (around.SecondOfChoice left) x = e.Choice (expression_of left.value.value) x
 
 -- how much there is to be done once the operand is made
 abbrev pub waits_of : Around → ℕ
-waits_of (around.FirstOfSeq right) = 4 * weight (without_spans (view right)) + 3
-waits_of (around.FirstOfChoice right) = 4 * weight (without_spans (view right)) + 3
+waits_of (around.FirstOfSeq right) = 4 * weight (without_spans (view right.value)) + 3
+waits_of (around.FirstOfChoice right) = 4 * weight (without_spans (view right.value)) + 3
 waits_of _ = 1

@@ -5,6 +5,7 @@ ghost use Rattle.meta_nodes.specs.Nodes.{rule_view, view, view_at, IsSameExpress
 ghost use Rattle.meta_nodes.specs.Spanned.{Span as Place, Spanned};
 
 use crate::node::{ParserExpr, ParserNode, ParserRule};
+use meta_ast::deep::Deep;
 use meta_ast::rebuilt::{Rebuild, Step, rebuilt};
 use std::alloc::{AllocError, Global};
 
@@ -76,9 +77,9 @@ enum Sign<'n, 'i> {
     /// The same of a `|`.
     FirstOfChoice(&'n Box<ParserNode<'i>>),
     /// A `~` whose right side is copied, and the copy of the left one.
-    SecondOfSeq(Box<ParserNode<'i>>),
+    SecondOfSeq(Deep<Box<ParserNode<'i>>>),
     /// The same of a `|`.
-    SecondOfChoice(Box<ParserNode<'i>>),
+    SecondOfChoice(Deep<Box<ParserNode<'i>>>),
 }
 
 impl<'n, 'i> Rebuild for Around<'n, 'i> {
@@ -138,14 +139,15 @@ impl<'n, 'i> Rebuild for Around<'n, 'i> {
         use ParserExpr as E;
         let Around { operand, sign } = self;
         let span = operand.span;
-        let copy = Box::new(alloc, ParserNode { expr: copy, span })?;
+        let value = ParserNode { expr: copy, span };
+        let copy = Deep { value }.boxed(alloc)?.into_inner();
         let whole = match sign {
             Sign::FirstOfSeq(operand) => {
-                let sign = Sign::SecondOfSeq(copy);
+                let sign = Sign::SecondOfSeq(Deep { value: copy });
                 return Ok(Step::Inside(Around { operand, sign }, &operand.expr));
             }
             Sign::FirstOfChoice(operand) => {
-                let sign = Sign::SecondOfChoice(copy);
+                let sign = Sign::SecondOfChoice(Deep { value: copy });
                 return Ok(Step::Inside(Around { operand, sign }, &operand.expr));
             }
             Sign::PosPred => E::PosPred(copy),
@@ -158,8 +160,8 @@ impl<'n, 'i> Rebuild for Around<'n, 'i> {
             Sign::RepMax(greatest) => E::RepMax(copy, greatest),
             Sign::RepMinMax(least, greatest) => E::RepMinMax(copy, least, greatest),
             Sign::Push => E::Push(copy),
-            Sign::SecondOfSeq(left) => E::Seq(left, copy),
-            Sign::SecondOfChoice(left) => E::Choice(left, copy),
+            Sign::SecondOfSeq(left) => E::Seq(left.into_inner(), copy),
+            Sign::SecondOfChoice(left) => E::Choice(left.into_inner(), copy),
         };
         Ok(Step::Made(whole))
     }

@@ -9,6 +9,7 @@ ghost use Rattle.meta_nodes.specs.Nodes.{rule_view, rule_views, view};
 
 use crate::node::{ParserExpr, ParserNode, ParserRule};
 use meta_ast::ast::{Expr, Rule};
+use meta_ast::deep::Deep;
 use meta_ast::rebuilt::{Rebuild, Step, rebuilt};
 use std::alloc::{AllocError, Global};
 
@@ -19,11 +20,17 @@ pub fn erase_spans(alloc: Global, rules: Vec<ParserRule<'_>>) -> Result<Vec<Rule
     ensures { IfOk result
         (λ erased. rules_of erased.items ≡ rules_without_spans (rule_views rules.entry.items)) }
 {
-    let mut erased = Vec::new(alloc);
-    for rule in rules {
-        erased.push(erased_rule(alloc, rule)?)?;
+    // A list gives from its end, so the first rule is put there.
+    let mut rest = Deep { value: rules };
+    rest.value.reverse();
+    let mut erased = Deep {
+        value: Vec::new(alloc),
+    };
+    while let Some(rule) = rest.value.pop() {
+        let rule = erased_rule(alloc, rule)?;
+        erased.push(Deep { value: rule })?;
     }
-    Ok(erased)
+    Ok(erased.into_inner())
 }
 
 /// The same rule without its spans.
@@ -49,13 +56,13 @@ enum Around<'i> {
     RepMinMax(u32, u32),
     Push,
     /// A `~` whose left side is at hand, and the right one.
-    FirstOfSeq(ParserNode<'i>),
+    FirstOfSeq(Deep<ParserNode<'i>>),
     /// The same of a `|`.
-    FirstOfChoice(ParserNode<'i>),
+    FirstOfChoice(Deep<ParserNode<'i>>),
     /// A `~` whose right side is at hand, and what the left one is without spans.
-    SecondOfSeq(Box<Expr>),
+    SecondOfSeq(Deep<Box<Expr>>),
     /// The same of a `|`.
-    SecondOfChoice(Box<Expr>),
+    SecondOfChoice(Deep<Box<Expr>>),
 }
 
 impl<'i> Rebuild for Around<'i> {
@@ -97,8 +104,14 @@ impl<'i> Rebuild for Around<'i> {
             E::RepMax(inner, greatest) => (Around::RepMax(greatest), inner),
             E::RepMinMax(inner, least, greatest) => (Around::RepMinMax(least, greatest), inner),
             E::Push(inner) => (Around::Push, inner),
-            E::Seq(left, right) => (Around::FirstOfSeq(Box::into_inner(right)), left),
-            E::Choice(left, right) => (Around::FirstOfChoice(Box::into_inner(right)), left),
+            E::Seq(left, right) => {
+                let value = Box::into_inner(right);
+                (Around::FirstOfSeq(Deep { value }), left)
+            }
+            E::Choice(left, right) => {
+                let value = Box::into_inner(right);
+                (Around::FirstOfChoice(Deep { value }), left)
+            }
         };
         Ok(Step::Inside(around, Box::into_inner(operand)))
     }
@@ -108,13 +121,15 @@ impl<'i> Rebuild for Around<'i> {
         alloc: Global,
         operand: Expr,
     ) -> Result<Step<ParserNode<'i>, Around<'i>, Expr>, AllocError> {
-        let operand = Box::new(alloc, operand)?;
+        let operand = Deep { value: operand }.boxed(alloc)?.into_inner();
         let whole = match self {
             Around::FirstOfSeq(right) => {
-                return Ok(Step::Inside(Around::SecondOfSeq(operand), right));
+                let left = Deep { value: operand };
+                return Ok(Step::Inside(Around::SecondOfSeq(left), right.into_inner()));
             }
             Around::FirstOfChoice(right) => {
-                return Ok(Step::Inside(Around::SecondOfChoice(operand), right));
+                let left = Deep { value: operand };
+                return Ok(Step::Inside(Around::SecondOfChoice(left), right.into_inner()));
             }
             Around::PosPred => Expr::PosPred(operand),
             Around::NegPred => Expr::NegPred(operand),
@@ -126,8 +141,8 @@ impl<'i> Rebuild for Around<'i> {
             Around::RepMax(greatest) => Expr::RepMax(operand, greatest),
             Around::RepMinMax(least, greatest) => Expr::RepMinMax(operand, least, greatest),
             Around::Push => Expr::Push(operand),
-            Around::SecondOfSeq(left) => Expr::Seq(left, operand),
-            Around::SecondOfChoice(left) => Expr::Choice(left, operand),
+            Around::SecondOfSeq(left) => Expr::Seq(left.into_inner(), operand),
+            Around::SecondOfChoice(left) => Expr::Choice(left.into_inner(), operand),
         };
         Ok(Step::Made(whole))
     }

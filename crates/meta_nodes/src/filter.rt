@@ -4,6 +4,7 @@ ghost use Rattle.meta_nodes.specs.Nodes.{view};
 ghost use Rattle.meta_nodes.specs.Walk.{preorder, waiting, Answered, Appended};
 
 use crate::node::{ParserExpr, ParserNode};
+use meta_ast::deep::Deep;
 use meta_base::runtime::Fault;
 use std::alloc::{AllocError, Global};
 
@@ -22,8 +23,9 @@ impl<'i> ParserNode<'i> {
         ensures fault { IfErr result (λ fault. fault ≡ Fault.Memory alloc_error) }
     {
         let mut f = f;
+        let node = Deep { value: self };
         let mut answers = Vec::new(alloc);
-        match walk(alloc, &self, &mut f, &mut answers) {
+        match walk(alloc, &node.value, &mut f, &mut answers) {
             Ok(()) => Ok(answers),
             Err(refused) => Err(Fault::Memory(refused)),
         }
@@ -51,8 +53,9 @@ where
     ensures fault { IfErr result (λ fault. fault ≡ Fault.Memory alloc_error) }
     ensures callable { F.IsAlwaysCallable f.new }
 {
+    let node = Deep { value: node };
     let mut found = Vec::new(alloc);
-    match walk(alloc, &node, f, &mut found) {
+    match walk(alloc, &node.value, f, &mut found) {
         Ok(()) => answers.append(&mut found).map_err(Fault::Memory),
         Err(refused) => Err(Fault::Memory(refused)),
     }

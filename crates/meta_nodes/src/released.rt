@@ -2,16 +2,14 @@
 ghost use Rattle.std.specs.Prelude.{◌≡◌, ◌+◌, ◌*◌, ◌<◌};
 ghost use Rattle.meta_ast.specs.Weight.{weight};
 ghost use Rattle.meta_nodes.specs.Erasure.{without_spans};
-ghost use Rattle.meta_nodes.specs.Nodes.{view};
+ghost use Rattle.meta_nodes.specs.Nodes.{unplaced, view};
 
 use crate::node::{ParserExpr, ParserNode, ParserRule};
-use meta_base::runtime::Span;
+use meta_ast::deep::Release;
 
 /// Lets rules go, the body of each as [`ParserNode::release`] does.
 pub fn release(rules: Vec<ParserRule<'_>>) {
-    for rule in rules {
-        rule.node.release();
-    }
+    rules.release();
 }
 
 impl<'i> ParserNode<'i> {
@@ -20,22 +18,41 @@ impl<'i> ParserNode<'i> {
     /// A node that goes out of scope is let go by a call a level, so a chain of very many parts takes very
     /// much of the machine's stack; this takes the same for each.
     pub fn release(self) {
+        self.expr.release();
+    }
+}
+
+impl<'i> Release for ParserRule<'i> {
+    fn release(self) {
+        self.node.release();
+    }
+}
+
+impl<'i> Release for ParserNode<'i> {
+    fn release(self) {
+        self.expr.release();
+    }
+}
+
+impl<'i> Release for ParserExpr<'i> {
+    #[tactic(auto, using(crate::proofs::Unplaced::weight_unplaced))]
+    fn release(self) {
         use ParserExpr as E;
         let mut rest = self;
         'parts: loop {
-            match rest.expr {
+            match rest {
                 E::Str(_) | E::Insens(_) | E::Ident(_) => return,
                 E::Range(_, _) | E::PeekSlice(_, _) => return,
                 E::PosPred(inner) | E::NegPred(inner) | E::Opt(inner) => {
-                    rest = Box::into_inner(inner);
+                    rest = Box::into_inner(inner).expr;
                 }
                 E::Rep(inner) | E::RepOnce(inner) | E::Push(inner) => {
-                    rest = Box::into_inner(inner);
+                    rest = Box::into_inner(inner).expr;
                 }
                 E::RepExact(inner, _) | E::RepMin(inner, _) | E::RepMax(inner, _) => {
-                    rest = Box::into_inner(inner);
+                    rest = Box::into_inner(inner).expr;
                 }
-                E::RepMinMax(inner, _, _) => rest = Box::into_inner(inner),
+                E::RepMinMax(inner, _, _) => rest = Box::into_inner(inner).expr,
                 E::Seq(left, right) | E::Choice(left, right) => rest = leaned(left, right),
             }
         }
@@ -43,8 +60,8 @@ impl<'i> ParserNode<'i> {
 }
 
 /// What is left of two sides, with less on the left: its operator is gone, or all of it.
-fn leaned<'i>(mut left: Box<ParserNode<'i>>, right: Box<ParserNode<'i>>) -> ParserNode<'i>
-    ensures { weight (without_spans (view result))
+fn leaned<'i>(mut left: Box<ParserNode<'i>>, right: Box<ParserNode<'i>>) -> ParserExpr<'i>
+    ensures { weight (without_spans (unplaced result))
         < 2 * weight (without_spans (view left.entry.value))
         + weight (without_spans (view right.entry.value)) + 1 }
 {
@@ -58,7 +75,7 @@ fn leaned<'i>(mut left: Box<ParserNode<'i>>, right: Box<ParserNode<'i>>) -> Pars
         E::Seq(first, second) | E::Choice(first, second) => {
             let expr = E::Seq(second, right);
             let _ = Box::replace(&mut left, ParserNode { expr, span });
-            sequence(first, left, span)
+            E::Seq(first, left)
         }
         E::PosPred(inner)
         | E::NegPred(inner)
@@ -69,23 +86,7 @@ fn leaned<'i>(mut left: Box<ParserNode<'i>>, right: Box<ParserNode<'i>>) -> Pars
         | E::RepMin(inner, _)
         | E::RepMax(inner, _)
         | E::RepMinMax(inner, _, _)
-        | E::Push(inner) => sequence(inner, right, span),
-        _ => Box::into_inner(right),
-    }
-}
-
-/// A `~` of two nodes that stands at that place.
-fn sequence<'i>(
-    left: Box<ParserNode<'i>>,
-    right: Box<ParserNode<'i>>,
-    span: Span<'i>,
-) -> ParserNode<'i>
-    ensures { weight (without_spans (view result))
-        ≡ 2 * weight (without_spans (view left.entry.value))
-        + weight (without_spans (view right.entry.value)) + 1 }
-{
-    ParserNode {
-        expr: ParserExpr::Seq(left, right),
-        span,
+        | E::Push(inner) => E::Seq(inner, right),
+        _ => Box::into_inner(right).expr,
     }
 }
