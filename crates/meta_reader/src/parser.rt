@@ -23,9 +23,9 @@ use crate::parser::pieces::{span_of, text_of};
 use crate::parser::reading::expression;
 pub use crate::parser::shown::rename_meta_rule;
 use meta_ast::ast::RuleType;
+use meta_ast::deep::Deep;
 pub use meta_base::grammar::Rule;
 use meta_base::runtime::{Fault, Pairs, TokenTree};
-use meta_nodes::release;
 pub use meta_nodes::{ParserExpr, ParserNode, ParserRule, filter_internal};
 pub use meta_syntax::grammar::PestParser;
 use meta_syntax::laws::trees_of_a_grammar_have_their_shape;
@@ -88,22 +88,19 @@ fn rules<'i>(
     requires nested { StandIn text.now (named_trees_of trees.now) }
     ensures { AnswersRules text.entry.now (named_trees_of trees.now) result }
 {
-    let mut read = Vec::new(alloc);
+    let mut read = Deep {
+        value: Vec::new(alloc),
+    };
     let mut rest = trees;
     while let Some(tree) = first_tree(rest) {
         rest = tree.others;
         if let Rule::grammar_rule = tree.rule {
-            match rule(alloc, text, tree.inner) {
-                Ok(Some(one)) => read.push(one)?,
-                Ok(None) => {}
-                Err(error) => {
-                    release(read);
-                    return Err(error);
-                }
+            if let Some(one) = rule(alloc, text, tree.inner)? {
+                read.push(Deep { value: one })?;
             }
         }
     }
-    Ok(read)
+    Ok(read.into_inner())
 }
 
 /// The pairs that the text spells for a rule of the meta-grammar, from its start on, as

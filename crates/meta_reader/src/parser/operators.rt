@@ -12,6 +12,7 @@ ghost use Rattle.meta_reader.specs.Views.{AnswersCount, AnswersPostfix, AnswersP
 
 use crate::parser::flaws::ReadError;
 use crate::parser::pieces::{count, number, span_at};
+use meta_ast::deep::Deep;
 use meta_base::grammar::Rule;
 use meta_base::runtime::{FirstTree, Span, TokenTree};
 use meta_nodes::{ParserExpr, ParserNode};
@@ -138,14 +139,9 @@ fn postfix<'i>(
     requires nested { StandIn (span_text span) (named_trees_of operator.inner.now) }
     ensures { AnswersPostfix span.entry operator.entry node.entry result }
 {
-    let times = match times_of(span.get_input(), operator) {
-        Ok(times) => times,
-        Err(error) => {
-            node.release();
-            return Err(error);
-        }
-    };
-    let node = Box::new(alloc, node)?;
+    let node = Deep { value: node };
+    let times = times_of(span.get_input(), operator)?;
+    let node = node.boxed(alloc)?.into_inner();
     Ok(ParserNode {
         expr: repeated(times, node),
         span,

@@ -16,6 +16,7 @@ use crate::parser::operators::postfixed;
 use crate::parser::pieces::span_at;
 use crate::parser::signs::{behind_signs, with_signs};
 use crate::parser::terminals::terminal;
+use meta_ast::deep::Deep;
 use meta_base::grammar::Rule;
 use meta_base::runtime::{FirstTree, TokenTree};
 use meta_nodes::{ParserExpr, ParserNode};
@@ -51,20 +52,19 @@ fn combined<'i>(
     alloc: Global,
     text: &'i str,
     operator: Infix,
-    left: ParserNode<'i>,
-    right: ParserNode<'i>,
-) -> Result<ParserNode<'i>, AllocError>
-    requires { IsPiece text.now (span_start left.span) (span_end right.span) }
-    ensures { IfOk result
-        (λ n. view n ≡ both text.entry.now (binary_of operator) (view left.entry) (view right.entry)) }
+    left: Deep<ParserNode<'i>>,
+    right: Deep<ParserNode<'i>>,
+) -> Result<Deep<ParserNode<'i>>, AllocError>
+    requires { IsPiece text.now (span_start left.value.span) (span_end right.value.span) }
+    ensures { IfOk result (λ n. view n.value
+        ≡ both text.entry.now (binary_of operator) (view left.entry.value) (view right.entry.value)) }
 {
-    let span = span_at(text, left.span.start(), right.span.end());
-    let left = Box::new(alloc, left)?;
-    let right = Box::new(alloc, right)?;
-    Ok(ParserNode {
-        expr: operation(operator, left, right),
-        span,
-    })
+    let span = span_at(text, left.value.span.start(), right.value.span.end());
+    let left = left.boxed(alloc)?;
+    let right = right.boxed(alloc)?;
+    let expr = operation(operator, left.into_inner(), right.into_inner());
+    let value = ParserNode { expr, span };
+    Ok(Deep { value })
 }
 
 /// The alternatives of an expression, without a bar before the first.
@@ -111,19 +111,14 @@ pub fn expression<'i>(
     requires nested { StandIn text.now (named_trees_of trees.now) }
     ensures { ReadsAs text.entry.now AnExpression (named_trees_of trees.now) result }
 {
-    let (mut left, mut rest) = sequence(alloc, text, behind_bar(trees))?;
+    let (left, mut rest) = sequence(alloc, text, behind_bar(trees))?;
+    let mut left = Deep { value: left };
     while let Some(bar) = first_tree(rest) {
-        let (right, after) = match sequence(alloc, text, bar.others) {
-            Ok(front) => front,
-            Err(error) => {
-                left.release();
-                return Err(error);
-            }
-        };
-        left = combined(alloc, text, Infix::Choice, left, right)?;
+        let (right, after) = sequence(alloc, text, bar.others)?;
+        left = combined(alloc, text, Infix::Choice, left, Deep { value: right })?;
         rest = after;
     }
-    Ok(left)
+    Ok(left.into_inner())
 }
 
 /// Terms with `~` between them, as far as they go, and what follows them; or their first flaw.
@@ -138,20 +133,15 @@ fn sequence<'i, 't>(
     ensures { AnswersFront text.entry.now (named_trees_of trees.entry.now) result }
 {
     let first = leading_tree(trees);
-    let mut left = term(alloc, text, first.inner)?;
+    let left = term(alloc, text, first.inner)?;
+    let mut left = Deep { value: left };
     let mut rest: &'t [TokenTree<Rule>] = first.others;
     while let Some((inner, after)) = next_term(rest) {
-        let right = match term(alloc, text, inner) {
-            Ok(right) => right,
-            Err(error) => {
-                left.release();
-                return Err(error);
-            }
-        };
-        left = combined(alloc, text, Infix::Sequence, left, right)?;
+        let right = term(alloc, text, inner)?;
+        left = combined(alloc, text, Infix::Sequence, left, Deep { value: right })?;
         rest = after;
     }
-    Ok((left, rest))
+    Ok((left.into_inner(), rest))
 }
 
 /// A term, by the trees in it, or its first flaw.
@@ -246,8 +236,9 @@ fn push<'i>(
     let body = leading_tree(paren.others);
     let node = expression(alloc, text, body.inner)?;
     let span = span_at(text, tree.start, node.span.end());
+    let node = Deep { value: node }.boxed(alloc)?;
     Ok(ParserNode {
-        expr: ParserExpr::Push(Box::new(alloc, node)?),
+        expr: ParserExpr::Push(node.into_inner()),
         span,
     })
 }

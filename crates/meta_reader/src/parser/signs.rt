@@ -9,6 +9,7 @@ ghost use Rattle.meta_reader.specs.Signs.{IsBehindSigns, predicate_of, signed};
 ghost use Rattle.meta_syntax.specs.Shape.{IsTerm};
 
 use crate::parser::pieces::span_at;
+use meta_ast::deep::Deep;
 use meta_base::grammar::Rule;
 use meta_base::runtime::TokenTree;
 use meta_nodes::{ParserExpr, ParserNode};
@@ -88,7 +89,7 @@ pub fn with_signs<'i>(
     let mut left = signs;
     while let Some(sign) = left.pop() {
         let span = span_at(node.span.get_input(), sign.start, node.span.end());
-        let inner = Box::new(alloc, node)?;
+        let inner = Deep { value: node }.boxed(alloc)?.into_inner();
         let expr = predicate(sign.is_negative, inner);
         node = ParserNode { expr, span };
     }

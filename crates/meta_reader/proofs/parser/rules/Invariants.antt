@@ -15,7 +15,7 @@ invariant-loop-tree l = record {
   nested : StandIn l.text (named_trees_of l.rest);
   flaws : first_flaw l.text (named_trees_of l.trees) ≡ first_flaw l.text (named_trees_of l.rest);
   reads : (rs : List SpannedRule) → ReadsLeft l.text (named_trees_of l.rest) rs
-      → ReadsRules l.text (named_trees_of l.trees) (rule_views l.read.items ++ rs);
+      → ReadsRules l.text (named_trees_of l.trees) (rule_views l.read.value.items ++ rs);
 }
 
 abbrev pub decreases-loop-tree : goal.decreases-loop-tree

@@ -40,22 +40,23 @@ expression-sequence-requires-in-Some t c =
     let s = stand_behind (rw c.in-Some.ensures at c.loop-bar.invariant.nested) in
     (omega (arith, k), (r.2, s))
 
-pub expression-returns-in-Err : goal.expression-returns-in-Err
-expression-returns-in-Err t c =
+pub expression-returns-in_err-right : goal.expression-returns-in_err-right
+expression-returns-in_err-right t c =
     let r = rest_tree (rw c.in-Some.ensures at c.loop-bar.invariant.shape) in
-    rw (c.loop-bar.invariant.flaws, c.in-Some.ensures, r.0, r.1, quiet_bar) c.in-Err.ensures
+    let p = err_from_is_err_and c.from_residual-in_err-right.result c.from_residual-in_err-right.ensures.1 in
+    rw (p.1, p.2, c.loop-bar.invariant.flaws, c.in-Some.ensures, r.0, r.1, quiet_bar) c.in_err-right.ensures
 
 pub expression-combined-requires : goal.expression-combined-requires
 expression-combined-requires t c =
     let r = rest_tree (rw c.in-Some.ensures at c.loop-bar.invariant.shape) in
-    let e = c.in-Ok.ensures in
+    let e = c.in_ok-right.ensures in
     let h = rw (c.in-Some.ensures, r.0, r.1) at c.loop-bar.invariant.reads in
-    expression_piece c.args.text.now (named_trees_of c.in-Ok.front.1.now) c.loop-bar.left c.in-Ok.front.0 h e.split e.reads
+    expression_piece c.args.text.now (named_trees_of c.in_ok-right.after.now) c.loop-bar.left.value c.in_ok-right.right h e.split e.reads
 
 pub expression-loop-bar-preserved : goal.expression-loop-bar-preserved
 expression-loop-bar-preserved t c =
     let r = rest_tree (rw c.in-Some.ensures at c.loop-bar.invariant.shape) in
-    let e = c.in-Ok.ensures in
+    let e = c.in_ok-right.ensures in
     let h = rw (c.in-Some.ensures, r.0, r.1) at c.loop-bar.invariant.reads in
     let k = rw c.in-Some.ensures at c.loop-bar.invariant.shorter in
     let s = stand_behind (rw c.in-Some.ensures at c.loop-bar.invariant.nested) in
@@ -69,7 +70,7 @@ expression-loop-bar-preserved t c =
 
 pub expression-returns : goal.expression-returns
 expression-returns t c =
-    (rw (c.loop-bar.invariant.flaws, c.in_default.ensures) refl, expression_end c.args.text.now (rw c.in_default.ensures at c.loop-bar.invariant.reads))
+    (rw (c.loop-bar.invariant.flaws, c.in_default.ensures) refl, rw c.into_inner.ensures (expression_end c.args.text.now (rw c.in_default.ensures at c.loop-bar.invariant.reads)))
 
 -- a sequence
 
@@ -107,16 +108,17 @@ sequence-term-requires-in-Some t c =
     let w = has_term (c.in-Some.ensures c.args.text.now c.loop-inner.invariant.shape) in
     (omega (arith, w.smaller, c.loop-inner.invariant.shorter), (w.operand, w.stand_operand c.loop-inner.invariant.nested))
 
-pub sequence-returns-in-Err : goal.sequence-returns-in-Err
-sequence-returns-in-Err t c =
+pub sequence-returns-in_err-right : goal.sequence-returns-in_err-right
+sequence-returns-in_err-right t c =
     let w = has_term (c.in-Some.ensures c.args.text.now c.loop-inner.invariant.shape) in
-    rw (c.loop-inner.invariant.flaws, w.flaw) (first_in _ _ _ c.in-Err.ensures)
+    let p = err_from_is_err_and c.from_residual-in_err-right.result c.from_residual-in_err-right.ensures.1 in
+    rw (p.1, p.2, c.loop-inner.invariant.flaws, w.flaw) (first_in _ _ _ c.in_err-right.ensures)
 
 pub sequence-combined-requires : goal.sequence-combined-requires
 sequence-combined-requires t c =
     let s : StandIn c.args.text.now (named_trees_of c.args.trees.now) = assumption in
     let w = has_term (c.in-Some.ensures c.args.text.now c.loop-inner.invariant.shape) in
-    w.place (named_trees_of c.args.trees.now) c.loop-inner.left c.in-Ok.right s c.loop-inner.invariant.reads c.in-Ok.ensures.1
+    w.place (named_trees_of c.args.trees.now) c.loop-inner.left.value c.in_ok-right.right s c.loop-inner.invariant.reads c.in_ok-right.ensures.1
 
 pub sequence-loop-inner-smaller : goal.sequence-loop-inner-smaller
 sequence-loop-inner-smaller t c =
@@ -126,13 +128,13 @@ sequence-loop-inner-smaller t c =
 pub sequence-loop-inner-preserved : goal.sequence-loop-inner-preserved
 sequence-loop-inner-preserved t c =
     let w = has_term (c.in-Some.ensures c.args.text.now c.loop-inner.invariant.shape) in
-    let e = c.in-Ok.ensures in
+    let e = c.in_ok-right.ensures in
     record {
       shape = w.others;
       nested = w.stand_others c.loop-inner.invariant.nested;
       flaws = rw (c.loop-inner.invariant.flaws, w.flaw, e.0) refl;
       shorter = omega (arith, w.shorter, c.loop-inner.invariant.shorter);
-      reads = rw c.in_ok-left-2.ensures (w.step (named_trees_of c.args.trees.now) (view c.loop-inner.left) (view c.in-Ok.right) c.loop-inner.invariant.reads e.1);
+      reads = rw c.in_ok-left-2.ensures (w.step (named_trees_of c.args.trees.now) (view c.loop-inner.left.value) (view c.in_ok-right.right) c.loop-inner.invariant.reads e.1);
     }
 
 -- a term
@@ -348,4 +350,4 @@ push-returns t c =
     let g = push_tree (rw (c.leading_tree-paren.ensures, c.leading_tree-body.ensures) at h) in
     let e = c.in_ok-node.ensures in
     let r = g.reads c.args.tree.start c.args.tree.end (view c.in_ok-node.node) e.1 in
-    rw (c.leading_tree-paren.ensures, c.leading_tree-body.ensures) (rw (g.flaw c.args.tree.start c.args.tree.end, e.0) refl, rw (c.span_at-span.ensures, c.end.ensures, c.in_ok-new.ensures.ok) (rw (end_of-view c.in_ok-node.node) at r))
+    rw (c.leading_tree-paren.ensures, c.leading_tree-body.ensures) (rw (g.flaw c.args.tree.start c.args.tree.end, e.0) refl, rw (c.span_at-span.ensures, c.end.ensures, c.into_inner.ensures, c.in_ok-node-2.ensures) (rw (end_of-view c.in_ok-node.node) at r))

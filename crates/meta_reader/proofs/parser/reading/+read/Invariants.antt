@@ -38,7 +38,7 @@ invariant-expression-loop-bar l = record {
   nested : StandIn l.text (named_trees_of l.rest);
   flaws : first_flaw l.text (named_trees_of l.trees) ≡ first_flaw l.text (named_trees_of l.rest);
   shorter : count_of (named_trees_of l.rest) ≤ count_of (named_trees_of l.trees);
-  reads : SplitOff l.text (named_trees_of l.trees) (named_trees_of l.rest) (view l.left);
+  reads : SplitOff l.text (named_trees_of l.trees) (named_trees_of l.rest) (view l.left.value);
 }
 
 abbrev pub decreases-sequence-loop-inner : goal.decreases-sequence-loop-inner
@@ -50,5 +50,5 @@ invariant-sequence-loop-inner l = record {
   nested : StandIn l.text (named_trees_of l.rest);
   flaws : first_flaw l.text (named_trees_of l.trees) ≡ first_flaw l.text (named_trees_of l.rest);
   shorter : count_of (named_trees_of l.rest) < count_of (named_trees_of l.trees);
-  reads : InFront l.text (named_trees_of l.trees) (named_trees_of l.rest) (view l.left);
+  reads : InFront l.text (named_trees_of l.trees) (named_trees_of l.rest) (view l.left.value);
 }
