@@ -11,7 +11,7 @@ use Rattle.meta_ast.specs.declared.ast.Rule as code_rule
 use Rattle.meta_optimizer.specs.Counts.{CountsAreReadable, PartsAreReadable}
 use Rattle.meta_optimizer.specs.Unrolled.{IsUnrolled, AreUnrolled}
 
-at_root : (e : Expression) → PartsAreReadable e → CountIsReadable e
+pub at_root : (e : Expression) → PartsAreReadable e → CountIsReadable e
 at_root (RepExact e i) u = u.0
 at_root (RepMax e i) u = u.0
 at_root (RepMinMax e i j) u = u.0

@@ -12,6 +12,7 @@ pub mod Listed
 pub mod Unrolled
 pub mod Wrapped
 pub mod Counted
+pub mod CountedByList
 pub mod Composed
 pub mod RuleByRule
 pub mod NamedStrings

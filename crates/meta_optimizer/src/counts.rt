@@ -1,10 +1,12 @@
 //! Whether counts are readable.
-ghost use Rattle.std.specs.Prelude.{◌↔◌, IsTrue};
-ghost use Rattle.meta_base.specs.Language.WellFormed.{HasReadableCounts};
+ghost use Rattle.std.specs.Prelude.{◌↔◌, IfOk, IsTrue};
+ghost use Rattle.meta_base.specs.Language.WellFormed.{CountIsReadable, HasReadableCounts};
 ghost use Rattle.meta_ast.specs.Ast.{expression_of, rules_of};
 ghost use Rattle.meta_optimizer.specs.Counts.{IsNoPair, PartsAreReadable};
 
+use crate::traversal::{Held, held_by};
 use meta_ast::ast::{Expr, Rule};
+use std::alloc::{AllocError, Global};
 
 /// Whether nothing in the rules may be repeated 0 times at most: each count of `e{n}` and `e{,n}`
 /// and each upper one of `e{m, n}` is at least 1. So it is for no rules.
@@ -12,16 +14,64 @@ pub fn counts_are_readable(rules: &Vec<Rule>) -> bool
     ensures { IsTrue result ↔ HasReadableCounts (rules_of rules.now.items) }
 {
     for rule in rules {
-        if !is_readable(&rule.expr) {
+        if !is_readable(*rules.allocator(), &rule.expr) {
             return false;
         }
     }
     true
 }
 
-// The same of an expression. A `~` or `|` is walked along the side on which its own sign stands.
-#[cycle(is_readable)]
-fn is_readable(expr: &Expr) -> bool
+// The same of an expression, with a list of what is left to be looked at; by calls where there is no memory
+// for it.
+fn is_readable(alloc: Global, expr: &Expr) -> bool
+    ensures { IsTrue result ↔ PartsAreReadable (expression_of expr.now) }
+{
+    match is_readable_by_list(alloc, expr) {
+        Ok(answer) => answer,
+        Err(_) => is_readable_by_calls(expr),
+    }
+}
+
+// The same by a loop. The only fault is a want of memory.
+fn is_readable_by_list(alloc: Global, expr: &Expr) -> Result<bool, AllocError>
+    ensures { IfOk result (λ answer. IsTrue answer ↔ PartsAreReadable (expression_of expr.now)) }
+{
+    let mut waiting = Vec::new(alloc);
+    waiting.push(expr)?;
+    'nodes: while let Some(node) = waiting.pop() {
+        if !has_readable_count(node) {
+            return Ok(false);
+        }
+        match held_by(node) {
+            Held::Nothing => {}
+            Held::One(inner) => {
+                waiting.push(inner)?;
+            }
+            Held::Two(left, right) => {
+                waiting.push(right)?;
+                waiting.push(left)?;
+            }
+        }
+    }
+    Ok(true)
+}
+
+// Whether an expression is no count of at most 0; nothing is asked of what stands in it.
+fn has_readable_count(expr: &Expr) -> bool
+    ensures { IsTrue result ↔ CountIsReadable (expression_of expr.now) }
+{
+    match expr {
+        Expr::RepExact(_, count) => *count > 0,
+        Expr::RepMax(_, max) => *max > 0,
+        Expr::RepMinMax(_, _, max) => *max > 0,
+        _ => true,
+    }
+}
+
+// Whether nothing in an expression may be repeated 0 times at most, by calls. A `~` or `|` is walked along the
+// side on which its own sign stands.
+#[cycle(is_readable_by_calls)]
+fn is_readable_by_calls(expr: &Expr) -> bool
     ensures { IsTrue result ↔ PartsAreReadable (expression_of expr.now) }
 {
     let mut rest = expr;
@@ -29,13 +79,13 @@ fn is_readable(expr: &Expr) -> bool
         match rest {
             Expr::Seq(left, right) => match &**left {
                 Expr::Seq(..) => {
-                    if !is_readable(right) {
+                    if !is_readable_by_calls(right) {
                         return false;
                     }
                     rest = left;
                 }
                 _ => {
-                    if !is_readable(left) {
+                    if !is_readable_by_calls(left) {
                         return false;
                     }
                     rest = right;
@@ -43,13 +93,13 @@ fn is_readable(expr: &Expr) -> bool
             },
             Expr::Choice(left, right) => match &**left {
                 Expr::Choice(..) => {
-                    if !is_readable(right) {
+                    if !is_readable_by_calls(right) {
                         return false;
                     }
                     rest = left;
                 }
                 _ => {
-                    if !is_readable(left) {
+                    if !is_readable_by_calls(left) {
                         return false;
                     }
                     rest = right;
@@ -61,22 +111,22 @@ fn is_readable(expr: &Expr) -> bool
 }
 
 // The same of what is neither `~` nor `|`.
-#[cycle(is_readable)]
+#[cycle(is_readable_by_calls)]
 fn is_single_readable(expr: &Expr) -> bool
     requires { IsNoPair (expression_of expr.now) }
     ensures { IsTrue result ↔ PartsAreReadable (expression_of expr.now) }
 {
     match expr {
-        Expr::PosPred(inner) => is_readable(inner),
-        Expr::NegPred(inner) => is_readable(inner),
-        Expr::Opt(inner) => is_readable(inner),
-        Expr::Rep(inner) => is_readable(inner),
-        Expr::RepOnce(inner) => is_readable(inner),
-        Expr::RepExact(inner, count) => *count > 0 && is_readable(inner),
-        Expr::RepMin(inner, _) => is_readable(inner),
-        Expr::RepMax(inner, max) => *max > 0 && is_readable(inner),
-        Expr::RepMinMax(inner, _, max) => *max > 0 && is_readable(inner),
-        Expr::Push(inner) => is_readable(inner),
+        Expr::PosPred(inner) => is_readable_by_calls(inner),
+        Expr::NegPred(inner) => is_readable_by_calls(inner),
+        Expr::Opt(inner) => is_readable_by_calls(inner),
+        Expr::Rep(inner) => is_readable_by_calls(inner),
+        Expr::RepOnce(inner) => is_readable_by_calls(inner),
+        Expr::RepExact(inner, count) => *count > 0 && is_readable_by_calls(inner),
+        Expr::RepMin(inner, _) => is_readable_by_calls(inner),
+        Expr::RepMax(inner, max) => *max > 0 && is_readable_by_calls(inner),
+        Expr::RepMinMax(inner, _, max) => *max > 0 && is_readable_by_calls(inner),
+        Expr::Push(inner) => is_readable_by_calls(inner),
         _ => true,
     }
 }

@@ -95,15 +95,16 @@ pub(crate) fn all_stay<P: Pass>(alloc: Global, pass: &P, expr: &Expr) -> Result<
     Ok(true)
 }
 
-// The operands of an expression.
+/// The operands of an expression.
 #[derive(Drop)]
-enum Held<'a> {
+pub(crate) enum Held<'a> {
     Nothing,
     One(&'a Expr),
     Two(&'a Expr, &'a Expr),
 }
 
-fn held_by<'a>(expr: &'a Expr) -> Held<'a>
+/// The operands that an expression has.
+pub(crate) fn held_by<'a>(expr: &'a Expr) -> Held<'a>
     ensures { said_of result ≡ operands (expression_of expr.now) }
 {
     match expr {
