@@ -9,6 +9,7 @@ ghost use Rattle.pest_meta.specs.Spelling.{AreAccepted, AreRejected};
 
 use crate::validator::validate_ast;
 use meta_ast::ast;
+use meta_ast::deep::Deep;
 use meta_base::runtime::{Fault, Pairs};
 use meta_nodes::erase_spans;
 pub use meta_nodes::release;
@@ -31,13 +32,13 @@ pub fn consume_rules(alloc: Global, pairs: Pairs<'_, Rule>) -> Result<Vec<ast::R
     ensures counts { IfOk result (λ rules. HasReadableCounts (rules_of rules.items)) }
     ensures refused { IfErr result (AreRejected (pairs_text pairs.entry) (named (pairs_trees pairs.entry))) }
 {
-    let rules = consume_rules_with_spans(alloc, pairs)?;
-    let errors = validate_ast(alloc, &rules)?;
+    let value = consume_rules_with_spans(alloc, pairs)?;
+    let rules = Deep { value };
+    let errors = validate_ast(alloc, &rules.value)?;
     if !errors.is_empty() {
-        release(rules);
         return Err(Fault::Grammar(errors));
     }
-    match erase_spans(alloc, rules) {
+    match erase_spans(alloc, rules.into_inner()) {
         Ok(rules) => Ok(rules),
         Err(error) => Err(Fault::Memory(error)),
     }
