@@ -18,6 +18,7 @@ pub mod RuleByRule
 pub mod NamedStrings
 pub mod Following
 pub mod Looking
+pub mod NamesKnown
 pub mod Telling
 pub mod Skipping
 pub mod Holding

@@ -79,6 +79,10 @@ module _ (g : Grammar) where
   path_from (through k h l) (later m) w = path_from l m w
   path_from nobody m w = elim m [ ]
 
+-- the second map has the name marked, and is the first else
+abbrev pub Marks : {S : Type 0} → HashMap (Bor (List ℕ)) Bool S → HashMap (Bor (List ℕ)) Bool S → List ℕ → Bool → Type 0
+Marks m n bs b = (q : List ℕ) → met_at n q ≡ cond (bytes_eq bs q) (Some b) (met_at m q)
+
 -- where the looking stands: some names are known, others are looked through, and something is left
 module _ (g : Grammar) where
   pub record IsAt (known : ℕ) (rest : Option (Bor Expr)) (whole : Expression) : Type 0 where
@@ -96,10 +100,18 @@ module _ (g : Grammar) where
     pub linked : Linked g known root callers whole
     pub at : IsAt known rest whole
     pub have : KnownHave m g known
-    pub looked : (n : List ℕ) → met_at m n ≡ Some false → Looks n callers
+    pub looked : (n : List ℕ) → met_at m n ≡ Some false → Looks n callers ⊎ HasNoStrings g (Ident (chars n))
 
-  abbrev pub Marks : {S : Type 0} → HashMap (Bor (List ℕ)) Bool S → HashMap (Bor (List ℕ)) Bool S → List ℕ → Bool → Type 0
-  Marks m n bs b = (q : List ℕ) → met_at n q ≡ cond (bytes_eq bs q) (Some b) (met_at m q)
+  -- the known names have strings, and the others that are met have none
+  pub record Settled {S : Type 0} (m : HashMap (Bor (List ℕ)) Bool S) (known : ℕ) : Type 0 where
+    pub have : KnownHave m g known
+    pub have_none : (n : List ℕ) → met_at m n ≡ Some false → HasNoStrings g (Ident (chars n))
+
+  -- where one has no strings, none of its callers has
+  callers_fail : {known : ℕ} {w v : Expression} {cs : List Caller} {n : List ℕ} → Linked g known w cs v → HasNoStrings g v → Looks n cs → HasNoStrings g (Ident (chars n))
+  callers_fail (through k h l) none (it e) = subst (λ x. HasNoStrings g (Ident (chars x))) (sym e) (λ ts s. none_above g l none ts (of_body g h s))
+  callers_fail (through k h l) none (later i) = callers_fail l none i
+  callers_fail nobody none i = elim i [ ]
 
   module _ {S : Type 0} {m : HashMap (Bor (List ℕ)) Bool S} {known : ℕ} {callers : List Caller} {root : Expression} where
     pub all_known : (e : Bor Expr) → Looking m known callers (Some e) root → ((g : Grammar) (k : ℕ) → KnownHave m g k → HasStrings g k (expression_of e.now)) → Looking m known callers None root
@@ -111,30 +123,45 @@ module _ (g : Grammar) where
       looked = l.looked;
     }
 
+    given_up : {rest : Option (Bor Expr)} (l : Looking m known callers rest root) → HasNoStrings g l.whole → Settled m known
+    given_up l none = record {
+      have = l.have;
+      have_none = λ q h. elim (l.looked q h) as (λ x. HasNoStrings g (Ident (chars q))) [ inl k ↦ callers_fail l.linked none k | inr k ↦ k ];
+    }
+
     pub nothing : (e : Bor Expr) → Looking m known callers (Some e) root
-        → ((g : Grammar) → ((q : List ℕ) → met_at m q ≡ Some false → Needs (expression_of e.now) (chars q) → HasNoStrings g (Ident (chars q))) → HasNoStrings g (expression_of e.now)) → HasNoStrings g root
-    nothing e l f = none_above g l.linked (l.at.fails (f g (λ q h w ts s. no_cycle g s the_name (path_from g l.linked (l.looked q h) (l.at.needed (chars q) w)))))
+        → ((g : Grammar) → ((q : List ℕ) → met_at m q ≡ Some false → Needs (expression_of e.now) (chars q) → HasNoStrings g (Ident (chars q))) → HasNoStrings g (expression_of e.now)) → Settled m known
+    nothing e l f =
+        given_up l (l.at.fails (f g (λ q h w. elim (l.looked q h) as (λ x. HasNoStrings g (Ident (chars q)))
+        [ inl k ↦ (λ ts s. no_cycle g s the_name (path_from g l.linked k (l.at.needed (chars q) w))) | inr k ↦ k ])))
 
-    pub no_rule : (e : Bor Expr) (bs : List ℕ) (behind : Option (Bor Expr)) → Looking m known callers (Some e) root → FindsName m (expression_of e.now) bs behind → rule_of g (chars bs) ≡ None → HasNoStrings g root
-    no_rule e bs behind l f h = none_above g l.linked (l.at.fails (λ ts s. let d = needed_strings g s f.needed in no_rule_none g h d.0 d.1))
+    pub no_rule : (e : Bor Expr) (bs : List ℕ) (behind : Option (Bor Expr)) → Looking m known callers (Some e) root → FindsName m (expression_of e.now) bs behind → rule_of g (chars bs) ≡ None → Settled m known
+    no_rule e bs behind l f h = given_up l (l.at.fails (λ ts s. let d = needed_strings g s f.needed in no_rule_none g h d.0 d.1))
 
-  pub ended : {S : Type 0} {m : HashMap (Bor (List ℕ)) Bool S} {known : ℕ} {root : Expression} → Looking m known [] None root → HasStrings g known root
-  ended {known = known} {root = root} l = alone l.linked (l.at.gives known (omega arith) tt)
-    where
-      alone : {v : Expression} → Linked g known root [] v → HasStrings g known v → HasStrings g known root
-      alone nobody s = s
-
-  pub begins : {S : Type 0} (m : HashMap (Bor (List ℕ)) Bool S) → m.entries ≡ [] → (e : Bor Expr) → Looking m 0 [] (Some e) (expression_of e.now)
-  begins m h e = record {
-    whole = expression_of e.now;
-    linked = nobody;
-    at = record { gives = λ k i s. s; needed = λ j w. w; fails = λ w. w };
-    have = λ q i. none_met q i;
-    looked = λ q i. none_met q i;
+  pub ended : {S : Type 0} {m : HashMap (Bor (List ℕ)) Bool S} {known : ℕ} {rest : Option (Bor Expr)} {root : Expression} → Looking m known [] rest root → Settled m known
+  ended l = record {
+    have = l.have;
+    have_none = λ q h. elim (l.looked q h) as (λ x. HasNoStrings g (Ident (chars q))) [ inl k ↦ nobody_looks k | inr k ↦ k ];
   }
     where
-      none_met : {P : Type 0} {b : Bool} (q : List ℕ) → met_at m q ≡ Some b → P
-      none_met {b = b} q i = let j : lookup {K = Bor (List ℕ)} {X = Bool} (λ (k : Bor (List ℕ)). bytes_eq q k.now) [] ≡ Some b = subst (λ es. lookup (λ (k : Bor (List ℕ)). bytes_eq q k.now) es ≡ Some b) h i in cc
+      nobody_looks : {q : List ℕ} {P : Type 0} → Looks q [] → P
+      nobody_looks k = elim k [ ]
+
+  pub begins : {S : Type 0} {m n : HashMap (Bor (List ℕ)) Bool S} {known : ℕ} (c : Caller) (body : Bor Expr) (r : Rule) → Settled m known → c.behind ≡ None
+      → rule_of g (chars c.name.now) ≡ Some r → r.body ≡ expression_of body.now → Marks m n c.name.now false → Looking n known (c ∷ []) (Some body) (Ident (chars c.name.now))
+  begins {known = known} c body r t j h i u = record {
+    whole = r.body;
+    linked = through (record {
+      gives = λ k l s b. s;
+      needed = the_name;
+      behind_needed = λ k w. absurd (subst (λ x. BehindNeeds x k) j w);
+      behind_fails = λ w. absurd (subst (BehindHasNone g) j w);
+    }) h nobody;
+    at = record { gives = λ k l s. subst (HasStrings g k) (sym i) s; needed = λ k w. subst (λ x. Needs x k) (sym i) w; fails = λ w. subst (HasNoStrings g) (sym i) w };
+    have = λ q l. elim (marked false true (bytes_eq c.name.now q) (sym (u q) ∙ l)) as (λ x. HasStrings g known (Ident (chars q))) [ inl p ↦ cc p.1 | inr p ↦ t.have q p.1 ];
+    looked = λ q l. elim (marked false false (bytes_eq c.name.now q) (sym (u q) ∙ l)) as (λ x. Looks q (c ∷ []) ⊎ HasNoStrings g (Ident (chars q)))
+        [ inl p ↦ inl (it (sym ((bytes_eq-Decides c.name.now q).0 p.0))) | inr p ↦ inr (t.have_none q p.1) ];
+  }
 
   module _ {S : Type 0} {m n : HashMap (Bor (List ℕ)) Bool S} {known : ℕ} {callers : List Caller} {root : Expression} where
     pub one_deeper : (e body : Bor Expr) (c : Caller) (r : Rule) → Looking m known callers (Some e) root → FindsName m (expression_of e.now) c.name.now c.behind
@@ -151,9 +178,13 @@ module _ (g : Grammar) where
           h;
       at = record { gives = λ k j s. subst (HasStrings g k) (sym i) s; needed = λ j w. subst (λ x. Needs x j) (sym i) w; fails = λ w. subst (HasNoStrings g) (sym i) w };
       have = λ q t. elim (marked false true (bytes_eq c.name.now q) (sym (u q) ∙ t)) as (λ x. HasStrings g known (Ident (chars q))) [ inl p ↦ cc p.1 | inr p ↦ l.have q p.1 ];
-      looked = λ q t. elim (marked false false (bytes_eq c.name.now q) (sym (u q) ∙ t)) as (λ x. Looks q (callers ++ (c ∷ [])))
-          [ inl p ↦ looks_last callers c (sym ((bytes_eq-Decides c.name.now q).0 p.0)) | inr p ↦ looks_more c (l.looked q p.1) ];
+      looked = λ q t. elim (marked false false (bytes_eq c.name.now q) (sym (u q) ∙ t)) as (λ x. Looks q (callers ++ (c ∷ [])) ⊎ HasNoStrings g (Ident (chars q)))
+          [ inl p ↦ inl (looks_last callers c (sym ((bytes_eq-Decides c.name.now q).0 p.0))) | inr p ↦ still_looked q (l.looked q p.1) ];
     }
+      where
+        still_looked : (q : List ℕ) → Looks q callers ⊎ HasNoStrings g (Ident (chars q)) → Looks q (callers ++ (c ∷ [])) ⊎ HasNoStrings g (Ident (chars q))
+        still_looked q (inl k) = inl (looks_more c k)
+        still_looked q (inr k) = inr k
 
     pub one_known : (c : Caller) → Looking m known (callers ++ (c ∷ [])) None root → Marks m n c.name.now true → Looking n (known + 1) callers c.behind root
     one_known c l u =
@@ -166,15 +197,34 @@ module _ (g : Grammar) where
           at = record { gives = λ k h b. i.calls.gives k (omega arith) (here k h) b; needed = i.calls.behind_needed; fails = i.calls.behind_fails };
           have = λ q t. elim (marked true true (bytes_eq c.name.now q) (sym (u q) ∙ t)) as (λ x. HasStrings g (known + 1) (Ident (chars q)))
               [ inl p ↦ subst (λ x. HasStrings g (known + 1) (Ident (chars x))) ((bytes_eq-Decides c.name.now q).0 p.0) (here (known + 1) (omega arith)) | inr p ↦ higher g (omega arith) (l.have q p.1) ];
-          looked = λ q t. elim (marked true false (bytes_eq c.name.now q) (sym (u q) ∙ t)) as (λ x. Looks q callers)
-              [ inl p ↦ cc p.1 | inr p ↦ not_last q (looks_or_last callers c (l.looked q p.1)) p.0 ];
+          looked = λ q t. elim (marked true false (bytes_eq c.name.now q) (sym (u q) ∙ t)) as (λ x. Looks q callers ⊎ HasNoStrings g (Ident (chars q)))
+              [ inl p ↦ cc p.1 | inr p ↦ still_looked q (l.looked q p.1) p.0 ];
         }
       where
         not_last : (q : List ℕ) → Looks q callers ⊎ (q ≡ c.name.now) → bytes_eq c.name.now q ≡ false → Looks q callers
         not_last q (inl k) h = k
         not_last q (inr e) h = let t = (bytes_eq-Decides c.name.now q).1 (sym e) in cc
 
+        still_looked : (q : List ℕ) → Looks q (callers ++ (c ∷ [])) ⊎ HasNoStrings g (Ident (chars q)) → bytes_eq c.name.now q ≡ false → Looks q callers ⊎ HasNoStrings g (Ident (chars q))
+        still_looked q (inl k) h = inl (not_last q (looks_or_last callers c k) h)
+        still_looked q (inr k) h = inr k
+
 -- 1 where something is left
 abbrev pub left_over : Option (Bor Expr) → ℕ
 left_over None = 0
 left_over (Some e) = 1
+
+-- no name that was met is forgotten where another is marked
+pub met_still : {S : Type 0} (m n : HashMap (Bor (List ℕ)) Bool S) (bs : List ℕ) (b : Bool) → Marks m n bs b → (q : List ℕ) → (met_at m q ≡ None → ⊥) → met_at n q ≡ None → ⊥
+met_still m n bs b u q h i = from (bytes_eq bs q) (sym (u q) ∙ i)
+  where
+    from : (t : Bool) → cond t (Some b) (met_at m q) ≡ None → ⊥
+    from true j = cc
+    from false j = h j
+
+pub met_here : {S : Type 0} (m n : HashMap (Bor (List ℕ)) Bool S) (bs : List ℕ) (b : Bool) → Marks m n bs b → met_at n bs ≡ None → ⊥
+met_here m n bs b u i = from (bytes_eq bs bs) ((bytes_eq-Decides bs bs).1 refl) (sym (u bs) ∙ i)
+  where
+    from : (t : Bool) → t ≡ true → cond t (Some b) (met_at m bs) ≡ None → ⊥
+    from true h j = cc
+    from false h j = cc

@@ -213,9 +213,9 @@ other_has_none g k x n m l s = from x n m l s.within
 abbrev Answer : Type 0
 Answer = Result (Option (Vec (String Global) Global)) AllocError
 
-pub told : {S : Type 0} (m : HashMap (String Global) Expr S) (e : Expression) (k : ℕ) (r : Answer) → ((g : Grammar) → HoldsBodies m g → HasStrings g k e)
+pub told : {S : Type 0} (m : HashMap (String Global) Expr S) (P : Grammar → Type 0) (e : Expression) (k : ℕ) (r : Answer) → ((g : Grammar) → P g → HoldsBodies m g × HasStrings g k e)
     → IfOk r (λ found. (g : Grammar) → HoldsBodies m g → HasStrings g k e → MatchOption found ⊥ (λ ts. Strings g e (map text_of ts.items)))
-    → IfOk r (λ found. (g : Grammar) → HoldsBodies m g → StringsOrNone g e found)
-told m e k (Ok (Some ts)) s f = λ g h. f g h (s g h)
-told m e k (Ok None) s f = λ g h. absurd (f g h (s g h))
-told m e k (Err x) s f = f
+    → IfOk r (λ found. (g : Grammar) → P g → StringsOrNone g e found)
+told m P e k (Ok (Some ts)) s f = λ g p. f g (s g p).0 (s g p).1
+told m P e k (Ok None) s f = λ g p. absurd (f g (s g p).0 (s g p).1)
+told m P e k (Err x) s f = f

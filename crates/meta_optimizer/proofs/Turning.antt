@@ -231,3 +231,11 @@ is_atomic is.Normal h = cc
 is_atomic is.Silent h = cc
 is_atomic is.CompoundAtomic h = cc
 is_atomic is.NonAtomic h = cc
+
+-- so there is nothing to do
+pub nothing_to_do : (g : Grammar) (y : code.RuleType) (x : Expr) → (rule_type_of y ≡ Atomic → HasNoTurn (expression_of x)) → IsDone (SkipsUntil g (rule_type_of y)) (expression_of x) (expression_of x)
+nothing_to_do g is.Atomic x f = none_to_do g Atomic x (f refl)
+nothing_to_do g is.Normal x f = nothing_done g is.Normal (expression_of x) (λ k. cc)
+nothing_to_do g is.Silent x f = nothing_done g is.Silent (expression_of x) (λ k. cc)
+nothing_to_do g is.CompoundAtomic x f = nothing_done g is.CompoundAtomic (expression_of x) (λ k. cc)
+nothing_to_do g is.NonAtomic x f = nothing_done g is.NonAtomic (expression_of x) (λ k. cc)

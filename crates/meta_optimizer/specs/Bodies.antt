@@ -6,6 +6,7 @@ use Rattle.std.specs.HashMap.{HashMap, get_by, get_by_text}
 use Rattle.std.specs.declared.alloc.Global.{Global}
 use Rattle.std.specs.declared.string.String.{String}
 use Rattle.std.specs.declared.vec.Vec.{Vec}
+use Rattle.std.specs.Vec.{vec_len}
 use denote.Ref.{Bor}
 use Rattle.meta_base.specs.Language.Text.{Text}
 use Rattle.meta_base.specs.Language.Expression.{Expression, Str, Ident, NegPred, Seq, Choice, Rep, Skip, Atomic, Rule, Grammar, rule_of}
@@ -13,6 +14,7 @@ use Rattle.meta_base.specs.Rewritings.Rewriting.{IsLeaf, SkipsUntil, Strings}
 use Rattle.meta_ast.specs.Ast.{expression_of, text_of}
 use Rattle.meta_ast.specs.declared.ast.Expr.{Expr}
 use Rattle.meta_optimizer.specs.Traversals.{AllStay}
+use Rattle.meta_optimizer.specs.declared.strings.Names.{Names}
 use Rattle.meta_optimizer.specs.declared.strings.Found.{Found}
 use Rattle.meta_optimizer.specs.declared.strings.Found.TheVariants as found
 
@@ -112,9 +114,33 @@ abbrev pub Splits : Expression → Expression → Option (Bor Expr) → Type 0
 Splits e first None = (e ≡ first) × ((a b : Expression) → e ≡ Choice a b → ⊥)
 Splits e first (Some others) = e ≡ Choice first (expression_of others.now)
 
--- none, or so many names lie below one another at most
-abbrev pub DepthOrNone : Grammar → Expression → Option ℕ → Type 0
-DepthOrNone g e found = MatchOption found (HasNoStrings g e) (λ k. HasStrings g k e)
+-- a name is met
+abbrev pub IsMet : Names → List ℕ → Type 0
+IsMet names n = met_at names.met n ≡ None → ⊥
+
+-- no name that was met is forgotten, and one is met that has a body
+pub record HaveMet {S : Type 0} (m : HashMap (String Global) Expr S) (before after : Names) (n : List ℕ)
+    : Type 0 where
+  pub kept : (q : List ℕ) → IsMet before q → IsMet after q
+  pub here : (get_by_text m n ≡ None → ⊥) → IsMet after n
+
+-- the known names have strings, and the others that are met have none
+pub record AreRight (names : Names) (g : Grammar) : Type 0 where
+  pub have : KnownHave names.met g (vec_len names.known)
+  pub have_none : (n : List ℕ) → met_at names.met n ≡ Some false → HasNoStrings g (Ident (chars n))
+
+-- nor has any name that is not met
+pub record Tells (names : Names) (g : Grammar) : Type 0 where
+  pub right : AreRight names g
+  pub unmet : (s : String Global) → met_at names.met (string_bytes s) ≡ None → HasNoStrings g (Ident (text_of s))
+
+-- the map holds the bodies of a grammar, and it is told which of its names have strings
+abbrev pub Serve : {S : Type 0} → HashMap (String Global) Expr S → Names → Grammar → Type 0
+Serve m names g = HoldsBodies m g × Tells names g
+
+-- it is told of every grammar whose bodies the map holds
+abbrev pub AreTold : {S : Type 0} → HashMap (String Global) Expr S → Names → Type 0
+AreTold m names = (g : Grammar) → HoldsBodies m g → Tells names g
 
 -- none, or all of them in order
 abbrev pub StringsOrNone : Grammar → Expression → Option (Vec (String Global) Global) → Type 0

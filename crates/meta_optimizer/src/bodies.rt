@@ -80,7 +80,8 @@ fn are_free_of_turns(alloc: Global, rules: &Vec<Rule>) -> Result<bool, AllocErro
     Ok(true)
 }
 
-fn is_free_of_turns(alloc: Global, rule: &Rule) -> Result<bool, AllocError>
+/// Whether there is nothing in a rule in place of which a run may be put; so it is in rules that are not Atomic.
+pub(crate) fn is_free_of_turns(alloc: Global, rule: &Rule) -> Result<bool, AllocError>
     ensures { IfOk result (λ yes. OnTrue yes (rule_type_of rule.now.ty ≡ Atomic
         → HasNoTurn (expression_of rule.now.expr))) }
 {

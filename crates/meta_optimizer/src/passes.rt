@@ -5,13 +5,15 @@ ghost use Rattle.meta_ast.specs.Optimized.{optimized_expression_of, optimized_ru
 ghost use Rattle.meta_base.specs.Language.Expression.{Grammar};
 ghost use Rattle.meta_base.specs.Rewritings.Rewriting.{EachBody};
 ghost use Rattle.meta_restorer.specs.Agreeing.{AgreesLoosely, WrappersSuffice};
-ghost use Rattle.meta_optimizer.specs.Bodies.{SufficeFor};
+ghost use Rattle.meta_optimizer.specs.Bodies.{AreTold, SufficeFor};
 ghost use Rattle.meta_optimizer.specs.Faults.{IsMemory};
 ghost use Rattle.meta_optimizer.specs.Passes.{AddsOptimized, IsOptimized, IsOptimizedBody};
 
 use crate::bodies::bodies_for_skip;
 use crate::converted::rule_to_optimized_rule;
-use crate::{Fault, OptimizedRule, concatenate, factor, list, rotate, skip, unroll};
+use crate::skipper::skip_with;
+use crate::strings::{Names, names_with_strings};
+use crate::{Fault, OptimizedRule, concatenate, factor, list, rotate, unroll};
 use meta_ast::ast::{Expr, Rule};
 use meta_ast::deep::Deep;
 use meta_restorer::restore_rules;
@@ -53,11 +55,16 @@ fn optimized_rules(
         → EachBody (IsOptimizedBody g) (rules_of rules.items) (optimized_rules_of answer.items)) }
     ensures memory { IfErr result IsMemory }
 {
+    let rules = Deep { value: rules };
+    let names = match names_with_strings(alloc, bodies) {
+        Ok(names) => names,
+        Err(error) => return Err(Fault::Memory(error)),
+    };
     let mut answer = Ok(Deep {
         value: Vec::new(alloc),
     });
-    for rule in rules {
-        answer = with_rule(alloc, answer, rule, bodies);
+    for rule in rules.into_inner() {
+        answer = with_rule(alloc, answer, rule, bodies, &names);
     }
     match answer {
         Ok(answer) => Ok(answer.into_inner()),
@@ -71,36 +78,39 @@ fn with_rule(
     answer: Result<Deep<Vec<OptimizedRule>>, Fault>,
     rule: Rule,
     bodies: &HashMap<String, Expr>,
+    names: &Names<'_>,
 ) -> Result<Deep<Vec<OptimizedRule>>, Fault>
-    ensures added { IfOk result (λ made. IsOkAnd answer (λ so_far. AddsOptimized bodies.now
-        (rule_of_code rule) (optimized_rules_of so_far.value.items) (optimized_rules_of made.value.items))) }
+    ensures added { AreTold bodies.now names.now → IfOk result (λ made. IsOkAnd answer
+        (λ so_far. AddsOptimized bodies.now (rule_of_code rule) (optimized_rules_of so_far.value.items)
+        (optimized_rules_of made.value.items))) }
     ensures memory { IfErr answer IsMemory → IfErr result IsMemory }
 {
     let rule = Deep { value: rule };
     let mut answer = answer?;
-    let rule = optimized_rule(alloc, rule.into_inner(), bodies)?;
+    let rule = optimized_rule(alloc, rule.into_inner(), bodies, names)?;
     match answer.push(Deep { value: rule }) {
         Ok(()) => Ok(answer),
         Err(error) => Err(Fault::Memory(error)),
     }
 }
 
-// The passes up to the listing over one rule, names being looked up in `bodies`.
+// The passes up to the listing over one rule, names being looked up in `bodies`, of which `names` tells.
 fn optimized_rule(
     alloc: Global,
     rule: Rule,
     bodies: &HashMap<String, Expr>,
+    names: &Names<'_>,
 ) -> Result<OptimizedRule, Fault>
     ensures name { IfOk result (λ r. text_of r.name ≡ text_of rule.name) }
     ensures ty { IfOk result (λ r. r.ty ≡ rule.ty) }
     ensures body { IfOk result
-        (λ r. (g : Grammar) → SufficeFor bodies.now g (rule_of_code rule ∷ [])
+        (λ r. (g : Grammar) → AreTold bodies.now names.now → SufficeFor bodies.now g (rule_of_code rule ∷ [])
         → IsOptimizedBody g (rule_type_of rule.ty) (expression_of rule.expr)
         (optimized_expression_of r.expr)) }
     ensures memory { IfErr result IsMemory }
 {
     let rule = rotate(alloc, rule)?;
-    let rule = skip(alloc, rule, bodies)?;
+    let rule = skip_with(alloc, rule, bodies, names)?;
     let rule = unroll(alloc, rule)?;
     let rule = concatenate(alloc, rule)?;
     let rule = factor(alloc, rule)?;

@@ -4,12 +4,13 @@ ghost use Rattle.std.specs.Bool.{OnTrue};
 ghost use Rattle.meta_base.specs.Language.Expression.{Grammar};
 ghost use Rattle.meta_base.specs.Rewritings.Rewriting.{IsDone, SkipsUntil};
 ghost use Rattle.meta_ast.specs.Ast.{text_of, expression_of, rule_of_code, rule_type_of};
-ghost use Rattle.meta_optimizer.specs.Bodies.{HoldsBodies, IsTurn, SkippedHere, TextsUntil};
+ghost use Rattle.meta_optimizer.specs.Bodies.{AreTold, HoldsBodies, IsTurn, Serve, SkippedHere, TextsUntil};
 ghost use Rattle.meta_optimizer.specs.Faults.{IsMemory};
 ghost use Rattle.meta_optimizer.specs.Skipped.{IsSkipChained, SkipKeepsOutcomes};
 
 use crate::Fault;
-use crate::strings::strings_of;
+use crate::bodies::is_free_of_turns;
+use crate::strings::{Names, names_with_strings, strings_of};
 use crate::traversal::{Pass, Shrink, top_down};
 use meta_ast::ast::{Expr, Rule, RuleType};
 use meta_ast::deep::Deep;
@@ -31,9 +32,38 @@ pub fn skip(alloc: Global, rule: Rule, bodies: &HashMap<String, Expr>) -> Result
     ensures outcomes { IfOk result (λ r. SkipKeepsOutcomes bodies.now (rule_of_code rule) (rule_of_code r)) }
     ensures memory { IfErr result IsMemory }
 {
+    let rule = Deep { value: rule };
+    match is_free_of_turns(alloc, &rule.value) {
+        Ok(true) => return Ok(rule.into_inner()),
+        Ok(false) => {}
+        Err(error) => return Err(Fault::Memory(error)),
+    }
+    match names_with_strings(alloc, bodies) {
+        Ok(names) => skip_with(alloc, rule.into_inner(), bodies, &names),
+        Err(error) => Err(Fault::Memory(error)),
+    }
+}
+
+/// The same, where it is told already which names stand for strings.
+pub(crate) fn skip_with(
+    alloc: Global,
+    rule: Rule,
+    bodies: &HashMap<String, Expr>,
+    names: &Names<'_>,
+) -> Result<Rule, Fault>
+    ensures name { IfOk result (λ r. text_of r.name ≡ text_of rule.name) }
+    ensures ty { IfOk result (λ r. r.ty ≡ rule.ty) }
+    ensures done { IfOk result (λ r. AreTold bodies.now names.now → (g : Grammar) → HoldsBodies bodies.now g
+        → IsDone (SkipsUntil g (rule_type_of rule.ty)) (expression_of rule.expr) (expression_of r.expr)) }
+    ensures chain { IfOk result (λ r. AreTold bodies.now names.now
+        → IsSkipChained bodies.now (rule_of_code rule) (rule_of_code r)) }
+    ensures outcomes { IfOk result (λ r. AreTold bodies.now names.now
+        → SkipKeepsOutcomes bodies.now (rule_of_code rule) (rule_of_code r)) }
+    ensures memory { IfErr result IsMemory }
+{
     let Rule { name, ty, expr } = rule;
     match ty {
-        RuleType::Atomic => match top_down(alloc, &Skipper { bodies }, expr) {
+        RuleType::Atomic => match top_down(alloc, &Skipper { bodies, names }, expr) {
             Ok(expr) => Ok(Rule { name, ty, expr }),
             Err(error) => Err(Fault::Memory(error)),
         },
@@ -44,10 +74,11 @@ pub fn skip(alloc: Global, rule: Rule, bodies: &HashMap<String, Expr>) -> Result
 #[derive(Drop)]
 struct Skipper<'a> {
     bodies: &'a HashMap<String, Expr>,
+    names: &'a Names<'a>,
 }
 
 impl Pass for Skipper<'_> {
-    ghost gives = { λ s a b. (g : Grammar) → HoldsBodies s.bodies.now g → SkippedHere g a b };
+    ghost gives = { λ s a b. (g : Grammar) → Serve s.bodies.now s.names.now g → SkippedHere g a b };
 
     fn stays_at(&self, node: &Expr) -> bool {
         is_no_turn(node)
@@ -59,7 +90,7 @@ impl Shrink for Skipper<'_> {
         match expr {
             Expr::Rep(inner) => {
                 let inner = Deep { value: inner };
-                match texts_until(alloc, self.bodies, &inner.value)? {
+                match texts_until(alloc, self.bodies, self.names, &inner.value)? {
                     Some(texts) => Ok(Expr::Skip(texts)),
                     None => Ok(Expr::Rep(inner.into_inner())),
                 }
@@ -92,9 +123,10 @@ pub(crate) fn is_no_turn(expr: &Expr) -> bool
 fn texts_until(
     alloc: Global,
     bodies: &HashMap<String, Expr>,
+    names: &Names<'_>,
     expr: &Expr,
 ) -> Result<Option<Vec<String>>, AllocError>
-    ensures { IfOk result (λ found. (g : Grammar) → HoldsBodies bodies.now g
+    ensures { IfOk result (λ found. (g : Grammar) → Serve bodies.now names.now g
         → TextsUntil g (expression_of expr.now) found) }
 {
     let Expr::Seq(left, right) = expr else {
@@ -109,5 +141,5 @@ fn texts_until(
     if name.as_str() != "ANY" {
         return Ok(None);
     }
-    strings_of(alloc, bodies, inner)
+    strings_of(alloc, bodies, names, inner)
 }

@@ -1,13 +1,22 @@
 //! The strings that an expression stands for, where it is a literal, a name or a choice of such.
-ghost use Rattle.std.specs.Prelude.{◌≡◌, IfOk, MatchOption, map};
+ghost use Rattle.std.specs.Prelude.{◌≡◌, IfOk, OnOk, MatchOption, map, string_bytes};
 ghost use Rattle.meta_base.specs.Language.Expression.{Grammar};
 ghost use Rattle.meta_base.specs.Rewritings.Rewriting.{Strings};
 ghost use Rattle.meta_ast.specs.Ast.{expression_of, text_of};
-ghost use Rattle.meta_optimizer.specs.Bodies.{HoldsBodies, HasStrings, FindsNext, Splits, DepthOrNone, StringsOrNone};
+ghost use Rattle.meta_optimizer.specs.Bodies.{HoldsBodies, HasStrings, FindsNext, Splits, HaveMet, AreRight, AreTold, Serve, StringsOrNone};
 
 use meta_ast::ast::Expr;
 use std::alloc::{AllocError, Global};
 use std::collections::HashMap;
+
+/// Which names of some bodies stand for strings.
+#[derive(Drop)]
+pub(crate) struct Names<'a> {
+    /// True at a name that stands for strings; false at one that stands for none, or is looked for.
+    met: HashMap<&'a str, bool>,
+    /// Those that stand for strings.
+    known: Vec<&'a str>,
+}
 
 /// What comes next in an expression: it stands for no strings, all its names are known, or a name
 /// is not, with what stands behind it.
@@ -32,19 +41,37 @@ pub(crate) struct Part<'a> {
     names: usize,
 }
 
+/// Which names stand for strings, each being looked through once. The only fault is a want of memory.
+pub(crate) fn names_with_strings<'a>(
+    alloc: Global,
+    bodies: &'a HashMap<String, Expr>,
+) -> Result<Names<'a>, AllocError>
+    ensures { IfOk result (AreTold bodies.now) }
+{
+    let mut names = Names {
+        met: HashMap::new(alloc),
+        known: Vec::new(alloc),
+    };
+    for name in bodies.keys() {
+        look_through(alloc, bodies, &mut names, name)?;
+    }
+    Ok(names)
+}
+
 /// The strings of an expression, names being looked up in `bodies`; none where there is a name of no rule, a
 /// cycle of names or anything else. The only fault is a want of memory.
 pub(crate) fn strings_of(
     alloc: Global,
     bodies: &HashMap<String, Expr>,
+    names: &Names<'_>,
     expr: &Expr,
 ) -> Result<Option<Vec<String>>, AllocError>
-    ensures { IfOk result (λ found. (g : Grammar) → HoldsBodies bodies.now g
+    ensures { IfOk result (λ found. (g : Grammar) → Serve bodies.now names.now g
         → StringsOrNone g (expression_of expr.now) found) }
 {
-    match depth_of_names(alloc, bodies, expr)? {
-        Some(names) => texts_within(alloc, bodies, expr, names),
-        None => Ok(None),
+    match next_name(&names.met, expr) {
+        Found::Strings => texts_within(alloc, bodies, expr, names.known.len()),
+        _ => Ok(None),
     }
 }
 
@@ -81,41 +108,49 @@ fn next_name<'a>(met: &HashMap<&'a str, bool>, expr: &'a Expr) -> Found<'a>
     }
 }
 
-// How many names lie below one another at most, or none where the expression has no strings. Each
-// name is looked through once.
-fn depth_of_names<'a>(
+// Looks through a name and those that it reaches, but for those that are met already.
+fn look_through<'a>(
     alloc: Global,
     bodies: &'a HashMap<String, Expr>,
-    expr: &'a Expr,
-) -> Result<Option<usize>, AllocError>
-    ensures { IfOk result (λ found. (g : Grammar) → HoldsBodies bodies.now g
-        → DepthOrNone g (expression_of expr.now) found) }
+    names: &mut Names<'a>,
+    name: &'a String,
+) -> Result<(), AllocError>
+    ensures right { OnOk result ((g : Grammar) → HoldsBodies bodies.now g
+        → AreRight names.old g → AreRight names.new g) }
+    ensures met { OnOk result (HaveMet bodies.now names.old names.new (string_bytes name.now)) }
 {
-    let mut met: HashMap<&'a str, bool> = HashMap::new(alloc);
-    let mut known: Vec<&'a str> = Vec::new(alloc);
+    let name = name.as_str();
+    if names.met.contains_key(name) {
+        return Ok(());
+    }
+    let Some(body) = bodies.get(name) else {
+        return Ok(());
+    };
     let mut callers: Vec<Caller<'a>> = Vec::new(alloc);
-    let mut rest = Some(expr);
+    names.met.insert(name, false)?;
+    callers.push(Caller { name, behind: None })?;
+    let mut rest = Some(body);
     'names: loop {
         match rest {
-            Some(expr) => match next_name(&met, expr) {
-                Found::Nothing => return Ok(None),
+            Some(expr) => match next_name(&names.met, expr) {
+                Found::Nothing => return Ok(()),
                 Found::Strings => rest = None,
                 Found::Name(name, behind) => {
                     let Some(body) = bodies.get(name) else {
-                        return Ok(None);
+                        return Ok(());
                     };
-                    met.insert(name, false)?;
+                    names.met.insert(name, false)?;
                     callers.push(Caller { name, behind })?;
                     rest = Some(body);
                 }
             },
             None => match callers.pop() {
                 Some(Caller { name, behind }) => {
-                    met.insert(name, true)?;
-                    known.push(name)?;
+                    names.met.insert(name, true)?;
+                    names.known.push(name)?;
                     rest = behind;
                 }
-                None => return Ok(Some(known.len())),
+                None => return Ok(()),
             },
         }
     }

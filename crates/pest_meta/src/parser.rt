@@ -32,8 +32,8 @@ pub fn consume_rules(alloc: Global, pairs: Pairs<'_, Rule>) -> Result<Vec<ast::R
     ensures counts { IfOk result (λ rules. HasReadableCounts (rules_of rules.items)) }
     ensures refused { IfErr result (AreRejected (pairs_text pairs.entry) (named (pairs_trees pairs.entry))) }
 {
-    let value = consume_rules_with_spans(alloc, pairs)?;
-    let rules = Deep { value };
+    let rules = consume_rules_with_spans(alloc, pairs)?;
+    let rules = Deep { value: rules };
     let errors = validate_ast(alloc, &rules.value)?;
     if !errors.is_empty() {
         return Err(Fault::Grammar(errors));

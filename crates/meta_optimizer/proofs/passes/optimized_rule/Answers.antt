@@ -15,7 +15,7 @@ rule_to_optimized_rule-requires c =
     (by_listing (expression_of c.in_ok-rule-5.rule.expr) (by_factors c.in_ok-rule-5.ensures.steps (by_joins c.in_ok-rule-4.ensures.done.reached c.in_ok-rule-3.ensures.unrolled)))
 
 pub returns-in-Ok-clause-body : goal.returns-in-Ok-clause-body
-returns-in-Ok-clause-body c = λ g h.
+returns-in-Ok-clause-body c = λ g told h.
     let of_unrolled : c.in_ok-rule-3.rule.ty ≡ c.args.rule.ty = c.in_ok-rule-3.ensures.ty ∙ (c.in_ok-rule-2.ensures.ty ∙ c.in_ok-rule.ensures.ty) in
     let of_joined : c.in_ok-rule-4.rule.ty ≡ c.args.rule.ty = c.in_ok-rule-4.ensures.ty ∙ of_unrolled in
     let said : optimized_expression_of c.in-Ok.rule.expr ≡ expression_of c.in_ok-rule-6.rule.expr = ap (λ (r : Rule). r.body) c.in-Ok.ensures in
@@ -27,8 +27,8 @@ returns-in-Ok-clause-body c = λ g h.
       factored = expression_of c.in_ok-rule-5.rule.expr;
       rotates = c.in_ok-rule.ensures.done;
       skips = elim h as (λ k. IsDone (SkipsUntil g (rule_type_of c.args.rule.ty)) (expression_of c.in_ok-rule.rule.expr) (expression_of c.in_ok-rule-2.rule.expr)) [
-        | inl k ↦ rw c.in_ok-rule.ensures.ty at c.in_ok-rule-2.ensures.done g k
-        | inr k ↦ over_any g [] c.args.rule.ty c.in_ok-rule.rule.expr _ (λ e. by_rotations c.in_ok-rule.ensures.done.reached (k.1.0 e)) (rw c.in_ok-rule.ensures.ty at c.in_ok-rule-2.ensures.done [] k.0)
+        | inl k ↦ rw c.in_ok-rule.ensures.ty at c.in_ok-rule-2.ensures.done told g k
+        | inr k ↦ over_any g [] c.args.rule.ty c.in_ok-rule.rule.expr _ (λ e. by_rotations c.in_ok-rule.ensures.done.reached (k.1.0 e)) (rw c.in_ok-rule.ensures.ty at c.in_ok-rule-2.ensures.done told [] k.0)
       ];
       unrolls = record { steps = c.in_ok-rule-3.ensures.steps; unrolled = c.in_ok-rule-3.ensures.unrolled };
       joins = rw of_unrolled at c.in_ok-rule-4.ensures.done;

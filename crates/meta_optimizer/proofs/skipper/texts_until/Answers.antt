@@ -2,7 +2,7 @@ use Rattle.std.proofs.Common.{◌∙◌, sym, subst}
 use Rattle.meta_base.specs.Language.Expression as e
 use Rattle.meta_base.specs.Rewritings.Rewriting.{SkipsUntil}
 use Rattle.meta_ast.specs.Ast.{expression_of, text_of}
-use Rattle.meta_optimizer.specs.Bodies.{HoldsBodies}
+use Rattle.meta_optimizer.specs.Bodies.{Serve}
 use Rattle.meta_optimizer.proofs.Skipping.{not_any, is_any, other_name, until, shape, any_shape, texts_differ, texts_same}
 use Rattle.meta_optimizer.proofs.skipper.texts_until.Goals as goal
 
@@ -16,5 +16,5 @@ pub returns : goal.returns
 returns c =
     let formed = shape c.args.expr.now _ _ _ _ c.in-Seq.is (sym c.deref.ensures ∙ c.in-NegPred.is) (sym c.deref-2.ensures ∙ c.in-Ident.is) in
     let any = is_any c.in-Ident.name (sym c.as_str.ensures.value ∙ texts_same _ _ c.ne.result c.ne.ensures c.if-ne.false) in
-    until (HoldsBodies c.args.bodies.now) (expression_of c.in-NegPred.inner.value) (expression_of c.args.expr.now) c.strings_of.result (any_shape _ _ c.in-Ident.name formed any)
+    until (Serve c.args.bodies.now c.args.names.now) (expression_of c.in-NegPred.inner.value) (expression_of c.args.expr.now) c.strings_of.result (any_shape _ _ c.in-Ident.name formed any)
     (rw c.deref-3.ensures at c.strings_of.ensures)

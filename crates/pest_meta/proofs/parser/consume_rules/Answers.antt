@@ -37,14 +37,16 @@ returns-in-Ok-clause-rules c =
     let read = c.in_ok-rules.ensures in
     let views = rule_views c.in_ok-rules.rules.items in
     let none : c.in_ok-errors.errors.items ≡ [] = first_of (search rules, grind (arith, common_steps)) in
+    let erased : rules_of c.in-Ok.rules.items ≡ rules_without_spans views = rw c.into_inner.ensures at c.in-Ok.ensures in
     record {
-      give = given c.args.pairs views (rules_of c.in-Ok.rules.items) read.flawless read.rules c.in-Ok.ensures;
+      give = given c.args.pairs views (rules_of c.in-Ok.rules.items) read.flawless read.rules erased;
       no_reports = c.in_ok-errors.ensures.silent none;
       nothing_found = nothing_found views c.in_ok-errors.errors.items none c.in_ok-errors.ensures.exact;
-      well_formed = rw c.in-Ok.ensures (c.in_ok-errors.ensures.accepted none);
+      well_formed = rw erased (c.in_ok-errors.ensures.accepted none);
     }
 
 pub returns-in-Ok-clause-counts : goal.returns-in-Ok-clause-counts
 returns-in-Ok-clause-counts c =
     let read = c.in_ok-rules.ensures in
-    rw c.in-Ok.ensures (counts_readable (pairs_text c.args.pairs) {us = named (pairs_trees c.args.pairs)} read.rules read.flawless)
+    let erased : rules_of c.in-Ok.rules.items ≡ rules_without_spans (rule_views c.in_ok-rules.rules.items) = rw c.into_inner.ensures at c.in-Ok.ensures in
+    rw erased (counts_readable (pairs_text c.args.pairs) {us = named (pairs_trees c.args.pairs)} read.rules read.flawless)
