@@ -44,7 +44,7 @@ got_root (x ∷ xs) [] k n e l = absurd (omega arith)
 got_root (x ∷ xs) (y ∷ ys) zero n e l = (y, refl)
 got_root (x ∷ xs) (y ∷ ys) (suc k) n e l = got_root xs ys k n e (omega arith)
 
-end_null : (g : Grammar) (n : Text) → is_end n ≡ true → IsNullable g (Ident n)
+pub end_null : (g : Grammar) (n : Text) → is_end n ≡ true → IsNullable g (Ident n)
 end_null g n h = elim (either (bytes_eq n (codes "SOI")) (bytes_eq n (codes "EOI")) h) [
   | inl e ↦ subst (λ t. IsNullable g (Ident t)) (sym ((bytes_eq-Decides n (codes "SOI")).0 e)) nullable_soi
   | inr e ↦ subst (λ t. IsNullable g (Ident t)) (sym ((bytes_eq-Decides n (codes "EOI")).0 e)) nullable_eoi

@@ -18,6 +18,7 @@ pub mod SearchLemmas
 pub mod SearchCalls
 pub mod RegionLemmas
 pub mod PassingLemmas
+pub mod Settled
 pub mod PassingSteps
 pub mod NodeSteps
 pub mod WalkSteps

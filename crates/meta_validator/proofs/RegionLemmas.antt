@@ -31,6 +31,10 @@ module _ (rules : List ParserRule) (roots : List ℕ) (are : AreRoots rules (nod
       let c = root_at roots k i f in
       record { node = are.lie k i rule here f ∙ ap (λ z. Some z.body) same; first = omega arith; last = omega arith }
 
+  -- the rule whose body has this number
+  pub rule_at : (k i : ℕ) → slice_get roots k ≡ Some i → (rule : ParserRule) × (slice_get rules k ≡ Some rule)
+  rule_at k i e = let w = slice_get_within roots k i e in let a = are.alike in got_within rules k (omega arith)
+
   pub has_root : (k : ℕ) (r : SpannedRule) → slice_get (rule_views rules) k ≡ Some r → (i : ℕ) × (slice_get roots k ≡ Some i)
   has_root k r e = let (rule, here, same) = got_rule rules k r e in got_root rules roots k rule here (sym are.alike)
 

@@ -8,6 +8,7 @@ pub mod Numbering
 pub mod Layout
 pub mod Facts
 pub mod Cycles
+pub mod Levels
 pub mod Without
 pub mod Taking
 pub mod Findings

@@ -33,6 +33,13 @@ ArePassingAt rules roots flags k = (i : ℕ) (r : SpannedRule) (x : Spanned)
     → slice_get (rule_views rules) k ≡ Some r → Means (rule_views rules) r.name k → IsNodeOf rules roots k i x
     → Decides (is_set_at flags i) (IsNullable (without r.name (said (rule_views rules))) (without_spans x))
 
+-- such flags for the nodes of that rule, as far as there are flags
+abbrev pub ArePassingSoFar : List ParserRule → List ℕ → List Bool → ℕ → Type 0
+ArePassingSoFar rules roots flags k = (i : ℕ) (r : SpannedRule) (x : Spanned)
+    → slice_get (rule_views rules) k ≡ Some r → Means (rule_views rules) r.name k → IsNodeOf rules roots k i x
+    → i < length flags
+    → Decides (is_set_at flags i) (IsNullable (without r.name (said (rule_views rules))) (without_spans x))
+
 -- such flags for the nodes of all rules
 abbrev pub ArePassing : List ParserRule → List ℕ → List Bool → Type 0
 ArePassing rules roots flags = (k : ℕ) → ArePassingAt rules roots flags k

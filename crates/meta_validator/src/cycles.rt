@@ -132,7 +132,7 @@ fn ordered(alloc: Global, facts: &Facts) -> Result<Vec<usize>, AllocError> {
 }
 
 /// The number of a node.
-fn number_at(order: &[usize], node: usize) -> usize
+pub(crate) fn number_at(order: &[usize], node: usize) -> usize
     ensures { result ≡ rank_at order.now node }
 {
     match order.get(node) {

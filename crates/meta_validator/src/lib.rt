@@ -6,6 +6,7 @@ mod cycles;
 mod facts;
 mod findings;
 pub mod laws;
+mod levels;
 mod marks;
 mod names;
 mod numbering;

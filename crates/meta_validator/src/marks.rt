@@ -32,7 +32,7 @@ fn place_at(places: &[usize], node: usize) -> usize {
 }
 
 /// The nodes on which the answer for a node depends, two at most.
-fn listened_to(table: &Table, kind: Kind) -> (Option<usize>, Option<usize>) {
+pub(crate) fn listened_to(table: &Table, kind: Kind) -> (Option<usize>, Option<usize>) {
     match kind {
         Kind::Taking | Kind::Still | Kind::End => (None, None),
         Kind::Call(rule) | Kind::EndCall(rule) => (table.roots.get(rule).copied(), None),

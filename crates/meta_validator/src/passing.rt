@@ -1,12 +1,15 @@
 //! What may take nothing where a call of the rule in whose body it stands counts as one that takes something.
-ghost use Rattle.std.specs.Prelude.{◌≡◌, ℕ, ◌+◌, ◌<◌, ◌≤◌, Some, IfOk, OnOk, length, slice_get};
+ghost use Rattle.std.specs.Prelude.{◌≡◌, ℕ, ◌+◌, ◌<◌, ◌≤◌, Some, true, false, IfOk, OnOk, length, slice_get};
 ghost use Rattle.meta_validator.specs.Facts.{AreFacts};
+ghost use Rattle.meta_validator.specs.Levels.{AllRest, AreSettled, IsSettled, own_answer, own_answer_at};
 ghost use Rattle.meta_validator.specs.Marks.{AreSound, AreClosed};
 ghost use Rattle.meta_validator.specs.Regions.{ArePassing, ArePassingBelow};
 ghost use Rattle.meta_validator.specs.Table.{is_set_at};
 ghost use Rattle.meta_validator.specs.Without.{AreMarksWithout, IsWithout, without_kind};
 
+use crate::cycles::number_at;
 use crate::facts::Facts;
+use crate::levels::levels_of;
 use crate::marks::{marked, who_listens};
 use crate::table::{Kind, Question, Table, is_set};
 use meta_nodes::ParserRule;
@@ -63,28 +66,156 @@ fn add_flags(from: &[bool], last: usize, to: &mut Vec<bool>) -> Result<(), Alloc
     Ok(())
 }
 
-/// Adds the flags of the nodes of a rule's body. Only where the rule may take nothing do they differ from
-/// the facts.
-fn add_rule<'i>(
+/// Whether a call in a rule's body is one of the rule itself, takes something, or is of a rule that lies
+/// below.
+fn is_settled(facts: &Facts, levels: &[usize], rule: usize, root: usize, kind: Kind) -> bool
+    ensures { result ≡ true → IsSettled facts.now levels.now rule root kind }
+{
+    match kind {
+        Kind::Call(called) => {
+            if called == rule {
+                return true;
+            }
+            match facts.table.roots.get(called) {
+                Some(body) => {
+                    !is_set(facts.nullable.as_slice(), *body)
+                        || number_at(levels, *body) < number_at(levels, root)
+                }
+                None => true,
+            }
+        }
+        _ => true,
+    }
+}
+
+/// Whether that is so of all nodes of the body.
+fn are_settled(facts: &Facts, levels: &[usize], rule: usize, first: usize, root: usize) -> bool
+    ensures { result ≡ true → AreSettled facts.now levels.now rule first root }
+{
+    for node in first..facts.table.kinds.len() {
+        if node > root {
+            return true;
+        }
+        if !is_settled(facts, levels, rule, root, facts.table.kind_at(node)) {
+            return false;
+        }
+    }
+    true
+}
+
+/// Whether a node of a rule's body may take nothing where calls of the rule count as neither, by the flags
+/// of its operands.
+fn own_flag(facts: &Facts, rule: usize, flags: &[bool], kind: Kind) -> bool
+    ensures { result ≡ own_answer facts.now rule (is_set_at flags.now) kind }
+{
+    match kind {
+        Kind::Call(called) => {
+            if called == rule {
+                false
+            } else {
+                facts.table.is_root_set(facts.nullable.as_slice(), called)
+            }
+        }
+        _ => facts.table.fires(Question::TakesNothing, flags, kind),
+    }
+}
+
+/// The same of the node of a number.
+fn own_flag_at(facts: &Facts, rule: usize, flags: &[bool], node: usize) -> bool
+    ensures { result ≡ own_answer_at facts.now rule (is_set_at flags.now)
+        (slice_get facts.now.table.kinds.items node) }
+{
+    match facts.table.kinds.get(node) {
+        Some(kind) => own_flag(facts, rule, flags, *kind),
+        None => false,
+    }
+}
+
+/// Adds the flags of the nodes of a rule's body, each by those of its operands.
+fn add_own_flags<'i>(
+    rules: &[ParserRule<'i>],
+    facts: &Facts,
+    levels: &[usize],
+    rule: usize,
+    root: usize,
+    flags: &mut Vec<bool>,
+) -> Result<(), AllocError>
+    requires facts { AreFacts rules.now facts.now }
+    requires levels { AllRest facts.now levels.now }
+    requires root { slice_get facts.now.table.roots.items rule ≡ Some root }
+    requires settled { AreSettled facts.now levels.now rule (length flags.old.items) root }
+    ensures { OnOk result (ArePassingBelow rules.now facts.now.table.roots.items rule flags.old.items
+        → ArePassingBelow rules.now facts.now.table.roots.items (rule + 1) flags.new.items) }
+{
+    while flags.len() <= root {
+        let flag = own_flag_at(facts, rule, flags.as_slice(), flags.len());
+        flags.push(flag)?;
+    }
+    Ok(())
+}
+
+/// Adds the flags of the nodes of the body of a rule that takes something: they are the facts.
+fn add_facts<'i>(
+    rules: &[ParserRule<'i>],
+    facts: &Facts,
+    rule: usize,
+    root: usize,
+    flags: &mut Vec<bool>,
+) -> Result<(), AllocError>
+    requires facts { AreFacts rules.now facts.now }
+    requires root { slice_get facts.now.table.roots.items rule ≡ Some root }
+    requires takes { is_set_at facts.now.nullable.items root ≡ false }
+    ensures { OnOk result (ArePassingBelow rules.now facts.now.table.roots.items rule flags.old.items
+        → ArePassingBelow rules.now facts.now.table.roots.items (rule + 1) flags.new.items) }
+{
+    add_flags(facts.nullable.as_slice(), root, flags)?;
+    Ok(())
+}
+
+/// Adds the flags of the nodes of a rule's body, by those of all nodes.
+fn add_marks<'i>(
     alloc: Global,
     rules: &[ParserRule<'i>],
     facts: &Facts,
     rule: usize,
+    root: usize,
     flags: &mut Vec<bool>,
 ) -> Result<(), AllocError>
     requires facts { AreFacts rules.now facts.now }
+    requires root { slice_get facts.now.table.roots.items rule ≡ Some root }
+    ensures { OnOk result (ArePassingBelow rules.now facts.now.table.roots.items rule flags.old.items
+        → ArePassingBelow rules.now facts.now.table.roots.items (rule + 1) flags.new.items) }
+{
+    let marks = marks_without(alloc, facts, rule)?;
+    add_flags(marks.as_slice(), root, flags)?;
+    Ok(())
+}
+
+/// Adds the flags of the nodes of a rule's body. Only where the rule may take nothing do they differ from
+/// the facts; and only where it leads back to itself by other rules that may take nothing has more than its
+/// body to be looked at.
+fn add_rule<'i>(
+    alloc: Global,
+    rules: &[ParserRule<'i>],
+    facts: &Facts,
+    levels: &[usize],
+    rule: usize,
+    flags: &mut Vec<bool>,
+) -> Result<(), AllocError>
+    requires facts { AreFacts rules.now facts.now }
+    requires levels { AllRest facts.now levels.now }
     requires inside { rule < facts.now.table.roots.len }
     ensures { OnOk result (ArePassingBelow rules.now facts.now.table.roots.items rule flags.old.items
         → ArePassingBelow rules.now facts.now.table.roots.items (rule + 1) flags.new.items) }
 {
     let root = facts.table.root_at(rule);
-    if is_set(facts.nullable.as_slice(), root) {
-        let marks = marks_without(alloc, facts, rule)?;
-        add_flags(marks.as_slice(), root, flags)?;
-    } else {
-        add_flags(facts.nullable.as_slice(), root, flags)?;
+    if !is_set(facts.nullable.as_slice(), root) {
+        return add_facts(rules, facts, rule, root, flags);
     }
-    Ok(())
+    if are_settled(facts, levels, rule, flags.len(), root) {
+        return add_own_flags(rules, facts, levels, rule, root, flags);
+    }
+    add_marks(alloc, rules, facts, rule, root, flags)
 }
 
 /// Which nodes may take nothing where a call of the rule in whose body they stand counts as one that takes
@@ -97,9 +228,10 @@ pub(crate) fn passing<'i>(
     requires { AreFacts rules.now facts.now }
     ensures { IfOk result (λ flags. ArePassing rules.now facts.now.table.roots.items flags.items) }
 {
+    let levels = levels_of(alloc, facts)?;
     let mut flags = Vec::new(alloc);
     for rule in 0..facts.table.roots.len() {
-        add_rule(alloc, rules, facts, rule, &mut flags)?;
+        add_rule(alloc, rules, facts, levels.as_slice(), rule, &mut flags)?;
     }
     Ok(flags)
 }

@@ -76,7 +76,7 @@ impl Table {
     }
 
     /// Whether the flag of a rule's body is set.
-    fn is_root_set(&self, marks: &[bool], rule: usize) -> bool
+    pub(crate) fn is_root_set(&self, marks: &[bool], rule: usize) -> bool
         ensures { result ≡ at_root (is_set_at marks.now) (slice_get self.now.roots.items rule) }
     {
         match self.roots.get(rule) {

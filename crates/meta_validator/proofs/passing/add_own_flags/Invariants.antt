@@ -1,0 +1,15 @@
+use Rattle.std.proofs.Common.{◌≡◌, ◌+◌, ◌-◌, ◌<◌, ◌≤◌, ℕ, length, vec_len}
+use Rattle.meta_validator.specs.Regions.{first_of, ArePassingSoFar}
+use Rattle.meta_validator.specs.Table.{is_set_at}
+use Rattle.meta_validator.proofs.passing.add_own_flags.Given as goal
+
+abbrev pub invariant-loop-flags : goal.invariant-loop-flags
+invariant-loop-flags l = record {
+  grown : length l.fn.flags.items ≤ length l.flags.items;
+  within : length l.fn.flags.items ≤ l.root + 1 → length l.flags.items ≤ l.root + 1;
+  kept : (i : ℕ) → i < length l.fn.flags.items → is_set_at l.flags.items i ≡ is_set_at l.fn.flags.items i;
+  right : length l.fn.flags.items ≡ first_of l.facts.table.roots.items l.rule → ArePassingSoFar l.rules l.facts.table.roots.items l.flags.items l.rule;
+}
+
+abbrev pub decreases-loop-flags : goal.decreases-loop-flags
+decreases-loop-flags l = (l.root + 1) - vec_len l.flags

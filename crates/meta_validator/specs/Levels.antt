@@ -1,0 +1,51 @@
+-- Levels of nodes: none is lower than those of the nodes on which it depends whether the node may take nothing.
+use Rattle.std.specs.Prelude.{◌≡◌, ℕ, ◌<◌, ◌≤◌, List, Option, Some, None, Bool, true, false, if◌then◌else◌, nat_eq, ⊤, slice_get}
+use Rattle.meta_validator.specs.Cycles.{rank_at}
+use Rattle.meta_validator.specs.Table.{is_set_at, at_root, fires}
+use Rattle.meta_validator.specs.declared.facts.Facts.{Facts}
+use Rattle.meta_validator.specs.declared.table.Kind.{Kind}
+use Rattle.meta_validator.specs.declared.table.Kind.TheVariants as is
+use Rattle.meta_validator.specs.declared.table.Question.TheVariants as asks
+
+-- the body of a rule that may take nothing has no higher level
+abbrev pub IsRootWithin : Facts → List ℕ → ℕ → ℕ → Type 0
+IsRootWithin facts levels r i = (j : ℕ) → slice_get facts.table.roots.items r ≡ Some j
+    → is_set_at facts.nullable.items j ≡ true → rank_at levels j ≤ rank_at levels i
+
+-- the nodes on which it depends whether a node may take nothing have no higher level
+abbrev pub Rests : Facts → List ℕ → ℕ → Kind → Type 0
+Rests facts levels i (is.Call r) = IsRootWithin facts levels r i
+Rests facts levels i (is.Inside j) = rank_at levels j ≤ rank_at levels i
+Rests facts levels i (is.OnceAgain j) = rank_at levels j ≤ rank_at levels i
+Rests facts levels i (is.Seq j k) = (rank_at levels j ≤ rank_at levels i)
+    × (rank_at levels k ≤ rank_at levels i)
+Rests facts levels i (is.Choice j k) = (rank_at levels j ≤ rank_at levels i)
+    × (rank_at levels k ≤ rank_at levels i)
+Rests facts levels i _ = ⊤
+
+abbrev pub AllRest : Facts → List ℕ → Type 0
+AllRest facts levels = (i : ℕ) (k : Kind) → slice_get facts.table.kinds.items i ≡ Some k
+    → Rests facts levels i k
+
+-- a call in the body of the rule v is one of v, or takes something, or its rule lies below v
+abbrev pub IsSettled : Facts → List ℕ → ℕ → ℕ → Kind → Type 0
+IsSettled facts levels v root (is.Call r) = (r ≡ v → ⊥) → (j : ℕ)
+    → slice_get facts.table.roots.items r ≡ Some j → is_set_at facts.nullable.items j ≡ true
+    → rank_at levels j < rank_at levels root
+IsSettled facts levels v root _ = ⊤
+
+-- this is so of all these nodes
+abbrev pub AreSettled : Facts → List ℕ → ℕ → ℕ → ℕ → Type 0
+AreSettled facts levels v first root = (i : ℕ) → first ≤ i → i ≤ root → (k : Kind)
+    → slice_get facts.table.kinds.items i ≡ Some k → IsSettled facts levels v root k
+
+-- whether a node of the body of the rule v may take nothing where calls of v count as neither: by the answers
+-- for its operands, and for a call of another rule by what is known of that
+abbrev pub own_answer : Facts → ℕ → (ℕ → Bool) → Kind → Bool
+own_answer facts v p (is.Call r) = if nat_eq r v then false
+    else at_root (is_set_at facts.nullable.items) (slice_get facts.table.roots.items r)
+own_answer facts v p k = fires asks.TakesNothing facts.table.roots.items p k
+
+abbrev pub own_answer_at : Facts → ℕ → (ℕ → Bool) → Option Kind → Bool
+own_answer_at facts v p None = false
+own_answer_at facts v p (Some k) = own_answer facts v p k

@@ -1,0 +1,230 @@
+//! A level for each node: none has a lower one than those on which it depends whether the node may take
+//! nothing. Nodes that depend on one another have one level. The levels are found by a search in depth and
+//! then looked over node by node; only what is looked over counts.
+ghost use Rattle.std.specs.Prelude.{◌≡◌, ◌≤◌, ◌+◌, ◌*◌, IfOk, OnOk, length, true};
+ghost use Rattle.meta_validator.specs.Cycles.{rank_at};
+ghost use Rattle.meta_validator.specs.Levels.{AllRest, IsRootWithin, Rests};
+ghost use Rattle.meta_validator.specs.Marks.{unset};
+
+use crate::cycles::{Step, number_at};
+use crate::facts::Facts;
+use crate::marks::listened_to;
+use crate::table::{Kind, is_set};
+use std::alloc::{AllocError, Global};
+
+/// The nodes that are looked into from a node, two at most. A call of a rule that takes something leads
+/// nowhere.
+fn looked_into(facts: &Facts, kind: Kind) -> (Option<usize>, Option<usize>) {
+    match kind {
+        Kind::EndCall(_) => (None, None),
+        Kind::Call(rule) => {
+            if facts.table.is_root_set(facts.nullable.as_slice(), rule) {
+                listened_to(&facts.table, kind)
+            } else {
+                (None, None)
+            }
+        }
+        _ => listened_to(&facts.table, kind),
+    }
+}
+
+/// A search in depth, under way.
+#[derive(Drop)]
+struct Search {
+    /// A number for each node that was entered: one that was entered later has a greater one.
+    numbers: Vec<usize>,
+    /// For each node the lowest number of a node that is still open and was reached from it.
+    lowest: Vec<usize>,
+    /// A level for each node that has one, else 0.
+    levels: Vec<usize>,
+    seen: Vec<bool>,
+    steps: Vec<Step>,
+    /// The nodes that were entered and have no level yet, in the order of their numbers.
+    open: Vec<usize>,
+    /// The number of the node that is entered next.
+    clock: usize,
+    /// The level that was given last.
+    level: usize,
+}
+
+fn put_number(numbers: &mut Vec<usize>, node: usize, number: usize) {
+    if let Some(place) = numbers.get_mut(node) {
+        *place = number;
+    }
+}
+
+fn enter_some(steps: &mut Vec<Step>, node: Option<usize>) -> Result<(), AllocError>
+    ensures { OnOk result (steps.new.len ≤ steps.old.len + 1) }
+{
+    if let Some(node) = node {
+        steps.push(Step::Enter(node))?;
+    }
+    Ok(())
+}
+
+/// Enters a node that was not seen. Whether it was not.
+fn enter(
+    facts: &Facts,
+    seen: &mut Vec<bool>,
+    steps: &mut Vec<Step>,
+    node: usize,
+) -> Result<bool, AllocError>
+    ensures fewer { OnOk result (4 * unset seen.new.items + length steps.new.items
+        ≤ 4 * unset seen.old.items + length steps.old.items) }
+{
+    if node >= seen.len() || node >= facts.table.kinds.len() {
+        return Ok(false);
+    }
+    if is_set(seen.as_slice(), node) {
+        return Ok(false);
+    }
+    seen[node] = true;
+    steps.push(Step::Leave(node))?;
+    let (first, second) = looked_into(facts, facts.table.kinds[node]);
+    enter_some(steps, second)?;
+    enter_some(steps, first)?;
+    Ok(true)
+}
+
+/// Gives a node that was entered its number.
+fn open(search: &mut Search, node: usize) -> Result<(), AllocError>
+    ensures seen { OnOk result (search.new.seen ≡ search.old.seen) }
+    ensures steps { OnOk result (search.new.steps ≡ search.old.steps) }
+{
+    search.open.push(node)?;
+    search.clock = search.clock.saturating_add(1);
+    put_number(&mut search.numbers, node, search.clock);
+    put_number(&mut search.lowest, node, search.clock);
+    Ok(())
+}
+
+/// The lower one of a number and the lowest that was reached from a node that is open.
+fn lower_of(search: &Search, low: usize, node: Option<usize>) -> usize {
+    match node {
+        Some(node) => {
+            let reached = number_at(search.lowest.as_slice(), node);
+            if number_at(search.levels.as_slice(), node) == 0 && reached < low {
+                reached
+            } else {
+                low
+            }
+        }
+        None => low,
+    }
+}
+
+/// Gives a level to a node and to all that were opened after it.
+fn close(open: &mut Vec<usize>, levels: &mut Vec<usize>, level: usize, node: usize) {
+    while let Some(last) = open.pop() {
+        put_number(levels, last, level);
+        if last == node {
+            return;
+        }
+    }
+}
+
+/// Leaves a node. It is closed where no node that was opened before was reached from it.
+fn leave(facts: &Facts, search: &mut Search, node: usize)
+    ensures seen { search.new.seen ≡ search.old.seen }
+    ensures steps { search.new.steps ≡ search.old.steps }
+{
+    let number = number_at(search.numbers.as_slice(), node);
+    let (first, second) = match facts.table.kinds.get(node) {
+        Some(kind) => looked_into(facts, *kind),
+        None => (None, None),
+    };
+    let low = lower_of(search, number, first);
+    let low = lower_of(search, low, second);
+    put_number(&mut search.lowest, node, low);
+    if low == number {
+        search.level = search.level.saturating_add(1);
+        close(&mut search.open, &mut search.levels, search.level, node);
+    }
+}
+
+/// Searches from a node.
+fn search_from(facts: &Facts, search: &mut Search, node: usize) -> Result<(), AllocError> {
+    search.steps.push(Step::Enter(node))?;
+    while let Some(step) = search.steps.pop() {
+        match step {
+            Step::Enter(node) => {
+                if enter(facts, &mut search.seen, &mut search.steps, node)? {
+                    open(search, node)?;
+                }
+            }
+            Step::Leave(node) => leave(facts, search, node),
+        }
+    }
+    Ok(())
+}
+
+/// A level for each node, as the search finds it.
+fn found_levels(alloc: Global, facts: &Facts) -> Result<Vec<usize>, AllocError> {
+    let nodes = facts.table.kinds.len();
+    let mut search = Search {
+        numbers: vec![in alloc; 0; nodes]?,
+        lowest: vec![in alloc; 0; nodes]?,
+        levels: vec![in alloc; 0; nodes]?,
+        seen: vec![in alloc; false; nodes]?,
+        steps: Vec::new(alloc),
+        open: Vec::new(alloc),
+        clock: 0,
+        level: 0,
+    };
+    for node in 0..nodes {
+        search_from(facts, &mut search, node)?;
+    }
+    Ok(search.levels)
+}
+
+fn is_within(levels: &[usize], low: usize, high: usize) -> bool
+    ensures { result ≡ true → rank_at levels.now low ≤ rank_at levels.now high }
+{
+    number_at(levels, low) <= number_at(levels, high)
+}
+
+fn is_root_within(facts: &Facts, levels: &[usize], rule: usize, high: usize) -> bool
+    ensures { result ≡ true → IsRootWithin facts.now levels.now rule high }
+{
+    match facts.table.roots.get(rule) {
+        Some(root) => !is_set(facts.nullable.as_slice(), *root) || is_within(levels, *root, high),
+        None => true,
+    }
+}
+
+/// Whether the nodes on which it depends whether a node may take nothing have no higher level.
+fn rests(facts: &Facts, levels: &[usize], node: usize, kind: Kind) -> bool
+    ensures { result ≡ true → Rests facts.now levels.now node kind }
+{
+    match kind {
+        Kind::Call(rule) => is_root_within(facts, levels, rule, node),
+        Kind::Inside(body) | Kind::OnceAgain(body) => is_within(levels, body, node),
+        Kind::Seq(first, second) | Kind::Choice(first, second) => {
+            is_within(levels, first, node) && is_within(levels, second, node)
+        }
+        _ => true,
+    }
+}
+
+/// Whether that is so of every node.
+fn all_rest(facts: &Facts, levels: &[usize]) -> bool
+    ensures { result ≡ true → AllRest facts.now levels.now }
+{
+    for node in 0..facts.table.kinds.len() {
+        if !rests(facts, levels, node, facts.table.kind_at(node)) {
+            return false;
+        }
+    }
+    true
+}
+
+/// A level for each node; no level at all where those that were found are not right.
+pub(crate) fn levels_of(alloc: Global, facts: &Facts) -> Result<Vec<usize>, AllocError>
+    ensures { IfOk result (λ levels. AllRest facts.now levels.items) }
+{
+    let levels = found_levels(alloc, facts)?;
+    if all_rest(facts, levels.as_slice()) {
+        return Ok(levels);
+    }
+    Ok(Vec::new(alloc))
+}
