@@ -77,7 +77,9 @@ over-nil (e.RepMin x i) = refl
 over-nil (e.RepMax x i) = refl
 over-nil (e.RepMinMax x i j) = refl
 over-nil (e.Skip ss) = refl
+over-nil (e.PushLiteral s) = refl
 over-nil (e.Push x) = refl
+over-nil (e.NodeTag x s) = refl
 over-nil (e.RestoreOnErr x) = refl
 
 pub over-operands : (x : Expression) → over x (operands x) ≡ x
@@ -87,6 +89,7 @@ over-operands (e.Range s t) = refl
 over-operands (e.Ident s) = refl
 over-operands (e.PeekSlice i j) = refl
 over-operands (e.Skip ss) = refl
+over-operands (e.PushLiteral s) = refl
 over-operands (e.RestoreOnErr x) = refl
 over-operands (e.PosPred x) = refl
 over-operands (e.NegPred x) = refl
@@ -98,6 +101,7 @@ over-operands (e.RepMin x i) = refl
 over-operands (e.RepMax x i) = refl
 over-operands (e.RepMinMax x i j) = refl
 over-operands (e.Push x) = refl
+over-operands (e.NodeTag x s) = refl
 over-operands (e.Seq x y) = refl
 over-operands (e.Choice x y) = refl
 
@@ -120,7 +124,9 @@ some_node (e.RepMin x i) = omega arith
 some_node (e.RepMax x i) = omega arith
 some_node (e.RepMinMax x i j) = omega arith
 some_node (e.Skip ss) = omega arith
+some_node (e.PushLiteral s) = omega arith
 some_node (e.Push x) = omega arith
+some_node (e.NodeTag x s) = omega arith
 some_node (e.RestoreOnErr x) = omega arith
 
 module _ {K F : Type 0} (closes : K → F → Expression → Expression → F → Type 0) where

@@ -1,8 +1,6 @@
 pub mod Characters
 pub mod Literals
 pub mod WrittenBytes
-pub mod Sides
-pub mod OptimizedSides
 pub mod Frames
 pub mod Mapping
 pub mod Waiting
@@ -11,3 +9,4 @@ pub mod Rebuilding
 pub mod Weights
 pub mod Sameness
 pub mod OptimizedSameness
+pub mod Pieces

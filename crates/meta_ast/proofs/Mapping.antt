@@ -58,6 +58,7 @@ module _ {F E : Type 0} (says : E → Expression) (step : F → E → Result E F
   stays_top_down fault (e.Ident s) = met stayed none_met
   stays_top_down fault (e.PeekSlice i j) = met stayed none_met
   stays_top_down fault (e.Skip ss) = met stayed none_met
+  stays_top_down fault (e.PushLiteral s) = met stayed none_met
   stays_top_down fault (e.RestoreOnErr x) = met stayed none_met
   stays_top_down fault (e.PosPred x) = met stayed (next_met (stays_top_down fault x) none_met)
   stays_top_down fault (e.NegPred x) = met stayed (next_met (stays_top_down fault x) none_met)
@@ -69,6 +70,7 @@ module _ {F E : Type 0} (says : E → Expression) (step : F → E → Result E F
   stays_top_down fault (e.RepMax x i) = met stayed (next_met (stays_top_down fault x) none_met)
   stays_top_down fault (e.RepMinMax x i j) = met stayed (next_met (stays_top_down fault x) none_met)
   stays_top_down fault (e.Push x) = met stayed (next_met (stays_top_down fault x) none_met)
+  stays_top_down fault (e.NodeTag x s) = met stayed (next_met (stays_top_down fault x) none_met)
   stays_top_down fault (e.Seq x y) = met stayed (next_met (stays_top_down fault x) (next_met (stays_top_down fault y) none_met))
   stays_top_down fault (e.Choice x y) = met stayed (next_met (stays_top_down fault x) (next_met (stays_top_down fault y) none_met))
 
@@ -79,6 +81,7 @@ module _ {F E : Type 0} (says : E → Expression) (step : F → E → Result E F
   each_stays_top_down fault (e.Ident s) = none_met
   each_stays_top_down fault (e.PeekSlice i j) = none_met
   each_stays_top_down fault (e.Skip ss) = none_met
+  each_stays_top_down fault (e.PushLiteral s) = none_met
   each_stays_top_down fault (e.RestoreOnErr x) = none_met
   each_stays_top_down fault (e.PosPred x) = next_met (stays_top_down fault x) none_met
   each_stays_top_down fault (e.NegPred x) = next_met (stays_top_down fault x) none_met
@@ -90,6 +93,7 @@ module _ {F E : Type 0} (says : E → Expression) (step : F → E → Result E F
   each_stays_top_down fault (e.RepMax x i) = next_met (stays_top_down fault x) none_met
   each_stays_top_down fault (e.RepMinMax x i j) = next_met (stays_top_down fault x) none_met
   each_stays_top_down fault (e.Push x) = next_met (stays_top_down fault x) none_met
+  each_stays_top_down fault (e.NodeTag x s) = next_met (stays_top_down fault x) none_met
   each_stays_top_down fault (e.Seq x y) = next_met (stays_top_down fault x) (next_met (stays_top_down fault y) none_met)
   each_stays_top_down fault (e.Choice x y) = next_met (stays_top_down fault x) (next_met (stays_top_down fault y) none_met)
 
@@ -100,6 +104,7 @@ module _ {F E : Type 0} (says : E → Expression) (step : F → E → Result E F
   stays_bottom_up fault (e.Ident s) = left none_left stayed
   stays_bottom_up fault (e.PeekSlice i j) = left none_left stayed
   stays_bottom_up fault (e.Skip ss) = left none_left stayed
+  stays_bottom_up fault (e.PushLiteral s) = left none_left stayed
   stays_bottom_up fault (e.RestoreOnErr x) = left none_left stayed
   stays_bottom_up fault (e.PosPred x) = left (next_left (stays_bottom_up fault x) none_left) stayed
   stays_bottom_up fault (e.NegPred x) = left (next_left (stays_bottom_up fault x) none_left) stayed
@@ -111,6 +116,7 @@ module _ {F E : Type 0} (says : E → Expression) (step : F → E → Result E F
   stays_bottom_up fault (e.RepMax x i) = left (next_left (stays_bottom_up fault x) none_left) stayed
   stays_bottom_up fault (e.RepMinMax x i j) = left (next_left (stays_bottom_up fault x) none_left) stayed
   stays_bottom_up fault (e.Push x) = left (next_left (stays_bottom_up fault x) none_left) stayed
+  stays_bottom_up fault (e.NodeTag x s) = left (next_left (stays_bottom_up fault x) none_left) stayed
   stays_bottom_up fault (e.Seq x y) = left (next_left (stays_bottom_up fault x) (next_left (stays_bottom_up fault y) none_left)) stayed
   stays_bottom_up fault (e.Choice x y) = left (next_left (stays_bottom_up fault x) (next_left (stays_bottom_up fault y) none_left)) stayed
 

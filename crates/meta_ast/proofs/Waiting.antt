@@ -42,7 +42,9 @@ preorder-leaf (e.RepMin x i) h = cc
 preorder-leaf (e.RepMax x i) h = cc
 preorder-leaf (e.RepMinMax x i j) h = cc
 preorder-leaf (e.Skip ss) h = refl
+preorder-leaf (e.PushLiteral s) h = refl
 preorder-leaf (e.Push x) h = cc
+preorder-leaf (e.NodeTag x s) h = cc
 preorder-leaf (e.RestoreOnErr x) h = refl
 
 -- an expression is met itself
@@ -64,7 +66,9 @@ preorder-some (e.RepMin x i) = omega arith
 preorder-some (e.RepMax x i) = omega arith
 preorder-some (e.RepMinMax x i j) = omega arith
 preorder-some (e.Skip ss) = omega arith
+preorder-some (e.PushLiteral s) = omega arith
 preorder-some (e.Push x) = omega arith
+preorder-some (e.NodeTag x s) = omega arith
 preorder-some (e.RestoreOnErr x) = omega arith
 
 some_before : (xs ys : List Expression) → 0 < length xs → 0 < length (xs ++ ys)

@@ -1,6 +1,6 @@
 -- Nothing is without weight.
 use Rattle.std.proofs.Common.{◌<◌, arith}
-use Rattle.meta_base.specs.Language.Expression.{Expression, Str, Insens, Range, Ident, PeekSlice, PosPred, NegPred, Seq, Choice, Opt, Rep, RepOnce, RepExact, RepMin, RepMax, RepMinMax, Skip, Push, RestoreOnErr}
+use Rattle.meta_base.specs.Language.Expression.{Expression, Str, Insens, Range, Ident, PeekSlice, PosPred, NegPred, Seq, Choice, Opt, Rep, RepOnce, RepExact, RepMin, RepMax, RepMinMax, Skip, Push, RestoreOnErr, PushLiteral, NodeTag}
 use Rattle.meta_ast.specs.Weight.{weight}
 
 pub some_weight : (e : Expression) → 0 < weight e
@@ -21,5 +21,7 @@ some_weight (RepMin e i) = omega arith
 some_weight (RepMax e i) = omega arith
 some_weight (RepMinMax e i j) = omega arith
 some_weight (Skip ss) = omega arith
+some_weight (PushLiteral s) = omega arith
 some_weight (Push e) = omega arith
+some_weight (NodeTag e s) = omega arith
 some_weight (RestoreOnErr e) = omega arith

@@ -12,8 +12,6 @@ use Rattle.meta_ast.specs.Ast.{text_of, expression_of}
 use Rattle.meta_ast.specs.Optimized.{optimized_expression_of}
 use Rattle.meta_ast.specs.declared.ast.Expr as plain
 use Rattle.meta_ast.specs.declared.optimized.OptimizedExpr as optimized
-use Rattle.meta_ast.specs.declared.ast.Expr.TheVariants as plain_variant
-use Rattle.meta_ast.specs.declared.optimized.OptimizedExpr.TheVariants as optimized_variant
 use Rattle.meta_ast.specs.Printing.{escaped, literal, parenthesized, Place, Alone, AfterTilde, AfterBar, BeforePostfix, inside_wrapper, sequence_at, choice_at, printed_at, printed, predicate_at, bound_literal, slice_end, alternatives}
 use Rattle.meta_ast.specs.PrintedBytes.{ByPlace, everywhere, enclosed, literal_bytes, one_more, alternatives_bytes, skip_bytes, range_bytes, slice_bytes, predicate_bytes, sequence_bytes, choice_bytes, wrapper_bytes, written_bytes, optimized_bytes}
 use Rattle.meta_ast.proofs.Characters.{encodes-text_of}
@@ -199,6 +197,7 @@ optimized_in_bytes (optimized.Seq' p x q y) k = sequence (optimized_in_bytes x) 
 optimized_in_bytes (optimized.Choice' p x q y) k = choice (optimized_in_bytes x) (optimized_in_bytes y) k
 optimized_in_bytes (optimized.Opt' p x) k = all_places k (postfix (codes "?") refl (optimized_in_bytes x))
 optimized_in_bytes (optimized.Rep' p x) k = all_places k (postfix (codes "*") refl (optimized_in_bytes x))
+optimized_in_bytes (optimized.RepOnce' p x) k = all_places k (postfix (codes "+") refl (optimized_in_bytes x))
 optimized_in_bytes (optimized.Skip ss) k = all_places k (search_for ss.items)
 optimized_in_bytes (optimized.Push' p x) k = all_places k (pushed (optimized_in_bytes x))
 optimized_in_bytes (optimized.RestoreOnErr' p x) k = wrapper (optimized_in_bytes x) k
@@ -216,24 +215,3 @@ pub encodes-bound_literal : (bs rest : List ℕ) (c : ℕ) → IsUtf8 bs → bs 
 encodes-bound_literal bs rest c h e =
     let w = signs (codes "'") refl then itself (escaped 39 c) then signs (codes "'") refl in
     sym (ap (λ t. encodes (bound_literal t)) (chars_past_char bs rest c h e) ∙ w.same)
-
--- what is no sequence is written on the right of a `~` as by itself, and what is no choice on the right of a `|`
-pub alone-not-Seq : (x : plain.Expr) → ((a b : Box plain.Expr Global) → x ≡ plain_variant.Seq a b → ⊥) → (written_bytes x).alone ≡ (written_bytes x).after_tilde
-alone-not-Seq (plain.Seq' p a q b) n = absurd (n _ _ refl)
-alone-not-Seq _ n = refl
-
-pub alone-not-Choice : (x : plain.Expr) → ((a b : Box plain.Expr Global) → x ≡ plain_variant.Choice a b → ⊥) → (written_bytes x).alone ≡ (written_bytes x).after_bar
-alone-not-Choice (plain.Choice' p a q b) n = absurd (n _ _ refl)
-alone-not-Choice _ n = refl
-
-pub optimized_alone-not-Seq : (x : optimized.OptimizedExpr) → ((a b : Box optimized.OptimizedExpr Global) → x ≡ optimized_variant.Seq a b → ⊥) → (optimized_bytes x).alone ≡ (optimized_bytes x).after_tilde
-optimized_alone-not-Seq (optimized.Seq' p a q b) n = absurd (n _ _ refl)
-optimized_alone-not-Seq _ n = refl
-
-pub optimized_alone-not-Choice : (x : optimized.OptimizedExpr) → ((a b : Box optimized.OptimizedExpr Global) → x ≡ optimized_variant.Choice a b → ⊥) → (optimized_bytes x).alone ≡ (optimized_bytes x).after_bar
-optimized_alone-not-Choice (optimized.Choice' p a q b) n = absurd (n _ _ refl)
-optimized_alone-not-Choice _ n = refl
-
--- one part more: what is done, the part and its sign, and what is left
-pub one_part_more : (done part sign rest chain all : List ℕ) → chain ≡ part ++ sign ++ rest → done ++ chain ≡ all → (done ++ (part ++ sign)) ++ rest ≡ all
-one_part_more done part sign rest chain all h k = append_assoc done (part ++ sign) rest ∙ ap (λ l. done ++ l) (sym h) ∙ k

@@ -2,8 +2,7 @@ pub mod Ast
 pub mod Optimized
 pub mod Printing
 pub mod PrintedBytes
-pub mod Sides
-pub mod OptimizedSides
+pub mod Pieces
 pub mod Operands
 pub mod Maps
 pub mod Frames

@@ -1,7 +1,7 @@
 -- What stands in an expression: its operands, the expression over others, all of it in order, and how much it
 -- is.
 use Rattle.std.specs.Prelude.{ℕ, ◌+◌, List, [], ◌∷◌, ◌++◌}
-use Rattle.meta_base.specs.Language.Expression.{Expression, PosPred, NegPred, Seq, Choice, Opt, Rep, RepOnce, RepExact, RepMin, RepMax, RepMinMax, Push, RestoreOnErr}
+use Rattle.meta_base.specs.Language.Expression.{Expression, PosPred, NegPred, Seq, Choice, Opt, Rep, RepOnce, RepExact, RepMin, RepMax, RepMinMax, Push, NodeTag, RestoreOnErr}
 
 -- what a walk meets next below an expression, in order; below a wrapper it meets nothing
 abbrev pub operands : Expression → List Expression
@@ -17,6 +17,7 @@ operands (RepMin e i) = e ∷ []
 operands (RepMax e i) = e ∷ []
 operands (RepMinMax e i j) = e ∷ []
 operands (Push e) = e ∷ []
+operands (NodeTag e t) = e ∷ []
 operands _ = []
 
 -- the same expression over other operands, as many as it has
@@ -33,6 +34,7 @@ over (RepMin e i) (a ∷ xs) = RepMin a i
 over (RepMax e i) (a ∷ xs) = RepMax a i
 over (RepMinMax e i j) (a ∷ xs) = RepMinMax a i j
 over (Push e) (a ∷ xs) = Push a
+over (NodeTag e t) (a ∷ xs) = NodeTag a t
 over e _ = e
 
 -- an expression and all that a walk meets below it, each before what stands in it, the left before the right
@@ -49,6 +51,7 @@ preorder (RepMin e i) = RepMin e i ∷ preorder e
 preorder (RepMax e i) = RepMax e i ∷ preorder e
 preorder (RepMinMax e i j) = RepMinMax e i j ∷ preorder e
 preorder (Push e) = Push e ∷ preorder e
+preorder (NodeTag e t) = NodeTag e t ∷ preorder e
 preorder e = e ∷ []
 
 -- how many nodes an expression has, those below a wrapper too
@@ -65,5 +68,6 @@ count_of_nodes (RepMin e i) = count_of_nodes e + 1
 count_of_nodes (RepMax e i) = count_of_nodes e + 1
 count_of_nodes (RepMinMax e i j) = count_of_nodes e + 1
 count_of_nodes (Push e) = count_of_nodes e + 1
+count_of_nodes (NodeTag e t) = count_of_nodes e + 1
 count_of_nodes (RestoreOnErr e) = count_of_nodes e + 1
 count_of_nodes _ = 1

@@ -3,7 +3,7 @@ use Rattle.std.specs.Prelude.{List, map}
 use Rattle.meta_base.specs.Language.Expression.{Expression, Rule, Grammar}
 use Rattle.meta_base.specs.Language.Expression as e
 use Rattle.meta_ast.specs.Ast.{text_of, rule_type_of}
-use Rattle.meta_ast.specs.declared.optimized.OptimizedExpr.{OptimizedExpr, Str, Insens, Range, Ident, PeekSlice, PosPred', NegPred', Seq', Choice', Opt', Rep', Skip, Push', RestoreOnErr'}
+use Rattle.meta_ast.specs.declared.optimized.OptimizedExpr.{OptimizedExpr, Str, Insens, Range, Ident, PeekSlice, PosPred', NegPred', Seq', Choice', Opt', Rep', RepOnce', Skip, Push', RestoreOnErr'}
 use Rattle.meta_ast.specs.declared.optimized.OptimizedRule.{OptimizedRule}
 
 -- an expression's; the `p` and `q` are where its boxes lie
@@ -19,6 +19,7 @@ optimized_expression_of (Seq' p x q y) = e.Seq (optimized_expression_of x) (opti
 optimized_expression_of (Choice' p x q y) = e.Choice (optimized_expression_of x) (optimized_expression_of y)
 optimized_expression_of (Opt' p x) = e.Opt (optimized_expression_of x)
 optimized_expression_of (Rep' p x) = e.Rep (optimized_expression_of x)
+optimized_expression_of (RepOnce' p x) = e.RepOnce (optimized_expression_of x)
 optimized_expression_of (Skip ss) = e.Skip (map text_of ss.items)
 optimized_expression_of (Push' p x) = e.Push (optimized_expression_of x)
 optimized_expression_of (RestoreOnErr' p x) = e.RestoreOnErr (optimized_expression_of x)

@@ -13,6 +13,7 @@ with_operand sign.PosPred x = e.PosPred x
 with_operand sign.NegPred x = e.NegPred x
 with_operand sign.Opt x = e.Opt x
 with_operand sign.Rep x = e.Rep x
+with_operand sign.RepOnce x = e.RepOnce x
 with_operand sign.Push x = e.Push x
 with_operand sign.RestoreOnErr x = e.RestoreOnErr x
 with_operand (sign.FirstOfSeq right) x = e.Seq x (optimized_expression_of right.now.value)

@@ -6,7 +6,7 @@ use Rattle.meta_ast.specs.TopDownIterators.{waiting}
 use Rattle.meta_ast.specs.Frames as frames
 use Rattle.meta_ast.specs.Frames.{Unary}
 use Rattle.meta_ast.specs.declared.optimized.walked.Sign.{Sign}
-use Rattle.meta_ast.specs.declared.optimized.walked.Sign.TheVariants.{PosPred, NegPred, Opt, Rep, Push}
+use Rattle.meta_ast.specs.declared.optimized.walked.Sign.TheVariants.{PosPred, NegPred, Opt, Rep, RepOnce, Push}
 use Rattle.meta_ast.specs.declared.optimized.walked.OptimizedExprTopDownIterator.{OptimizedExprTopDownIterator}
 
 -- the expressions that an iterator has still to give
@@ -18,4 +18,5 @@ optimized_unary_of PosPred = frames.PosPred
 optimized_unary_of NegPred = frames.NegPred
 optimized_unary_of Opt = frames.Opt
 optimized_unary_of Rep = frames.Rep
+optimized_unary_of RepOnce = frames.RepOnce
 optimized_unary_of Push = frames.Push

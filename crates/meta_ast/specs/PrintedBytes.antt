@@ -120,6 +120,7 @@ optimized_bytes (optimized.Seq' p x q y) = sequence_bytes (optimized_bytes x) (o
 optimized_bytes (optimized.Choice' p x q y) = choice_bytes (optimized_bytes x) (optimized_bytes y)
 optimized_bytes (optimized.Opt' p x) = postfix_bytes (optimized_bytes x) (codes "?")
 optimized_bytes (optimized.Rep' p x) = postfix_bytes (optimized_bytes x) (codes "*")
+optimized_bytes (optimized.RepOnce' p x) = postfix_bytes (optimized_bytes x) (codes "+")
 optimized_bytes (optimized.Skip ss) = everywhere (skip_bytes ss.items)
 optimized_bytes (optimized.Push' p x) = everywhere (codes "PUSH(" ++ (optimized_bytes x).alone ++ codes ")")
 optimized_bytes (optimized.RestoreOnErr' p x) = wrapper_bytes (optimized_bytes x)

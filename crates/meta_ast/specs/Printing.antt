@@ -3,7 +3,7 @@ use Rattle.std.specs.Prelude.{ℕ, ℤ, ◌+◌, ◌/◌, ◌%◌, Bool, ◌||�
 use Rattle.std.specs.Fmt.{decimal, signed_decimal}
 use Rattle.std.specs.List.{flat_map}
 use Rattle.meta_base.specs.Language.Text.{Text}
-use Rattle.meta_base.specs.Language.Expression.{Expression, Str, Insens, Range, Ident, PeekSlice, PosPred, NegPred, Seq, Choice, Opt, Rep, RepOnce, RepExact, RepMin, RepMax, RepMinMax, Skip, Push, RestoreOnErr}
+use Rattle.meta_base.specs.Language.Expression.{Expression, Str, Insens, Range, Ident, PeekSlice, PosPred, NegPred, Seq, Choice, Opt, Rep, RepOnce, RepExact, RepMin, RepMax, RepMinMax, Skip, Push, PushLiteral, NodeTag, RestoreOnErr}
 use Rattle.meta_base.specs.Language.Builtins.{is_between}
 
 -- a digit in hexadecimal: 48 is `0`, and 87 + 10 is `a`
@@ -103,6 +103,8 @@ printed_at k (RepMinMax e m n) =
     printed_at BeforePostfix e ++ codes "{" ++ decimal m ++ codes ", " ++ decimal n ++ codes "}"
 printed_at k (Skip ts) = codes "(!(" ++ alternatives ts ++ codes ") ~ ANY)*"
 printed_at k (Push e) = codes "PUSH(" ++ printed_at Alone e ++ codes ")"
+printed_at k (PushLiteral t) = codes "PUSH_LITERAL(" ++ literal 34 t ++ codes ")"
+printed_at k (NodeTag e t) = parenthesized (codes "#" ++ t ++ codes " = " ++ printed_at Alone e)
 printed_at k (RestoreOnErr e) = printed_at (inside_wrapper k) e
 
 -- an expression by itself

@@ -1,6 +1,6 @@
 -- How far the rotations of an expression are from their end.
 use Rattle.std.specs.Prelude.{ℕ, ◌+◌, ◌*◌}
-use Rattle.meta_base.specs.Language.Expression.{Expression, PosPred, NegPred, Seq, Choice, Opt, Rep, RepOnce, RepExact, RepMin, RepMax, RepMinMax, Push, RestoreOnErr}
+use Rattle.meta_base.specs.Language.Expression.{Expression, PosPred, NegPred, Seq, Choice, Opt, Rep, RepOnce, RepExact, RepMin, RepMax, RepMinMax, Push, NodeTag, RestoreOnErr}
 
 -- its size, in which left sides weigh double: each rotation makes an expression lighter
 abbrev pub weight : Expression → ℕ
@@ -16,5 +16,6 @@ weight (RepMin e m) = weight e + 1
 weight (RepMax e n) = weight e + 1
 weight (RepMinMax e m n) = weight e + 1
 weight (Push e) = weight e + 1
+weight (NodeTag e t) = weight e + 1
 weight (RestoreOnErr e) = weight e + 1
 weight _ = 1

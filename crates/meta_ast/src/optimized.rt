@@ -21,7 +21,7 @@ pub struct OptimizedRule {
     pub expr: OptimizedExpr,
 }
 
-/// An optimized expression of a grammar: of repetitions there is `*` alone.
+/// An optimized expression of a grammar: of repetitions there are `*` and `+`, and no counted ones.
 #[derive(Debug, Drop)]
 pub enum OptimizedExpr {
     /// The text itself: `"a"`.
@@ -48,6 +48,8 @@ pub enum OptimizedExpr {
     Opt(Box<OptimizedExpr>),
     /// The expression as often as it succeeds: `e*`.
     Rep(Box<OptimizedExpr>),
+    /// The expression as often as it succeeds, and at least once: `e+`.
+    RepOnce(Box<OptimizedExpr>),
     /// Goes on to the next place where one of the texts stands, or to the end.
     Skip(Vec<String>),
     /// The expression, whose text then lies on the stack: `PUSH(e)`.

@@ -1,5 +1,7 @@
-//! Texts as literals, and what expressions without parts print.
-ghost use Rattle.std.specs.Prelude.{◌<◌, ◌++◌, codes, encode_utf8_all, replicate};
+//! Texts as literals, what expressions without parts print, and expressions piece by piece.
+pub(crate) mod pieces;
+
+ghost use Rattle.std.specs.Prelude.{◌<◌, ◌++◌, codes, encode_utf8_all};
 ghost use Rattle.std.specs.Fmt.{WritesOnOk};
 ghost use Rattle.std.specs.Str.{chars};
 ghost use Rattle.meta_ast.specs.Printing.{bound_literal, escaped, literal, numbered};
@@ -80,16 +82,6 @@ pub(crate) fn fmt_counts<W: fmt::Write>(f: &mut fmt::Formatter<W>, counts: Count
         Counts::AtMost(greatest) => write!(f, "{{,{greatest}}}"),
         Counts::Between(least, greatest) => write!(f, "{{{least}, {greatest}}}"),
     }
-}
-
-// Writes so many opening parentheses.
-pub(crate) fn fmt_openings<W: fmt::Write>(f: &mut fmt::Formatter<W>, count: usize) -> fmt::Result
-    ensures { WritesOnOk W.write_str_gives f.old result (replicate count 40) f.new }
-{
-    for turn in 0..count {
-        f.write_str("(")?;
-    }
-    Ok(())
 }
 
 // Writes a range: `('a'..'z')`.

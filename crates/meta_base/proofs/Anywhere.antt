@@ -1,7 +1,7 @@
 -- What holds of a rewriting at the root of an expression holds of it at any place, and of many of them.
 use Rattle.meta_base.specs.Language.Expression.{Grammar, Expression}
 use Rattle.meta_base.specs.Language.State.{Classes, Mode}
-use Rattle.meta_base.specs.Rewritings.Rewriting.{Within, here, in_pos_pred, in_neg_pred, in_seq_left, in_seq_right, in_choice_left, in_choice_right, in_opt, in_rep, in_rep_once, in_rep_exact, in_rep_min, in_rep_max, in_rep_min_max, in_push, in_restore, Many, no_step, one_step}
+use Rattle.meta_base.specs.Rewritings.Rewriting.{Within, here, in_pos_pred, in_neg_pred, in_seq_left, in_seq_right, in_choice_left, in_choice_right, in_opt, in_rep, in_rep_once, in_rep_exact, in_rep_min, in_rep_max, in_rep_min_max, in_push, in_restore, Many, no_step, one_step, in_tag}
 use Rattle.meta_base.proofs.Congruence as same
 use Rattle.meta_base.proofs.Congruence.{Implies}
 
@@ -27,6 +27,7 @@ module _ (f : Grammar) (classes : Classes) (m : Mode) where
     within (in_rep_max {i = n} w) = let (i, j) = within w in (same.rep_max_same f classes m n i, same.rep_max_same f classes m n j)
     within (in_rep_min_max {i = l} {j = n} w) = let (i, j) = within w in (same.rep_min_max_same f classes m l n i, same.rep_min_max_same f classes m l n j)
     within (in_push w) = let (i, j) = within w in (same.push_same f classes m i, same.push_same f classes m j)
+    within (in_tag {t = t} w) = let (i, j) = within w in (same.tag_same f classes m t i, same.tag_same f classes m t j)
     within (in_restore w) = let (i, j) = within w in (same.restore_same f classes m i, same.restore_same f classes m j)
 
     pub along : {a b : Expression} → Many R a b → Alike a b

@@ -3,11 +3,11 @@ use Rattle.std.proofs.Common.{◌≡◌, ℕ, ◌<◌, List, [], ◌++◌, Optio
 use Rattle.std.proofs.lemmas.List.Elements.{All-nil, All-cons, All-head, All-tail, All-append, All-contains}
 use Rattle.std.specs.List.{All}
 use Rattle.meta_base.specs.Language.Text.{Text, IsText, IsScalarValue}
-use Rattle.meta_base.specs.Language.Expression.{Grammar, Expression, Str, Insens, Range, Ident, PeekSlice, Rep, RepOnce, RepExact, RepMin, RepMax, RepMinMax, Skip, RuleType, Rule, rule_of, Part, Seq}
-use Rattle.meta_base.specs.Rewritings.Rewriting.{Strings, one, named, more, Within, here, in_pos_pred, in_neg_pred, in_seq_left, in_seq_right, in_choice_left, in_choice_right, in_opt, in_rep, in_rep_once, in_rep_exact, in_rep_min, in_rep_max, in_rep_min_max, in_push, in_restore, Many, no_step, one_step, EachBody, no_rules, also_rule}
+use Rattle.meta_base.specs.Language.Expression.{Grammar, Expression, Str, Insens, Range, Ident, PeekSlice, Rep, RepOnce, RepExact, RepMin, RepMax, RepMinMax, Skip, PushLiteral, NodeTag, RuleType, Rule, rule_of, Part, Seq}
+use Rattle.meta_base.specs.Rewritings.Rewriting.{Strings, one, named, more, Within, here, in_pos_pred, in_neg_pred, in_seq_left, in_seq_right, in_choice_left, in_choice_right, in_opt, in_rep, in_rep_once, in_rep_exact, in_rep_min, in_rep_max, in_rep_min_max, in_push, in_restore, Many, no_step, one_step, EachBody, no_rules, also_rule, in_tag}
 use Rattle.meta_base.specs.Language.Builtins.{is_one_of}
 use Rattle.meta_base.specs.Language.Grammar.{keywords, HasDistinctNames, FitsItsTypes, FitsUnsigned32, FitsSigned32, EndFits, IsGrammar}
-use Rattle.meta_base.specs.Language.WellFormed.{IsNullable, nullable_str, nullable_insens, nullable_soi, nullable_eoi, nullable_call, nullable_pos_pred, nullable_neg_pred, nullable_opt, nullable_rep, nullable_rep_max, nullable_seq, nullable_left, nullable_right, nullable_rep_once, nullable_push, nullable_exact_zero, nullable_exact, nullable_min_zero, nullable_min, nullable_min_max_zero, nullable_min_max, nullable_skip, nullable_restore, LeftCalls, left_name, left_first, left_second, left_pos_pred, left_neg_pred, left_left, left_right, left_opt, left_rep, left_rep_once, left_rep_exact, left_rep_min, left_rep_max, left_rep_min_max, left_push, left_restore, Leads, at_once, by_way, Reaches, itself, onward, InRules, InSomeRule, IsWellFormed, CountIsReadable, HasReadableCounts, NamesHaveReadableCounts, IsPlainName, of_rule, of_builtin, IsPlain}
+use Rattle.meta_base.specs.Language.WellFormed.{IsNullable, nullable_str, nullable_insens, nullable_soi, nullable_eoi, nullable_call, nullable_pos_pred, nullable_neg_pred, nullable_opt, nullable_rep, nullable_rep_max, nullable_seq, nullable_left, nullable_right, nullable_rep_once, nullable_push, nullable_exact_zero, nullable_exact, nullable_min_zero, nullable_min, nullable_min_max_zero, nullable_min_max, nullable_skip, nullable_restore, LeftCalls, left_name, left_first, left_second, left_pos_pred, left_neg_pred, left_left, left_right, left_opt, left_rep, left_rep_once, left_rep_exact, left_rep_min, left_rep_max, left_rep_min_max, left_push, left_restore, Leads, at_once, by_way, Reaches, itself, onward, InRules, InSomeRule, IsWellFormed, CountIsReadable, HasReadableCounts, NamesHaveReadableCounts, IsPlainName, of_rule, of_builtin, IsPlain, nullable_push_literal, nullable_tag, left_tag}
 use Rattle.meta_base.proofs.OneOutcome.{same_rule}
 use Rattle.meta_base.proofs.StepsKeepOutcomes.{Matched, neither, two, no_rule, each_pair}
 use Rattle.meta_base.proofs.Everywhere.{Condition, nothing, HoldsHere, Everywhere, everywhere, at_part, weaker, kept_within, kept_along}
@@ -43,6 +43,8 @@ fitting = record nothing {
   name = IsText;
   slice = λ i j. FitsSigned32 i × EndFits j;
   strings = All IsText;
+  pushed = IsText;
+  tagged = IsText;
   exact = FitsUnsigned32;
   least = FitsUnsigned32;
   most = FitsUnsigned32;
@@ -73,6 +75,8 @@ fitting_at (RepMin e i) x = (tt, x)
 fitting_at (RepMax e i) x = x
 fitting_at (RepMinMax e i j) x = x
 fitting_at (Skip ts) x = x
+fitting_at (PushLiteral t) x = x
+fitting_at (NodeTag e t) x = x
 fitting_at _ x = tt
 
 fits_of : (p : Expression) → HoldsHere fitting p → FitsItsTypes p
@@ -86,6 +90,8 @@ fits_of (RepMin e i) x = x.1
 fits_of (RepMax e i) x = x
 fits_of (RepMinMax e i j) x = x
 fits_of (Skip ts) x = x
+fits_of (PushLiteral t) x = x
+fits_of (NodeTag e t) x = x
 fits_of _ x = tt
 
 -- a condition on all rules of a list
@@ -173,6 +179,7 @@ module _ (g : Grammar) (R : RuleType → Expression → Expression → Type 0) (
     nullable_within (in_rep_min_max w) c nullable_min_max_zero = nullable_min_max_zero
     nullable_within (in_rep_min_max w) c (nullable_min_max n) = nullable_min_max (nullable_within w c.1 n)
     nullable_within (in_push w) c (nullable_push n) = nullable_push (nullable_within w c n)
+    nullable_within (in_tag w) c (nullable_tag n) = nullable_tag (nullable_within w c.1 n)
     nullable_within (in_restore w) c (nullable_restore n) = nullable_restore (nullable_within w c n)
 
     left_within : {a b : Expression} {n : Text} → Within (R y) a b → Everywhere (bounding B) a → LeftCalls f b n → LeftCalls f a n
@@ -195,6 +202,7 @@ module _ (g : Grammar) (R : RuleType → Expression → Expression → Type 0) (
     left_within (in_rep_max w) c (left_rep_max l) = left_rep_max (left_within w c.1 l)
     left_within (in_rep_min_max w) c (left_rep_min_max l) = left_rep_min_max (left_within w c.1 l)
     left_within (in_push w) c (left_push l) = left_push (left_within w c l)
+    left_within (in_tag w) c (left_tag l) = left_tag (left_within w c.1 l)
     left_within (in_restore w) c (left_restore l) = left_restore (left_within w c l)
 
   plain_closed : (N : Text → Type 0) → IsClosed g (calling N)
@@ -283,6 +291,8 @@ module _ (g : Grammar) (R : RuleType → Expression → Expression → Type 0) (
       nullable_to (nullable_right a) = nullable_right (nullable_to a)
       nullable_to (nullable_rep_once a) = nullable_rep_once (nullable_to a)
       nullable_to (nullable_push a) = nullable_push (nullable_to a)
+      nullable_to nullable_push_literal = nullable_push_literal
+      nullable_to (nullable_tag a) = nullable_tag (nullable_to a)
       nullable_to nullable_exact_zero = nullable_exact_zero
       nullable_to (nullable_exact a) = nullable_exact (nullable_to a)
       nullable_to nullable_min_zero = nullable_min_zero
@@ -308,6 +318,7 @@ module _ (g : Grammar) (R : RuleType → Expression → Expression → Type 0) (
       left_to (left_rep_max l) = left_rep_max (left_to l)
       left_to (left_rep_min_max l) = left_rep_min_max (left_to l)
       left_to (left_push l) = left_push (left_to l)
+      left_to (left_tag l) = left_tag (left_to l)
       left_to (left_restore l) = left_restore (left_to l)
 
       leads_to : {n j : Text} → Leads h n j → Leads g n j

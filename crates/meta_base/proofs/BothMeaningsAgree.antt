@@ -2,13 +2,13 @@
 use Rattle.std.proofs.Common.{◌≡◌, ℕ, zero, suc, ◌-◌, min, List, [], Option, Some, None, refl, sym, ◌∙◌, ap, subst, nat_eq}
 use Rattle.std.specs.Char.{eq_ignore_ascii_case}
 use Rattle.meta_base.specs.Language.Text.{Text}
-use Rattle.meta_base.specs.Language.Expression.{Grammar, Expression, Str, Ident, PosPred, NegPred, Seq, Choice, Opt, Rep, RepOnce, RepExact, RepMin, RepMax, RepMinMax, Push, RestoreOnErr, Rule, rule_of, whole, of_pos_pred, of_neg_pred, of_seq_left, of_seq_right, of_choice_left, of_choice_right, of_opt, of_rep, of_rep_once, of_rep_exact, of_rep_min, of_rep_max, of_rep_min_max, of_push, of_restore}
+use Rattle.meta_base.specs.Language.Expression.{Grammar, Expression, Str, Ident, PosPred, NegPred, Seq, Choice, Opt, Rep, RepOnce, RepExact, RepMin, RepMax, RepMinMax, Push, RestoreOnErr, Rule, rule_of, whole, of_pos_pred, of_neg_pred, of_seq_left, of_seq_right, of_choice_left, of_choice_right, of_opt, of_rep, of_rep_once, of_rep_exact, of_rep_min, of_rep_max, of_rep_min_max, of_push, of_restore, NodeTag, of_tag}
 use Rattle.meta_base.specs.Language.State.{Classes, Mode, NonAtomicMode, AtomicMode, CompoundAtomicMode, Between, State, Trees, None', Outcome, Success, Failure}
 use Rattle.meta_base.specs.Language.Matching.{text_outcome, character_outcome, range_set, slice_outcome}
 use Rattle.meta_base.specs.Language.Builtins.{builtin_of, Builtin, One, Property, Newline, Soi, Eoi, Peek, Pop, Drop, PeekAll, PopAll}
-use Rattle.meta_base.specs.Language.Meaning.{Does, Task, Run, Turns, Skipping, str, insens, range, slice, skip, call, other, pos_pred, neg_pred, push, restore, seq, seq_first, seq_second, left, right, opt, opt_none, rep_none, turn, turn_none, rep_exact, rep_max, rep_min_max, skips, atomic, compound_atomic, between, ahead, not_ahead, pushed, with_token, body_mode, once_or_more, exactly, at_least, at_most, from_to, in_sequence, skipped, rep, rep_once, rep_min}
+use Rattle.meta_base.specs.Language.Meaning.{Does, Task, Run, Turns, Skipping, str, insens, range, slice, skip, call, other, pos_pred, neg_pred, push, restore, seq, seq_first, seq_second, left, right, opt, opt_none, rep_none, turn, turn_none, rep_exact, rep_max, rep_min_max, skips, atomic, compound_atomic, between, ahead, not_ahead, pushed, with_token, body_mode, once_or_more, exactly, at_least, at_most, from_to, in_sequence, skipped, rep, rep_once, rep_min, push_literal, tag}
 use Rattle.meta_base.specs.Language.WellFormed.{is_whitespace}
-use Rattle.meta_base.specs.Language.LooseMeaning.{Ending, Done, Lost, leaving, left_by, with_left, called, looked, not_looked, pushing, restoring, behind_turn, DoesLoosely, loose_str, loose_insens, loose_range, loose_slice, loose_skip, loose_call, loose_other, loose_pos_pred, loose_neg_pred, loose_push, loose_restore, loose_seq, loose_seq_first, loose_seq_second, loose_left, loose_right, loose_opt, loose_opt_none, loose_rep, loose_rep_none, loose_turn, loose_turn_none, loose_rep_once, loose_rep_exact, loose_rep_min, loose_rep_max, loose_rep_min_max, loose_skips, loose_atomic, loose_compound_atomic, loose_between, Pops, pops, pops_all, pops_rule, pops_left, pops_right, pops_push, pops_rep_exact, pops_rep_min_max, Safe, wrapped, keeps, IsSafe, Restored, SameEndings}
+use Rattle.meta_base.specs.Language.LooseMeaning.{Ending, Done, Lost, leaving, left_by, with_left, called, looked, not_looked, pushing, restoring, behind_turn, DoesLoosely, loose_str, loose_insens, loose_range, loose_slice, loose_skip, loose_call, loose_other, loose_pos_pred, loose_neg_pred, loose_push, loose_restore, loose_seq, loose_seq_first, loose_seq_second, loose_left, loose_right, loose_opt, loose_opt_none, loose_rep, loose_rep_none, loose_turn, loose_turn_none, loose_rep_once, loose_rep_exact, loose_rep_min, loose_rep_max, loose_rep_min_max, loose_skips, loose_atomic, loose_compound_atomic, loose_between, Pops, pops, pops_all, pops_rule, pops_left, pops_right, pops_push, pops_rep_exact, pops_rep_min_max, Safe, wrapped, keeps, IsSafe, Restored, SameEndings, loose_push_literal, loose_tag, pops_tag}
 use Rattle.meta_base.proofs.OneOutcome.{from}
 use Rattle.meta_base.proofs.Moving.{Each', no_more, also, each_copy, each_of_both, in_all}
 
@@ -92,6 +92,8 @@ module _ (g : Grammar) (classes : Classes) where
   kept (loose_pos_pred {o = o} d) c = kept_looked o
   kept (loose_neg_pred {o = o} d) c = kept_not_looked o
   kept (loose_push d) c = kept_pushing (kept d (λ x. c (pops_push x)))
+  kept loose_push_literal c = done
+  kept (loose_tag d) c = kept d (λ x. c (pops_tag x))
   kept (loose_restore {o = o} d) c = kept_restoring o
   kept (loose_seq a k b) c = done
   kept (loose_seq_first a) c = lost refl
@@ -204,6 +206,10 @@ module _ (g : Grammar) (classes : Classes) where
     tried_push (tried_done d) = tried_done (loose_push d)
     tried_push (tried_lost d) = tried_lost (loose_push d)
 
+    tried_tag : {m : Mode} {e : Expression} {t : Text} {s : State} {o : Outcome} → Tried (Run m e) s o → Tried (Run m (NodeTag e t)) s o
+    tried_tag (tried_done d) = tried_done (loose_tag d)
+    tried_tag (tried_lost d) = tried_lost (loose_tag d)
+
     tried_restore : {m : Mode} {e : Expression} {s : State} {o : Outcome} → Tried (Run m e) s o → Tried (Run m (RestoreOnErr e)) s o
     tried_restore (tried_done d) = tried_done (loose_restore d)
     tried_restore (tried_lost d) = tried_lost (loose_restore d)
@@ -278,6 +284,8 @@ module _ (g : Grammar) (classes : Classes) where
     to_second (pos_pred d) c = tried_look (to_second d (λ p h. c p (of_pos_pred h)))
     to_second (neg_pred d) c = tried_not_look (to_second d (λ p h. c p (of_neg_pred h)))
     to_second (push d) c = tried_push (to_second d (λ p h. c p (of_push h)))
+    to_second push_literal c = tried_done loose_push_literal
+    to_second (tag d) c = tried_tag (to_second d (λ p h. c p (of_tag h)))
     to_second (restore d) c = tried_restore (to_second d (λ p h. c p (of_restore h)))
     to_second (seq a k b) c = tried_done (loose_seq (won (to_second a (λ p h. c p (of_seq_left h)))) (won (to_second k tt)) (won (to_second b (λ p h. c p (of_seq_right h)))))
     to_second (seq_first a) c = tried_seq (to_second a (λ p h. c p (of_seq_left h)))
@@ -328,6 +336,10 @@ module _ (g : Grammar) (classes : Classes) where
     did_push : {m : Mode} {e : Expression} {s : State} {o : Ending} → Did (Run m e) s o → Did (Run m (Push e)) s (pushing s o)
     did_push (did_done d) = did_done (push d)
     did_push (did_lost d) = did_lost (push d)
+
+    did_tag : {m : Mode} {e : Expression} {t : Text} {s : State} {o : Ending} → Did (Run m e) s o → Did (Run m (NodeTag e t)) s o
+    did_tag (did_done d) = did_done (tag d)
+    did_tag (did_lost d) = did_lost (tag d)
 
     did_restore : {m : Mode} {e : Expression} {s : State} {o : Ending} → Did (Run m e) s o → Did (Run m (RestoreOnErr e)) s (restoring s o)
     did_restore (did_done d) = did_done (restore d)
@@ -381,6 +393,8 @@ module _ (g : Grammar) (classes : Classes) where
     to_first (loose_pos_pred d) c = did_look (to_first d (λ p h. c p (of_pos_pred h)))
     to_first (loose_neg_pred d) c = did_not_look (to_first d (λ p h. c p (of_neg_pred h)))
     to_first (loose_push d) c = did_push (to_first d (λ p h. c p (of_push h)))
+    to_first loose_push_literal c = did_done push_literal
+    to_first (loose_tag d) c = did_tag (to_first d (λ p h. c p (of_tag h)))
     to_first (loose_restore d) c = did_restore (to_first d (λ p h. c p (of_restore h)))
     to_first (loose_seq a k b) c = did_done (seq (got (to_first a (λ p h. c p (of_seq_left h)))) (got (to_first k tt)) (got (to_first b (λ p h. c p (of_seq_right h)))))
     to_first (loose_seq_first a) c = did_lost (seq_first (missed (to_first a (λ p h. c p (of_seq_left h)))))

@@ -54,16 +54,16 @@ true_all : (p q r s : Bool) → p ≡ true → q ≡ true → r ≡ true → s �
 true_all p q r s hp hq hr hs = rw (hp, hq, hr, hs) refl
 
 -- errors: field by field
-pub same_error : {R : Type 0} (a b : Error R) → IsTrue (variants.ghosts.eq a.variant b.variant && (locations.ghosts.eq a.location b.location && (lines.ghosts.eq a.line_col b.line_col && (string_eq a.line b.line && true)))) ↔ SameError a b
+pub same_error : {R : Type 0} (a b : Error R) → IsTrue (variants.ghosts.eq a.variant b.variant && (locations.ghosts.eq a.location b.location && (lines.ghosts.eq a.line_col b.line_col && (string_eq a.line.value b.line.value && true)))) ↔ SameError a b
 same_error a b = (
   λ h. let (v, l, c, s) = all_true _ _ _ _ h in record {
     variant = (same_variant a.variant b.variant).0 v;
     location = (same_location a.location b.location).0 l;
     line_col = (same_lines a.line_col b.line_col).0 c;
-    line = (same_bytes a.line b.line).0 s;
+    line = (same_bytes a.line.value b.line.value).0 s;
   },
   λ e. true_all _ _ _ _ ((same_variant a.variant b.variant).1 e.variant) ((same_location a.location b.location).1 e.location)
-      ((same_lines a.line_col b.line_col).1 e.line_col) ((same_bytes a.line b.line).1 e.line),
+      ((same_lines a.line_col b.line_col).1 e.line_col) ((same_bytes a.line.value b.line.value).1 e.line),
 )
 
 -- rules: a tag tells its variant

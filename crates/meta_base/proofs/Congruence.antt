@@ -1,8 +1,9 @@
 -- Under one grammar, an expression may stand for another in any place.
 use Rattle.std.proofs.Common.{ℕ, zero, suc, ◌-◌, min, List, [], ◌∷◌, ◌++◌, replicate}
-use Rattle.meta_base.specs.Language.Expression.{Grammar, Expression, PosPred, NegPred, Seq, Choice, Opt, Rep, RepOnce, RepExact, RepMin, RepMax, RepMinMax, Push, RestoreOnErr}
+use Rattle.meta_base.specs.Language.Text.{Text}
+use Rattle.meta_base.specs.Language.Expression.{Grammar, Expression, PosPred, NegPred, Seq, Choice, Opt, Rep, RepOnce, RepExact, RepMin, RepMax, RepMinMax, Push, RestoreOnErr, NodeTag}
 use Rattle.meta_base.specs.Language.State.{Classes, Mode, State, Outcome}
-use Rattle.meta_base.specs.Language.Meaning.{Does, Run, Turns, pos_pred, neg_pred, push, restore, seq, seq_first, seq_second, left, right, opt, opt_none, rep_none, turn, turn_none, rep_exact, rep_max, rep_min_max, in_sequence, rep, rep_once, rep_min}
+use Rattle.meta_base.specs.Language.Meaning.{Does, Run, Turns, pos_pred, neg_pred, push, restore, seq, seq_first, seq_second, left, right, opt, opt_none, rep_none, turn, turn_none, rep_exact, rep_max, rep_min_max, in_sequence, rep, rep_once, rep_min, tag}
 
 module _ (g : Grammar) (classes : Classes) (m : Mode) where
   -- what a does, b does
@@ -20,6 +21,9 @@ module _ (g : Grammar) (classes : Classes) (m : Mode) where
 
   pub push_same : {a b : Expression} → Implies a b → Implies (Push a) (Push b)
   push_same i s _ (push d) = push (i _ _ d)
+
+  pub tag_same : (t : Text) {a b : Expression} → Implies a b → Implies (NodeTag a t) (NodeTag b t)
+  tag_same t i s _ (tag d) = tag (i _ _ d)
 
   pub restore_same : {a b : Expression} → Implies a b → Implies (RestoreOnErr a) (RestoreOnErr b)
   restore_same i s _ (restore d) = restore (i _ _ d)

@@ -1,9 +1,9 @@
 -- A condition on what stands in an expression: over the whole of it, and kept by a change at a place.
 use Rattle.std.proofs.Common.{ℕ, ℤ, List, [], Option}
 use Rattle.meta_base.specs.Language.Text.{Text}
-use Rattle.meta_base.specs.Language.Expression.{Expression, Str, Insens, Range, Ident, PeekSlice, PosPred, NegPred, Seq, Choice, Opt, Rep, RepOnce, RepExact, RepMin, RepMax, RepMinMax, Skip, Push, RestoreOnErr, Part, whole, of_pos_pred, of_neg_pred, of_seq_left, of_seq_right, of_choice_left, of_choice_right, of_opt, of_rep, of_rep_once, of_rep_exact, of_rep_min, of_rep_max, of_rep_min_max, of_push, of_restore}
+use Rattle.meta_base.specs.Language.Expression.{Expression, Str, Insens, Range, Ident, PeekSlice, PosPred, NegPred, Seq, Choice, Opt, Rep, RepOnce, RepExact, RepMin, RepMax, RepMinMax, Skip, Push, RestoreOnErr, Part, whole, of_pos_pred, of_neg_pred, of_seq_left, of_seq_right, of_choice_left, of_choice_right, of_opt, of_rep, of_rep_once, of_rep_exact, of_rep_min, of_rep_max, of_rep_min_max, of_push, of_restore, PushLiteral, NodeTag, of_tag}
 use Rattle.meta_base.specs.Language.Meaning.{in_sequence}
-use Rattle.meta_base.specs.Rewritings.Rewriting.{Within, here, in_pos_pred, in_neg_pred, in_seq_left, in_seq_right, in_choice_left, in_choice_right, in_opt, in_rep, in_rep_once, in_rep_exact, in_rep_min, in_rep_max, in_rep_min_max, in_push, in_restore, Many, no_step, one_step}
+use Rattle.meta_base.specs.Rewritings.Rewriting.{Within, here, in_pos_pred, in_neg_pred, in_seq_left, in_seq_right, in_choice_left, in_choice_right, in_opt, in_rep, in_rep_once, in_rep_exact, in_rep_min, in_rep_max, in_rep_min_max, in_push, in_restore, Many, no_step, one_step, in_tag}
 use Rattle.meta_base.proofs.Moving.{Each', in_all}
 
 -- what is asked of the own texts and numbers of each form, and of what `*`, `+` and `{n,}` repeat
@@ -14,6 +14,8 @@ pub record Condition : Type 1 where
   pub name : Text → Type 0
   pub slice : ℤ → Option ℤ → Type 0
   pub strings : List Text → Type 0
+  pub pushed : Text → Type 0
+  pub tagged : Text → Type 0
   pub repeated : Expression → Type 0
   pub exact : ℕ → Type 0
   pub least : ℕ → Type 0
@@ -29,6 +31,8 @@ nothing = record {
   name = λ n. Unit {0};
   slice = λ i j. Unit {0};
   strings = λ ts. Unit {0};
+  pushed = λ t. Unit {0};
+  tagged = λ t. Unit {0};
   repeated = λ e. Unit {0};
   exact = λ i. Unit {0};
   least = λ i. Unit {0};
@@ -50,6 +54,8 @@ HoldsHere c (RepMin e i) = c.repeated e × c.least i
 HoldsHere c (RepMax e i) = c.most i
 HoldsHere c (RepMinMax e i j) = c.bounds i j
 HoldsHere c (Skip ts) = c.strings ts
+HoldsHere c (PushLiteral t) = c.pushed t
+HoldsHere c (NodeTag e t) = c.tagged t
 HoldsHere c _ = Unit {0}
 
 -- it holds of the expression and of all that stands in it
@@ -66,6 +72,7 @@ Everywhere c (RepMin e i) = (c.repeated e × c.least i) × Everywhere c e
 Everywhere c (RepMax e i) = c.most i × Everywhere c e
 Everywhere c (RepMinMax e i j) = c.bounds i j × Everywhere c e
 Everywhere c (Push e) = Everywhere c e
+Everywhere c (NodeTag e t) = c.tagged t × Everywhere c e
 Everywhere c (RestoreOnErr e) = Everywhere c e
 Everywhere c (Str t) = c.literal t
 Everywhere c (Insens t) = c.insensitive t
@@ -73,6 +80,7 @@ Everywhere c (Range t u) = c.range t u
 Everywhere c (Ident n) = c.name n
 Everywhere c (PeekSlice i j) = c.slice i j
 Everywhere c (Skip ts) = c.strings ts
+Everywhere c (PushLiteral t) = c.pushed t
 
 module _ (c : Condition) where
   pub everywhere : (e : Expression) → ((p : Expression) → Part e p → HoldsHere c p) → Everywhere c e
@@ -88,6 +96,7 @@ module _ (c : Condition) where
   everywhere (RepMax e i) f = (f _ whole, everywhere e (λ p i. f p (of_rep_max i)))
   everywhere (RepMinMax e i j) f = (f _ whole, everywhere e (λ p i. f p (of_rep_min_max i)))
   everywhere (Push e) f = everywhere e (λ p i. f p (of_push i))
+  everywhere (NodeTag e t) f = (f _ whole, everywhere e (λ p i. f p (of_tag i)))
   everywhere (RestoreOnErr e) f = everywhere e (λ p i. f p (of_restore i))
   everywhere (Str t) f = f _ whole
   everywhere (Insens t) f = f _ whole
@@ -95,6 +104,7 @@ module _ (c : Condition) where
   everywhere (Ident n) f = f _ whole
   everywhere (PeekSlice i j) f = f _ whole
   everywhere (Skip ts) f = f _ whole
+  everywhere (PushLiteral t) f = f _ whole
 
   pub at_root : (e : Expression) → Everywhere c e → HoldsHere c e
   at_root (PosPred e) h = tt
@@ -109,6 +119,7 @@ module _ (c : Condition) where
   at_root (RepMax e i) h = h.0
   at_root (RepMinMax e i j) h = h.0
   at_root (Push e) h = tt
+  at_root (NodeTag e t) h = h.0
   at_root (RestoreOnErr e) h = tt
   at_root (Str t) h = h
   at_root (Insens t) h = h
@@ -116,6 +127,7 @@ module _ (c : Condition) where
   at_root (Ident n) h = h
   at_root (PeekSlice i j) h = h
   at_root (Skip ts) h = h
+  at_root (PushLiteral t) h = h
 
   pub at_part : {e p : Expression} → Everywhere c e → Part e p → HoldsHere c p
   at_part {e} h whole = at_root e h
@@ -133,6 +145,7 @@ module _ (c : Condition) where
   at_part h (of_rep_max i) = at_part h.1 i
   at_part h (of_rep_min_max i) = at_part h.1 i
   at_part h (of_push i) = at_part h i
+  at_part h (of_tag i) = at_part h.1 i
   at_part h (of_restore i) = at_part h i
 
   pub in_sequence_too : {es : List Expression} → c.literal [] → Each' (Everywhere c) es → Everywhere c (in_sequence es)
@@ -162,6 +175,7 @@ module _ (R : Expression → Expression → Type 0) (c : Condition)
   kept_within (in_rep_max w) h = (h.0, kept_within w h.1)
   kept_within (in_rep_min_max w) h = (h.0, kept_within w h.1)
   kept_within (in_push w) h = kept_within w h
+  kept_within (in_tag w) h = (h.0, kept_within w h.1)
   kept_within (in_restore w) h = kept_within w h
 
   pub kept_along : {a b : Expression} → Many R a b → Everywhere c a → Everywhere c b

@@ -2,7 +2,7 @@
 use Rattle.std.proofs.Common.{◌≡◌, ℕ, max, ◌&&◌, refl, sym, ◌∙◌, ap, ap₂, subst}
 use Rattle.meta_base.specs.Language.Expression.{Grammar, Rule}
 use Rattle.meta_base.specs.Language.State.{Classes, Mode, State, Outcome}
-use Rattle.meta_base.specs.Language.Meaning.{Does, Task, Run, str, insens, range, slice, skip, call, other, pos_pred, neg_pred, push, restore, seq, seq_first, seq_second, left, right, opt, opt_none, rep_none, turn, turn_none, rep_exact, rep_max, rep_min_max, skips, atomic, compound_atomic, between, body_mode, seen_from, gives_token, rep, rep_once, rep_min}
+use Rattle.meta_base.specs.Language.Meaning.{Does, Task, Run, str, insens, range, slice, skip, call, other, pos_pred, neg_pred, push, restore, seq, seq_first, seq_second, left, right, opt, opt_none, rep_none, turn, turn_none, rep_exact, rep_max, rep_min_max, skips, atomic, compound_atomic, between, body_mode, seen_from, gives_token, rep, rep_once, rep_min, push_literal, tag}
 use Rattle.meta_base.specs.Language.FurthestFailure.{furthest, place_of, is_eoi}
 use Rattle.meta_base.proofs.OneOutcome.{same, same_state, same_rule, from, with_rule}
 use Rattle.meta_base.proofs.Moving.{some_outcome}
@@ -42,6 +42,8 @@ module _ (g : Grammar) (classes : Classes) where
   one_place (pos_pred d) (pos_pred e) = one_place d e
   one_place (neg_pred d) (neg_pred e) = one_place d e
   one_place (push d) (push e) = one_place d e
+  one_place push_literal push_literal = refl
+  one_place (tag d) (tag e) = one_place d e
   one_place (restore d) (restore e) = one_place d e
   one_place (seq a k b) (seq c l d) =
       let e = same_state (same g classes a c) in

@@ -4,7 +4,7 @@ use Rattle.std.proofs.lemmas.Bool.Decides.{leb_tells}
 use Rattle.meta_base.specs.Language.Expression.{Grammar}
 use Rattle.meta_base.specs.Language.State.{Classes, State, Outcome, Success, Failure}
 use Rattle.meta_base.specs.Language.Text.{Text, IsPosition}
-use Rattle.meta_base.specs.Language.Meaning.{Does, Task, str, insens, range, slice, skip, call, other, pos_pred, neg_pred, push, restore, seq, seq_first, seq_second, left, right, opt, opt_none, rep_none, turn, turn_none, rep_exact, rep_max, rep_min_max, skips, atomic, compound_atomic, between, seen_from, gives_token, rep, rep_once, rep_min}
+use Rattle.meta_base.specs.Language.Meaning.{Does, Task, str, insens, range, slice, skip, call, other, pos_pred, neg_pred, push, restore, seq, seq_first, seq_second, left, right, opt, opt_none, rep_none, turn, turn_none, rep_exact, rep_max, rep_min_max, skips, atomic, compound_atomic, between, seen_from, gives_token, rep, rep_once, rep_min, push_literal, tag}
 use Rattle.meta_base.specs.Language.FurthestFailure.{furthest, place_of, is_eoi}
 use Rattle.meta_base.specs.Language.Places.{Stands}
 use Rattle.meta_base.proofs.TreesAreNested.{fits}
@@ -42,6 +42,8 @@ module _ (text : Text) where
   stands_at (pos_pred d) h = stands_at d h
   stands_at (neg_pred d) h = stands_at d h
   stands_at (push d) h = stands_at d h
+  stands_at push_literal h = at_start
+  stands_at (tag d) h = stands_at d h
   stands_at (restore d) h = stands_at d h
   stands_at (seq a k b) h =
       let x = fits text a h in let y = fits text k x.0 in

@@ -12,6 +12,7 @@ pub mod BodiesKeepGrammars
 pub mod StepsKeepGrammars
 pub mod ListingKeepsGrammars
 pub mod FailurePlaces
+pub mod ExpectedOnce
 pub mod Listed
 pub mod Listing
 pub mod BothMeaningsAgree
@@ -24,6 +25,7 @@ pub mod MetaNames
 pub mod RewritingAnywhere
 pub mod Replacing
 pub mod Lines
+pub mod Surveys
 pub mod PairLemmas
 pub mod FailuresStand
 pub mod InBytes

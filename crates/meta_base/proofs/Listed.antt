@@ -1,6 +1,6 @@
 -- What the listing does to a sequence with nothing to list within it.
 use Rattle.std.proofs.Common.{◌≡◌, ◌⊎◌, inl, inr, ℕ, ◌+◌, Bool, true, false, if◌then◌else◌, refl, sym, ◌∙◌, ap, ap₂, subst, arith}
-use Rattle.meta_base.specs.Language.Expression.{Expression, PosPred, NegPred, Seq, Choice, Opt, Rep, RepOnce, RepExact, RepMin, RepMax, RepMinMax, Push, RestoreOnErr}
+use Rattle.meta_base.specs.Language.Expression.{Expression, PosPred, NegPred, Seq, Choice, Opt, Rep, RepOnce, RepExact, RepMin, RepMax, RepMinMax, Push, NodeTag, RestoreOnErr}
 use Rattle.meta_base.specs.Rewritings.Equality.{expression_eq, expression_eq-Decides}
 use Rattle.meta_base.specs.Rewritings.Listing.{listed}
 use Rattle.meta_base.specs.Rewritings.Listing.{listed_sequence}
@@ -19,6 +19,7 @@ size (RepMin e i) = size e + 1
 size (RepMax e i) = size e + 1
 size (RepMinMax e i j) = size e + 1
 size (Push e) = size e + 1
+size (NodeTag e t) = size e + 1
 size (RestoreOnErr e) = size e + 1
 size _ = 1
 
@@ -54,6 +55,7 @@ size-listed (RepMin e i) = ap (λ n. n + 1) (size-listed e)
 size-listed (RepMax e i) = ap (λ n. n + 1) (size-listed e)
 size-listed (RepMinMax e i j) = ap (λ n. n + 1) (size-listed e)
 size-listed (Push e) = ap (λ n. n + 1) (size-listed e)
+size-listed (NodeTag e t) = ap (λ n. n + 1) (size-listed e)
 size-listed (RestoreOnErr e) = ap (λ n. n + 1) (size-listed e)
 size-listed _ = refl
 

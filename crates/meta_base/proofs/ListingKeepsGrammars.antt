@@ -1,13 +1,13 @@
 -- The listing, and the wrappers of the restorer, keep a grammar well-formed and plain, and keep it a grammar.
 use Rattle.std.proofs.Common.{◌≡◌, ℕ, Bool, true, false, if◌then◌else◌, Some, sym, subst, refl}
 use Rattle.meta_base.specs.Language.Text.{Text}
-use Rattle.meta_base.specs.Language.Expression.{Grammar, Expression, Str, Insens, Range, Ident, PeekSlice, Skip, PosPred, NegPred, Seq, Choice, Opt, Rep, RepOnce, RepExact, RepMin, RepMax, RepMinMax, Push, RestoreOnErr, RuleType, Rule, rule_of, Part}
+use Rattle.meta_base.specs.Language.Expression.{Grammar, Expression, Str, Insens, Range, Ident, PeekSlice, Skip, PosPred, NegPred, Seq, Choice, Opt, Rep, RepOnce, RepExact, RepMin, RepMax, RepMinMax, Push, RestoreOnErr, RuleType, Rule, rule_of, Part, PushLiteral, NodeTag}
 use Rattle.meta_base.specs.Rewritings.Equality.{expression_eq, expression_eq-Decides}
-use Rattle.meta_base.specs.Rewritings.Rewriting.{here, in_pos_pred, in_neg_pred, in_seq_left, in_seq_right, in_choice_left, in_choice_right, in_opt, in_rep, in_rep_once, in_rep_exact, in_rep_min, in_rep_max, in_rep_min_max, in_push, in_restore, Many, no_step, one_step, EachBody}
+use Rattle.meta_base.specs.Rewritings.Rewriting.{here, in_pos_pred, in_neg_pred, in_seq_left, in_seq_right, in_choice_left, in_choice_right, in_opt, in_rep, in_rep_once, in_rep_exact, in_rep_min, in_rep_max, in_rep_min_max, in_push, in_restore, Many, no_step, one_step, EachBody, in_tag}
 use Rattle.meta_base.specs.Language.Grammar.{IsGrammar}
 use Rattle.meta_base.specs.Rewritings.Erased.{erased}
 use Rattle.meta_base.specs.Rewritings.Listing.{listed, listed_sequence, EachListed}
-use Rattle.meta_base.specs.Rewritings.Wrapping.{Wraps, leaves, RestoresTo, restores_str, restores_insens, restores_range, restores_name, restores_slice, restores_skip, restores_pos_pred, restores_neg_pred, restores_push, restores_seq, restores_choice, restores_opt, restores_rep, EachRestored}
+use Rattle.meta_base.specs.Rewritings.Wrapping.{Wraps, leaves, RestoresTo, restores_str, restores_insens, restores_range, restores_name, restores_slice, restores_skip, restores_pos_pred, restores_neg_pred, restores_push, restores_seq, restores_choice, restores_opt, restores_rep, restores_rep_once, EachRestored, restores_push_literal, restores_tag}
 use Rattle.meta_base.specs.Rewritings.Wrapping as spec
 use Rattle.meta_base.specs.Language.WellFormed.{IsNullable, nullable_rep, nullable_seq, nullable_restore, LeftCalls, left_first, left_second, left_rep, left_restore, IsWellFormed, HasReadableCounts, NamesHaveReadableCounts, IsPlain}
 use Rattle.meta_base.proofs.Everywhere.{Condition, HoldsHere, Everywhere, everywhere}
@@ -88,6 +88,7 @@ reaches_listed (RepMin e i) = along Finishes (λ x. RepMin x i) (λ x y w. in_re
 reaches_listed (RepMax e i) = along Finishes (λ x. RepMax x i) (λ x y w. in_rep_max w) (reaches_listed e)
 reaches_listed (RepMinMax e i j) = along Finishes (λ x. RepMinMax x i j) (λ x y w. in_rep_min_max w) (reaches_listed e)
 reaches_listed (Push e) = along Finishes Push (λ x y w. in_push w) (reaches_listed e)
+reaches_listed (NodeTag e t) = along Finishes (λ x. NodeTag x t) (λ x y w. in_tag w) (reaches_listed e)
 reaches_listed (RestoreOnErr e) = along Finishes RestoreOnErr (λ x y w. in_restore w) (reaches_listed e)
 reaches_listed _ = no_step
 
@@ -107,6 +108,8 @@ module _ (g : Grammar) where
   restoring (restores_pos_pred d) = along Finishes PosPred (λ x y w. in_pos_pred w) (restoring d)
   restoring (restores_neg_pred d) = along Finishes NegPred (λ x y w. in_neg_pred w) (restoring d)
   restoring (restores_push d) = along Finishes Push (λ x y w. in_push w) (restoring d)
+  restoring restores_push_literal = no_step
+  restoring (restores_tag {t = t} d) = along Finishes (λ x. NodeTag x t) (λ x y w. in_tag w) (restoring d)
   restoring (restores_seq {b = b} {c = c} d e) =
       after Finishes (along Finishes (λ x. Seq x c) (λ x y w. in_seq_left w) (restoring d))
       (along Finishes (Seq b) (λ x y w. in_seq_right w) (restoring e))
@@ -115,6 +118,7 @@ module _ (g : Grammar) where
       (along Finishes (Choice c) (λ x y w. in_choice_right w) (after Finishes (restoring e) (wrapping w)))
   restoring (restores_opt d v) = along Finishes Opt (λ x y w. in_opt w) (after Finishes (restoring d) (wrapping v))
   restoring (restores_rep d v) = along Finishes Rep (λ x y w. in_rep w) (after Finishes (restoring d) (wrapping v))
+  restoring (restores_rep_once d v) = along Finishes RepOnce (λ x y w. in_rep_once w) (after Finishes (restoring d) (wrapping v))
 
 -- whatever has wrappers is reached from what is left without them, by wrapping at one place after another
 reaches_wrapped : (e : Expression) → To (erased e) e
@@ -135,12 +139,14 @@ reaches_wrapped (RepMin e i) = along Finishes (λ x. RepMin x i) (λ x y w. in_r
 reaches_wrapped (RepMax e i) = along Finishes (λ x. RepMax x i) (λ x y w. in_rep_max w) (reaches_wrapped e)
 reaches_wrapped (RepMinMax e i j) = along Finishes (λ x. RepMinMax x i j) (λ x y w. in_rep_min_max w) (reaches_wrapped e)
 reaches_wrapped (Push e) = along Finishes Push (λ x y w. in_push w) (reaches_wrapped e)
+reaches_wrapped (NodeTag e t) = along Finishes (λ x. NodeTag x t) (λ x y w. in_tag w) (reaches_wrapped e)
 reaches_wrapped (Str t) = no_step
 reaches_wrapped (Insens t) = no_step
 reaches_wrapped (Range t u) = no_step
 reaches_wrapped (Ident n) = no_step
 reaches_wrapped (PeekSlice i j) = no_step
 reaches_wrapped (Skip ts) = no_step
+reaches_wrapped (PushLiteral t) = no_step
 
 abbrev pub Finished : Grammar → Grammar → Type 0
 Finished g h = EachBody (λ y. Many Finishes) g h

@@ -7,10 +7,10 @@ use Rattle.meta_base.specs.Language.State.{Classes, Mode, NonAtomicMode, AtomicM
 use Rattle.meta_base.specs.Language.Text.{Text}
 use Rattle.meta_base.specs.Language.Matching.{begins, text_outcome, character_outcome, starts_in, newline_outcome, end_outcome, builtin_outcome, other_outcome, named_outcome, range_set, distance}
 use Rattle.meta_base.specs.Language.Builtins.{Builtin, One, Property, Newline, Soi, Eoi, Peek, Pop, Drop, PeekAll, PopAll, builtin_of, builtins, property_names, looked_up, Named, is_one_of, binary_properties, general_categories, scripts}
-use Rattle.meta_base.specs.Language.Meaning.{Does, Task, Run, Turns, Skipping, str, insens, range, slice, skip, call, other, pos_pred, neg_pred, push, restore, seq, seq_first, seq_second, left, right, opt, opt_none, rep_none, turn, turn_none, rep_exact, rep_max, rep_min_max, skips, atomic, compound_atomic, between, ahead, not_ahead, pushed, with_token, in_sequence, exactly, at_least, from_to, skipped, rep, rep_once, rep_min}
+use Rattle.meta_base.specs.Language.Meaning.{Does, Task, Run, Turns, Skipping, str, insens, range, slice, skip, call, other, pos_pred, neg_pred, push, restore, seq, seq_first, seq_second, left, right, opt, opt_none, rep_none, turn, turn_none, rep_exact, rep_max, rep_min_max, skips, atomic, compound_atomic, between, ahead, not_ahead, pushed, with_token, in_sequence, exactly, at_least, from_to, skipped, rep, rep_once, rep_min, push_literal, tag}
 use native.Mathlib.Nat.{suc-min-suc}
-use Rattle.meta_base.specs.Language.Expression.{Part, whole, of_seq_left, of_seq_right, of_choice_left, of_choice_right, of_opt, of_rep, of_rep_once, of_rep_exact, of_rep_min, of_rep_max, of_rep_min_max, of_push, of_restore}
-use Rattle.meta_base.specs.Language.WellFormed.{IsNullable, nullable_str, nullable_insens, nullable_soi, nullable_eoi, nullable_call, nullable_pos_pred, nullable_neg_pred, nullable_opt, nullable_rep, nullable_rep_max, nullable_seq, nullable_left, nullable_right, nullable_rep_once, nullable_push, nullable_exact_zero, nullable_exact, nullable_min_zero, nullable_min, nullable_min_max_zero, nullable_min_max, nullable_skip, nullable_restore, IsPlainBuiltin}
+use Rattle.meta_base.specs.Language.Expression.{Part, whole, of_seq_left, of_seq_right, of_choice_left, of_choice_right, of_opt, of_rep, of_rep_once, of_rep_exact, of_rep_min, of_rep_max, of_rep_min_max, of_push, of_restore, of_tag}
+use Rattle.meta_base.specs.Language.WellFormed.{IsNullable, nullable_str, nullable_insens, nullable_soi, nullable_eoi, nullable_call, nullable_pos_pred, nullable_neg_pred, nullable_opt, nullable_rep, nullable_rep_max, nullable_seq, nullable_left, nullable_right, nullable_rep_once, nullable_push, nullable_exact_zero, nullable_exact, nullable_min_zero, nullable_min, nullable_min_max_zero, nullable_min_max, nullable_skip, nullable_restore, IsPlainBuiltin, nullable_push_literal, nullable_tag}
 
 -- from i characters to j: fewer, or as many and P
 abbrev pub Goes : Type 0 → ℕ → ℕ → Type 0
@@ -266,6 +266,8 @@ module _ (g : Grammar) (classes : Classes) where
     moves (pos_pred {s = s} {o = o} d) c = ahead_took o nullable_pos_pred
     moves (neg_pred {s = s} {o = o} d) c = not_ahead_took o nullable_neg_pred
     moves (push d) c = pushed_took (took_as nullable_push (moves d (λ p h. c p (of_push h))))
+    moves push_literal c = took (inr (nullable_push_literal, refl))
+    moves (tag d) c = took_as nullable_tag (moves d (λ p h. c p (of_tag h)))
     moves (restore d) c = took_as nullable_restore (moves d (λ p h. c p (of_restore h)))
     moves (seq a k b) c = took (goes_as (λ x. nullable_seq x.0.0 x.1) (goes_on (goes_on (goes (moves a (λ p h. c p (of_seq_left h)))) (goes (moves k tt))) (goes (moves b (λ p h. c p (of_seq_right h))))))
     moves (seq_first a) c = failed

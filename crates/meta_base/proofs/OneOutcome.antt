@@ -2,7 +2,7 @@
 use Rattle.std.proofs.Common.{◌≡◌, Some, refl, sym, ◌∙◌, ap, subst}
 use Rattle.meta_base.specs.Language.Expression.{Grammar, Rule}
 use Rattle.meta_base.specs.Language.State.{Classes, Mode, State, Trees, Outcome, Success}
-use Rattle.meta_base.specs.Language.Meaning.{Does, Task, Run, str, insens, range, slice, skip, call, other, pos_pred, neg_pred, push, restore, seq, seq_first, seq_second, left, right, opt, opt_none, rep_none, turn, turn_none, rep_exact, rep_max, rep_min_max, skips, atomic, compound_atomic, between, ahead, not_ahead, pushed, body_mode, rep, rep_once, rep_min}
+use Rattle.meta_base.specs.Language.Meaning.{Does, Task, Run, str, insens, range, slice, skip, call, other, pos_pred, neg_pred, push, restore, seq, seq_first, seq_second, left, right, opt, opt_none, rep_none, turn, turn_none, rep_exact, rep_max, rep_min_max, skips, atomic, compound_atomic, between, ahead, not_ahead, pushed, body_mode, rep, rep_once, rep_min, push_literal, tag}
 
 pub same_state : {s t : State} {us vs : Trees} → Success s us ≡ Success t vs → s ≡ t
 same_state h = cc
@@ -36,6 +36,8 @@ module _ (g : Grammar) (classes : Classes) where
   same (pos_pred {s = s} d) (pos_pred e) = ap (ahead s) (same d e)
   same (neg_pred {s = s} d) (neg_pred e) = ap (not_ahead s) (same d e)
   same (push {s = s} d) (push e) = ap (pushed s) (same d e)
+  same push_literal push_literal = refl
+  same (tag d) (tag e) = same d e
   same (restore d) (restore e) = same d e
   same (seq a k b) (seq c l d) =
       let h = same a c in

@@ -1,7 +1,7 @@
 -- A pass is a chain of steps.
 use Rattle.std.proofs.Common.{◌∷◌}
 use Rattle.meta_base.specs.Language.Expression.{Expression, RuleType, Rule, Grammar}
-use Rattle.meta_base.specs.Rewritings.Rewriting.{by_rotating, by_unrolling, by_skipping, by_joining, by_factoring, Rewrites, rotate_sequence, rotate_choice, unroll_once, unroll_exact, unroll_min, unroll_max, unroll_min_max, skip_until, join_literals, join_insensitive, factor_prefix, factor_optional, factor_optional_compound, factor_absorbed, Within, here, in_pos_pred, in_neg_pred, in_seq_left, in_seq_right, in_choice_left, in_choice_right, in_opt, in_rep, in_rep_once, in_rep_exact, in_rep_min, in_rep_max, in_rep_min_max, in_push, in_restore, Changed, this, later, Step, Chain, done, step, Many, no_step, one_step, EachRewritten, no_rules, also_rule}
+use Rattle.meta_base.specs.Rewritings.Rewriting.{by_rotating, by_unrolling, by_skipping, by_joining, by_factoring, Rewrites, rotate_sequence, rotate_choice, unroll_exact, unroll_min, unroll_max, unroll_min_max, skip_until, join_literals, join_insensitive, factor_prefix, factor_optional, factor_optional_compound, factor_absorbed, Within, here, in_pos_pred, in_neg_pred, in_seq_left, in_seq_right, in_choice_left, in_choice_right, in_opt, in_rep, in_rep_once, in_rep_exact, in_rep_min, in_rep_max, in_rep_min_max, in_push, in_restore, Changed, this, later, Step, Chain, done, step, Many, no_step, one_step, EachRewritten, no_rules, also_rule, in_tag}
 use Rattle.meta_base.proofs.StepsKeepOutcomes.{differs, still_known}
 
 -- a rewriting that may be done before a step may be done behind it
@@ -9,7 +9,6 @@ rewrites_still : {g h : Grammar} {y : RuleType} {a b : Expression} → Step g h 
 rewrites_still {g} {h} c (by_skipping (skip_until d)) = by_skipping (skip_until (still_known g h (differs c) d))
 rewrites_still c (by_rotating rotate_sequence) = (by_rotating rotate_sequence)
 rewrites_still c (by_rotating rotate_choice) = (by_rotating rotate_choice)
-rewrites_still c (by_unrolling unroll_once) = (by_unrolling unroll_once)
 rewrites_still c (by_unrolling unroll_exact) = (by_unrolling unroll_exact)
 rewrites_still c (by_unrolling unroll_min) = (by_unrolling unroll_min)
 rewrites_still c (by_unrolling unroll_max) = (by_unrolling unroll_max)
@@ -37,6 +36,7 @@ within_still c (in_rep_min w) = in_rep_min (within_still c w)
 within_still c (in_rep_max w) = in_rep_max (within_still c w)
 within_still c (in_rep_min_max w) = in_rep_min_max (within_still c w)
 within_still c (in_push w) = in_push (within_still c w)
+within_still c (in_tag w) = in_tag (within_still c w)
 within_still c (in_restore w) = in_restore (within_still c w)
 
 -- what may be done over g may be done over h

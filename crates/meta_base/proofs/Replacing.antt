@@ -1,7 +1,7 @@
 -- A rule with steps of one kind in the place of the rule.
 use Rattle.std.proofs.Common.{[], ◌∷◌, ◌++◌}
 use Rattle.meta_base.specs.Language.Expression.{Expression, RuleType, Rule, Grammar}
-use Rattle.meta_base.specs.Rewritings.Rewriting.{Rewrites, by_rotating, by_unrolling, by_joining, by_factoring, Rotates, Unrolls, Joins, Factors, Many, no_step, one_step, Within, here, in_pos_pred, in_neg_pred, in_seq_left, in_seq_right, in_choice_left, in_choice_right, in_opt, in_rep, in_rep_once, in_rep_exact, in_rep_min, in_rep_max, in_rep_min_max, in_push, in_restore, EachBody, no_rules, also_rule, SameOutcomes, Chain, done}
+use Rattle.meta_base.specs.Rewritings.Rewriting.{Rewrites, by_rotating, by_unrolling, by_joining, by_factoring, Rotates, Unrolls, Joins, Factors, Many, no_step, one_step, Within, here, in_pos_pred, in_neg_pred, in_seq_left, in_seq_right, in_choice_left, in_choice_right, in_opt, in_rep, in_rep_once, in_rep_exact, in_rep_min, in_rep_max, in_rep_min_max, in_push, in_restore, EachBody, no_rules, also_rule, SameOutcomes, Chain, done, in_tag}
 use Rattle.meta_base.specs.Rewritings.Replacing.{KeepsOutcomes, IsChained}
 use Rattle.meta_base.proofs.StepsKeepOutcomes as keeping
 use Rattle.meta_base.proofs.StepsKeepOutcomes.{each_body}
@@ -28,6 +28,7 @@ module _ (R S : Expression → Expression → Type 0) (f : (a b : Expression) �
   within (in_rep_max w) = in_rep_max (within w)
   within (in_rep_min_max w) = in_rep_min_max (within w)
   within (in_push w) = in_push (within w)
+  within (in_tag w) = in_tag (within w)
   within (in_restore w) = in_restore (within w)
 
   pub many : {a b : Expression} → Many R a b → Many S a b

@@ -10,7 +10,7 @@ use Rattle.meta_base.specs.Language.Text.{Text}
 use Rattle.meta_base.specs.Language.Matching.{begins, any_begins, distance, text_outcome, character_outcome}
 use Rattle.meta_base.specs.Language.Builtins.{builtins}
 use Rattle.meta_base.specs.Language.Meaning.{Does, Task, Run, Turns, Skipping, str, insens, skip, call, other, neg_pred, seq, seq_first, seq_second, left, right, opt, opt_none, rep_none, turn, turn_none, rep_exact, rep_max, rep_min_max, atomic, compound_atomic, with_token, body_mode, mode_in, rep, rep_once, rep_min}
-use Rattle.meta_base.specs.Rewritings.Rewriting.{by_rotating, by_unrolling, by_skipping, by_joining, by_factoring, Strings, one, named, more, Rewrites, rotate_sequence, rotate_choice, unroll_once, unroll_exact, unroll_min, unroll_max, unroll_min_max, skip_until, join_literals, join_insensitive, factor_prefix, factor_optional, factor_optional_compound, factor_absorbed, KeepsAny, Rotates, Unrolls, Joins, Factors}
+use Rattle.meta_base.specs.Rewritings.Rewriting.{by_rotating, by_unrolling, by_skipping, by_joining, by_factoring, Strings, one, named, more, Rewrites, rotate_sequence, rotate_choice, unroll_exact, unroll_min, unroll_max, unroll_min_max, skip_until, join_literals, join_insensitive, factor_prefix, factor_optional, factor_optional_compound, factor_absorbed, KeepsAny, Rotates, Unrolls, Joins, Factors}
 use Rattle.meta_base.proofs.OneOutcome.{same, same_state, same_trees, from}
 use Rattle.meta_base.proofs.Congruence.{Implies}
 
@@ -271,14 +271,12 @@ module _ (f : Grammar) (classes : Classes) where
   rotates_back {m = m} rotate_choice s o d = rotate_choice_back f classes m s o d
 
   pub unrolls_forth : {m : Mode} {a b : Expression} → Unrolls a b → Implies f classes m a b
-  unrolls_forth unroll_once s o (rep_once d) = d
   unrolls_forth unroll_exact s o (rep_exact d) = d
   unrolls_forth unroll_min s o (rep_min d) = d
   unrolls_forth unroll_max s o (rep_max d) = d
   unrolls_forth unroll_min_max s o (rep_min_max d) = d
 
   pub unrolls_back : {m : Mode} {a b : Expression} → Unrolls a b → Implies f classes m b a
-  unrolls_back unroll_once s o d = rep_once d
   unrolls_back unroll_exact s o d = rep_exact d
   unrolls_back unroll_min s o d = rep_min d
   unrolls_back unroll_max s o d = rep_max d

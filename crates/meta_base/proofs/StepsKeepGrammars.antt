@@ -3,10 +3,10 @@ use Rattle.std.proofs.Common.{◌≡◌, ◌-◌, min, List, [], ◌∷◌, ◌+
 use Rattle.meta_base.specs.Language.Expression.{Grammar, Expression, Str, Insens, Seq, Opt, Rep, RuleType, Rule, RepMin, RepMinMax, rule_of}
 use Rattle.meta_base.specs.Language.Text.{Text}
 use Rattle.meta_base.specs.Language.Meaning.{in_sequence}
-use Rattle.meta_base.specs.Rewritings.Rewriting.{by_rotating, by_unrolling, by_skipping, by_joining, by_factoring, Rewrites, rotate_sequence, rotate_choice, unroll_once, unroll_exact, unroll_min, unroll_max, unroll_min_max, skip_until, join_literals, join_insensitive, factor_prefix, factor_optional, factor_optional_compound, factor_absorbed, Changed, this, later, Chain, done, step, Many, no_step, one_step, EachBody, no_rules, also_rule}
+use Rattle.meta_base.specs.Rewritings.Rewriting.{by_rotating, by_unrolling, by_skipping, by_joining, by_factoring, Rewrites, rotate_sequence, rotate_choice, unroll_exact, unroll_min, unroll_max, unroll_min_max, skip_until, join_literals, join_insensitive, factor_prefix, factor_optional, factor_optional_compound, factor_absorbed, Changed, this, later, Chain, done, step, Many, no_step, one_step, EachBody, no_rules, also_rule}
 use Rattle.meta_base.specs.Language.Grammar.{IsGrammar}
-use Rattle.meta_base.specs.Language.WellFormed.{IsNullable, nullable_str, nullable_insens, nullable_rep, nullable_rep_max, nullable_seq, nullable_left, nullable_right, LeftCalls, left_first, left_second, left_left, left_right, left_opt, left_rep, left_rep_once, left_rep_exact, left_rep_min, left_rep_max, left_rep_min_max, IsWellFormed, CountIsReadable, HasReadableCounts, NamesHaveReadableCounts, IsPlain}
-use Rattle.meta_base.proofs.Moving.{Each', no_more, also, each_copy, each_of_both, in_all, nullable_once, nullable_copies, nullable_at_least, nullable_from_to}
+use Rattle.meta_base.specs.Language.WellFormed.{IsNullable, nullable_str, nullable_insens, nullable_rep, nullable_rep_max, nullable_seq, nullable_left, nullable_right, LeftCalls, left_first, left_second, left_left, left_right, left_opt, left_rep, left_rep_exact, left_rep_min, left_rep_max, left_rep_min_max, IsWellFormed, CountIsReadable, HasReadableCounts, NamesHaveReadableCounts, IsPlain}
+use Rattle.meta_base.proofs.Moving.{Each', no_more, also, each_copy, each_of_both, in_all, nullable_copies, nullable_at_least, nullable_from_to}
 use Rattle.meta_base.proofs.Everywhere.{Condition, HoldsHere, Everywhere, everywhere, in_sequence_too}
 use Rattle.meta_base.proofs.BodiesKeepGrammars.{bounding, IsClosed, KeepsAtRoot, names_still_readable, still_well_formed, still_plain, still_readable, still_grammar}
 
@@ -44,7 +44,6 @@ module _ (f : Grammar) where
   nullable_here (by_rotating rotate_choice) c (nullable_left a) = nullable_left (nullable_left a)
   nullable_here (by_rotating rotate_choice) c (nullable_right (nullable_left b)) = nullable_left (nullable_right b)
   nullable_here (by_rotating rotate_choice) c (nullable_right (nullable_right d)) = nullable_right d
-  nullable_here (by_unrolling (unroll_once {e = e})) c n = nullable_once f e n
   nullable_here (by_unrolling (unroll_exact {e = e} {i = i})) c n = nullable_copies f e i n
   nullable_here (by_unrolling (unroll_min {e = e} {i = i})) c n = nullable_at_least f e i n
   nullable_here (by_unrolling unroll_max) c n = nullable_rep_max
@@ -82,8 +81,6 @@ module _ (f : Grammar) where
   left_here (by_rotating rotate_choice) (left_left l) = left_left (left_left l)
   left_here (by_rotating rotate_choice) (left_right (left_left l)) = left_left (left_right l)
   left_here (by_rotating rotate_choice) (left_right (left_right l)) = left_right l
-  left_here (by_unrolling unroll_once) (left_first l) = left_rep_once l
-  left_here (by_unrolling unroll_once) (left_second n (left_rep l)) = left_rep_once l
   left_here (by_unrolling (unroll_exact {i = i})) l = left_of_sequence _ (each_copy _ i left_rep_exact) l
   left_here (by_unrolling (unroll_min {i = i})) l = left_of_sequence _ (each_of_both _ (each_copy _ i left_rep_min) (also (left_of_rep left_rep_min) no_more)) l
   left_here (by_unrolling (unroll_max {i = i})) l = left_of_sequence _ (each_copy _ i (left_of_opt left_rep_max)) l
@@ -105,7 +102,6 @@ module _ (g : Grammar) (c : Condition) (closed : IsClosed g c) where
   parts_here : {y : RuleType} {a b : Expression} → Rewrites g y a b → Everywhere c a → Everywhere c b
   parts_here (by_rotating rotate_sequence) h = (h.0.0, (h.0.1, h.1))
   parts_here (by_rotating rotate_choice) h = (h.0.0, (h.0.1, h.1))
-  parts_here (by_unrolling unroll_once) h = (h.1, h)
   parts_here (by_unrolling (unroll_exact {i = i})) h = in_sequence_too c closed.empty (each_copy _ i h.1)
   parts_here (by_unrolling (unroll_min {i = i})) h = in_sequence_too c closed.empty (each_of_both _ (each_copy _ i h.1) (also (h.0.0, h.1) no_more))
   parts_here (by_unrolling (unroll_max {i = i})) h = in_sequence_too c closed.empty (each_copy _ i h.1)

@@ -3,7 +3,7 @@ use Rattle.std.proofs.Common.{◌≡◌, ◌⊎◌, inl, inr, List, [], ◌∷�
 use Rattle.meta_base.specs.Language.Expression.{Grammar, Expression, Ident, RuleType, Rule, rule_of, or_else}
 use Rattle.meta_base.specs.Language.State.{Classes, Mode, State, Outcome, Success, Failure}
 use Rattle.meta_base.specs.Language.Text.{Text}
-use Rattle.meta_base.specs.Language.Meaning.{Does, Task, Run, str, insens, range, slice, skip, call, other, pos_pred, neg_pred, push, restore, seq, seq_first, seq_second, left, right, opt, opt_none, rep_none, turn, turn_none, rep_exact, rep_max, rep_min_max, skips, atomic, compound_atomic, between, body_mode, with_token, rep, rep_once, rep_min}
+use Rattle.meta_base.specs.Language.Meaning.{Does, Task, Run, str, insens, range, slice, skip, call, other, pos_pred, neg_pred, push, restore, seq, seq_first, seq_second, left, right, opt, opt_none, rep_none, turn, turn_none, rep_exact, rep_max, rep_min_max, skips, atomic, compound_atomic, between, body_mode, with_token, rep, rep_once, rep_min, push_literal, tag}
 use Rattle.meta_base.specs.Rewritings.Rewriting.{by_joining, by_skipping, by_unrolling, by_rotating, by_factoring, Strings, one, named, more, rotate_choice, factor_prefix, factor_optional, factor_optional_compound, factor_absorbed, Within, here, in_choice_left, in_choice_right, Changed, this, later, Step, Chain, done, step, KeepsAny, SameOutcomes, Rewrites, EachBody, no_rules, also_rule, Many, Rotates, Unrolls, Joins, Factors}
 use Rattle.meta_base.proofs.OneOutcome.{same_rule}
 use Rattle.meta_base.proofs.Congruence as same
@@ -79,6 +79,8 @@ module _ (g h : Grammar) (classes : Classes) where
     carried (pos_pred d) = pos_pred (carried d)
     carried (neg_pred d) = neg_pred (carried d)
     carried (push d) = push (carried d)
+    carried push_literal = push_literal
+    carried (tag d) = tag (carried d)
     carried (restore d) = restore (carried d)
     carried (seq a k b) = seq (carried a) (carried k) (carried b)
     carried (seq_first a) = seq_first (carried a)

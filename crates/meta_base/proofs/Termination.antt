@@ -1,12 +1,12 @@
 -- In a well-formed plain grammar everything ends.
 use Rattle.std.proofs.Common.{◌≡◌, inl, inr, ℕ, zero, suc, ◌-◌, ◌<◌, ◌≤◌, min, List, [], ◌∷◌, Bool, true, false, ◌||◌, if◌then◌else◌, Option, Some, None, refl, sym, ◌∙◌, ap, subst, bytes_eq, arith}
-use Rattle.meta_base.specs.Language.Expression.{Grammar, Expression, Str, Insens, Range, Ident, PeekSlice, PosPred, NegPred, Seq, Choice, Opt, Rep, RepOnce, RepExact, RepMin, RepMax, RepMinMax, Skip, Push, RestoreOnErr, RuleType, Normal, Silent, Atomic, CompoundAtomic, NonAtomic, Rule, rule_of, whitespace, comment, Part, whole, of_pos_pred, of_neg_pred, of_seq_left, of_seq_right, of_choice_left, of_choice_right, of_opt, of_rep, of_rep_once, of_rep_exact, of_rep_min, of_rep_max, of_rep_min_max, of_push, of_restore, or_else}
+use Rattle.meta_base.specs.Language.Expression.{Grammar, Expression, Str, Insens, Range, Ident, PeekSlice, PosPred, NegPred, Seq, Choice, Opt, Rep, RepOnce, RepExact, RepMin, RepMax, RepMinMax, Skip, Push, RestoreOnErr, RuleType, Normal, Silent, Atomic, CompoundAtomic, NonAtomic, Rule, rule_of, whitespace, comment, Part, whole, of_pos_pred, of_neg_pred, of_seq_left, of_seq_right, of_choice_left, of_choice_right, of_opt, of_rep, of_rep_once, of_rep_exact, of_rep_min, of_rep_max, of_rep_min_max, of_push, of_restore, or_else, PushLiteral, NodeTag, of_tag}
 use Rattle.meta_base.specs.Language.State.{Classes, Mode, NonAtomicMode, AtomicMode, CompoundAtomicMode, Between, State, Trees, Outcome, Success, Failure}
 use Rattle.meta_base.specs.Language.Text.{Text}
 use Rattle.meta_base.specs.Language.Builtins.{builtin_of, Builtin, One, Property, Newline, Soi, Eoi, Peek, Pop, Drop, PeekAll, PopAll}
 use Rattle.meta_base.specs.Language.Matching.{other_outcome, named_outcome, builtin_outcome}
-use Rattle.meta_base.specs.Language.Meaning.{Does, Task, Run, Turns, Skipping, str, insens, range, slice, skip, call, other, pos_pred, neg_pred, push, restore, seq, seq_first, seq_second, left, right, opt, opt_none, rep_none, turn, turn_none, rep_exact, rep_max, rep_min_max, skips, atomic, compound_atomic, between, body_mode, mode_in, in_sequence, skipped, rep, rep_once, rep_min}
-use Rattle.meta_base.specs.Language.WellFormed.{IsNullable, LeftCalls, left_name, left_first, left_second, left_pos_pred, left_neg_pred, left_left, left_right, left_opt, left_rep, left_rep_once, left_rep_exact, left_rep_min, left_rep_max, left_rep_min_max, left_push, left_restore, NamesHaveReadableCounts, IsWellFormed, IsPlainBuiltin, HasOutcome, InRules, IsPlainName, of_rule, of_builtin, IsSkipped, is_whitespace, is_comment, Reaches, itself, onward, nullable_seq, IsPlain}
+use Rattle.meta_base.specs.Language.Meaning.{Does, Task, Run, Turns, Skipping, str, insens, range, slice, skip, call, other, pos_pred, neg_pred, push, restore, seq, seq_first, seq_second, left, right, opt, opt_none, rep_none, turn, turn_none, rep_exact, rep_max, rep_min_max, skips, atomic, compound_atomic, between, body_mode, mode_in, in_sequence, skipped, rep, rep_once, rep_min, push_literal, tag}
+use Rattle.meta_base.specs.Language.WellFormed.{IsNullable, LeftCalls, left_name, left_first, left_second, left_pos_pred, left_neg_pred, left_left, left_right, left_opt, left_rep, left_rep_once, left_rep_exact, left_rep_min, left_rep_max, left_rep_min_max, left_push, left_restore, NamesHaveReadableCounts, IsWellFormed, IsPlainBuiltin, HasOutcome, InRules, IsPlainName, of_rule, of_builtin, IsSkipped, is_whitespace, is_comment, Reaches, itself, onward, nullable_seq, IsPlain, left_tag}
 use Rattle.meta_base.proofs.Grounding.{Grounded, grounded, all_grounded}
 use Rattle.meta_base.proofs.Moving.{Goes, goes, goes_down, left_of, moves, Calm, CalmHere, Each', no_more, also, calm_seq, calm_opt, calm_rep, calm_empty, calm_skipped, each_copy, each_of_both, in_all, some_builtin}
 use Rattle.meta_base.proofs.OneOutcome.{same_rule}
@@ -162,6 +162,8 @@ module _ (g : Grammar) (classes : Classes) (calm : (n : Text) (r : Rule) → rul
           run_ends (PosPred e) k c s h = let i : EndsTo t m e = run_ends e (λ p h. k p (of_pos_pred h)) (λ n l. c n (left_pos_pred l)) in (_, pos_pred (i s h).1)
           run_ends (NegPred e) k c s h = let i : EndsTo t m e = run_ends e (λ p h. k p (of_neg_pred h)) (λ n l. c n (left_neg_pred l)) in (_, neg_pred (i s h).1)
           run_ends (Push e) k c s h = let i : EndsTo t m e = run_ends e (λ p h. k p (of_push h)) (λ n l. c n (left_push l)) in (_, push (i s h).1)
+          run_ends (PushLiteral x) k c s h = (_, push_literal)
+          run_ends (NodeTag e x) k c s h = let i : EndsTo t m e = run_ends e (λ p h. k p (of_tag h)) (λ n l. c n (left_tag l)) in (_, tag (i s h).1)
           run_ends (RestoreOnErr e) k c s h = let i : EndsTo t m e = run_ends e (λ p h. k p (of_restore h)) (λ n l. c n (left_restore l)) in (_, restore (i s h).1)
           run_ends (Skip ts) k c s h = (_, skip)
           run_ends (Seq a b) k c s h =

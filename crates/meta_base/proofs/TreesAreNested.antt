@@ -9,7 +9,7 @@ use Rattle.meta_base.specs.Language.State.{Classes, State, Mode, NonAtomicMode, 
 use Rattle.meta_base.specs.Language.Text.{Text, IsPosition}
 use Rattle.meta_base.specs.Language.Matching.{begins, text_outcome, starts_in, character_outcome, range_set, distance, place, end_place, slice_at, end_token, end_outcome, with_stack, peek_outcome, pop_outcome, drop_outcome, concatenated, builtin_outcome, named_outcome, other_outcome}
 use Rattle.meta_base.specs.Language.Builtins.{Builtin, One, Property, Newline, Soi, Eoi, Peek, Pop, Drop, PeekAll, PopAll, builtin_of}
-use Rattle.meta_base.specs.Language.Meaning.{Does, Task, str, insens, range, slice, skip, call, other, pos_pred, neg_pred, push, restore, seq, seq_first, seq_second, left, right, opt, opt_none, rep, rep_none, turn, turn_none, rep_once, rep_exact, rep_min, rep_max, rep_min_max, skips, atomic, compound_atomic, between, ahead, not_ahead, pushed, with_token, gives_token}
+use Rattle.meta_base.specs.Language.Meaning.{Does, Task, str, insens, range, slice, skip, call, other, pos_pred, neg_pred, push, restore, seq, seq_first, seq_second, left, right, opt, opt_none, rep, rep_none, turn, turn_none, rep_once, rep_exact, rep_min, rep_max, rep_min_max, skips, atomic, compound_atomic, between, ahead, not_ahead, pushed, with_top, with_token, gives_token, push_literal, tag}
 use Rattle.meta_base.specs.Language.Places.{Stands, Nested, FitsIn}
 
 module _ (text : Text) where
@@ -150,6 +150,8 @@ module _ (text : Text) where
   fits (pos_pred {s = s} {o = o} d) h = fits_ahead s o h
   fits (neg_pred {s = s} {o = o} d) h = fits_not_ahead s o h
   fits (push {s = s} {o = o} d) h = fits_pushed s o (fits d h)
+  fits (push_literal {t = t} {s = s}) h = (stands_with s (with_top t s) h refl refl, omega arith)
+  fits (tag d) h = fits d h
   fits (restore d) h = fits d h
   fits (seq {s = s} {t = t} {u = u} {v = v} {us = us} {vs = vs} {ws = ws} a k b) h =
       let x = fits a h in let y = fits k x.0 in

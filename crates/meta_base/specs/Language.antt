@@ -1,5 +1,6 @@
 -- What grammars are, and what they match.
 pub mod Builtins
+pub mod Expected
 pub mod Expression
 pub mod FurthestFailure
 pub mod Grammar

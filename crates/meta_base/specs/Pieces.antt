@@ -1,11 +1,13 @@
 -- Pieces of a text, trees over them, and errors that tell of them.
 pub mod Comparing
 pub mod LineColumn
+pub mod Marks
 pub mod MetaRules
 pub mod NamedTrees
 pub mod Pairs
 pub mod PrintedError
 pub mod Saying
 pub mod Span
+pub mod Survey
 pub mod TokenTrees
 pub mod TreeViews

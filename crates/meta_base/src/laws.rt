@@ -6,6 +6,7 @@ ghost use Rattle.meta_base.specs.Language.Meaning.{Matches, Does, Task, body_mod
 ghost use Rattle.meta_base.specs.Rewritings.Listing.{EachListed, ListingKeeps};
 ghost use Rattle.meta_base.specs.Rewritings.Wrapping.{EachRestored};
 ghost use Rattle.meta_base.specs.Rewritings.Rewriting.{KeepsAny, Chain, SameOutcomes, EachRewritten, EachBody, Many, Rotates};
+ghost use Rattle.meta_base.specs.Language.Expected.{expected};
 ghost use Rattle.meta_base.specs.Language.FurthestFailure.{furthest};
 ghost use Rattle.meta_base.specs.Language.LooseMeaning.{Restored, IsSafe, SameEndings};
 ghost use Rattle.meta_base.specs.Language.WellFormed.{IsNullable, CannotFail, HasReadableCounts, NamesHaveReadableCounts};
@@ -101,6 +102,12 @@ pub fn bodies_run_in_rule_modes()
 pub fn one_place_of_failure()
     ensures { (g : Grammar) (classes : Classes) (e : Expression) (m : Mode) (s : State) (o : Outcome)
         → (d f : Matches g classes e m s o) → furthest d ≡ furthest f }
+{}
+
+/// From one start there is one list of what is expected at the furthest place.
+pub fn one_list_of_what_is_expected()
+    ensures { (g : Grammar) (classes : Classes) (e : Expression) (m : Mode) (s : State) (o p : Outcome)
+        → (d : Matches g classes e m s o) → (f : Matches g classes e m s p) → expected d ≡ expected f }
 {}
 
 /// Where nothing is skipped, a listed rule matches what it matched before.

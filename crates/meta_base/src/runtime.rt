@@ -6,11 +6,13 @@ mod faults;
 mod layout;
 mod lines;
 mod places;
+mod surveys;
 mod tokens;
 mod trees;
 
 pub use errors::{Error, ErrorVariant, InputLocation, LineColLocation};
 pub use faults::Fault;
 pub use places::{Position, Span};
+pub use surveys::Survey;
 pub use tokens::{FlatPairs, Pair, Pairs};
 pub use trees::{FirstTree, TokenTree, first_tree};

@@ -3,11 +3,13 @@
 //! Without arguments a small generated grammar is read, and what it has is printed. With arguments there
 //! are lines of figures for each text: a number means a generated grammar of so many rules, a shape and a
 //! size, as `cycle:50`, a grammar of that shape, and anything else names a file that has a grammar. Where
-//! arguments name stages, only these are measured, and `parse` with them.
+//! arguments name stages, only these are measured, and `parse` with them. With `growth` in front of all
+//! other arguments it prints what calls take on shapes of one size and of four times it.
 #![tactic(auto)]
 
 mod figures;
 mod generated;
+mod growth;
 mod lines;
 mod shapes;
 mod small;
@@ -16,6 +18,7 @@ mod texts;
 
 use anyhow::Result;
 use figures::{Figure, Figures, measured};
+use growth::print_growth;
 use stages::STAGES;
 use std::env;
 use texts::text_of;
@@ -90,7 +93,20 @@ fn is_stage(argument: &String) -> bool {
     STAGES.iter().any(|(name, _)| *name == argument.as_str())
 }
 
+/// Whether the first argument asks for what calls take on shapes of two sizes.
+fn asks_for_growth(rt: &HostRuntime) -> Result<bool> {
+    let mut arguments = env::args(rt)?.skip(1);
+    Ok(
+        arguments
+            .next()
+            .is_some_and(|first| first.as_str() == "growth"),
+    )
+}
+
 fn main(rt: HostRuntime) -> Result<()> {
+    if asks_for_growth(&rt)? {
+        return print_growth(&rt);
+    }
     let mut stages = Vec::new(rt.alloc());
     let mut texts = Vec::new(rt.alloc());
     for argument in env::args(&rt)?.skip(1) {

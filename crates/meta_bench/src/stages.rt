@@ -6,7 +6,7 @@ use meta_base::grammar::Rule;
 use meta_base::runtime::Fault;
 use meta_names::validate_pairs;
 use meta_nodes::{ParserRule, erase_spans};
-use meta_optimizer::optimize;
+use meta_optimizer::{concatenate, optimize};
 use meta_reader::parser::consume_rules_with_spans;
 use meta_restorer::restore_rules;
 use meta_stack::validate_stack_repetition;
@@ -28,13 +28,14 @@ pub enum Stage {
     ValidateRules,
     Stack,
     ConsumeRules,
+    Concatenate,
     Optimize,
     Restore,
     Whole,
 }
 
 /// All of them, by the names of their calls, in the order in which a text goes through them.
-pub static STAGES: [(&str, Stage); 10] = [
+pub static STAGES: [(&str, Stage); 11] = [
     ("parse", Stage::Parse),
     ("tokens", Stage::Tokens),
     ("validate_pairs", Stage::ValidatePairs),
@@ -42,6 +43,7 @@ pub static STAGES: [(&str, Stage); 10] = [
     ("validate_rules", Stage::ValidateRules),
     ("stack", Stage::Stack),
     ("consume_rules", Stage::ConsumeRules),
+    ("concatenate", Stage::Concatenate),
     ("optimize", Stage::Optimize),
     ("restore", Stage::Restore),
     ("whole", Stage::Whole),
@@ -58,6 +60,7 @@ pub fn time_of<R: CpuClock + AllocGlobal>(rt: &R, stage: Stage, text: &str) -> R
         Stage::ValidateRules => rules(rt, text),
         Stage::Stack => stack(rt, text),
         Stage::ConsumeRules => accepted(rt, text),
+        Stage::Concatenate => literals(rt, text),
         Stage::Optimize => passes(rt, text),
         Stage::Restore => wrappers(rt, text),
         Stage::Whole => whole(rt, text),
@@ -166,6 +169,19 @@ fn accepted<R: CpuClock + AllocGlobal>(rt: &R, text: &str) -> Result<Duration> {
     let answer = consume_rules(rt.alloc(), pairs);
     let time = since(rt, start);
     ended(answer.map(release), time)
+}
+
+/// `concatenate` alone, on rules as they were read.
+fn literals<R: CpuClock + AllocGlobal>(rt: &R, text: &str) -> Result<Duration> {
+    let rules = rules_of(rt.alloc(), text)?;
+    let mut answers = Vec::new(rt.alloc());
+    let start = rt.thread_cpu_time();
+    for rule in rules {
+        answers.push(concatenate(rt.alloc(), rule)?)?;
+    }
+    let time = since(rt, start);
+    release(answers);
+    time
 }
 
 fn passes<R: CpuClock + AllocGlobal>(rt: &R, text: &str) -> Result<Duration> {

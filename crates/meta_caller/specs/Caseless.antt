@@ -1,5 +1,5 @@
 -- Expressions in which no literal looks at the case of ASCII letters.
-use Rattle.meta_base.specs.Language.Expression.{Expression, Str, Insens, PosPred, NegPred, Seq, Choice, Opt, Rep, RepOnce, RepExact, RepMin, RepMax, RepMinMax, Push}
+use Rattle.meta_base.specs.Language.Expression.{Expression, Str, Insens, PosPred, NegPred, Seq, Choice, Opt, Rep, RepOnce, RepExact, RepMin, RepMax, RepMinMax, Push, NodeTag}
 
 -- the same expression, with `^"a"` for each `"a"`
 abbrev pub caseless : Expression → Expression
@@ -16,4 +16,5 @@ caseless (RepMin e m) = RepMin (caseless e) m
 caseless (RepMax e n) = RepMax (caseless e) n
 caseless (RepMinMax e m n) = RepMinMax (caseless e) m n
 caseless (Push e) = Push (caseless e)
+caseless (NodeTag e t) = NodeTag (caseless e) t
 caseless e = e

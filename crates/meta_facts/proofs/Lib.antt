@@ -4,3 +4,5 @@ pub mod HowTheyAreRewritten
 pub mod LooseOnes
 pub mod WhatPartsDo
 pub mod WhatCounts
+pub mod WhatIsExpected
+pub mod WhatTagsDo

@@ -4,3 +4,5 @@ pub mod SmallRewritings
 pub mod LooseRuns
 pub mod SingleParts
 pub mod FurthestPlaces
+pub mod ExpectedPlaces
+pub mod TagsAndPushes

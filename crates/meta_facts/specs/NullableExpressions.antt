@@ -1,7 +1,7 @@
 -- Which single expressions are nullable, which cannot fail, and which names they left-call.
 use Rattle.std.specs.Prelude.{[], codes}
 use Rattle.meta_base.specs.Language.Text.{Text}
-use Rattle.meta_base.specs.Language.Expression.{Expression, Str, Insens, Ident, PosPred, NegPred, Seq, Opt, RepMin, RepMinMax}
+use Rattle.meta_base.specs.Language.Expression.{Expression, Str, Insens, Ident, PosPred, NegPred, Seq, Opt, RepMin, RepMinMax, PushLiteral, NodeTag}
 use Rattle.meta_base.specs.Language.WellFormed.{IsNullable, CannotFail, LeftCalls}
 
 -- by the rules of IsNullable, where no name is a rule's
@@ -23,6 +23,9 @@ pub record NullableOrNot : Type 0 where
   pub drop : IsNullable [] (Ident (codes "DROP")) → ⊥
   pub peek_all : IsNullable [] (Ident (codes "PEEK_ALL")) → ⊥
   pub pop_all : IsNullable [] (Ident (codes "POP_ALL")) → ⊥
+  pub literal_push : (t : Text) → IsNullable [] (PushLiteral t)
+  pub tagged_empty : (t : Text) → IsNullable [] (NodeTag (Str []) t)
+  pub tagged_literal : (t : Text) → IsNullable [] (NodeTag (Str (codes "x")) t) → ⊥
 
 -- by the rules of CannotFail, where no name is a rule's
 pub record CannotFailOrMay : Type 0 where
@@ -37,12 +40,17 @@ pub record CannotFailOrMay : Type 0 where
   pub two_to_one : CannotFail [] (RepMinMax (Str (codes "x")) 2 1) → ⊥
   pub none_to_one : (e : Expression) → CannotFail [] (RepMinMax e 0 1)
   pub builtin : (n : Text) → CannotFail [] (Ident n) → ⊥
+  pub literal_push : (t : Text) → CannotFail [] (PushLiteral t)
+  pub tagged_empty : (t : Text) → CannotFail [] (NodeTag (Str []) t)
+  pub tagged_literal : (t : Text) → CannotFail [] (NodeTag (Str (codes "x")) t) → ⊥
 
--- below predicates, and behind a left side that is nullable
+-- below predicates and tags, and behind a left side that is nullable
 pub record LeftCalledOrNot : Type 0 where
   pub below_pos_pred : LeftCalls [] (PosPred (Ident (codes "a"))) (codes "a")
   pub below_neg_pred : LeftCalls [] (NegPred (Ident (codes "a"))) (codes "a")
+  pub below_tag : (t : Text) → LeftCalls [] (NodeTag (Ident (codes "a")) t) (codes "a")
   pub behind_optional : LeftCalls [] (Seq (Opt (Str (codes "x"))) (Ident (codes "a"))) (codes "a")
   pub behind_predicate : LeftCalls [] (Seq (NegPred (Str (codes "x"))) (Ident (codes "a"))) (codes "a")
+  pub behind_literal_push : (t : Text) → LeftCalls [] (Seq (PushLiteral t) (Ident (codes "a"))) (codes "a")
   pub behind_literal : LeftCalls [] (Seq (Str (codes "x")) (Ident (codes "a"))) (codes "a") → ⊥
   pub behind_peek : LeftCalls [] (Seq (Ident (codes "PEEK")) (Ident (codes "a"))) (codes "a") → ⊥

@@ -3,9 +3,11 @@ ghost use Rattle.meta_base.specs.Language.State.{Classes};
 ghost use Rattle.meta_facts.specs.SmallGrammars.{ListingDiffers, BlankIsTaken, HasNone, ReadsEmptyStack, OrdersOfTheStack, NegativeSlices, TokensOfAtomicRules, PredicateRestores, PushPushes, Skips, Newlines, RangesThatFail, BlankGivesToken, NonAtomicInside, LastRuleIsMeant, OtherReadings, ReadsTheTop, EmptiesTheStack, NegativePredicates, Alternatives, CommentsAreSkipped, UndefinedNames, LoudBlanks, SlicesPastTheLength, TokensOfTheEnd, CompoundInsideAtomic, CompoundComments};
 ghost use Rattle.meta_facts.specs.SingleParts.{OnlyAtTheStart, HexDigits, AsksTheSet, TwoCopies, Options, LaterTurnsFail};
 ghost use Rattle.meta_facts.specs.FurthestPlaces.{CountsUnderPredicate, CountsByMode, CountsWhenGivenUp};
+ghost use Rattle.meta_facts.specs.ExpectedPlaces.{NoneBelowNot, NoneInAtomic, TellsAll, TellsTheOuter};
 ghost use Rattle.meta_facts.specs.NullableExpressions.{NullableOrNot, CannotFailOrMay, LeftCalledOrNot};
 ghost use Rattle.meta_facts.specs.SmallRewritings.{ListingIsComputed, StringsOfNames};
 ghost use Rattle.meta_facts.specs.LooseRuns.{FailuresLose, GoesOnFromWhatIsLeft, RepeatsInBoth};
+ghost use Rattle.meta_facts.specs.TagsAndPushes.{LiteralPushes, TagsMeanNothing};
 
 /// `r = ${ ("a" ~ "b")* ~ "a" }` and its listed form differ on `ab`: the first fails, the second ends at 1.
 pub fn listing_differs()
@@ -233,4 +235,37 @@ pub fn counts_by_mode()
 /// A failure in an alternative that was given up counts.
 pub fn counts_when_given_up()
     ensures { (classes : Classes) → CountsWhenGivenUp classes }
+{}
+
+/// Of two calls that failed at one place, one within the other, the outer is expected; a silent rule tells what is
+/// called in it.
+pub fn tells_the_outer()
+    ensures { (classes : Classes) → TellsTheOuter classes }
+{}
+
+/// All calls that failed at the furthest place are expected, in their order, `EOI` among them.
+pub fn tells_all()
+    ensures { (classes : Classes) → TellsAll classes }
+{}
+
+/// What failed below a `!` is not expected, so that nothing may be; what failed below a `&` is.
+pub fn none_below_not()
+    ensures { (classes : Classes) → NoneBelowNot classes }
+{}
+
+/// What is called in Atomic is not expected.
+pub fn none_in_atomic()
+    ensures { (classes : Classes) → NoneInAtomic classes }
+{}
+
+/// `PUSH_LITERAL("x")` pushes `x` and takes nothing, wherever it stands, and has no other outcome; it gives
+/// no tree.
+pub fn literal_pushes()
+    ensures { (classes : Classes) → LiteralPushes classes }
+{}
+
+/// `#t = e` has the outcomes of `e` and no others, with the same trees, and what is expected in it is
+/// expected.
+pub fn tags_mean_nothing()
+    ensures { (classes : Classes) → TagsMeanNothing classes }
 {}

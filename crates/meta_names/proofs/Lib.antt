@@ -1,3 +1,4 @@
+pub mod InText
 pub mod Names
 pub mod Places
 pub mod Trees

@@ -1,7 +1,8 @@
 -- Places, one after another, and the names that were met.
-use Rattle.std.proofs.Common.{Result, Ok, Err, OnOk, ◌≡◌, ◌<◌, ◌≤◌, ◌+◌, List, [], ◌∷◌, ◌++◌, ℕ, Bool, true, false, not, cond, map, length, drop, get_or, refl, sym, ap, Bor, ◌∙◌, add-one, drop-cons, append_assoc}
-use Rattle.std.specs.Prelude.{bytes_eq, ◌||◌, filter}
+use Rattle.std.proofs.Common.{arith, Result, Ok, Err, OnOk, ◌≡◌, ◌<◌, ◌≤◌, ◌+◌, List, [], ◌∷◌, ◌++◌, ℕ, Bool, true, false, not, cond, map, length, drop, get_or, refl, sym, ap, Bor, ◌∙◌, add-one, drop-cons, append_assoc}
+use Rattle.std.specs.Prelude.{◌==◌, bytes_eq, ◌||◌, filter}
 use Rattle.std.specs.HashSet as bag
+use Rattle.std.proofs.lemmas.Bool.Decides.{nat_tests}
 use Rattle.std.proofs.lemmas.List.{map-append, drop_all}
 use Rattle.meta_base.specs.Language.Text.{Text}
 use Rattle.meta_base.specs.Language.Builtins.{is_one_of}
@@ -127,6 +128,11 @@ pub told_more : (before after : Text) (all : List Complaint) (rest others : List
     → ((more : List (Error Rule)) → Tell (said before after rest) more → Tell all (errors ++ more))
     → (more : List (Error Rule)) → Tell (said before after others) more → Tell all ((errors ++ e ∷ []) ++ more)
 told_more before after all rest others x errors e left s told more t = rw append_assoc (told (e ∷ more) (rw left (s, t)))
+
+-- where there is no place, nothing is said
+pub nothing_said : (before after : Text) (places : List code.Span) → (length places == 0) ≡ true → Tell (said before after (map piece_of places)) []
+nothing_said before after [] e = tt
+nothing_said before after (x ∷ places) e = absurd (grind (arith, nat_tests, e))
 
 -- errors that tell one thing after another
 pub tell_both : (xs ys : List Complaint) (es fs : List (Error Rule)) → Tell xs es → Tell ys fs → Tell (xs ++ ys) (es ++ fs)

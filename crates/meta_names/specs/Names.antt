@@ -1,5 +1,5 @@
 -- The names that no rule may have, and the names that some places write.
-use Rattle.std.specs.Prelude.{List, [], ◌∷◌, ◌++◌, Bool, not, ◌&&◌, if◌then◌else◌, is_some, map, filter, codes}
+use Rattle.std.specs.Prelude.{◌≡◌, ⊤, ℕ, List, [], ◌∷◌, ◌++◌, Bool, not, ◌&&◌, if◌then◌else◌, is_some, map, filter, codes}
 use Rattle.meta_base.specs.Language.Text.{Text}
 use Rattle.meta_base.specs.Language.Builtins.{is_one_of, builtin_of}
 use Rattle.meta_base.specs.Language.Grammar.{keywords}
@@ -21,6 +21,11 @@ rust_keywords =
 -- a grammar need not define it
 abbrev pub is_builtin : Text → Bool
 is_builtin name = is_some (builtin_of name)
+
+-- all these places are in this text
+abbrev pub AreIn : List ℕ → List Span → Type 0
+AreIn text [] = ⊤
+AreIn text (place ∷ places) = (place.text ≡ text) × AreIn text places
 
 -- the places whose names are among these
 abbrev pub places_of : List Text → List Span → List Span

@@ -1,9 +1,9 @@
 //! Names that no rule may have, and names that are defined twice.
 ghost use Rattle.std.specs.Prelude.{[], ◌≡◌, IfErr, IfOk, alloc_error, map};
 ghost use Rattle.meta_base.specs.Pieces.Saying.{Tell, piece_of};
-ghost use Rattle.meta_names.specs.Names.{duplicate_complaints, later_places, pest_keyword_complaints, places_of, rust_keyword_complaints};
+ghost use Rattle.meta_names.specs.Names.{AreIn, duplicate_complaints, later_places, pest_keyword_complaints, places_of, rust_keyword_complaints};
 
-use crate::said::errors;
+use crate::said::{errors, errors_in};
 use crate::tables::{is_among, pest_keywords, rust_keywords};
 use meta_base::grammar::Rule;
 use meta_base::runtime::{Error, Fault, Span};
@@ -50,6 +50,36 @@ pub fn validate_already_defined(
 {
     let again = later(alloc, definitions).map_err(Fault::Memory)?;
     errors(alloc, "rule ", " already defined", &again)
+}
+
+/// The errors of `validate_pest_keywords`, of definitions that are all in one text.
+pub(crate) fn pest_keywords_in(
+    alloc: Global,
+    text: &str,
+    definitions: &Vec<Span<'_>>,
+) -> Result<Vec<Error<Rule>>, Fault>
+    requires in_text { AreIn text.now (map piece_of definitions.now.items) }
+    ensures told { let places = map piece_of definitions.now.items in
+        IfOk result (λ errors. Tell (pest_keyword_complaints places) errors.items) }
+    ensures memory { IfErr result (λ fault. fault ≡ Fault.Memory alloc_error) }
+{
+    let found = places_of(alloc, pest_keywords(), definitions).map_err(Fault::Memory)?;
+    errors_in(alloc, text, "", " is a pest keyword", &found)
+}
+
+/// The errors of `validate_already_defined`, of definitions that are all in one text.
+pub(crate) fn already_defined_in(
+    alloc: Global,
+    text: &str,
+    definitions: &Vec<Span<'_>>,
+) -> Result<Vec<Error<Rule>>, Fault>
+    requires in_text { AreIn text.now (map piece_of definitions.now.items) }
+    ensures told { let places = map piece_of definitions.now.items in
+        IfOk result (λ errors. Tell (duplicate_complaints places) errors.items) }
+    ensures memory { IfErr result (λ fault. fault ≡ Fault.Memory alloc_error) }
+{
+    let found = later(alloc, definitions).map_err(Fault::Memory)?;
+    errors_in(alloc, text, "rule ", " already defined", &found)
 }
 
 /// Those of these places whose name stands at a place before them, in their order.

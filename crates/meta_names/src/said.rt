@@ -1,10 +1,12 @@
 //! The errors that say the same of several names.
 ghost use Rattle.std.specs.Prelude.{◌++◌, ◌≡◌, IfErr, IfOk, alloc_error, map};
 ghost use Rattle.meta_base.specs.Pieces.Saying.{SaysAt, Tell, piece_of, written};
-ghost use Rattle.meta_names.specs.Names.{said};
+ghost use Rattle.meta_base.specs.Pieces.Span.{span_text};
+ghost use Rattle.meta_base.specs.Pieces.Survey.{survey_text};
+ghost use Rattle.meta_names.specs.Names.{AreIn, said};
 
 use meta_base::grammar::Rule;
-use meta_base::runtime::{Error, ErrorVariant, Fault, Span};
+use meta_base::runtime::{Error, ErrorVariant, Fault, Span, Survey};
 use std::alloc::{AllocError, Global};
 
 /// The error that says the name at a place, between `before` and `after`. The only fault is a want of
@@ -34,6 +36,54 @@ pub(crate) fn errors(
     let mut errors = Vec::new(alloc);
     for place in places {
         let error = error(alloc, before, after, *place)?;
+        match errors.push(error) {
+            Ok(()) => {}
+            Err(_) => return Err(Fault::Memory(AllocError)),
+        }
+    }
+    Ok(errors)
+}
+
+/// The error that says the name at a place of a text that was surveyed, between `before` and `after`. The
+/// only fault is a want of memory.
+fn error_in(
+    alloc: Global,
+    survey: &mut Survey<'_>,
+    before: &str,
+    after: &str,
+    place: Span<'_>,
+) -> Result<Error<Rule>, Fault>
+    requires in_text { span_text place ≡ survey_text survey.old }
+    ensures says { IfOk result
+        (SaysAt (before.now ++ written (piece_of place.entry) ++ after.now) (piece_of place.entry)) }
+    ensures memory { IfErr result (λ fault. fault ≡ Fault.Memory alloc_error) }
+    ensures survey { survey_text survey.new ≡ survey_text survey.old }
+{
+    let name = place.as_str();
+    let message = format!(in alloc; "{before}{name}{after}").map_err(Fault::Memory)?;
+    Error::new_in_survey(alloc, ErrorVariant::CustomError { message }, survey, place)
+}
+
+/// The errors of `errors` where all places are in one text, which is walked over once.
+pub(crate) fn errors_in(
+    alloc: Global,
+    text: &str,
+    before: &str,
+    after: &str,
+    places: &[Span<'_>],
+) -> Result<Vec<Error<Rule>>, Fault>
+    requires in_text { AreIn text.now (map piece_of places.now) }
+    ensures told { IfOk result (λ errors.
+        Tell (said before.now after.now (map piece_of places.now)) errors.items) }
+    ensures memory { IfErr result (λ fault. fault ≡ Fault.Memory alloc_error) }
+{
+    let mut errors = Vec::new(alloc);
+    if places.is_empty() {
+        return Ok(errors);
+    }
+    let mut survey = Survey::new(alloc, text).map_err(Fault::Memory)?;
+    for place in places {
+        let error = error_in(alloc, &mut survey, before, after, *place)?;
         match errors.push(error) {
             Ok(()) => {}
             Err(_) => return Err(Fault::Memory(AllocError)),

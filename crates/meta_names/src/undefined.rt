@@ -2,9 +2,9 @@
 ghost use Rattle.std.specs.Prelude.{◌≡◌, IfErr, IfOk, alloc_error, filter, map};
 ghost use Rattle.meta_base.specs.Pieces.Saying.{Tell, piece_of, written};
 ghost use Rattle.meta_names.specs.NameSets.{HasNames, is_outside, is_unknown};
-ghost use Rattle.meta_names.specs.Names.{undefined_calls, undefined_complaints};
+ghost use Rattle.meta_names.specs.Names.{AreIn, undefined_calls, undefined_complaints};
 
-use crate::said::errors;
+use crate::said::{errors, errors_in};
 use crate::tables::is_builtin;
 use meta_base::grammar::Rule;
 use meta_base::runtime::{Error, Fault, Span};
@@ -25,6 +25,23 @@ pub fn validate_undefined<'i>(
 {
     let undefined = undefined(alloc, definitions, called).map_err(Fault::Memory)?;
     errors(alloc, "rule ", " is undefined", &undefined)
+}
+
+/// The errors of `validate_undefined`, of calls that are all in one text.
+pub(crate) fn undefined_in<'i>(
+    alloc: Global,
+    text: &str,
+    definitions: &Vec<Span<'i>>,
+    called: &Vec<Span<'i>>,
+) -> Result<Vec<Error<Rule>>, Fault>
+    requires in_text { AreIn text.now (map piece_of called.now.items) }
+    ensures told { IfOk result (λ errors.
+        Tell (undefined_complaints (map piece_of definitions.now.items) (map piece_of called.now.items))
+        errors.items) }
+    ensures memory { IfErr result (λ fault. fault ≡ Fault.Memory alloc_error) }
+{
+    let found = undefined(alloc, definitions, called).map_err(Fault::Memory)?;
+    errors_in(alloc, text, "rule ", " is undefined", &found)
 }
 
 /// Those of the calls whose name is neither that of a definition nor a builtin's, in their order.

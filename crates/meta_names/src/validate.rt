@@ -1,11 +1,12 @@
 //! The names of a whole grammar.
 ghost use Rattle.std.specs.Prelude.{[], ◌≡◌, IfErr, IfOk, OnOk, alloc_error, map};
 ghost use Rattle.meta_base.specs.Pieces.Saying.{Tell, piece_of};
+ghost use Rattle.meta_names.specs.Names.{AreIn};
 ghost use Rattle.meta_names.specs.GrammarNames.{AreWrittenAt, IsNameRefusal, complaints_of, first_calls, first_calls_of, name_complaints};
 
 use crate::found;
-use crate::keywords::{validate_already_defined, validate_pest_keywords};
-use crate::undefined::{names, validate_undefined};
+use crate::keywords::{already_defined_in, pest_keywords_in};
+use crate::undefined::{names, undefined_in};
 use meta_base::grammar::Rule;
 use meta_base::runtime::{Error, Fault, Pairs, Span};
 use std::alloc::{AllocError, Global};
@@ -30,28 +31,31 @@ pub fn validate_pairs<'i>(alloc: Global, pairs: Pairs<'i, Rule>) -> Result<Vec<&
     let trees = pairs.trees();
     let definitions = found::definitions(alloc, text, trees).map_err(Fault::Memory)?;
     let calls = found::calls(alloc, text, trees).map_err(Fault::Memory)?;
-    let errors = name_errors(alloc, &definitions, &calls)?;
+    let errors = name_errors(alloc, text, &definitions, &calls)?;
     if !errors.is_empty() {
         return Err(Fault::Grammar(errors));
     }
     first_calls(alloc, &definitions, &calls).map_err(Fault::Memory)
 }
 
-/// The errors that tell of the names of these definitions and calls: of keywords, then of duplicates, then
-/// of undefined names. The only fault is a want of memory.
+/// The errors that tell of the names of these definitions and calls, all in one text: of keywords, then of
+/// duplicates, then of undefined names. The only fault is a want of memory.
 fn name_errors<'i>(
     alloc: Global,
+    text: &'i str,
     definitions: &Vec<Span<'i>>,
     calls: &Vec<Span<'i>>,
 ) -> Result<Vec<Error<Rule>>, Fault>
+    requires definitions_in_text { AreIn text.now (map piece_of definitions.now.items) }
+    requires calls_in_text { AreIn text.now (map piece_of calls.now.items) }
     ensures told { IfOk result (λ errors.
         Tell (name_complaints (map piece_of definitions.now.items) (map piece_of calls.now.items))
         errors.items) }
     ensures memory { IfErr result (λ fault. fault ≡ Fault.Memory alloc_error) }
 {
-    let mut errors = validate_pest_keywords(alloc, definitions)?;
-    let mut duplicates = validate_already_defined(alloc, definitions)?;
-    let mut undefined = validate_undefined(alloc, definitions, calls)?;
+    let mut errors = pest_keywords_in(alloc, text, definitions)?;
+    let mut duplicates = already_defined_in(alloc, text, definitions)?;
+    let mut undefined = undefined_in(alloc, text, definitions, calls)?;
     errors.append(&mut duplicates).map_err(Fault::Memory)?;
     errors.append(&mut undefined).map_err(Fault::Memory)?;
     Ok(errors)

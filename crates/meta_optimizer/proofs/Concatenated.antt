@@ -4,14 +4,17 @@ use Rattle.std.proofs.lemmas.List.{append_assoc, append-nil}
 use Rattle.std.specs.declared.string.String.{String}
 use Rattle.meta_ast.specs.Ast.{expression_of, text_of}
 use Rattle.meta_ast.specs.declared.ast.Expr.{Expr, Str, Insens, Range, Ident, PeekSlice, PosPred', NegPred', Seq', Choice', Opt', Rep', RepOnce', RepExact', RepMin', RepMax', RepMinMax', Skip, Push'}
-use Rattle.meta_optimizer.specs.Joined.{backwards, concatenated}
+use Rattle.meta_optimizer.specs.Joined.{concatenated, in_order}
 use Rattle.meta_optimizer.specs.Traversals as trav
 use Rattle.meta_optimizer.specs.Traversals.{BottomUp}
 use Rattle.meta_optimizer.proofs.Joining.{Joined}
 
-pub backwards_last : (xs : List (String Global)) (y : String Global) → backwards (xs ++ y ∷ []) ≡ text_of y ++ backwards xs
-backwards_last [] y = sym (append-nil (text_of y))
-backwards_last (x ∷ xs) y = ap (λ t. t ++ text_of x) (backwards_last xs y) ∙ append_assoc (text_of y) (backwards xs) (text_of x)
+pub in_order_both : (xs ys : List (String Global)) → in_order (xs ++ ys) ≡ in_order xs ++ in_order ys
+in_order_both [] ys = refl
+in_order_both (x ∷ xs) ys = ap (λ t. text_of x ++ t) (in_order_both xs ys) ∙ sym (append_assoc (text_of x) (in_order xs) (in_order ys))
+
+pub in_order_last : (xs : List (String Global)) (y : String Global) → in_order (xs ++ y ∷ []) ≡ in_order xs ++ text_of y
+in_order_last xs y = in_order_both xs (y ∷ []) ∙ ap (λ t. in_order xs ++ t) (append-nil (text_of y))
 
 pub from_the_leaves : (x : Expr) → BottomUp Joined (expression_of x) (concatenated (expression_of x))
 from_the_leaves (Str s) = trav.left (trav.Above.leaf tt) refl

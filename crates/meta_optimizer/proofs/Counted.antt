@@ -3,7 +3,7 @@ use Rattle.std.proofs.Common.{ℕ, ◌<◌, List, [], ◌∷◌, length, get_or}
 use Rattle.std.specs.List.{All}
 use Rattle.std.proofs.lemmas.List.{get_or-map, length-map}
 use Rattle.std.proofs.lemmas.List.Elements.{All-nil, All-cons, All-map, All-contains}
-use Rattle.meta_base.specs.Language.Expression.{Expression, Str, Insens, Range, Ident, PeekSlice, PosPred, NegPred, Seq, Choice, Opt, Rep, RepOnce, RepExact, RepMin, RepMax, RepMinMax, Skip, Push, RestoreOnErr, Rule, Grammar, whole, of_pos_pred, of_neg_pred, of_seq_left, of_seq_right, of_choice_left, of_choice_right, of_opt, of_rep, of_rep_once, of_rep_exact, of_rep_min, of_rep_max, of_rep_min_max, of_push, of_restore}
+use Rattle.meta_base.specs.Language.Expression.{Expression, Str, Insens, Range, Ident, PeekSlice, PosPred, NegPred, Seq, Choice, Opt, Rep, RepOnce, RepExact, RepMin, RepMax, RepMinMax, Skip, Push, RestoreOnErr, Rule, Grammar, whole, of_pos_pred, of_neg_pred, of_seq_left, of_seq_right, of_choice_left, of_choice_right, of_opt, of_rep, of_rep_once, of_rep_exact, of_rep_min, of_rep_max, of_rep_min_max, of_push, of_restore, PushLiteral, NodeTag, of_tag}
 use Rattle.meta_base.specs.Language.WellFormed.{CountIsReadable, HasReadableCounts}
 use Rattle.meta_base.proofs.SomeRule.{each_rule}
 use Rattle.meta_ast.specs.Ast.{expression_of, rule_of_code, rules_of}
@@ -21,6 +21,7 @@ at_root (Range s t) u = tt
 at_root (Ident s) u = tt
 at_root (PeekSlice i j) u = tt
 at_root (Skip ss) u = tt
+at_root (PushLiteral s) u = tt
 at_root (PosPred e) u = tt
 at_root (NegPred e) u = tt
 at_root (Seq a b) u = tt
@@ -30,6 +31,7 @@ at_root (Rep e) u = tt
 at_root (RepOnce e) u = tt
 at_root (RepMin e i) u = tt
 at_root (Push e) u = tt
+at_root (NodeTag e t) u = tt
 at_root (RestoreOnErr e) u = tt
 
 pub everywhere : (e : Expression) → PartsAreReadable e → CountsAreReadable e
@@ -48,6 +50,7 @@ everywhere (RepMin e i) u p (of_rep_min k) = everywhere e u p k
 everywhere (RepMax e i) u p (of_rep_max k) = everywhere e u.1 p k
 everywhere (RepMinMax e i j) u p (of_rep_min_max k) = everywhere e u.1 p k
 everywhere (Push e) u p (of_push k) = everywhere e u p k
+everywhere (NodeTag e t) u p (of_tag k) = everywhere e u p k
 everywhere (RestoreOnErr e) u p (of_restore k) = everywhere e u p k
 
 pub by_parts : (e : Expression) → CountsAreReadable e → PartsAreReadable e
@@ -63,6 +66,7 @@ by_parts (Rep e) f = by_parts e (λ p k. f p (of_rep k))
 by_parts (RepOnce e) f = by_parts e (λ p k. f p (of_rep_once k))
 by_parts (RepMin e i) f = by_parts e (λ p k. f p (of_rep_min k))
 by_parts (Push e) f = by_parts e (λ p k. f p (of_push k))
+by_parts (NodeTag e t) f = by_parts e (λ p k. f p (of_tag k))
 by_parts (RestoreOnErr e) f = by_parts e (λ p k. f p (of_restore k))
 by_parts (Str s) f = tt
 by_parts (Insens s) f = tt
@@ -70,6 +74,7 @@ by_parts (Range s t) f = tt
 by_parts (Ident s) f = tt
 by_parts (PeekSlice i j) f = tt
 by_parts (Skip ss) f = tt
+by_parts (PushLiteral s) f = tt
 
 -- in each rule of code
 abbrev pub RuleIsReadable : code_rule.Rule → Type 0
@@ -96,7 +101,7 @@ each_readable rs i d h u =
     let f = readable_in_each (rules_of rs) u i (rule_of_code d) (rw length-map h) in
     by_parts (expression_of (get_or rs i d).expr) (rw at at f)
 
--- where only `*` is left of repetitions, nothing is counted
+-- where no counted repetition is left, nothing is counted
 uncounted : (e : Expression) → IsUnrolled e → PartsAreReadable e
 uncounted (PosPred e) u = uncounted e u
 uncounted (NegPred e) u = uncounted e u
@@ -104,7 +109,9 @@ uncounted (Seq a b) u = (uncounted a u.0, uncounted b u.1)
 uncounted (Choice a b) u = (uncounted a u.0, uncounted b u.1)
 uncounted (Opt e) u = uncounted e u
 uncounted (Rep e) u = uncounted e u
+uncounted (RepOnce e) u = uncounted e u
 uncounted (Push e) u = uncounted e u
+uncounted (NodeTag e t) u = uncounted e u
 uncounted (RestoreOnErr e) u = uncounted e u
 uncounted (Str s) u = tt
 uncounted (Insens s) u = tt
@@ -112,6 +119,7 @@ uncounted (Range s t) u = tt
 uncounted (Ident s) u = tt
 uncounted (PeekSlice i j) u = tt
 uncounted (Skip ss) u = tt
+uncounted (PushLiteral s) u = tt
 uncounted _ u = absurd u
 
 each_uncounted : (g : Grammar) → AreUnrolled g → All BodyIsReadable g

@@ -1,11 +1,12 @@
 -- What is rotated at each node from the root down is rotated everywhere.
 use Rattle.std.proofs.Common.{◌≡◌, refl, ℕ, Box, Global}
-use Rattle.meta_base.specs.Language.Expression.{Expression, whole}
+use Rattle.meta_base.specs.Language.Text.{Text}
+use Rattle.meta_base.specs.Language.Expression.{Expression, whole, of_tag}
 use Rattle.meta_base.specs.Language.Expression as e
 use Rattle.meta_ast.specs.Ast.{expression_of}
 use Rattle.meta_ast.specs.declared.ast.Expr.{Expr, Seq', Choice'}
 use Rattle.meta_ast.specs.declared.ast.Expr.TheVariants.{Seq, Choice}
-use Rattle.meta_base.specs.Rewritings.Rewriting.{Rotates, rotate_sequence, rotate_choice, here, in_seq_left, in_seq_right, in_choice_left, in_choice_right, Many, no_step, one_step, Nowhere, IsDone}
+use Rattle.meta_base.specs.Rewritings.Rewriting.{Rotates, rotate_sequence, rotate_choice, here, in_seq_left, in_seq_right, in_choice_left, in_choice_right, Many, no_step, one_step, Nowhere, IsDone, in_tag}
 use Rattle.meta_base.proofs.RewritingAnywhere as anywhere
 use Rattle.meta_optimizer.specs.Here.{Exhausted, stop, again}
 use Rattle.meta_optimizer.specs.Traversals.{HasNoOperands, TopDown, met, Below}
@@ -44,6 +45,13 @@ rep_min_max d = anywhere.done_rep_min_max Rotates (λ q r. elim r [ ]) d
 
 pub push : {a b : Expression} → Rotated a b → Rotated (e.Push a) (e.Push b)
 push d = anywhere.done_push Rotates (λ q r. elim r [ ]) d
+
+pub tag : {a b : Expression} {t : Text} → Rotated a b → Rotated (e.NodeTag a t) (e.NodeTag b t)
+tag {b = b} {t = t} d = record { reached = anywhere.along Rotates (λ x. e.NodeTag x t) (λ x y w. in_tag w) d.reached; nowhere = at }
+  where
+    at : Nowhere Rotates (e.NodeTag b t)
+    at p q whole r = elim r [ ]
+    at p q (of_tag k) r = d.nowhere p q k r
 
 -- 2. a `~` or `|` whose left side is none: rotations of the left side keep it so
 pub data IsSequence : Expression → Type 0 where
@@ -101,6 +109,7 @@ leaf (e.Range s u) h p q whole r = elim r [ ]
 leaf (e.Ident s) h p q whole r = elim r [ ]
 leaf (e.PeekSlice m n) h p q whole r = elim r [ ]
 leaf (e.Skip ss) h p q whole r = elim r [ ]
+leaf (e.PushLiteral s) h p q whole r = elim r [ ]
 leaf (e.PosPred x) h p q k r = absurd h
 leaf (e.NegPred x) h p q k r = absurd h
 leaf (e.Seq a b) h p q k r = absurd h
@@ -113,6 +122,7 @@ leaf (e.RepMin x i) h p q k r = absurd h
 leaf (e.RepMax x i) h p q k r = absurd h
 leaf (e.RepMinMax x i j) h p q k r = absurd h
 leaf (e.Push x) h p q k r = absurd h
+leaf (e.NodeTag x t) h p q k r = absurd h
 leaf (e.RestoreOnErr x) h p q k r = absurd h
 
 mutual
@@ -133,6 +143,7 @@ mutual
   below (trav.Below.rep_max d) n = rep_max (rotated d)
   below (trav.Below.rep_min_max d) n = rep_min_max (rotated d)
   below (trav.Below.push d) n = push (rotated d)
+  below (trav.Below.tag d) n = tag (rotated d)
 
 -- what does not turn at its root
 abbrev Boxed : Type 0

@@ -7,7 +7,7 @@ use Rattle.std.specs.declared.alloc.AllocError.{AllocError}
 use Rattle.std.specs.declared.string.String.{String}
 use Rattle.std.specs.declared.vec.Vec.{Vec}
 use Rattle.meta_base.specs.Language.Text.{Text}
-use Rattle.meta_base.specs.Language.Expression.{Expression, Ident, NegPred, Seq, Choice, Rep, Skip, Atomic, Rule, Grammar, Part, whole, of_pos_pred, of_neg_pred, of_seq_left, of_seq_right, of_choice_left, of_choice_right, of_opt, of_rep, of_rep_once, of_rep_exact, of_rep_min, of_rep_max, of_rep_min_max, of_push, of_restore}
+use Rattle.meta_base.specs.Language.Expression.{Expression, Ident, NegPred, Seq, Choice, Rep, Skip, Atomic, Rule, Grammar, Part, whole, of_pos_pred, of_neg_pred, of_seq_left, of_seq_right, of_choice_left, of_choice_right, of_opt, of_rep, of_rep_once, of_rep_exact, of_rep_min, of_rep_max, of_rep_min_max, of_push, of_restore, of_tag}
 use Rattle.meta_base.specs.Rewritings.Rewriting.{Many, no_step, one_step, here, Strings, more, SkipsUntil, skip_until, IsDone, Rewrites, by_skipping, Chain, done}
 use Rattle.meta_base.proofs.StepsKeepOutcomes.{each_body}
 use Rattle.meta_base.proofs.PassesAreChains.{pass}
@@ -43,6 +43,7 @@ module _ (R S : Expression → Expression → Type 0) (f : (a b : Expression) �
     mapped_below (trav.Below.rep_max d) = trav.Below.rep_max (mapped d)
     mapped_below (trav.Below.rep_min_max d) = trav.Below.rep_min_max (mapped d)
     mapped_below (trav.Below.push d) = trav.Below.push (mapped d)
+    mapped_below (trav.Below.tag d) = trav.Below.tag (mapped d)
 
 module _ (g : Grammar) where
   abbrev Here : Expression → Expression → Type 0
@@ -102,6 +103,7 @@ module _ (g : Grammar) where
   at_leaf h n (of_rep_max k) s = h
   at_leaf h n (of_rep_min_max k) s = h
   at_leaf h n (of_push k) s = h
+  at_leaf h n (of_tag k) s = h
   at_leaf h n (of_restore k) s = h
 
   mutual
@@ -126,6 +128,7 @@ module _ (g : Grammar) where
     below (trav.Below.rep_max d) n p q (of_rep_max k) s = nowhere d p q k s
     below (trav.Below.rep_min_max d) n p q (of_rep_min_max k) s = nowhere d p q k s
     below (trav.Below.push d) n p q (of_push k) s = nowhere d p q k s
+    below (trav.Below.tag d) n p q (of_tag k) s = nowhere d p q k s
     below _ n p q whole s = elim s [ ]
 
   pub all_done : {a b : Expression} → TopDown Here a b → IsDone (SkipsUntil g Atomic) a b

@@ -34,6 +34,7 @@ fewer (e.RepMin a i) = omega arith
 fewer (e.RepMax a i) = omega arith
 fewer (e.RepMinMax a i j) = omega arith
 fewer (e.Push a) = omega arith
+fewer (e.NodeTag a t) = omega arith
 fewer (e.Seq a b) = omega arith
 fewer (e.Choice a b) = omega arith
 fewer (e.RestoreOnErr a) = omega arith

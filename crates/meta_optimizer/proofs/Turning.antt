@@ -8,7 +8,7 @@ use Rattle.std.specs.declared.string.String.{String}
 use Rattle.meta_base.specs.Language.Text.{Text}
 use Rattle.meta_base.specs.Language.Expression as e
 use Rattle.meta_base.specs.Language.Expression.{Expression, RuleType, Atomic, Rule, Grammar, Part, whole, of_pos_pred, of_neg_pred, of_seq_left, of_seq_right, of_choice_left, of_choice_right, of_opt, of_rep, of_rep_once, of_rep_exact, of_rep_min, of_rep_max, of_rep_min_max, of_push}
-use Rattle.meta_base.specs.Rewritings.Rewriting.{Within, here, in_pos_pred, in_neg_pred, in_seq_left, in_seq_right, in_choice_left, in_choice_right, in_opt, in_rep, in_rep_once, in_rep_exact, in_rep_min, in_rep_max, in_rep_min_max, in_push, in_restore, Many, no_step, one_step, IsDone, Rotates, rotate_sequence, rotate_choice, SkipsUntil, skip_until}
+use Rattle.meta_base.specs.Rewritings.Rewriting.{Within, here, in_pos_pred, in_neg_pred, in_seq_left, in_seq_right, in_choice_left, in_choice_right, in_opt, in_rep, in_rep_once, in_rep_exact, in_rep_min, in_rep_max, in_rep_min_max, in_push, in_restore, Many, no_step, one_step, IsDone, Rotates, rotate_sequence, rotate_choice, SkipsUntil, skip_until, in_tag}
 use Rattle.meta_ast.specs.Ast.{expression_of, rule_type_of}
 use Rattle.meta_ast.specs.declared.ast.Expr.{Expr, Str, Insens, Range, Ident, PeekSlice, PosPred', NegPred', Seq', Choice', Opt', Rep', RepOnce', RepExact', RepMin', RepMax', RepMinMax', Skip, Push'}
 use Rattle.meta_ast.specs.declared.ast.RuleType as code
@@ -61,6 +61,7 @@ rotated (in_rep_min w) (r, h) = (r, rotated w h)
 rotated (in_rep_max w) (r, h) = (r, rotated w h)
 rotated (in_rep_min_max w) (r, h) = (r, rotated w h)
 rotated (in_push w) (r, h) = (r, rotated w h)
+rotated (in_tag w) (r, h) = (r, rotated w h)
 
 pub by_rotations : {a b : Expression} → Many Rotates a b → HasNoTurn a → HasNoTurn b
 by_rotations no_step h = h
@@ -162,6 +163,7 @@ nothing_within n (in_rep_min w) = nothing_within n w
 nothing_within n (in_rep_max w) = nothing_within n w
 nothing_within n (in_rep_min_max w) = nothing_within n w
 nothing_within n (in_push w) = nothing_within n w
+nothing_within n (in_tag w) = nothing_within n w
 nothing_within n (in_restore w) = nothing_within n w
 
 unmoved : {R : Expression → Expression → Type 0} → ((a b : Expression) → R a b → ⊥) → {a b : Expression} → Many R a b → b ≡ a

@@ -1,9 +1,9 @@
 -- What is unrolled stays unrolled by the passes behind, and has no wrapper where it is read.
 use Rattle.std.proofs.Common.{Bool, true, false, if◌then◌else◌}
-use Rattle.meta_base.specs.Language.Expression.{Expression, RuleType, Str, Insens, Range, Ident, PeekSlice, PosPred, NegPred, Seq, Choice, Opt, Rep, Skip, Push, RestoreOnErr}
+use Rattle.meta_base.specs.Language.Expression.{Expression, RuleType, Str, Insens, Range, Ident, PeekSlice, PosPred, NegPred, Seq, Choice, Opt, Rep, RepOnce, Skip, Push, RestoreOnErr, PushLiteral, NodeTag}
 use Rattle.meta_base.specs.Rewritings.Equality.{expression_eq}
 use Rattle.meta_base.specs.Rewritings.Listing.{listed, listed_sequence}
-use Rattle.meta_base.specs.Rewritings.Rewriting.{Within, here, in_pos_pred, in_neg_pred, in_seq_left, in_seq_right, in_choice_left, in_choice_right, in_opt, in_rep, in_push, in_restore, Many, no_step, one_step, Joins, join_literals, join_insensitive, Factors, factor_prefix, factor_optional, factor_optional_compound, factor_absorbed}
+use Rattle.meta_base.specs.Rewritings.Rewriting.{Within, here, in_pos_pred, in_neg_pred, in_seq_left, in_seq_right, in_choice_left, in_choice_right, in_opt, in_rep, in_rep_once, in_push, in_restore, Many, no_step, one_step, Joins, join_literals, join_insensitive, Factors, factor_prefix, factor_optional, factor_optional_compound, factor_absorbed, in_tag}
 use Rattle.meta_optimizer.specs.Unrolled.{IsUnrolled}
 
 module _ (R : Expression → Expression → Type 0) (root : (a b : Expression) → R a b → IsUnrolled a → IsUnrolled b) where
@@ -17,7 +17,9 @@ module _ (R : Expression → Expression → Type 0) (root : (a b : Expression) �
   within (in_choice_right w) u = (u.0, within w u.1)
   within (in_opt w) u = within w u
   within (in_rep w) u = within w u
+  within (in_rep_once w) u = within w u
   within (in_push w) u = within w u
+  within (in_tag w) u = within w u
   within (in_restore w) u = within w u
   within _ u = absurd u
 
@@ -56,7 +58,9 @@ by_listing (PosPred e) u = by_listing e u
 by_listing (NegPred e) u = by_listing e u
 by_listing (Opt e) u = by_listing e u
 by_listing (Rep e) u = by_listing e u
+by_listing (RepOnce e) u = by_listing e u
 by_listing (Push e) u = by_listing e u
+by_listing (NodeTag e t) u = by_listing e u
 by_listing (RestoreOnErr e) u = by_listing e u
 by_listing (Str s) u = u
 by_listing (Insens s) u = u
@@ -64,4 +68,5 @@ by_listing (Range s t) u = u
 by_listing (Ident n) u = u
 by_listing (PeekSlice i j) u = u
 by_listing (Skip ss) u = u
+by_listing (PushLiteral s) u = u
 by_listing _ u = absurd u

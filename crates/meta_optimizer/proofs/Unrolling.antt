@@ -2,9 +2,9 @@
 use Rattle.std.proofs.Common.{◌≡◌, refl, ℕ, zero, suc, ◌+◌, ◌-◌, min, List, [], ◌∷◌, ◌++◌, replicate, subst, add-one, sub-one, ap, sym, ◌∙◌, ◌<◌, ◌≤◌, arith}
 use Rattle.std.proofs.lemmas.List.{append-nil}
 use Rattle.std.specs.Prelude.{⊤}
-use Rattle.meta_base.specs.Language.Expression.{Expression, Str, Insens, Range, Ident, PeekSlice, PosPred, NegPred, Seq, Choice, Opt, Rep, RepOnce, RepExact, RepMin, RepMax, RepMinMax, Skip, Push, RestoreOnErr}
+use Rattle.meta_base.specs.Language.Expression.{Expression, Str, Insens, Range, Ident, PeekSlice, PosPred, NegPred, Seq, Choice, Opt, Rep, RepOnce, RepExact, RepMin, RepMax, RepMinMax, Skip, Push, RestoreOnErr, PushLiteral, NodeTag}
 use Rattle.meta_base.specs.Language.Meaning.{in_sequence, exactly, at_least, from_to}
-use Rattle.meta_base.specs.Rewritings.Rewriting.{Many, no_step, one_step, here, Unrolls, unroll_once, unroll_exact, unroll_min, unroll_max, unroll_min_max}
+use Rattle.meta_base.specs.Rewritings.Rewriting.{Many, no_step, one_step, here, Unrolls, unroll_exact, unroll_min, unroll_max, unroll_min_max}
 use Rattle.meta_optimizer.specs.Here.{unrolled_here}
 use Rattle.meta_optimizer.specs.Unrolled.{IsUnrolled}
 use Rattle.meta_optimizer.specs.Traversals.{HasNoOperands, BottomUp, left, Above}
@@ -67,7 +67,6 @@ abbrev pub Unrolled : Expression → Expression → Type 0
 Unrolled a b = unrolled_here a ≡ b
 
 steps_here : (a : Expression) → Many Unrolls a (unrolled_here a)
-steps_here (RepOnce e) = one_step (here unroll_once) no_step
 steps_here (RepExact e i) = one_step (here unroll_exact) no_step
 steps_here (RepMin e i) = one_step (here unroll_min) no_step
 steps_here (RepMax e i) = one_step (here unroll_max) no_step
@@ -101,6 +100,7 @@ at_node (Range s w) u = tt
 at_node (Ident s) u = tt
 at_node (PeekSlice i j) u = tt
 at_node (Skip ss) u = tt
+at_node (PushLiteral s) u = tt
 at_node (PosPred e) u = u
 at_node (NegPred e) u = u
 at_node (Seq a b) u = u
@@ -108,8 +108,9 @@ at_node (Choice a b) u = u
 at_node (Opt e) u = u
 at_node (Rep e) u = u
 at_node (Push e) u = u
+at_node (NodeTag e t) u = u
 at_node (RestoreOnErr e) u = u
-at_node (RepOnce e) u = (u, u)
+at_node (RepOnce e) u = u
 at_node (RepExact e i) u = sequence _ (copies e i u)
 at_node (RepMin e i) u = sequence _ (both (replicate i e) (Rep e ∷ []) (copies e i u) (u, tt))
 at_node (RepMax e i) u = sequence _ (copies (Opt e) i u)
@@ -133,3 +134,4 @@ mutual
   operands (trav.Above.rep_max d) = unrolled d
   operands (trav.Above.rep_min_max d) = unrolled d
   operands (trav.Above.push d) = unrolled d
+  operands (trav.Above.tag d) = unrolled d

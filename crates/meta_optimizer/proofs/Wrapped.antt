@@ -4,7 +4,7 @@ use Rattle.std.specs.List.{All}
 use Rattle.std.proofs.lemmas.List.Elements.{All-nil, All-cons, All-head, All-tail, All-contains}
 use Rattle.meta_base.specs.Rewritings.Erased.{erased}
 use Rattle.meta_base.specs.Language.Expression as e
-use Rattle.meta_base.specs.Language.Expression.{Expression, RestoreOnErr, RuleType, Rule, Grammar, Part, whole, of_pos_pred, of_neg_pred, of_seq_left, of_seq_right, of_choice_left, of_choice_right, of_opt, of_rep, of_rep_once, of_rep_exact, of_rep_min, of_rep_max, of_rep_min_max, of_push}
+use Rattle.meta_base.specs.Language.Expression.{Expression, RestoreOnErr, RuleType, Rule, Grammar, Part, whole, of_pos_pred, of_neg_pred, of_seq_left, of_seq_right, of_choice_left, of_choice_right, of_opt, of_rep, of_rep_once, of_rep_exact, of_rep_min, of_rep_max, of_rep_min_max, of_push, of_tag}
 use Rattle.meta_base.specs.Rewritings.Listing.{listed}
 use Rattle.meta_base.specs.Rewritings.Rewriting.{EachBody, no_rules, also_rule}
 use Rattle.meta_ast.specs.Ast.{expression_of}
@@ -50,6 +50,7 @@ erased_same (e.RepMin x i) h = ap (λ z. e.RepMin z i) (erased_same x (λ y k. h
 erased_same (e.RepMax x i) h = ap (λ z. e.RepMax z i) (erased_same x (λ y k. h y (of_rep_max k)))
 erased_same (e.RepMinMax x i j) h = ap (λ z. e.RepMinMax z i j) (erased_same x (λ y k. h y (of_rep_min_max k)))
 erased_same (e.Push x) h = ap e.Push (erased_same x (λ y k. h y (of_push k)))
+erased_same (e.NodeTag x t) h = ap (λ z. e.NodeTag z t) (erased_same x (λ y k. h y (of_tag k)))
 erased_same (RestoreOnErr x) h = absurd (h x whole)
 erased_same (e.Str t) h = refl
 erased_same (e.Insens t) h = refl
@@ -57,6 +58,7 @@ erased_same (e.Range t u) h = refl
 erased_same (e.Ident n) h = refl
 erased_same (e.PeekSlice i j) h = refl
 erased_same (e.Skip ts) h = refl
+erased_same (e.PushLiteral t) h = refl
 
 abbrev IsBare : Rule → Type 0
 IsBare r = HasNoWrappers r.body

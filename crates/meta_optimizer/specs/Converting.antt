@@ -15,13 +15,14 @@ with_operand around.PosPred x = e.PosPred x
 with_operand around.NegPred x = e.NegPred x
 with_operand around.Opt x = e.Opt x
 with_operand around.Rep x = e.Rep x
+with_operand around.RepOnce x = e.RepOnce x
 with_operand around.Push x = e.Push x
 with_operand (around.FirstOfSeq right) x = e.Seq x (expression_of right.value.value)
 with_operand (around.FirstOfChoice right) x = e.Choice x (expression_of right.value.value)
 with_operand (around.SecondOfSeq left) x = e.Seq (optimized_expression_of left.value.value) x
 with_operand (around.SecondOfChoice left) x = e.Choice (optimized_expression_of left.value.value) x
 
--- what waits in it has no repetition but `*`
+-- what waits in it has no counted repetition
 abbrev pub WaitsUnrolled : Around → Type 0
 WaitsUnrolled (around.FirstOfSeq right) = IsUnrolled (expression_of right.value.value)
 WaitsUnrolled (around.FirstOfChoice right) = IsUnrolled (expression_of right.value.value)

@@ -1,6 +1,6 @@
 -- Which rules have readable counts.
 use Rattle.std.specs.Prelude.{⊤, ◌<◌}
-use Rattle.meta_base.specs.Language.Expression.{Expression, PosPred, NegPred, Seq, Choice, Opt, Rep, RepOnce, RepExact, RepMin, RepMax, RepMinMax, Push, RestoreOnErr, Part}
+use Rattle.meta_base.specs.Language.Expression.{Expression, PosPred, NegPred, Seq, Choice, Opt, Rep, RepOnce, RepExact, RepMin, RepMax, RepMinMax, Push, RestoreOnErr, Part, NodeTag}
 use Rattle.meta_base.specs.Language.WellFormed.{CountIsReadable}
 
 -- nothing in it may be repeated 0 times at most
@@ -21,6 +21,7 @@ PartsAreReadable (Rep e) = PartsAreReadable e
 PartsAreReadable (RepOnce e) = PartsAreReadable e
 PartsAreReadable (RepMin e i) = PartsAreReadable e
 PartsAreReadable (Push e) = PartsAreReadable e
+PartsAreReadable (NodeTag e t) = PartsAreReadable e
 PartsAreReadable (RestoreOnErr e) = PartsAreReadable e
 PartsAreReadable _ = ⊤
 

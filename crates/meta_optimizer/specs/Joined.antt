@@ -27,16 +27,17 @@ concatenated (e.RepMin a i) = e.RepMin (concatenated a) i
 concatenated (e.RepMax a i) = e.RepMax (concatenated a) i
 concatenated (e.RepMinMax a i j) = e.RepMinMax (concatenated a) i j
 concatenated (e.Push a) = e.Push (concatenated a)
+concatenated (e.NodeTag a t) = e.NodeTag (concatenated a) t
 concatenated a = a
 
--- texts one after another, of which the last stands first
-abbrev pub backwards : List (String Global) → Text
-backwards [] = []
-backwards (s ∷ others) = backwards others ++ text_of s
+-- texts one after another
+abbrev pub in_order : List (String Global) → Text
+in_order [] = []
+in_order (s ∷ others) = text_of s ++ in_order others
 
 abbrev pub said_by : Joined → Expression
-said_by (joined.Texts parts) = e.Str (backwards parts.items)
-said_by (joined.Insensitive parts) = e.Insens (backwards parts.items)
+said_by (joined.Texts parts) = e.Str (in_order parts.items)
+said_by (joined.Insensitive parts) = e.Insens (in_order parts.items)
 said_by (joined.Other x) = expression_of x
 
 -- an operand inside what stands around it
@@ -53,7 +54,7 @@ joined_with (around.RepMinMax i j) x = e.RepMinMax x i j
 joined_with around.Push x = e.Push x
 joined_with (around.FirstOfSeq right) x = joined_here (e.Seq x (concatenated (expression_of right.value.value)))
 joined_with (around.FirstOfChoice right) x = e.Choice x (concatenated (expression_of right.value.value))
-joined_with (around.SecondOfSeq left) x = joined_here (e.Seq (expression_of left.value) x)
+joined_with (around.SecondOfSeq left) x = joined_here (e.Seq (said_by left.value) x)
 joined_with (around.SecondOfChoice left) x = e.Choice (expression_of left.value.value) x
 
 -- how much there is to be done once the operand is made

@@ -15,7 +15,7 @@ use Rattle.meta_optimizer.specs.Here.{factored_here}
 use Rattle.meta_optimizer.specs.Traversals.{TopDown}
 use Rattle.meta_optimizer.specs.Unrolled.{IsUnrolled}
 
--- repetitions are written out, and only `*` is left of them
+-- counted repetitions are written out, and none is left
 pub record IsUnrolling (a b : Expression) : Type 0 where
   pub steps : Many Unrolls a b
   pub unrolled : IsUnrolled b

@@ -1,10 +1,9 @@
--- Which expressions have no repetition but `*`.
+-- Which expressions have no counted repetition.
 use Rattle.std.specs.Prelude.{⊤, [], ◌∷◌}
-use Rattle.meta_base.specs.Language.Expression.{Expression, PosPred, NegPred, Seq, Choice, Opt, Rep, RepOnce, RepExact, RepMin, RepMax, RepMinMax, Push, RestoreOnErr, Grammar}
+use Rattle.meta_base.specs.Language.Expression.{Expression, PosPred, NegPred, Seq, Choice, Opt, Rep, RepOnce, RepExact, RepMin, RepMax, RepMinMax, Push, RestoreOnErr, Grammar, NodeTag}
 
--- no part is a `+` or a counted repetition
+-- no part is a counted repetition
 abbrev pub IsUnrolled : Expression → Type 0
-IsUnrolled (RepOnce e) = ⊥
 IsUnrolled (RepExact e n) = ⊥
 IsUnrolled (RepMin e m) = ⊥
 IsUnrolled (RepMax e n) = ⊥
@@ -15,7 +14,9 @@ IsUnrolled (Seq a b) = IsUnrolled a × IsUnrolled b
 IsUnrolled (Choice a b) = IsUnrolled a × IsUnrolled b
 IsUnrolled (Opt e) = IsUnrolled e
 IsUnrolled (Rep e) = IsUnrolled e
+IsUnrolled (RepOnce e) = IsUnrolled e
 IsUnrolled (Push e) = IsUnrolled e
+IsUnrolled (NodeTag e t) = IsUnrolled e
 IsUnrolled (RestoreOnErr e) = IsUnrolled e
 IsUnrolled _ = ⊤
 

@@ -30,6 +30,7 @@ enum Around {
     NegPred,
     Opt,
     Rep,
+    RepOnce,
     Push,
     // A `~` or a `|` whose left side is at hand, with the right one; and with the left one as it is made.
     FirstOfSeq(Deep<Box<Expr>>),
@@ -72,14 +73,12 @@ impl Rebuild for Around {
             Expr::NegPred(inner) => (Around::NegPred, inner),
             Expr::Opt(inner) => (Around::Opt, inner),
             Expr::Rep(inner) => (Around::Rep, inner),
+            Expr::RepOnce(inner) => (Around::RepOnce, inner),
             Expr::Push(inner) => (Around::Push, inner),
             Expr::Seq(left, right) => (Around::FirstOfSeq(Deep { value: right }), left),
             Expr::Choice(left, right) => (Around::FirstOfChoice(Deep { value: right }), left),
-            Expr::RepOnce(_)
-            | Expr::RepExact(..)
-            | Expr::RepMin(..)
-            | Expr::RepMax(..)
-            | Expr::RepMinMax(..) => unreachable!("a repetition that is not unrolled"),
+            Expr::RepExact(..) | Expr::RepMin(..) | Expr::RepMax(..) | Expr::RepMinMax(..) =>
+                unreachable!("a repetition that is not unrolled"),
         };
         Ok(Step::Inside(around, Box::into_inner(operand)))
     }
@@ -104,6 +103,7 @@ impl Rebuild for Around {
             Around::NegPred => E::NegPred(operand),
             Around::Opt => E::Opt(operand),
             Around::Rep => E::Rep(operand),
+            Around::RepOnce => E::RepOnce(operand),
             Around::Push => E::Push(operand),
             Around::SecondOfSeq(left) => E::Seq(left.into_inner(), operand),
             Around::SecondOfChoice(left) => E::Choice(left.into_inner(), operand),

@@ -1,15 +1,16 @@
-//! Literals in sequence put together by a loop: in time linear in their texts where they nest to the right.
+//! Literals in sequence put together by a loop, however they nest: each text is copied once.
 ghost use Rattle.std.specs.Prelude.{◌≡◌, ◌++◌, ◌*◌, ⊤, IfOk};
-ghost use Rattle.meta_base.specs.Language.Expression.{Expression, Seq};
+ghost use Rattle.meta_base.specs.Language.Expression.{Expression, Insens, Seq, Str};
 ghost use Rattle.meta_ast.specs.Ast.{expression_of, text_of};
 ghost use Rattle.meta_ast.specs.Weight.{weight};
 ghost use Rattle.meta_optimizer.specs.Here.{joined_here};
-ghost use Rattle.meta_optimizer.specs.Joined.{backwards, concatenated, joined_with, said_by, waits_of};
+ghost use Rattle.meta_optimizer.specs.Joined.{concatenated, in_order, joined_with, said_by, waits_of};
 
 use meta_ast::ast::Expr;
 use meta_ast::deep::{Deep, Release};
 use meta_ast::rebuilt::{Rebuild, Step, rebuilt};
 use std::alloc::{AllocError, Global};
+use std::collections::VecDeque;
 
 /// The expression with two literals in sequence as one, at each node from the leaves up. The only fault is a
 /// want of memory.
@@ -20,12 +21,12 @@ pub(crate) fn with_literals_joined(alloc: Global, expr: Expr) -> Result<Expr, Al
     whole(alloc, joined)
 }
 
-// An expression that is made. A literal of several is kept in parts, the last one first, so that another one
-// can be put before it.
+// An expression that is made. A literal of several is kept in parts, so that others can be put before it and
+// behind it.
 #[derive(Drop)]
 enum Joined {
-    Texts(Vec<String>),
-    Insensitive(Vec<String>),
+    Texts(VecDeque<String>),
+    Insensitive(VecDeque<String>),
     Other(Expr),
 }
 
@@ -54,7 +55,7 @@ enum Around {
     // A `~` or a `|` whose left side is at hand, with the right one; and with the left one as it is made.
     FirstOfSeq(Deep<Box<Expr>>),
     FirstOfChoice(Deep<Box<Expr>>),
-    SecondOfSeq(Deep<Expr>),
+    SecondOfSeq(Deep<Joined>),
     SecondOfChoice(Deep<Box<Expr>>),
 }
 
@@ -105,9 +106,7 @@ impl Rebuild for Around {
     ) -> Result<Step<Expr, Around, Joined>, AllocError> {
         let around = match self {
             Around::FirstOfSeq(right) => {
-                let left = Deep {
-                    value: whole(alloc, operand)?,
-                };
+                let left = Deep { value: operand };
                 let right = Box::into_inner(right.into_inner());
                 return Ok(Step::Inside(Around::SecondOfSeq(left), right));
             }
@@ -159,48 +158,141 @@ fn boxed(alloc: Global, joined: Joined) -> Result<Box<Expr>, AllocError>
     Ok(expr.boxed(alloc)?.into_inner())
 }
 
-// The texts one after another, from the last to the first.
-fn together(alloc: Global, texts: Vec<String>) -> Result<String, AllocError>
-    ensures { IfOk result (λ text. text_of text ≡ backwards texts.items) }
+// The texts one after another.
+fn together(alloc: Global, texts: VecDeque<String>) -> Result<String, AllocError>
+    ensures { IfOk result (λ text. text_of text ≡ in_order texts.items) }
 {
     let mut parts = texts;
     let mut text = String::new(alloc);
-    'parts: while let Some(part) = parts.pop() {
+    'parts: while let Some(part) = parts.pop_front() {
         text.push_str(&part)?;
     }
     Ok(text)
 }
 
 // `left ~ right`, or one literal.
-fn beside(alloc: Global, left: Expr, right: Joined) -> Result<Joined, AllocError>
+fn beside(alloc: Global, left: Joined, right: Joined) -> Result<Joined, AllocError>
+    ensures { IfOk result
+        (λ j. said_by j ≡ joined_here (Seq (said_by left) (said_by right))) }
+{
+    match left {
+        Joined::Texts(first) => behind_texts(alloc, first, right),
+        Joined::Insensitive(first) => behind_insensitive(alloc, first, right),
+        Joined::Other(left) => behind_other(alloc, left, right),
+    }
+}
+
+// The same, where a literal of several stands on the left.
+fn behind_texts(alloc: Global, first: VecDeque<String>, right: Joined) -> Result<Joined, AllocError>
+    ensures { IfOk result
+        (λ j. said_by j ≡ joined_here (Seq (Str (in_order first.items)) (said_by right))) }
+{
+    match right {
+        Joined::Texts(last) => Ok(Joined::Texts(both(first, last)?)),
+        Joined::Other(Expr::Str(last)) => Ok(Joined::Texts(behind(first, last)?)),
+        right => apart(alloc, Expr::Str(together(alloc, first)?), right),
+    }
+}
+
+// The same of letters of either case.
+fn behind_insensitive(
+    alloc: Global,
+    first: VecDeque<String>,
+    right: Joined,
+) -> Result<Joined, AllocError>
+    ensures { IfOk result
+        (λ j. said_by j ≡ joined_here (Seq (Insens (in_order first.items)) (said_by right))) }
+{
+    match right {
+        Joined::Insensitive(last) => Ok(Joined::Insensitive(both(first, last)?)),
+        Joined::Other(Expr::Insens(last)) => Ok(Joined::Insensitive(behind(first, last)?)),
+        right => apart(alloc, Expr::Insens(together(alloc, first)?), right),
+    }
+}
+
+// The same, where an expression stands on the left that was not put together.
+fn behind_other(alloc: Global, left: Expr, right: Joined) -> Result<Joined, AllocError>
     ensures { IfOk result
         (λ j. said_by j ≡ joined_here (Seq (expression_of left) (said_by right))) }
 {
     match (left, right) {
         (Expr::Str(first), Joined::Texts(parts)) => Ok(Joined::Texts(before(first, parts)?)),
         (Expr::Str(first), Joined::Other(Expr::Str(last))) => {
-            Ok(Joined::Texts(vec![in alloc; last, first]?))
+            Ok(Joined::Texts(two(alloc, first, last)?))
         }
         (Expr::Insens(first), Joined::Insensitive(parts)) => {
             Ok(Joined::Insensitive(before(first, parts)?))
         }
         (Expr::Insens(first), Joined::Other(Expr::Insens(last))) => {
-            Ok(Joined::Insensitive(vec![in alloc; last, first]?))
+            Ok(Joined::Insensitive(two(alloc, first, last)?))
         }
-        (left, right) => {
-            let right = Deep { value: right };
-            let left = Deep { value: left }.boxed(alloc)?;
-            let right = boxed(alloc, right.into_inner())?;
-            Ok(Joined::Other(Expr::Seq(left.into_inner(), right)))
-        }
+        (left, right) => apart(alloc, left, right),
     }
 }
 
+// `left ~ right` itself.
+fn apart(alloc: Global, left: Expr, right: Joined) -> Result<Joined, AllocError>
+    ensures { IfOk result (λ j. said_by j ≡ Seq (expression_of left) (said_by right)) }
+{
+    let right = Deep { value: right };
+    let left = Deep { value: left }.boxed(alloc)?;
+    let right = boxed(alloc, right.into_inner())?;
+    Ok(Joined::Other(Expr::Seq(left.into_inner(), right)))
+}
+
+// The parts of a text of two.
+fn two(alloc: Global, first: String, last: String) -> Result<VecDeque<String>, AllocError>
+    ensures { IfOk result (λ all. in_order all.items ≡ text_of first ++ text_of last) }
+{
+    let mut all = VecDeque::new(alloc);
+    all.push_back(first)?;
+    all.push_back(last)?;
+    Ok(all)
+}
+
 // The parts of a text, with another one before them.
-fn before(first: String, parts: Vec<String>) -> Result<Vec<String>, AllocError>
-    ensures { IfOk result (λ all. backwards all.items ≡ text_of first ++ backwards parts.items) }
+fn before(first: String, parts: VecDeque<String>) -> Result<VecDeque<String>, AllocError>
+    ensures { IfOk result (λ all. in_order all.items ≡ text_of first ++ in_order parts.items) }
 {
     let mut all = parts;
-    all.push(first)?;
+    all.push_front(first)?;
+    Ok(all)
+}
+
+// The parts of a text, with another one behind them.
+fn behind(parts: VecDeque<String>, last: String) -> Result<VecDeque<String>, AllocError>
+    ensures { IfOk result (λ all. in_order all.items ≡ in_order parts.items ++ text_of last) }
+{
+    let mut all = parts;
+    all.push_back(last)?;
+    Ok(all)
+}
+
+// The parts of two texts, one text behind the other. The fewer of them are moved, so that no part is moved
+// often.
+fn both(first: VecDeque<String>, last: VecDeque<String>) -> Result<VecDeque<String>, AllocError>
+    ensures { IfOk result (λ all. in_order all.items ≡ in_order first.items ++ in_order last.items) }
+{
+    if first.len() < last.len() {
+        return all_before(first, last);
+    }
+    let mut all = first;
+    let mut others = last;
+    all.append(&mut others)?;
+    Ok(all)
+}
+
+// The parts of two texts, where the first ones are moved.
+fn all_before(
+    first: VecDeque<String>,
+    last: VecDeque<String>,
+) -> Result<VecDeque<String>, AllocError>
+    ensures { IfOk result (λ all. in_order all.items ≡ in_order first.items ++ in_order last.items) }
+{
+    let mut others = first;
+    let mut all = last;
+    'parts: while let Some(part) = others.pop_back() {
+        all.push_front(part)?;
+    }
     Ok(all)
 }

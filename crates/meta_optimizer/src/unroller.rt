@@ -1,7 +1,7 @@
-//! Writes `+` and counted repetitions out.
+//! Writes counted repetitions out.
 ghost use Rattle.std.specs.Prelude.{◌≡◌, ◌<◌, ◌∷◌, ◌++◌, replicate, IfErr, IfOk, List};
 ghost use Rattle.meta_base.specs.Language.Expression.{Expression, Opt};
-ghost use Rattle.meta_base.specs.Language.Meaning.{in_sequence, once_or_more, exactly, at_least, from_to};
+ghost use Rattle.meta_base.specs.Language.Meaning.{in_sequence, exactly, at_least, from_to};
 ghost use Rattle.meta_base.specs.Rewritings.Replacing.{KeepsOutcomes, IsChained};
 ghost use Rattle.meta_base.specs.Rewritings.Rewriting.{Many, Unrolls};
 ghost use Rattle.meta_ast.specs.Ast.{text_of, expression_of, rule_of_code};
@@ -16,10 +16,10 @@ use meta_ast::ast::{Expr, Rule};
 use meta_ast::deep::Deep;
 use std::alloc::{AllocError, Global};
 
-/// The rule with `+` and counted repetitions written out as the copies that they mean, nested to the right:
-/// `e+` as `e ~ e*`, `e{2,}` as `e ~ e ~ e*`, `e{,2}` as `e? ~ e?`, `e{1, 2}` as `e ~ e?`; a count of 0
-/// leaves the empty text. Name and type stay, and so do the outcomes from every start, in every grammar that
-/// has the rule. The only fault is a want of memory.
+/// The rule with counted repetitions written out as the copies that they mean, nested to the right: `e{2,}`
+/// as `e ~ e ~ e*`, `e{,2}` as `e? ~ e?`, `e{1, 2}` as `e ~ e?`; a count of 0 leaves the empty text. `e*`
+/// and `e+` stay as they are. Name and type stay, and so do the outcomes from every start, in every grammar
+/// that has the rule. The only fault is a want of memory.
 pub fn unroll(alloc: Global, rule: Rule) -> Result<Rule, Fault>
     ensures name { IfOk result (λ r. text_of r.name ≡ text_of rule.name) }
     ensures ty { IfOk result (λ r. r.ty ≡ rule.ty) }
@@ -44,7 +44,7 @@ impl Pass for Unroller {
 
     fn stays_at(&self, node: &Expr) -> bool {
         match node {
-            Expr::RepOnce(_) | Expr::RepExact(..) | Expr::RepMin(..) => false,
+            Expr::RepExact(..) | Expr::RepMin(..) => false,
             Expr::RepMax(..) | Expr::RepMinMax(..) => false,
             _ => true,
         }
@@ -54,7 +54,6 @@ impl Pass for Unroller {
 impl Finish for Unroller {
     fn finish(&self, alloc: Global, expr: Expr) -> Result<Expr, AllocError> {
         match expr {
-            Expr::RepOnce(inner) => one_or_more(alloc, inner),
             Expr::RepExact(inner, count) => exact(alloc, unboxed(inner), count),
             Expr::RepMin(inner, min) => min_or_more(alloc, unboxed(inner), min),
             Expr::RepMax(inner, max) => exact(
@@ -76,19 +75,6 @@ fn unboxed(inner: Box<Expr>) -> Deep<Expr>
     Deep {
         value: Box::into_inner(inner),
     }
-}
-
-// `e ~ e*`.
-fn one_or_more(alloc: Global, inner: Box<Expr>) -> Result<Expr, AllocError>
-    ensures { IfOk result (λ e. expression_of e ≡ once_or_more (expression_of inner.value)) }
-{
-    let inner = Deep { value: inner };
-    let copy = copy_of(&inner.value)?.boxed(alloc)?;
-    let others = Deep {
-        value: Expr::Rep(copy.into_inner()),
-    };
-    let others = others.boxed(alloc)?;
-    Ok(Expr::Seq(inner.into_inner(), others.into_inner()))
 }
 
 fn copy_of(expr: &Expr) -> Result<Deep<Expr>, AllocError>

@@ -177,4 +177,4 @@ terminal_rule r (string h) e a b c d f g = b (name_of-injective r rule_is.string
 terminal_rule r (insensitive h) e a b c d f g = c (name_of-injective r rule_is.insensitive_string (sym e))
 terminal_rule r (range h k) e a b c d f g = d (name_of-injective r rule_is.range (sym e))
 terminal_rule r (slice h) e a b c d f g = f (name_of-injective r rule_is.peek_slice (sym e))
-terminal_rule r push_literal e a b c d f g = g (name_of-injective r rule_is._push_literal (sym e))
+terminal_rule r (push_literal h) e a b c d f g = g (name_of-injective r rule_is._push_literal (sym e))

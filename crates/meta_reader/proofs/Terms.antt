@@ -116,7 +116,7 @@ quiet_behind text i j inner us (terminal (string h)) = refl
 quiet_behind text i j inner us (terminal (insensitive h)) = refl
 quiet_behind text i j inner us (terminal (range h k)) = refl
 quiet_behind text i j inner us (terminal (slice h)) = refl
-quiet_behind text i j inner us (terminal push_literal) = refl
+quiet_behind text i j inner us (terminal (push_literal h)) = refl
 quiet_behind text i j inner us (pushed h) = refl
 
 pub node_flaw : (text : List ℕ) {n : Text} (i j : ℕ) (inner us : Trees) → IsNode text n inner

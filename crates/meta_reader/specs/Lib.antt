@@ -6,4 +6,5 @@ pub mod Pieces
 pub mod Views
 pub mod Signs
 pub mod ShownNames
+pub mod PlainNames
 pub mod Laws

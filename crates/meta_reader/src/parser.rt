@@ -13,6 +13,7 @@ mod flaws;
 mod literal;
 mod operators;
 mod pieces;
+mod plain;
 mod reading;
 mod shown;
 mod signs;
@@ -20,6 +21,7 @@ mod terminals;
 
 use crate::parser::flaws::{ReadError, refusal};
 use crate::parser::pieces::{span_of, text_of};
+pub use crate::parser::plain::plain_name;
 use crate::parser::reading::expression;
 pub use crate::parser::shown::rename_meta_rule;
 use meta_ast::ast::RuleType;

@@ -62,6 +62,7 @@ module _ (names : Names) (marks : List Bool) where
   split (code.Choice' p x q y) = both _ _ _ _ (names_in (optimized_expression_of x)) (names_in (optimized_expression_of y)) (split x) (split y)
   split (code.Opt' p x) = split x
   split (code.Rep' p x) = split x
+  split (code.RepOnce' p x) = split x
   split (code.Push' p x) = refl
   split (code.RestoreOnErr' p x) = refl
 

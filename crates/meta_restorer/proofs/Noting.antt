@@ -4,7 +4,7 @@ use Rattle.std.proofs.lemmas.List.{append_assoc, length-append, length-map, leng
 use Rattle.std.proofs.lemmas.List.Folds.{drop_split}
 use Rattle.std.proofs.Math.Nat.{add_assoc}
 use Rattle.meta_base.specs.Language.Text.{Text}
-use Rattle.meta_base.specs.Language.Expression.{Expression, Str, Insens, Range, Ident, PeekSlice, PosPred, NegPred, Seq, Choice, Opt, Rep, RepOnce, RepExact, RepMin, RepMax, RepMinMax, Skip, Push, RestoreOnErr}
+use Rattle.meta_base.specs.Language.Expression.{Expression, Str, Insens, Range, Ident, PeekSlice, PosPred, NegPred, Seq, Choice, Opt, Rep, RepOnce, RepExact, RepMin, RepMax, RepMinMax, Skip, Push, RestoreOnErr, PushLiteral, NodeTag}
 use Rattle.meta_restorer.specs.Calls.{names_in, AreNoted}
 use Rattle.meta_restorer.specs.Names.{Numbers, number_of, numbers_of}
 use Rattle.meta_restorer.specs.Noted.{IsNotedAs}
@@ -45,11 +45,12 @@ module _ (names : Names) where
   behind_all (PosPred e) before behind = behind_all e before behind
   behind_all (NegPred e) before behind = behind_all e before behind
   behind_all (Push e) before behind = behind_all e before behind
+  behind_all (NodeTag e t) before behind = behind_all e before behind
   behind_all (Opt e) before behind = behind_all e before behind
   behind_all (Rep e) before behind = behind_all e before behind
+  behind_all (RepOnce e) before behind = behind_all e before behind
   behind_all (Seq a b) before behind = both a b before behind (λ qs. behind_all a before qs) (λ qs. behind_all b qs behind)
   behind_all (Choice a b) before behind = both a b before behind (λ qs. behind_all a before qs) (λ qs. behind_all b qs behind)
-  behind_all (RepOnce e) before behind = tt
   behind_all (RepExact e i) before behind = tt
   behind_all (RepMin e i) before behind = tt
   behind_all (RepMax e i) before behind = tt
@@ -60,6 +61,7 @@ module _ (names : Names) where
   behind_all (Range t u) before behind = tt
   behind_all (PeekSlice i j) before behind = tt
   behind_all (Skip ts) before behind = tt
+  behind_all (PushLiteral t) before behind = tt
 
   -- what is noted of an expression stands from a place on
   pub noted_from : (e : Expression) (qs : Numbers) (s : Share) → IsNotedAs names e qs s → AreNoted names qs e s.start

@@ -3,8 +3,8 @@ use Rattle.std.proofs.Common.{◌≡◌, List, [], ◌∷◌, Option, Some, None
 use Rattle.std.specs.Bool.{Decides}
 use Rattle.std.proofs.lemmas.List.Elements.{All-head, All-tail}
 use Rattle.meta_base.specs.Language.Text.{Text}
-use Rattle.meta_base.specs.Language.Expression.{Expression, Ident, PosPred, NegPred, Seq, Choice, Opt, Rep, Push, RestoreOnErr, Rule, Grammar, rule_of, or_else}
-use Rattle.meta_base.specs.Rewritings.Wrapping.{ChangesStack, changes_push, changes_pop, changes_pop_all, changes_drop, changes_rule, changes_pos_pred, changes_neg_pred, changes_seq_left, changes_seq_right, changes_left, changes_right, changes_opt, changes_rep, changes_rep_once, changes_rep_exact, changes_rep_min, changes_rep_max, changes_rep_min_max, EachRestored}
+use Rattle.meta_base.specs.Language.Expression.{Expression, Ident, PosPred, NegPred, Seq, Choice, Opt, Rep, RepOnce, Push, RestoreOnErr, Rule, Grammar, rule_of, or_else, NodeTag}
+use Rattle.meta_base.specs.Rewritings.Wrapping.{ChangesStack, changes_push, changes_pop, changes_pop_all, changes_drop, changes_rule, changes_pos_pred, changes_neg_pred, changes_seq_left, changes_seq_right, changes_left, changes_right, changes_opt, changes_rep, changes_rep_once, changes_rep_exact, changes_rep_min, changes_rep_max, changes_rep_min_max, EachRestored, changes_tag}
 use Rattle.meta_ast.specs.Ast.{text_of}
 use Rattle.meta_ast.specs.Optimized.{optimized_rule_of, optimized_rules_of}
 use Rattle.meta_ast.specs.declared.optimized.OptimizedRule.{OptimizedRule}
@@ -28,10 +28,12 @@ module _ (p : Text → Bool) where
   restored_stays (PosPred e) h = ap PosPred (restored_stays e h)
   restored_stays (NegPred e) h = ap NegPred (restored_stays e h)
   restored_stays (Push e) h = cc
+  restored_stays (NodeTag e t) h = ap (λ x. NodeTag x t) (restored_stays e h)
   restored_stays (Seq a b) h = let k = neither (changes_by p a) (changes_by p b) h in ap₂ Seq (restored_stays a k.0) (restored_stays b k.1)
   restored_stays (Choice a b) h = let k = neither (changes_by p a) (changes_by p b) h in ap₂ Choice (wrapped_stays (restored_by p a) a (restored_stays a k.0) k.0) (wrapped_stays (restored_by p b) b (restored_stays b k.1) k.1)
   restored_stays (Opt e) h = ap Opt (wrapped_stays (restored_by p e) e (restored_stays e h) h)
   restored_stays (Rep e) h = ap Rep (wrapped_stays (restored_by p e) e (restored_stays e h) h)
+  restored_stays (RepOnce e) h = ap RepOnce (wrapped_stays (restored_by p e) e (restored_stays e h) h)
   restored_stays _ h = refl
 
 rules_stay : (rs : List OptimizedRule) → AreQuiet rs → restored_rules_by is_changer (optimized_rules_of rs) ≡ optimized_rules_of rs
@@ -56,6 +58,7 @@ module _ (rs : List OptimizedRule) (quiet : AreQuiet rs) where
 
   shown : {e : Expression} → ChangesStack g e → changes_by is_changer e ≡ true
   shown changes_push = refl
+  shown (changes_tag d) = shown d
   shown (changes_pop {n = n} b) = pop_named n b
   shown (changes_pop_all {n = n} b) = pop_all_named n b
   shown (changes_drop {n = n} b) = drop_named n b

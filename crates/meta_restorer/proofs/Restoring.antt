@@ -7,9 +7,9 @@ use Rattle.std.specs.List.{All}
 use Rattle.std.proofs.lemmas.List.Elements.{All-head, All-tail}
 use Rattle.meta_base.specs.Language.Text.{Text}
 use Rattle.meta_base.specs.Rewritings.Erased.{erased}
-use Rattle.meta_base.specs.Language.Expression.{Expression, Ident, PosPred, NegPred, Seq, Choice, Opt, Rep, Push, RestoreOnErr, Rule, Grammar, whole, of_pos_pred, of_neg_pred, of_seq_left, of_seq_right, of_choice_left, of_choice_right, of_opt, of_rep, of_push, of_restore}
+use Rattle.meta_base.specs.Language.Expression.{Expression, Ident, PosPred, NegPred, Seq, Choice, Opt, Rep, RepOnce, Push, RestoreOnErr, Rule, Grammar, whole, of_pos_pred, of_neg_pred, of_seq_left, of_seq_right, of_choice_left, of_choice_right, of_opt, of_rep, of_rep_once, of_push, of_restore, NodeTag, of_tag}
 use Rattle.meta_base.specs.Rewritings.Rewriting.{EachBody, no_rules, also_rule}
-use Rattle.meta_base.specs.Rewritings.Wrapping.{ChangesStack, Wraps, wraps, leaves, RestoresTo, restores_str, restores_insens, restores_range, restores_name, restores_slice, restores_skip, restores_pos_pred, restores_neg_pred, restores_push, restores_seq, restores_choice, restores_opt, restores_rep}
+use Rattle.meta_base.specs.Rewritings.Wrapping.{ChangesStack, Wraps, wraps, leaves, RestoresTo, restores_str, restores_insens, restores_range, restores_name, restores_slice, restores_skip, restores_pos_pred, restores_neg_pred, restores_push, restores_seq, restores_choice, restores_opt, restores_rep, restores_rep_once}
 use Rattle.meta_base.proofs.SomeRule.{each_rule}
 use Rattle.meta_ast.specs.Ast.{text_of}
 use Rattle.meta_ast.specs.Optimized.{optimized_expression_of, optimized_rule_of, optimized_rules_of}
@@ -32,10 +32,12 @@ module _ (p : Text → Bool) where
   restored_same (PosPred e) = ap PosPred (restored_same e)
   restored_same (NegPred e) = ap NegPred (restored_same e)
   restored_same (Push e) = ap Push (restored_same e)
+  restored_same (NodeTag e t) = ap (λ x. NodeTag x t) (restored_same e)
   restored_same (Seq a b) = ap₂ Seq (restored_same a) (restored_same b)
   restored_same (Choice a b) = ap₂ Choice (wrapped_same (restored_by p a) ∙ restored_same a) (wrapped_same (restored_by p b) ∙ restored_same b)
   restored_same (Opt e) = ap Opt (wrapped_same (restored_by p e) ∙ restored_same e)
   restored_same (Rep e) = ap Rep (wrapped_same (restored_by p e) ∙ restored_same e)
+  restored_same (RepOnce e) = ap RepOnce (wrapped_same (restored_by p e) ∙ restored_same e)
   restored_same _ = refl
 
   wrapped_keeps : (e x : Expression) → KeepsWrappers x e → KeepsWrappers x (wrapped_by p e)
@@ -49,12 +51,14 @@ module _ (p : Text → Bool) where
   restored_keeps (PosPred e) y (of_pos_pred k) = of_pos_pred (restored_keeps e y k)
   restored_keeps (NegPred e) y (of_neg_pred k) = of_neg_pred (restored_keeps e y k)
   restored_keeps (Push e) y (of_push k) = of_push (restored_keeps e y k)
+  restored_keeps (NodeTag e t) y (of_tag k) = of_tag (restored_keeps e y k)
   restored_keeps (Seq a b) y (of_seq_left k) = of_seq_left (restored_keeps a y k)
   restored_keeps (Seq a b) y (of_seq_right k) = of_seq_right (restored_keeps b y k)
   restored_keeps (Choice a b) y (of_choice_left k) = of_choice_left (wrapped_keeps (restored_by p a) a (restored_keeps a) y k)
   restored_keeps (Choice a b) y (of_choice_right k) = of_choice_right (wrapped_keeps (restored_by p b) b (restored_keeps b) y k)
   restored_keeps (Opt e) y (of_opt k) = of_opt (wrapped_keeps (restored_by p e) e (restored_keeps e) y k)
   restored_keeps (Rep e) y (of_rep k) = of_rep (wrapped_keeps (restored_by p e) e (restored_keeps e) y k)
+  restored_keeps (RepOnce e) y (of_rep_once k) = of_rep_once (wrapped_keeps (restored_by p e) e (restored_keeps e) y k)
   restored_keeps _ y k = k
 
   pub rules_same : (g : Grammar) → AreSameErased g (restored_rules_by p g)
@@ -85,6 +89,7 @@ module _ (p : Text → Bool) where
         (restores y (λ e k. h e (of_choice_right k))) (wraps_to (restored_by p (optimized_expression_of y)) (restored_said p (optimized_expression_of y) (said y)))
     restores (code.Opt' a x) h = restores_opt (restores x (λ e k. h e (of_opt k))) (wraps_to (restored_by p (optimized_expression_of x)) (restored_said p (optimized_expression_of x) (said x)))
     restores (code.Rep' a x) h = restores_rep (restores x (λ e k. h e (of_rep k))) (wraps_to (restored_by p (optimized_expression_of x)) (restored_said p (optimized_expression_of x) (said x)))
+    restores (code.RepOnce' a x) h = restores_rep_once (restores x (λ e k. h e (of_rep_once k))) (wraps_to (restored_by p (optimized_expression_of x)) (restored_said p (optimized_expression_of x) (said x)))
     restores (code.RestoreOnErr' a x) h = absurd (h (optimized_expression_of x) whole)
 
     abbrev IsBare : Rule → Type 0

@@ -1,13 +1,13 @@
 -- Wrappers stand where a failure may have lost an entry.
 use Rattle.std.proofs.Common.{◌≡◌, ℕ, min, ◌-◌, [], Bool, true, false, if◌then◌else◌, bytes_eq, codes, Option, Some, None, refl, subst}
 use Rattle.meta_base.specs.Language.Text.{Text}
-use Rattle.meta_base.specs.Language.Expression.{Expression, Str, Ident, Seq, Opt, Rule, Grammar, rule_of, or_else, whitespace, comment, Part, whole, of_pos_pred, of_neg_pred, of_seq_left, of_seq_right, of_choice_left, of_choice_right, of_opt, of_rep, of_rep_exact, of_rep_min_max, of_push, of_restore}
+use Rattle.meta_base.specs.Language.Expression.{Expression, Str, Ident, Seq, Opt, Rule, Grammar, rule_of, or_else, whitespace, comment, Part, whole, of_pos_pred, of_neg_pred, of_seq_left, of_seq_right, of_choice_left, of_choice_right, of_opt, of_rep, of_rep_once, of_rep_exact, of_rep_min_max, of_push, of_restore, of_tag}
 use Rattle.meta_base.specs.Language.Builtins.{builtin_of, builtins, property_names, general_categories, binary_properties, scripts}
 use Rattle.meta_base.specs.Language.Meaning.{exactly, from_to}
 use Rattle.meta_base.specs.Rewritings.Rewriting.{EachBody, no_rules, also_rule}
 use Rattle.meta_base.specs.Language.WellFormed.{IsSkipped, is_whitespace, is_comment, Reaches, itself, onward}
-use Rattle.meta_base.specs.Language.LooseMeaning.{Pops, pops, pops_all, pops_rule, pops_left, pops_right, pops_push, pops_rep_exact, pops_rep_min_max, Safe, wrapped, keeps, SafeHere, IsSafe, Restored}
-use Rattle.meta_base.specs.Rewritings.Wrapping.{ChangesStack, changes_push, changes_pop, changes_pop_all, changes_rule, changes_pos_pred, changes_neg_pred, changes_seq_left, changes_seq_right, changes_left, changes_right, changes_opt, changes_rep, changes_rep_exact, changes_rep_min_max, Wraps, wraps, leaves, RestoresTo, restores_str, restores_insens, restores_range, restores_name, restores_slice, restores_skip, restores_pos_pred, restores_neg_pred, restores_push, restores_seq, restores_choice, restores_opt, restores_rep, EachRestored}
+use Rattle.meta_base.specs.Language.LooseMeaning.{Pops, pops, pops_all, pops_rule, pops_left, pops_right, pops_push, pops_rep_exact, pops_rep_min_max, Safe, wrapped, keeps, SafeHere, IsSafe, Restored, pops_tag}
+use Rattle.meta_base.specs.Rewritings.Wrapping.{ChangesStack, changes_push, changes_pop, changes_pop_all, changes_rule, changes_pos_pred, changes_neg_pred, changes_seq_left, changes_seq_right, changes_left, changes_right, changes_opt, changes_rep, changes_rep_once, changes_rep_exact, changes_rep_min_max, Wraps, wraps, leaves, RestoresTo, restores_str, restores_insens, restores_range, restores_name, restores_slice, restores_skip, restores_pos_pred, restores_neg_pred, restores_push, restores_seq, restores_choice, restores_opt, restores_rep, restores_rep_once, EachRestored, restores_push_literal, restores_tag, changes_tag}
 use Rattle.meta_base.proofs.OneOutcome.{same_rule}
 use Rattle.meta_base.proofs.Moving.{each_copy, each_of_both, in_all}
 use Rattle.meta_base.proofs.BothMeaningsAgree.{same_endings}
@@ -54,12 +54,15 @@ module _ (g : Grammar) where
   changed_before (restores_pos_pred d) (changes_pos_pred x) = changes_pos_pred (changed_before d x)
   changed_before (restores_neg_pred d) (changes_neg_pred x) = changes_neg_pred (changed_before d x)
   changed_before (restores_push d) x = changes_push
+  changed_before restores_push_literal x = elim x [ ]
+  changed_before (restores_tag d) (changes_tag x) = changes_tag (changed_before d x)
   changed_before (restores_seq d f) (changes_seq_left x) = changes_seq_left (changed_before d x)
   changed_before (restores_seq d f) (changes_seq_right x) = changes_seq_right (changed_before f x)
   changed_before (restores_choice d v f w) (changes_left x) = changes_left (changed_before d (unwrapped v x))
   changed_before (restores_choice d v f w) (changes_right x) = changes_right (changed_before f (unwrapped w x))
   changed_before (restores_opt d v) (changes_opt x) = changes_opt (changed_before d (unwrapped v x))
   changed_before (restores_rep d v) (changes_rep x) = changes_rep (changed_before d (unwrapped v x))
+  changed_before (restores_rep_once d v) (changes_rep_once x) = changes_rep_once (changed_before d (unwrapped v x))
 
   -- copies change the stack where what is copied does
   abbrev By : Expression → Expression → Type 0
@@ -95,6 +98,7 @@ module _ (g h : Grammar) (a : EachRestored g h) where
   changing (pops_left d) = changes_left (changing d)
   changing (pops_right d) = changes_right (changing d)
   changing (pops_push d) = changes_push
+  changing (pops_tag d) = changes_tag (changing d)
   changing (pops_rep_exact {e = e} {i = i} d) = changes_rep_exact (by_exactly g e i (changing d))
   changing (pops_rep_min_max {e = e} {i = i} {j = j} d) = changes_rep_min_max (by_from_to g e i j (changing d))
 
@@ -120,6 +124,9 @@ module _ (g h : Grammar) (a : EachRestored g h) where
   is_safe (restores_neg_pred d) p (of_neg_pred k) = is_safe d p k
   is_safe (restores_push d) p whole = tt
   is_safe (restores_push d) p (of_push k) = is_safe d p k
+  is_safe restores_push_literal p whole = tt
+  is_safe (restores_tag d) p whole = tt
+  is_safe (restores_tag d) p (of_tag k) = is_safe d p k
   is_safe (restores_seq d e) p whole = tt
   is_safe (restores_seq d e) p (of_seq_left k) = is_safe d p k
   is_safe (restores_seq d e) p (of_seq_right k) = is_safe e p k
@@ -130,6 +137,8 @@ module _ (g h : Grammar) (a : EachRestored g h) where
   is_safe (restores_opt d v) p (of_opt k) = below v (is_safe d) k
   is_safe (restores_rep d v) p whole = safe v
   is_safe (restores_rep d v) p (of_rep k) = below v (is_safe d) k
+  is_safe (restores_rep_once d v) p whole = safe v
+  is_safe (restores_rep_once d v) p (of_rep_once k) = below v (is_safe d) k
 
   body_safe : (n : Text) (q : Rule) → rule_of h n ≡ Some q → IsSafe h q.body
   body_safe n q e p k = let (b, i, t) = before n q e in is_safe t p k
@@ -163,6 +172,7 @@ module _ (h : Grammar) (n : Text) (no_pop : Reaches h n (codes "POP") → ⊥) (
   traced k q l e i (pops_left d) = traced k q l e (λ p c. i p (of_choice_left c)) d
   traced k q l e i (pops_right d) = traced k q l e (λ p c. i p (of_choice_right c)) d
   traced k q l e i (pops_push d) = traced k q l e (λ p c. i p (of_push c)) d
+  traced k q l e i (pops_tag d) = traced k q l e (λ p c. i p (of_tag c)) d
   traced k q l e i (pops_rep_exact {e = x} {i = c} d) = traced k q l e (within_exactly q x c (λ p r. i p (of_rep_exact r))) d
   traced k q l e i (pops_rep_min_max {e = x} {i = c} {j = b} d) = traced k q l e (within_from_to q x c b (λ p r. i p (of_rep_min_max r))) d
 

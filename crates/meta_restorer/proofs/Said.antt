@@ -1,7 +1,7 @@
 -- Expressions whose names are texts of strings.
 use Rattle.std.proofs.Common.{◌≡◌, Bool, true, false, if◌then◌else◌, refl, String, Global}
 use Rattle.meta_base.specs.Language.Text.{Text}
-use Rattle.meta_base.specs.Language.Expression.{Expression, Ident, PosPred, NegPred, Seq, Choice, Opt, Rep, RepOnce, RepExact, RepMin, RepMax, RepMinMax, Push, RestoreOnErr}
+use Rattle.meta_base.specs.Language.Expression.{Expression, Ident, PosPred, NegPred, Seq, Choice, Opt, Rep, RepOnce, RepExact, RepMin, RepMax, RepMinMax, Push, RestoreOnErr, NodeTag}
 use Rattle.meta_ast.specs.Ast.{text_of}
 use Rattle.meta_ast.specs.Optimized.{optimized_expression_of}
 use Rattle.meta_ast.specs.declared.optimized.OptimizedExpr as code
@@ -21,6 +21,7 @@ IsSaid (RepMin e i) = IsSaid e
 IsSaid (RepMax e i) = IsSaid e
 IsSaid (RepMinMax e i j) = IsSaid e
 IsSaid (Push e) = IsSaid e
+IsSaid (NodeTag e t) = IsSaid e
 IsSaid (RestoreOnErr e) = IsSaid e
 IsSaid _ = Unit {0}
 
@@ -37,6 +38,7 @@ said (code.Seq' p x q y) = (said x, said y)
 said (code.Choice' p x q y) = (said x, said y)
 said (code.Opt' p x) = said x
 said (code.Rep' p x) = said x
+said (code.RepOnce' p x) = said x
 said (code.Push' p x) = said x
 said (code.RestoreOnErr' p x) = said x
 
@@ -53,8 +55,10 @@ module _ (p : Text → Bool) where
   restored_said (PosPred e) h = restored_said e h
   restored_said (NegPred e) h = restored_said e h
   restored_said (Push e) h = restored_said e h
+  restored_said (NodeTag e t) h = restored_said e h
   restored_said (Seq a b) h = (restored_said a h.0, restored_said b h.1)
   restored_said (Choice a b) h = (wrapped_said (restored_by p a) (restored_said a h.0), wrapped_said (restored_by p b) (restored_said b h.1))
   restored_said (Opt e) h = wrapped_said (restored_by p e) (restored_said e h)
   restored_said (Rep e) h = wrapped_said (restored_by p e) (restored_said e h)
+  restored_said (RepOnce e) h = wrapped_said (restored_by p e) (restored_said e h)
   restored_said _ h = h

@@ -1,7 +1,7 @@
 -- The names that are met in expressions, and marks of the rules that they mean.
 use Rattle.std.specs.Prelude.{◌≡◌, ⊤, ℕ, suc, ◌+◌, List, [], ◌∷◌, ◌++◌, Option, Some, None, Bool, true, false, ◌||◌, unwrap_or, slice_get, length}
 use Rattle.meta_base.specs.Language.Text.{Text}
-use Rattle.meta_base.specs.Language.Expression.{Expression, Ident, PosPred, NegPred, Seq, Choice, Opt, Rep, Push}
+use Rattle.meta_base.specs.Language.Expression.{Expression, Ident, PosPred, NegPred, Seq, Choice, Opt, Rep, RepOnce, Push, NodeTag}
 use Rattle.meta_restorer.specs.Changing.{is_changer}
 use Rattle.meta_restorer.specs.Names.{Numbers, number_of}
 use Rattle.meta_restorer.specs.declared.names.Names.{Names}
@@ -23,10 +23,12 @@ names_in (Ident n) = n ∷ []
 names_in (PosPred e) = names_in e
 names_in (NegPred e) = names_in e
 names_in (Push e) = names_in e
+names_in (NodeTag e t) = names_in e
 names_in (Seq a b) = names_in a ++ names_in b
 names_in (Choice a b) = names_in a ++ names_in b
 names_in (Opt e) = names_in e
 names_in (Rep e) = names_in e
+names_in (RepOnce e) = names_in e
 names_in _ = []
 
 -- the numbers from a place on are those of the names that are met in an expression
@@ -35,10 +37,12 @@ AreNoted names qs (Ident n) i = slice_get qs i ≡ Some (number_of names n)
 AreNoted names qs (PosPred e) i = AreNoted names qs e i
 AreNoted names qs (NegPred e) i = AreNoted names qs e i
 AreNoted names qs (Push e) i = AreNoted names qs e i
+AreNoted names qs (NodeTag e t) i = AreNoted names qs e i
 AreNoted names qs (Seq a b) i = AreNoted names qs a i × AreNoted names qs b (i + length (names_in a))
 AreNoted names qs (Choice a b) i = AreNoted names qs a i × AreNoted names qs b (i + length (names_in a))
 AreNoted names qs (Opt e) i = AreNoted names qs e i
 AreNoted names qs (Rep e) i = AreNoted names qs e i
+AreNoted names qs (RepOnce e) i = AreNoted names qs e i
 AreNoted names qs _ i = ⊤
 
 abbrev pub unset : List Bool → ℕ

@@ -1,7 +1,7 @@
 -- What changes the stack and what the restorer makes of it, where it is known which names change the stack.
 use Rattle.std.specs.Prelude.{Bool, true, false, ◌||◌, if◌then◌else◌, bytes_eq, codes}
 use Rattle.meta_base.specs.Language.Text.{Text}
-use Rattle.meta_base.specs.Language.Expression.{Expression, Ident, PosPred, NegPred, Seq, Choice, Opt, Rep, RepOnce, RepExact, RepMin, RepMax, RepMinMax, Push, RestoreOnErr, Part}
+use Rattle.meta_base.specs.Language.Expression.{Expression, Ident, PosPred, NegPred, Seq, Choice, Opt, Rep, RepOnce, RepExact, RepMin, RepMax, RepMinMax, Push, RestoreOnErr, Part, NodeTag}
 
 -- the builtins that count as changing the stack
 abbrev pub is_changer : Text → Bool
@@ -11,6 +11,7 @@ is_changer n = bytes_eq n (codes "POP") || (bytes_eq n (codes "POP_ALL") || byte
 abbrev pub changes_by : (Text → Bool) → Expression → Bool
 changes_by p (Ident n) = p n
 changes_by p (Push e) = true
+changes_by p (NodeTag e t) = changes_by p e
 changes_by p (PosPred e) = changes_by p e
 changes_by p (NegPred e) = changes_by p e
 changes_by p (Seq a b) = changes_by p a || changes_by p b
@@ -28,15 +29,17 @@ changes_by p _ = false
 abbrev pub wrapped_by : (Text → Bool) → Expression → Expression
 wrapped_by p e = if changes_by p e then RestoreOnErr e else e
 
--- from the inside out, operands of `?` and `*` and both sides of `|` are wrapped
+-- from the inside out, operands of `?`, `*` and `+` and both sides of `|` are wrapped
 abbrev pub restored_by : (Text → Bool) → Expression → Expression
 restored_by p (PosPred e) = PosPred (restored_by p e)
 restored_by p (NegPred e) = NegPred (restored_by p e)
 restored_by p (Push e) = Push (restored_by p e)
+restored_by p (NodeTag e t) = NodeTag (restored_by p e) t
 restored_by p (Seq a b) = Seq (restored_by p a) (restored_by p b)
 restored_by p (Choice a b) = Choice (wrapped_by p (restored_by p a)) (wrapped_by p (restored_by p b))
 restored_by p (Opt e) = Opt (wrapped_by p (restored_by p e))
 restored_by p (Rep e) = Rep (wrapped_by p (restored_by p e))
+restored_by p (RepOnce e) = RepOnce (wrapped_by p (restored_by p e))
 restored_by p e = e
 
 -- no part is a wrapper

@@ -1,8 +1,8 @@
 -- How large an expression is.
 use Rattle.std.specs.Prelude.{ℕ, ◌+◌}
-use Rattle.meta_base.specs.Language.Expression.{Expression, PosPred, NegPred, Seq, Choice, Opt, Rep, Push, RestoreOnErr}
+use Rattle.meta_base.specs.Language.Expression.{Expression, PosPred, NegPred, Seq, Choice, Opt, Rep, RepOnce, Push, RestoreOnErr, NodeTag}
 
--- how many places it has, where there is no repetition but `*`
+-- how many places it has, where there is no counted repetition
 abbrev pub size : Expression → ℕ
 size (PosPred e) = size e + 1
 size (NegPred e) = size e + 1
@@ -10,6 +10,8 @@ size (Seq a b) = size a + size b + 1
 size (Choice a b) = size a + size b + 1
 size (Opt e) = size e + 1
 size (Rep e) = size e + 1
+size (RepOnce e) = size e + 1
 size (Push e) = size e + 1
+size (NodeTag e t) = size e + 1
 size (RestoreOnErr e) = size e + 1
 size _ = 1

@@ -41,6 +41,7 @@ pub(crate) fn changes_itself(expr: &OptimizedExpr) -> bool
             OptimizedExpr::NegPred(inner) => here = inner,
             OptimizedExpr::Opt(inner) => here = inner,
             OptimizedExpr::Rep(inner) => here = inner,
+            OptimizedExpr::RepOnce(inner) => here = inner,
             OptimizedExpr::Seq(left, right) => {
                 if changes_itself(left) {
                     return true;

@@ -62,6 +62,7 @@ fn look(
             OptimizedExpr::NegPred(inner) => here = inner,
             OptimizedExpr::Opt(inner) => here = inner,
             OptimizedExpr::Rep(inner) => here = inner,
+            OptimizedExpr::RepOnce(inner) => here = inner,
             OptimizedExpr::Seq(left, right) => {
                 let is_right_plain = is_plain(right);
                 if !is_plain(left) && look(names, left, numbers)? {

@@ -163,6 +163,10 @@ fn restore_one(
             restore_wrapped(alloc, changes, place, levels, inner)?;
             Ok(false)
         }
+        OptimizedExpr::RepOnce(inner) => {
+            restore_wrapped(alloc, changes, place, levels, inner)?;
+            Ok(false)
+        }
         _ => Ok(false),
     }
 }

@@ -45,10 +45,10 @@ pub fn child_modifies_state(
     }
 }
 
-/// The rule with wrappers: from the inside out, each operand of `?` and `*` and both sides of each `|` are
-/// wrapped where they change the stack as they then stand. `rules` holds the body of each rule at its name,
-/// as it was before any was restored. Name and type stay, and so does each wrapper that stands there, with
-/// all that is below it. The only fault is a want of memory.
+/// The rule with wrappers: from the inside out, each operand of `?`, `*` and `+` and both sides of each `|`
+/// are wrapped where they change the stack as they then stand. `rules` holds the body of each rule at its
+/// name, as it was before any was restored. Name and type stay, and so does each wrapper that stands there,
+/// with all that is below it. The only fault is a want of memory.
 pub fn restore_on_err(
     alloc: Global,
     rule: OptimizedRule,

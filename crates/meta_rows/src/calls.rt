@@ -16,6 +16,8 @@ pub(crate) enum Call {
     Count,
     Printed,
     Renamed,
+    Expected,
+    Plain,
     Span,
     Position,
     EqualPlaces,
@@ -55,13 +57,15 @@ pub(crate) enum Call {
     After(Pass),
 }
 
-static CALLS: [(&str, Call); 48] = [
+static CALLS: [(&str, Call); 50] = [
     ("pairs", Call::Pairs),
     ("entries", Call::Entries),
     ("flattened", Call::Flattened),
     ("count", Call::Count),
     ("printed", Call::Printed),
     ("renamed", Call::Renamed),
+    ("expected", Call::Expected),
+    ("plain", Call::Plain),
     ("span", Call::Span),
     ("position", Call::Position),
     ("equal-places", Call::EqualPlaces),
@@ -131,6 +135,8 @@ pub(crate) fn answered(
         Call::Count => syntax::count(alloc, argument, text, out),
         Call::Printed => syntax::printed(alloc, argument, text, out),
         Call::Renamed => syntax::renamed(alloc, argument, out),
+        Call::Expected => syntax::expected(alloc, argument, text, out),
+        Call::Plain => syntax::plain(alloc, argument, out),
         Call::Span => places::span(alloc, argument, text, out),
         Call::Position => places::position(alloc, argument, text, out),
         Call::EqualPlaces => pieces::equal_places(alloc, out),

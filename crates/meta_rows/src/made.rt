@@ -65,8 +65,8 @@ pub(crate) fn runs(alloc: Global, words: &str, out: &mut String) -> Result<(), F
     Ok(write_values(out, "runs", &values)?)
 }
 
-/// The name `e` with signs round it, the innermost first: `&` and `!`, `?` and `*`, `P` for a push, `~` for a
-/// sequence behind `x`, `|` for a choice before it, and `R` for what restores the stack.
+/// The name `e` with signs round it, the innermost first: `&` and `!`, `?`, `*` and `+`, `P` for a push, `~`
+/// for a sequence behind `x`, `|` for a choice before it, and `R` for what restores the stack.
 fn wrapped(alloc: Global, signs: &str) -> Result<OptimizedExpr, AllocError> {
     let mut expr = OptimizedExpr::Ident(String::from_str(alloc, "e")?);
     for sign in signs.chars() {
@@ -77,6 +77,7 @@ fn wrapped(alloc: Global, signs: &str) -> Result<OptimizedExpr, AllocError> {
             '!' => OptimizedExpr::NegPred(inner),
             '?' => OptimizedExpr::Opt(inner),
             '*' => OptimizedExpr::Rep(inner),
+            '+' => OptimizedExpr::RepOnce(inner),
             'P' => OptimizedExpr::Push(inner),
             '~' => OptimizedExpr::Seq(x, inner),
             '|' => OptimizedExpr::Choice(inner, x),

@@ -1,5 +1,5 @@
 //! What restores the stack round what may fail. A text says optimized rules just as they stand here: no pass
-//! is done, `+` stands for what restores the stack, and counts are left out.
+//! is done, `{1}` stands for what restores the stack, and other counts are left out.
 use crate::passes::add_body;
 use crate::reading::{erased_rules, write_rule};
 use meta_ast::ast::{Expr, Rule};
@@ -27,6 +27,7 @@ fn optimized(alloc: Global, expr: &Expr) -> Result<OptimizedExpr, AllocError> {
         | Expr::Opt(inner)
         | Expr::Rep(inner)
         | Expr::RepOnce(inner)
+        | Expr::RepExact(inner, 1)
         | Expr::Push(inner) => Ok(around(expr, boxed(alloc, inner)?)),
         Expr::RepExact(inner, _)
         | Expr::RepMin(inner, _)
@@ -51,6 +52,7 @@ fn around(expr: &Expr, inner: Box<OptimizedExpr>) -> OptimizedExpr {
         Expr::NegPred(_) => OptimizedExpr::NegPred(inner),
         Expr::Opt(_) => OptimizedExpr::Opt(inner),
         Expr::Rep(_) => OptimizedExpr::Rep(inner),
+        Expr::RepOnce(_) => OptimizedExpr::RepOnce(inner),
         Expr::Push(_) => OptimizedExpr::Push(inner),
         _ => OptimizedExpr::RestoreOnErr(inner),
     }

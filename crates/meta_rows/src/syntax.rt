@@ -2,7 +2,7 @@
 use meta_base::grammar::Rule;
 use meta_base::runtime::{Error, Fault, Pairs, Span};
 use meta_syntax::grammar::PestParser;
-use pest_meta::parser::rename_meta_rule;
+use pest_meta::parser::{plain_name, rename_meta_rule};
 use std::alloc::{AllocError, Global};
 
 /// How deep pairs are written.
@@ -137,5 +137,37 @@ fn write_printed(out: &mut String, errors: &[Error<Rule>]) -> Result<(), AllocEr
 pub(crate) fn renamed(alloc: Global, rule: &str, out: &mut String) -> Result<(), Fault> {
     let renamed = rename_meta_rule(alloc, &rule_of(alloc, rule)?)?;
     out.push_str(renamed.as_str())?;
+    Ok(())
+}
+
+/// The rules that are expected where a text fails, by the names that people call them.
+pub(crate) fn expected(
+    alloc: Global,
+    rule: &str,
+    text: &str,
+    out: &mut String,
+) -> Result<(), Fault> {
+    let rules = PestParser::expected(alloc, rule_of(alloc, rule)?, text)?;
+    write_plain(out, &rules)?;
+    Ok(())
+}
+
+/// Writes what people call each of some rules, or that there is none.
+fn write_plain(out: &mut String, rules: &[Rule]) -> Result<(), AllocError> {
+    let mut separator = "";
+    for rule in rules {
+        out.push_str(separator)?;
+        out.push_str(plain_name(*rule))?;
+        separator = ", ";
+    }
+    if rules.is_empty() {
+        out.push_str("nothing")?;
+    }
+    Ok(())
+}
+
+/// What people call a rule.
+pub(crate) fn plain(alloc: Global, rule: &str, out: &mut String) -> Result<(), Fault> {
+    out.push_str(plain_name(rule_of(alloc, rule)?))?;
     Ok(())
 }

@@ -4,14 +4,14 @@ use Rattle.meta_base.specs.Language.Text.{Text}
 use Rattle.meta_base.specs.Language.Builtins.{Builtin, One, Property, Newline, Soi, Eoi, Peek, Pop, Drop, PeekAll, PopAll, builtin_of}
 use Rattle.meta_base.specs.Language.Expression as plain
 use Rattle.meta_base.specs.Language.Expression.{Expression, Ident, Rule, Grammar, rule_of, whitespace, comment}
-use Rattle.meta_base.specs.Language.WellFormed.{IsNullable, nullable_str, nullable_insens, nullable_soi, nullable_eoi, nullable_call, nullable_pos_pred, nullable_neg_pred, nullable_opt, nullable_rep, nullable_rep_max, nullable_seq, nullable_left, nullable_right, nullable_rep_once, nullable_push, nullable_exact_zero, nullable_exact, nullable_min_zero, nullable_min, nullable_min_max_zero, nullable_min_max, nullable_skip, nullable_restore}
+use Rattle.meta_base.specs.Language.WellFormed.{IsNullable, nullable_str, nullable_insens, nullable_soi, nullable_eoi, nullable_call, nullable_pos_pred, nullable_neg_pred, nullable_opt, nullable_rep, nullable_rep_max, nullable_seq, nullable_left, nullable_right, nullable_rep_once, nullable_push, nullable_exact_zero, nullable_exact, nullable_min_zero, nullable_min, nullable_min_max_zero, nullable_min_max, nullable_skip, nullable_restore, nullable_push_literal, nullable_tag}
 use Rattle.meta_nodes.specs.Erasure.{without_spans, round, between}
 use Rattle.meta_nodes.specs.Nodes.{view}
 use Rattle.meta_nodes.specs.Spanned as spanned
 use Rattle.meta_nodes.specs.Spanned.{Spanned, Leaf, Unary, PosPred, NegPred, Opt, Rep, RepOnce, RepExact, RepMin, RepMax, RepMinMax, Push, Binary, Seq, Choice}
 use Rattle.meta_nodes.specs.declared.node.ParserRule.{ParserRule}
 use Rattle.meta_stacks.specs.Reported.{KnowsNullable}
-use Rattle.meta_stacks.specs.Reports.{TakesEntries, AltersStack, by_push, by_builtin, by_rule, in_left, in_right, in_first, in_second, in_opt, in_rep, in_rep_once, in_rep_exact, in_rep_min, in_rep_max, in_rep_min_max, in_restore, SkippingAltersStack}
+use Rattle.meta_stacks.specs.Reports.{TakesEntries, AltersStack, by_push, by_builtin, by_rule, in_left, in_right, in_first, in_second, in_opt, in_rep, in_rep_once, in_rep_exact, in_rep_min, in_rep_max, in_rep_min_max, in_restore, SkippingAltersStack, by_push_literal, in_tag}
 use Rattle.meta_stack.specs.Answers.{AreAnswers, at_place, null_kind, changing_kind}
 use Rattle.meta_stack.specs.Expressions.{body_flag, name_flag, may_stay, may_change}
 use Rattle.meta_stack.specs.Flags.{is_set_at}
@@ -146,6 +146,8 @@ module _ (rules : List ParserRule) (ns : List Node) (roots : List ℕ) (tabled :
     stays_so (nullable_right {a = a} {b = b} d) = or_second (may_stay flag a) (may_stay flag b) (stays_so d)
     stays_so (nullable_rep_once d) = stays_so d
     stays_so (nullable_push d) = stays_so d
+    stays_so nullable_push_literal = refl
+    stays_so (nullable_tag d) = stays_so d
     stays_so nullable_exact_zero = refl
     stays_so (nullable_exact {e = e} {i = i} d) = or_second (nat_eq i 0) (may_stay flag e) (stays_so d)
     stays_so nullable_min_zero = refl
@@ -234,6 +236,7 @@ module _ (rules : List ParserRule) (ns : List Node) (roots : List ℕ) (tabled :
 
     changes_so : {e : Expression} → AltersStack G e → may_change changes e ≡ true
     changes_so by_push = refl
+    changes_so by_push_literal = refl
     changes_so (by_builtin {n = n} {b = b} e is a) = changes_builtin n b e is a
     changes_so (by_rule {n = n} {r = r} e d) = changes_rule n r e ∙ changes_so d
     changes_so (in_left {a = a} {b = b} d) = or_first (may_change changes a) (may_change changes b) (changes_so d)
@@ -247,6 +250,7 @@ module _ (rules : List ParserRule) (ns : List Node) (roots : List ℕ) (tabled :
     changes_so (in_rep_min d) = changes_so d
     changes_so (in_rep_max d) = changes_so d
     changes_so (in_rep_min_max d) = changes_so d
+    changes_so (in_tag d) = changes_so d
     changes_so (in_restore d) = changes_so d
 
     plain_name : (n : Text) → builtin_kind n ≡ is.Leaf → (o : Option ℕ) → changing_kind roots P (name_kind n o) ≡ body_flag roots flags o

@@ -6,7 +6,7 @@ use Rattle.meta_base.specs.Language.Text.{Text}
 use Rattle.meta_base.specs.Language.Builtins.{Builtin, One, Property, Newline, Soi, Eoi, Peek, Pop, Drop, PeekAll, PopAll, builtin_of}
 use Rattle.meta_base.specs.Language.Expression as plain
 use Rattle.meta_base.specs.Language.Expression.{Expression, Ident, Rule, Grammar, rule_of}
-use Rattle.meta_base.specs.Language.WellFormed.{IsNullable, nullable_str, nullable_insens, nullable_soi, nullable_eoi, nullable_call, nullable_pos_pred, nullable_neg_pred, nullable_opt, nullable_rep, nullable_rep_max, nullable_seq, nullable_left, nullable_right, nullable_rep_once, nullable_push, nullable_exact_zero, nullable_exact, nullable_min_zero, nullable_min, nullable_min_max_zero, nullable_min_max, nullable_skip, nullable_restore}
+use Rattle.meta_base.specs.Language.WellFormed.{IsNullable, nullable_str, nullable_insens, nullable_soi, nullable_eoi, nullable_call, nullable_pos_pred, nullable_neg_pred, nullable_opt, nullable_rep, nullable_rep_max, nullable_seq, nullable_left, nullable_right, nullable_rep_once, nullable_push, nullable_exact_zero, nullable_exact, nullable_min_zero, nullable_min, nullable_min_max_zero, nullable_min_max, nullable_skip, nullable_restore, nullable_push_literal, nullable_tag}
 use Rattle.meta_nodes.specs.Erasure.{without_spans, round, between}
 use Rattle.meta_nodes.specs.Nodes.{view}
 use Rattle.meta_nodes.specs.Spanned as spanned
@@ -250,4 +250,6 @@ module _ (rules : List ParserRule) (ns : List Node) (roots : List ℕ) (tabled :
       may_stay_null (plain.RepMinMax e m n) h = counted (λ d i. plain.RepMinMax d i n) e m (may_stay flag e) h nullable_min_max_zero (λ w. nullable_min_max (may_stay_null e w))
       may_stay_null (plain.Skip ts) h = nullable_skip
       may_stay_null (plain.Push e) h = nullable_push (may_stay_null e h)
+      may_stay_null (plain.PushLiteral t) h = nullable_push_literal
+      may_stay_null (plain.NodeTag e t) h = nullable_tag (may_stay_null e h)
       may_stay_null (plain.RestoreOnErr e) h = nullable_restore (may_stay_null e h)

@@ -31,3 +31,4 @@ pub mod Lacked
 pub mod Still
 pub mod Silence
 pub mod Answered
+pub mod StaysApart

@@ -2,7 +2,7 @@
 use Rattle.std.proofs.Common.{◌≡◌, ℕ, zero, suc, List, [], ◌∷◌, ◌++◌, replicate, min, ◌-◌, Option, Some, None, is_some, Bool, true, false, not, ◌&&◌, ◌||◌, if◌then◌else◌, nat_eq, refl, ap, ℤ, pos, negsuc}
 use Rattle.meta_base.specs.Language.Text.{Text}
 use Rattle.meta_base.specs.Language.Builtins.{builtin_of}
-use Rattle.meta_base.specs.Language.Expression.{Expression, Str, Insens, Range, Ident, PeekSlice, PosPred, NegPred, Seq, Choice, Opt, Rep, RepOnce, RepExact, RepMin, RepMax, RepMinMax, Skip, Push, RestoreOnErr, Rule, Grammar, rule_of}
+use Rattle.meta_base.specs.Language.Expression.{Expression, Str, Insens, Range, Ident, PeekSlice, PosPred, NegPred, Seq, Choice, Opt, Rep, RepOnce, RepExact, RepMin, RepMax, RepMinMax, Skip, Push, RestoreOnErr, Rule, Grammar, rule_of, PushLiteral, NodeTag}
 use Rattle.meta_stacks.specs.Stack.{AbstractStack, join_any, failed, is_among, made_intact, push_mark}
 use Rattle.meta_stacks.specs.Reading.{Reading, anything, from, builtin_reading, slice_reading, text_reading, pushed_reading, stays, Copy, Required, Optional, Endless, is_single, Walk, turns, onward, walk, walked, reading, rule_reading, name_reading, lands, loops_within, loops}
 use Rattle.meta_stack.specs.Numbering.{is_empty_text}
@@ -151,6 +151,8 @@ module _ (limit : ℕ) (skips : Bool) (named : Text → AbstractStack → Readin
   reads_still (RepMinMax e m n) a o h = counted_still limit (λ b. R e b) (may_be_still near e) (λ b. reads_still e b) skips (min m n) (replicate (n - m) Optional) a o h
   reads_still (Skip ts) a o h = cc
   reads_still (Push e) a o h = reads_still e a (pushed_some (R e a) o) h
+  reads_still (PushLiteral t) a o h = refl
+  reads_still (NodeTag e t) a o h = reads_still e a o h
   reads_still (RestoreOnErr e) a o h = reads_still e a o h
 
 -- 4. names, however deep calls are followed

@@ -52,6 +52,8 @@ simple_part (plain.RepMax e n) c s p = absurd s
 simple_part (plain.RepMinMax e m n) c s p = absurd s
 simple_part (plain.Skip ts) c s p = absurd s
 simple_part (plain.Push e) c s p = absurd s
+simple_part (plain.PushLiteral u) c s p = absurd s
+simple_part (plain.NodeTag e u) c s p = absurd s
 simple_part (plain.RestoreOnErr e) c s p = absurd s
 
 pub inner_part : (f : Unary) (e : Expression) (c : Text) → Part (round f e) (Ident c) → Part e (Ident c)

@@ -8,7 +8,7 @@ use Rattle.meta_base.specs.Language.Expression.{Grammar}
 use Rattle.meta_base.specs.Language.Text.{Text}
 use Rattle.meta_base.specs.declared.runtime.places.Span as code_span
 use Rattle.meta_nodes.specs.Erasure.{rules_without_spans, without_spans}
-use Rattle.meta_nodes.specs.Nodes.{piece_of, view, rule_view, rule_views}
+use Rattle.meta_nodes.specs.Nodes.{piece_of, view, rule_views}
 use Rattle.meta_nodes.specs.Spanned.{Span, Spanned, SpannedRule}
 use Rattle.meta_nodes.specs.declared.node.ParserRule.{ParserRule}
 use Rattle.meta_stacks.specs.Stack.{AbstractStack, In, entry}

@@ -1,7 +1,7 @@
 -- What flags of rules say of expressions.
 use Rattle.std.specs.Prelude.{ℕ, List, Option, Some, None, Bool, true, false, ◌&&◌, ◌||◌, slice_get, nat_eq}
 use Rattle.meta_base.specs.Language.Text.{Text}
-use Rattle.meta_base.specs.Language.Expression.{Expression, Str, Insens, Range, Ident, PeekSlice, PosPred, NegPred, Seq, Choice, Opt, Rep, RepOnce, RepExact, RepMin, RepMax, RepMinMax, Skip, Push, RestoreOnErr, Grammar}
+use Rattle.meta_base.specs.Language.Expression.{Expression, Str, Insens, Range, Ident, PeekSlice, PosPred, NegPred, Seq, Choice, Opt, Rep, RepOnce, RepExact, RepMin, RepMax, RepMinMax, Skip, Push, RestoreOnErr, Grammar, PushLiteral, NodeTag}
 use Rattle.meta_stack.specs.Answers.{at_place}
 use Rattle.meta_stack.specs.Flags.{is_set_at}
 use Rattle.meta_stack.specs.Names.{is_end, last_place}
@@ -36,6 +36,8 @@ may_stay named (RepMax e n) = true
 may_stay named (RepMinMax e m n) = nat_eq m 0 || may_stay named e
 may_stay named (Skip ts) = true
 may_stay named (Push e) = may_stay named e
+may_stay named (PushLiteral t) = true
+may_stay named (NodeTag e t) = may_stay named e
 may_stay named (RestoreOnErr e) = may_stay named e
 
 -- it changes the stack outside predicates, where `named` says so of names
@@ -58,4 +60,6 @@ may_change named (RepMax e n) = may_change named e
 may_change named (RepMinMax e m n) = may_change named e
 may_change named (Skip ts) = false
 may_change named (Push e) = true
+may_change named (PushLiteral t) = true
+may_change named (NodeTag e t) = may_change named e
 may_change named (RestoreOnErr e) = may_change named e

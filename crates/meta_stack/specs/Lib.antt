@@ -18,3 +18,4 @@ pub mod NamedPlaces
 pub mod Leading
 pub mod Waiting
 pub mod Lacking
+pub mod Apart

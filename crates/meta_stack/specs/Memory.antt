@@ -4,6 +4,7 @@ use Rattle.std.specs.HashMap.{get}
 use Rattle.meta_stacks.specs.Stack.{AbstractStack}
 use Rattle.meta_stacks.specs.Reading as says
 use Rattle.meta_stacks.specs.Reading.{Copy, Required, Optional, onward, turns}
+use Rattle.meta_stack.specs.Apart.{AreMovable}
 use Rattle.meta_stack.specs.Table.{IsMeaning}
 use Rattle.meta_stacks.specs.Views.{stack_of, reading_of, walk_of}
 use Rattle.meta_stack.specs.Keys.{key_of}
@@ -17,10 +18,11 @@ use Rattle.meta_stack.specs.declared.memory.Memory.{Memory}
 abbrev pub Meaning : Type 0
 Meaning = ℕ → AbstractStack → says.Reading
 
--- what is remembered is so
-abbrev pub IsRight : Meaning → Memory → Type 0
-IsRight meaning m = (k : ℕ) (r : Reading) → get nat_eq m.known k ≡ Some r → (node : ℕ) (s : Stack)
-    → key_of node s ≡ k → reading_of r ≡ meaning node (stack_of s)
+-- what is remembered is so, and so is what stays apart from the stack
+pub record IsRight (meaning : Meaning) (m : Memory) : Type 0 where
+  pub known : (k : ℕ) (r : Reading) → get nat_eq m.known k ≡ Some r → (node : ℕ) (s : Stack)
+      → key_of node s ≡ k → reading_of r ≡ meaning node (stack_of s)
+  pub movable : AreMovable meaning m.apart.items
 
 -- the answer is this, and what is remembered stays right
 pub record AnswersRightly {A B : Type 0} (view : A → B) (wanted : Meaning → B) (t : Table) (old new : Memory)

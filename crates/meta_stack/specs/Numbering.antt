@@ -92,6 +92,7 @@ abbrev pub leaf_free : Expression → Bool
 leaf_free (plain.Str t) = is_empty_text t
 leaf_free (plain.Insens t) = is_empty_text t
 leaf_free (plain.Ident n) = is_end n
+leaf_free (plain.PushLiteral t) = true
 leaf_free _ = false
 
 abbrev pub unary_free : Unary → Bool

@@ -3,7 +3,7 @@ use Rattle.std.specs.Prelude.{◌≡◌, ℕ, zero, ◌<◌, min, List, [], ◌�
 use Rattle.std.specs.List.{filter}
 use Rattle.meta_base.specs.declared.runtime.places.Span as code_span
 use Rattle.meta_base.specs.Language.Text.{Text}
-use Rattle.meta_base.specs.Language.Expression.{Expression, Str, Insens, Range, Ident, PeekSlice, PosPred, NegPred, Seq, Choice, Opt, Rep, RepOnce, RepExact, RepMin, RepMax, RepMinMax, Skip, Push, RestoreOnErr, Grammar}
+use Rattle.meta_base.specs.Language.Expression.{Expression, Str, Insens, Range, Ident, PeekSlice, PosPred, NegPred, Seq, Choice, Opt, Rep, RepOnce, RepExact, RepMin, RepMax, RepMinMax, Skip, Push, RestoreOnErr, Grammar, PushLiteral, NodeTag}
 use Rattle.meta_nodes.specs.Nodes.{view}
 use Rattle.meta_nodes.specs.Spanned.{Spanned}
 use Rattle.meta_nodes.specs.declared.node.ParserRule.{ParserRule}
@@ -51,6 +51,8 @@ may_be_still named (RepMax e n) = true
 may_be_still named (RepMinMax e m n) = nat_eq (min m n) 0 || may_be_still named e
 may_be_still named (Skip ts) = false
 may_be_still named (Push e) = may_be_still named e
+may_be_still named (PushLiteral t) = true
+may_be_still named (NodeTag e t) = may_be_still named e
 may_be_still named (RestoreOnErr e) = may_be_still named e
 
 -- a repetition without end of what may be read as taking nothing

@@ -1,6 +1,6 @@
 //! Which nodes may take nothing, which change the stack, which may be read as taking nothing, and which lead to
 //! calls of a rule.
-ghost use Rattle.std.specs.Prelude.{◌≡◌, ◌<◌, ◌≤◌, ◌+◌, IfOk, true, false};
+ghost use Rattle.std.specs.Prelude.{◌≡◌, ◌<◌, ◌≤◌, ◌+◌, IfOk, OnOk, true, false};
 ghost use Rattle.std.specs.Prelude.{slice_get};
 ghost use Rattle.meta_stack.specs.Flags.{is_set_at};
 ghost use Rattle.meta_stack.specs.Answers as spec;
@@ -8,6 +8,7 @@ ghost use Rattle.meta_stack.specs.Answers.{AreSound, AreClosed, IsClosedAt};
 ghost use Rattle.meta_stack.specs.Reaching.{unset};
 ghost use Rattle.meta_stack.specs.Table.{called_by, parts_of};
 
+use crate::listeners::{Listeners, who_listens};
 use crate::table::{Kind, Node, Parts, is_set};
 use std::alloc::{AllocError, Global};
 
@@ -136,31 +137,36 @@ fn answer<'i>(question: Question, roots: &[usize], flags: &[bool], node: Node<'i
     }
 }
 
-/// Sets the flag of a node whose answer is yes by the flags; whether it was set now.
+/// Sets the flag of a node whose answer is yes by the flags; the node then waits to tell its listeners.
+/// Whether it was set now.
 fn mark<'i>(
     question: Question,
     roots: &[usize],
     nodes: &[Node<'i>],
     flags: &mut Vec<bool>,
+    waiting: &mut Vec<usize>,
     place: usize,
-) -> bool
+) -> Result<bool, AllocError>
     requires { AreSound question nodes.now roots.now flags.old.items }
-    ensures sound { AreSound question nodes.now roots.now flags.new.items }
-    ensures same { result ≡ false → (flags.new.items ≡ flags.old.items)
-        × IsClosedAt question nodes.now roots.now flags.new.items place }
-    ensures fewer { result ≡ true → unset flags.new.items + 1 ≡ unset flags.old.items }
+    ensures sound { OnOk result (AreSound question nodes.now roots.now flags.new.items) }
+    ensures same { IfOk result (λ added. added ≡ false → (flags.new.items ≡ flags.old.items)
+        × IsClosedAt question nodes.now roots.now flags.new.items place) }
+    ensures fewer { IfOk result (λ added. added ≡ true → unset flags.new.items + 1 ≡ unset flags.old.items) }
+    ensures waits { IfOk result (λ added. added ≡ false → waiting.new.len ≡ waiting.old.len) }
+    ensures waits_more { IfOk result (λ added. added ≡ true → waiting.new.len ≡ waiting.old.len + 1) }
 {
     if place >= nodes.len() {
-        return false;
+        return Ok(false);
     }
     if is_set(flags.as_slice(), place) {
-        return false;
+        return Ok(false);
     }
     if !answer(question, roots, flags.as_slice(), nodes[place]) {
-        return false;
+        return Ok(false);
     }
+    waiting.push(place)?;
     flags[place] = true;
-    true
+    Ok(true)
 }
 
 /// The first node of a rule, and its body.
@@ -178,58 +184,54 @@ pub(crate) fn nodes_of_rule(roots: &[usize], rule: usize) -> (usize, usize) {
     }
 }
 
-/// Sets flags in one rule, from its first node to its body.
-fn mark_rule<'i>(
+/// Lets all that wait tell their listeners.
+fn spread<'i>(
     question: Question,
     roots: &[usize],
     nodes: &[Node<'i>],
+    listeners: &Listeners,
     flags: &mut Vec<bool>,
-    rule: usize,
-)
+    waiting: &mut Vec<usize>,
+) -> Result<(), AllocError>
     requires { AreSound question nodes.now roots.now flags.old.items }
-    ensures sound { AreSound question nodes.now roots.now flags.new.items }
-    ensures fewer { unset flags.new.items ≤ unset flags.old.items }
+    ensures sound { OnOk result (AreSound question nodes.now roots.now flags.new.items) }
+    ensures fewer { OnOk result (unset flags.new.items ≤ unset flags.old.items) }
 {
-    let (first, root) = nodes_of_rule(roots, rule);
-    for place in first..root {
-        mark(question, roots, nodes, flags, place);
+    while let Some(place) = waiting.pop() {
+        for listener in listeners.of(place) {
+            mark(question, roots, nodes, flags, waiting, *listener)?;
+        }
     }
-    mark(question, roots, nodes, flags, root);
+    Ok(())
 }
 
-/// Sets flags in all rules, from the last to the first and back: so flags go far in one round, whichever
-/// rules call which.
-fn round<'i>(question: Question, roots: &[usize], nodes: &[Node<'i>], flags: &mut Vec<bool>)
+/// Sets the flag of each node whose answer is yes by the flags, and what follows of it. Whether any was set.
+fn round<'i>(
+    question: Question,
+    roots: &[usize],
+    nodes: &[Node<'i>],
+    listeners: &Listeners,
+    flags: &mut Vec<bool>,
+    waiting: &mut Vec<usize>,
+) -> Result<bool, AllocError>
     requires { AreSound question nodes.now roots.now flags.old.items }
-    ensures sound { AreSound question nodes.now roots.now flags.new.items }
-    ensures fewer { unset flags.new.items ≤ unset flags.old.items }
-{
-    let count = roots.len();
-    for done in 0..count {
-        mark_rule(question, roots, nodes, flags, count - 1 - done);
-    }
-    for rule in 0..count {
-        mark_rule(question, roots, nodes, flags, rule);
-    }
-}
-
-/// Sets the flag of each node whose answer is yes by the flags; whether any was set.
-fn sweep<'i>(question: Question, roots: &[usize], nodes: &[Node<'i>], flags: &mut Vec<bool>) -> bool
-    requires { AreSound question nodes.now roots.now flags.old.items }
-    ensures sound { AreSound question nodes.now roots.now flags.new.items }
-    ensures closed { result ≡ false → AreClosed question nodes.now roots.now flags.new.items }
-    ensures fewer { result ≡ true → unset flags.new.items < unset flags.old.items }
+    ensures sound { OnOk result (AreSound question nodes.now roots.now flags.new.items) }
+    ensures closed { IfOk result (λ added. added ≡ false
+        → AreClosed question nodes.now roots.now flags.new.items) }
+    ensures fewer { IfOk result (λ added. added ≡ true → unset flags.new.items < unset flags.old.items) }
 {
     let mut added = false;
     for place in 0..nodes.len() {
-        if mark(question, roots, nodes, flags, place) {
+        if mark(question, roots, nodes, flags, waiting, place)? {
             added = true;
+            spread(question, roots, nodes, listeners, flags, waiting)?;
         }
     }
-    added
+    Ok(added)
 }
 
-/// The answers for all nodes: flags are set from those of the operands, until none is added.
+/// The answers for all nodes: flags are set from those of the operands, and a node whose flag is set tells at
+/// once those that depend on it. A last round, which adds none, shows that all are set.
 pub(crate) fn answers<'i>(
     alloc: Global,
     question: Question,
@@ -239,10 +241,11 @@ pub(crate) fn answers<'i>(
     ensures sound { IfOk result (λ flags. AreSound question nodes.now roots.now flags.items) }
     ensures closed { IfOk result (λ flags. AreClosed question nodes.now roots.now flags.items) }
 {
+    let listeners = who_listens(alloc, roots, nodes)?;
     let mut flags = vec![in alloc; false; nodes.len()]?;
+    let mut waiting = Vec::new(alloc);
     loop {
-        round(question, roots, nodes, &mut flags);
-        if !sweep(question, roots, nodes, &mut flags) {
+        if !round(question, roots, nodes, &listeners, &mut flags, &mut waiting)? {
             return Ok(flags);
         }
     }

@@ -1,10 +1,12 @@
 //! The stack pass: which repetitions certainly never end, by what is known of the stack.
 #![tactic(auto)]
 
+mod apart;
 pub mod ast;
 mod calls;
 mod facts;
 mod groups;
+mod listeners;
 mod loops;
 mod memory;
 mod names;

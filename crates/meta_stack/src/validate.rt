@@ -15,6 +15,7 @@ ghost use Rattle.meta_stack.specs.Table.{AreInside, IsOrdered};
 ghost use Rattle.meta_stack.specs.Reportable.{FindsMore, IsToVisit};
 ghost use Rattle.meta_stack.specs.Visiting.{FindsAll, Keeps};
 
+use crate::apart::apart_of;
 use crate::calls::numbers;
 use crate::facts::{Question, answers, is_root_set, nodes_of_rule};
 use crate::memory::Memory;
@@ -26,7 +27,7 @@ use crate::reportable::{is_some_root_set, reportable_nodes};
 use crate::table::{Table, is_set};
 use crate::visits::{Pending, visit};
 use meta_base::grammar::Rule;
-use meta_base::runtime::{Error, ErrorVariant, Fault, Span};
+use meta_base::runtime::{Error, ErrorVariant, Fault, Span, Survey};
 use meta_nodes::ParserRule;
 use meta_stacks::Stack;
 use std::alloc::{AllocError, Global};
@@ -291,7 +292,8 @@ fn visit_all<'i>(
     ensures { IfOk result (λ found. FindsAll table.now
         (filter (is_set_at reportable.now) table.now.roots.items) found.items) }
 {
-    let mut memory = Memory::new(alloc);
+    let apart = apart_of(alloc, table)?;
+    let mut memory = Memory::new(alloc, apart);
     read_wanted(alloc, table, reportable, &mut memory)?;
     let mut found = Vec::new(alloc);
     for rule in 0..table.roots.len() {
@@ -338,16 +340,28 @@ pub fn sorted_reports<'i>(
     Ok(found)
 }
 
-/// The error that tells of a repetition.
-fn error_at<'i>(alloc: Global, span: Span<'i>) -> Result<Error<Rule>, Fault>
+/// The error that tells of a repetition, made by the survey where the repetition is in its text.
+fn error_at<'i>(
+    alloc: Global,
+    survey: &mut Survey<'_>,
+    span: Span<'i>,
+) -> Result<Error<Rule>, Fault>
     ensures tells { IfOk result (λ error. Tell (complaint_at (piece_of span.entry) ∷ []) (error ∷ [])) }
     ensures memory { IfErr result (λ fault. fault ≡ Fault.Memory alloc_error) }
 {
     let text = "expression inside repetition is non-progressing and will repeat infinitely";
     let message = String::from_str(alloc, text).map_err(Fault::Memory)?;
     let variant = ErrorVariant::CustomError { message };
-    let error = Error::new_from_span(alloc, variant, span)?;
+    let error = Error::new_where_surveyed(alloc, variant, survey, span)?;
     Ok(error)
+}
+
+/// The text of the first of these, which is that of all of them where they are found in one text.
+fn first_text<'i>(found: &[Span<'i>]) -> &'i str {
+    match found.first() {
+        Some(span) => span.get_input(),
+        None => "",
+    }
 }
 
 /// The errors that tell of repetitions, in their order.
@@ -356,8 +370,9 @@ fn errors_at<'i>(alloc: Global, found: &[Span<'i>]) -> Result<Vec<Error<Rule>>, 
     ensures memory { IfErr result (λ fault. fault ≡ Fault.Memory alloc_error) }
 {
     let mut errors = Vec::new(alloc);
+    let mut survey = Survey::new(alloc, first_text(found)).map_err(Fault::Memory)?;
     for place in 0..found.len() {
-        let error = error_at(alloc, found[place])?;
+        let error = error_at(alloc, &mut survey, found[place])?;
         match errors.push(error) {
             Ok(()) => {}
             Err(refused) => return Err(Fault::Memory(refused.into())),

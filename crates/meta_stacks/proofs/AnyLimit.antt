@@ -1,7 +1,7 @@
 -- Limits beyond the number of stacks give the same readings and the same reports.
 use Rattle.std.proofs.Common.{◌≡◌, inl, inr, ℕ, zero, suc, ◌<◌, List, [], ◌∷◌, replicate, Bool, true, false, not, ◌||◌, if◌then◌else◌, Option, Some, None, refl, sym, ◌∙◌, ap, ap₂, subst, length, arith}
 use Rattle.meta_base.specs.Language.Text.{Text}
-use Rattle.meta_base.specs.Language.Expression.{Grammar, Expression, Str, Insens, Range, Ident, PeekSlice, PosPred, NegPred, Seq, Choice, Opt, Rep, RepOnce, RepExact, RepMin, RepMax, RepMinMax, Skip, Push, RestoreOnErr, Rule, rule_of}
+use Rattle.meta_base.specs.Language.Expression.{Grammar, Expression, Str, Insens, Range, Ident, PeekSlice, PosPred, NegPred, Seq, Choice, Opt, Rep, RepOnce, RepExact, RepMin, RepMax, RepMinMax, Skip, Push, RestoreOnErr, Rule, rule_of, PushLiteral, NodeTag}
 use Rattle.meta_nodes.specs.Erasure.{without_spans}
 use Rattle.meta_nodes.specs.Spanned.{Span, Spanned, Leaf, One, Two}
 use Rattle.meta_stacks.specs.Stack.{In, AbstractStack, entry, made_intact, failed, is_among, are_among}
@@ -94,6 +94,8 @@ module _ (m n : ℕ) (most_m : most_stacks < m) (most_n : most_stacks < n) where
     expression_same (RepMinMax e i j) a h = repeated e (from_to_copies i j) (λ b i. expression_same e b i) a h
     expression_same (Skip ts) a h = refl
     expression_same (Push e) a h = ap (λ r. pushed_reading r) (expression_same e a h)
+    expression_same (PushLiteral t) a h = refl
+    expression_same (NodeTag e t) a h = expression_same e a h
     expression_same (RestoreOnErr e) a h = expression_same e a h
 
   module _ (skips : Bool) (recursive : Text → Bool) (g : Grammar) where

@@ -1,11 +1,11 @@
 -- A stack that a reading gives as intact has the base that the reading began with.
 use Rattle.std.proofs.Common.{◌≡◌, ℕ, zero, suc, List, [], ◌∷◌, replicate, length, Bool, true, false, ◌&&◌, ◌||◌, is_some, if◌then◌else◌, Option, Some, None, refl, sym, ◌∙◌, subst, nat_eq, nat_le, ℤ, pos, negsuc}
 use Rattle.std.specs.Prelude.{⊤}
-use Rattle.meta_base.specs.Language.Expression.{Grammar, Expression, Str, Insens, Range, Ident, PeekSlice, PosPred, NegPred, Seq, Choice, Opt, Rep, RepOnce, RepExact, RepMin, RepMax, RepMinMax, Skip, Push, RestoreOnErr, Rule, rule_of}
+use Rattle.meta_base.specs.Language.Expression.{Grammar, Expression, Str, Insens, Range, Ident, PeekSlice, PosPred, NegPred, Seq, Choice, Opt, Rep, RepOnce, RepExact, RepMin, RepMax, RepMinMax, Skip, Push, RestoreOnErr, Rule, rule_of, PushLiteral, NodeTag}
 use Rattle.meta_base.specs.Language.Text.{Text}
 use Rattle.meta_base.specs.Language.Builtins.{Builtin, One, Property, Newline, Soi, Eoi, Peek, Pop, Drop, PeekAll, PopAll, builtin_of}
 use Rattle.meta_stacks.specs.Stack.{Base, Empty, Blank, Any, AbstractStack, unknown, is_empty, all_blank, push_mark, pop_one, pop_all, popped, common, both_marks, join, join_any, failed, is_among}
-use Rattle.meta_stacks.specs.Reading.{Reading, surely, maybe, anything, from, only_if, peek_all_reading, pop_all_reading, top_reading, drop_reading, builtin_reading, slice_reading, text_reading, pushed_reading, stays, tried, Copy, Required, Optional, Endless, Walk, turns, onward, walk, walked, at_least_copies, from_to_copies, reading, rule_reading, name_reading}
+use Rattle.meta_stacks.specs.Reading.{Reading, surely, maybe, anything, from, only_if, peek_all_reading, pop_all_reading, top_reading, drop_reading, builtin_reading, slice_reading, text_reading, pushed_reading, stays, tried, Copy, Required, Optional, Endless, Walk, turns, onward, walk, walked, at_least_copies, from_to_copies, reading, rule_reading, name_reading, literal_reading}
 use Rattle.meta_stacks.proofs.Stacks.{and_left, and_right}
 
 abbrev pub FromBase : AbstractStack → AbstractStack → Type 0
@@ -78,6 +78,10 @@ pushed_from a b m f = go (nat_le 8 (length b.marks))
     go : (x : Bool) → FromBase a (if x then unknown else record { base = b.base; marks = m ∷ b.marks; intact = b.intact })
     go true h = lost h
     go false h = f h
+
+literal_keeps : (t : Text) (a : AbstractStack) → Keeps a (literal_reading t a)
+literal_keeps [] a = surely_keeps a (push_mark true a) (pushed_from a a true (same a))
+literal_keeps (c ∷ t) a = surely_keeps a (push_mark false a) (pushed_from a a false (same a))
 
 popped_from : (ms : List Bool) (b : Base) (i : Bool) → FromBase (record { base = b; marks = ms; intact = i }) (popped ms b i)
 popped_from (m ∷ ms) b i h = (h, refl)
@@ -214,6 +218,8 @@ module _ (limit : ℕ) (skips : Bool) (named : Text → AbstractStack → Readin
   keeps (RepMinMax e m n) a = walked_keeps limit (λ b. reading limit skips named e b) (λ b. keeps e b) skips (from_to_copies m n) a
   keeps (Skip ts) a = maybe_keeps a a (same a)
   keeps (Push e) a = pushed_keeps a (reading limit skips named e a) (keeps e a)
+  keeps (PushLiteral t) a = literal_keeps t a
+  keeps (NodeTag e t) a = keeps e a
   keeps (RestoreOnErr e) a = keeps e a
 
 module _ (limit : ℕ) (skips : Bool) (recursive : Text → Bool) (g : Grammar) where

@@ -6,7 +6,7 @@ use Rattle.meta_base.specs.Language.Text.{Text}
 use Rattle.meta_base.specs.Language.Meaning.{Does, Run, Turns, Skipping, seq, seq_first, seq_second, rep, rep_none, turn, turn_none, rep_once, rep_min, in_sequence}
 use Rattle.meta_stacks.specs.Stack.{Base, AbstractStack, Describes, made_intact, failed, are_among}
 use Rattle.meta_stacks.specs.Reading.{Reading, tried, opt_reading, Copy, Endless, lands, loops_within, loops}
-use Rattle.meta_stacks.specs.Reports.{skips_in, reading_in, Repeats, any_times, once_or_more, at_least, Route, Turn, next, turn_start, Visits, visit, visit_seq_first, visit_seq_second, visit_choice_first, visit_choice_second, visit_opt, visit_push, visit_pos_pred, visit_neg_pred, visit_turn, TurnAt, now, after_required, after_optional, after_turn, ReachesRoute, reach, reach_seq_first, reach_seq_second, reach_choice_first, reach_choice_second, reach_opt, reach_push, reach_pos_pred, reach_neg_pred, reach_turn, IsReport, IsCertain}
+use Rattle.meta_stacks.specs.Reports.{skips_in, reading_in, Repeats, any_times, once_or_more, at_least, Route, Turn, next, turn_start, Visits, visit, visit_seq_first, visit_seq_second, visit_choice_first, visit_choice_second, visit_opt, visit_push, visit_pos_pred, visit_neg_pred, visit_turn, TurnAt, now, after_required, after_optional, after_turn, ReachesRoute, reach, reach_seq_first, reach_seq_second, reach_choice_first, reach_choice_second, reach_opt, reach_push, reach_pos_pred, reach_neg_pred, reach_turn, IsReport, IsCertain, visit_tag, reach_tag}
 use Rattle.meta_stacks.specs.Stack.{In}
 use Rattle.meta_stacks.proofs.Stacks.{Has, Can, has_failed, marks_among}
 use Rattle.meta_stacks.proofs.Walking.{Agrees, Kept}
@@ -160,6 +160,7 @@ module _ (g : Grammar) (classes : Classes) (limit : ℕ) (skips : Bool) (m : Mod
       visits_describe v n (has_this (failed (step e a).err a) c s.stack q (has_failed (step e a).err a s.stack (sound e m real s Failure d a h) h))
   visits_describe (visit_opt v) (reach_opt n) h = visits_describe v n h
   visits_describe (visit_push v) (reach_push n) h = visits_describe v n h
+  visits_describe (visit_tag v) (reach_tag n) h = visits_describe v n h
   visits_describe (visit_pos_pred v) (reach_pos_pred n) h = visits_describe v n h
   visits_describe (visit_neg_pred v) (reach_neg_pred n) h = visits_describe v n h
   visits_describe {r = Turn i r} {b = b} {t = t} (visit_turn {q = q} {a = a} {c = c} x y v) (reach_turn {q = p} {s = s} {t = u} z w n) h =

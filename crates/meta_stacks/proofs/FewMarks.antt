@@ -2,11 +2,11 @@
 use Rattle.std.proofs.Common.{◌≡◌, ℕ, zero, suc, ◌≤◌, List, [], ◌∷◌, replicate, length, Bool, true, false, ◌&&◌, ◌||◌, is_some, if◌then◌else◌, Option, Some, None, refl, subst, nat_eq, nat_le, ℤ, pos, negsuc, arith}
 use Rattle.std.specs.Prelude.{⊤}
 use Rattle.std.proofs.lemmas.Bool.{leb-false}
-use Rattle.meta_base.specs.Language.Expression.{Grammar, Expression, Str, Insens, Range, Ident, PeekSlice, PosPred, NegPred, Seq, Choice, Opt, Rep, RepOnce, RepExact, RepMin, RepMax, RepMinMax, Skip, Push, RestoreOnErr, Rule, rule_of}
+use Rattle.meta_base.specs.Language.Expression.{Grammar, Expression, Str, Insens, Range, Ident, PeekSlice, PosPred, NegPred, Seq, Choice, Opt, Rep, RepOnce, RepExact, RepMin, RepMax, RepMinMax, Skip, Push, RestoreOnErr, Rule, rule_of, PushLiteral, NodeTag}
 use Rattle.meta_base.specs.Language.Text.{Text}
 use Rattle.meta_base.specs.Language.Builtins.{Builtin, One, Property, Newline, Soi, Eoi, Peek, Pop, Drop, PeekAll, PopAll, builtin_of}
 use Rattle.meta_stacks.specs.Stack.{Base, Empty, Blank, Any, AbstractStack, unknown, all_blank, push_mark, pop_one, pop_all, popped, common, both_marks, join, join_any, failed, is_among}
-use Rattle.meta_stacks.specs.Reading.{Reading, surely, maybe, anything, from, only_if, peek_all_reading, pop_all_reading, top_reading, drop_reading, builtin_reading, slice_reading, text_reading, pushed_reading, stays, tried, Copy, Required, Optional, Endless, Walk, turns, onward, walk, walked, at_least_copies, from_to_copies, reading, rule_reading, name_reading}
+use Rattle.meta_stacks.specs.Reading.{Reading, surely, maybe, anything, from, only_if, peek_all_reading, pop_all_reading, top_reading, drop_reading, builtin_reading, slice_reading, text_reading, pushed_reading, stays, tried, Copy, Required, Optional, Endless, Walk, turns, onward, walk, walked, at_least_copies, from_to_copies, reading, rule_reading, name_reading, literal_reading}
 use Rattle.meta_stacks.specs.Turns.{HasFewMarks, KeepsFewMarks}
 
 -- a stack that may be impossible
@@ -138,6 +138,10 @@ from_few : (q : Option AbstractStack) (f : AbstractStack → Reading) → FewWhe
 from_few None f h k = (tt, tt)
 from_few (Some b) f h k = k b h
 
+literal_few : (t : Text) (a : AbstractStack) → FewBoth (literal_reading t a)
+literal_few [] a = (pushed_few a true, tt)
+literal_few (c ∷ t) a = (pushed_few a false, tt)
+
 push_few : (r : Reading) → FewBoth r → FewBoth (pushed_reading r)
 push_few r k = (go r.ok, k.1)
   where
@@ -202,6 +206,8 @@ module _ (limit : ℕ) (skips : Bool) (named : Text → AbstractStack → Readin
   expression_few (RepMinMax e m n) a h = walked_few limit (λ b. reading limit skips named e b) (λ b k. expression_few e b k) skips (from_to_copies m n) a h
   expression_few (Skip ts) a h = (h, h)
   expression_few (Push e) a h = push_few (reading limit skips named e a) (expression_few e a h)
+  expression_few (PushLiteral t) a h = literal_few t a
+  expression_few (NodeTag e t) a h = expression_few e a h
   expression_few (RestoreOnErr e) a h = expression_few e a h
 
 module _ (limit : ℕ) (skips : Bool) (recursive : Text → Bool) (g : Grammar) where

@@ -4,7 +4,7 @@ use Rattle.std.proofs.lemmas.List.{length-map}
 use Rattle.std.proofs.lemmas.Slice.Eq.{bytes_eq-Decides}
 use mathlib.Core.Path.{fun_ext}
 use Rattle.meta_base.specs.Language.Text.{Text}
-use Rattle.meta_base.specs.Language.Expression.{Expression, Str, Insens, Range, Ident, PeekSlice, PosPred, NegPred, Seq, Choice, Opt, Rep, RepOnce, RepExact, RepMin, RepMax, RepMinMax, Skip, Push, RestoreOnErr, Rule, Grammar, or_else, rule_of, Part, whole, of_pos_pred, of_neg_pred, of_seq_left, of_seq_right, of_choice_left, of_choice_right, of_opt, of_rep, of_rep_once, of_rep_exact, of_rep_min, of_rep_max, of_rep_min_max, of_push, of_restore}
+use Rattle.meta_base.specs.Language.Expression.{Expression, Str, Insens, Range, Ident, PeekSlice, PosPred, NegPred, Seq, Choice, Opt, Rep, RepOnce, RepExact, RepMin, RepMax, RepMinMax, Skip, Push, RestoreOnErr, Rule, Grammar, or_else, rule_of, Part, whole, of_pos_pred, of_neg_pred, of_seq_left, of_seq_right, of_choice_left, of_choice_right, of_opt, of_rep, of_rep_once, of_rep_exact, of_rep_min, of_rep_max, of_rep_min_max, of_push, of_restore, PushLiteral, NodeTag, of_tag}
 use Rattle.meta_stacks.specs.Stack.{In, AbstractStack, failed}
 use Rattle.meta_stacks.specs.Recursion.{ReachesByCalls, by_call, by_calls, LeavesOutRecursion}
 use Rattle.meta_stacks.specs.Reports.{skips_in, reading_to_depth, reading_in}
@@ -47,6 +47,8 @@ module _ (limit : ℕ) (skips : Bool) (named other : Text → AbstractStack → 
   reading_same (RepMinMax e i j) k = over e (from_to_copies i j) (reading_same e (λ n p. k n (of_rep_min_max p)))
   reading_same (Skip ts) k = refl
   reading_same (Push e) k = let f : (AbstractStack → Reading) → AbstractStack → Reading = λ f a. pushed_reading (f a) in ap f (reading_same e (λ n p. k n (of_push p)))
+  reading_same (PushLiteral t) k = refl
+  reading_same (NodeTag e t) k = reading_same e (λ n p. k n (of_tag p))
   reading_same (RestoreOnErr e) k = reading_same e (λ n p. k n (of_restore p))
 
 -- a list without one of its members

@@ -8,7 +8,7 @@ use Rattle.meta_base.specs.Language.Text.{Text}
 use Rattle.meta_stacks.specs.Refuted.{peeked, peeked_twice, top, top_of_none, alone}
 use Rattle.meta_stacks.specs.Stack.{AbstractStack}
 use Rattle.meta_stacks.specs.Reading.{Required}
-use Rattle.meta_stacks.specs.Reports.{Repetition, repetition, Repeats, any_times, once_or_more, at_least, Route, Here, Turn, HasTurn, StandsAt, to_itself, to_seq_first, to_seq_second, to_choice_first, to_choice_second, to_opt, to_push, to_pos_pred, to_neg_pred, to_turn, now, after_required, ReachesRoute, reach, reach_turn, IsCertain}
+use Rattle.meta_stacks.specs.Reports.{Repetition, repetition, Repeats, any_times, once_or_more, at_least, Route, Here, Turn, HasTurn, StandsAt, to_itself, to_seq_first, to_seq_second, to_choice_first, to_choice_second, to_opt, to_push, to_pos_pred, to_neg_pred, to_turn, now, after_required, ReachesRoute, reach, reach_turn, IsCertain, to_tag}
 
 same_some : {A : Type 0} {a b : A} → Some a ≡ Some b → a ≡ b
 same_some h = cc
@@ -21,6 +21,7 @@ name_alone n (to_choice_first l) h = cc
 name_alone n (to_choice_second l) h = cc
 name_alone n (to_opt l) h = cc
 name_alone n (to_push l) h = cc
+name_alone n (to_tag l) h = cc
 name_alone n (to_pos_pred l) h = cc
 name_alone n (to_neg_pred l) h = cc
 name_alone n (to_turn {q = q} x t l) h = let f : None ≡ Some q = sym (ap repetition h) ∙ x in cc
@@ -33,6 +34,7 @@ itself_here n (to_choice_first l) h k = cc
 itself_here n (to_choice_second l) h k = cc
 itself_here n (to_opt l) h k = cc
 itself_here n (to_push l) h k = cc
+itself_here n (to_tag l) h k = cc
 itself_here n (to_pos_pred l) h k = cc
 itself_here n (to_neg_pred l) h k = cc
 itself_here n (to_turn {q = q} x t l) h k =
@@ -48,6 +50,7 @@ in_a_turn n (to_choice_first l) h k = cc
 in_a_turn n (to_choice_second l) h k = cc
 in_a_turn n (to_opt l) h k = cc
 in_a_turn n (to_push l) h k = cc
+in_a_turn n (to_tag l) h k = cc
 in_a_turn n (to_pos_pred l) h k = cc
 in_a_turn n (to_neg_pred l) h k = cc
 in_a_turn n (to_turn {q = q} {i = i} {r = r} x t l) h k =

@@ -7,8 +7,8 @@ use Rattle.meta_base.specs.Language.State.{Classes, Mode, NonAtomicMode, AtomicM
 use Rattle.meta_base.specs.Language.Text.{Text}
 use Rattle.meta_base.specs.Language.Matching.{begins, text_outcome, character_outcome, starts_in, newline_outcome, end_outcome, slice_at, slice_outcome, place, end_place, builtin_outcome, other_outcome, named_outcome, peek_outcome, range_set}
 use Rattle.meta_base.specs.Language.Builtins.{Builtin, One, Property, Newline, Soi, Eoi, Peek, Pop, Drop, PeekAll, PopAll, builtin_of}
-use Rattle.meta_base.specs.Language.Meaning.{Does, Task, Run, Turns, Skipping, str, insens, range, slice, skip, call, other, pos_pred, neg_pred, push, restore, seq, seq_first, seq_second, left, right, opt, opt_none, rep, rep_none, turn, turn_none, rep_once, rep_exact, rep_min, rep_max, rep_min_max, skips, atomic, compound_atomic, between, ahead, not_ahead, with_token, in_sequence, exactly, at_least, at_most, from_to, skipped}
-use Rattle.meta_stacks.specs.Reports.{AltersStack, by_push, by_builtin, by_rule, in_left, in_right, in_first, in_second, in_opt, in_rep, in_rep_once, in_rep_exact, in_rep_min, in_rep_max, in_rep_min_max, in_restore, TakesEntries, SkippingAltersStack, skips_in}
+use Rattle.meta_base.specs.Language.Meaning.{Does, Task, Run, Turns, Skipping, str, insens, range, slice, skip, call, other, pos_pred, neg_pred, push, restore, seq, seq_first, seq_second, left, right, opt, opt_none, rep, rep_none, turn, turn_none, rep_once, rep_exact, rep_min, rep_max, rep_min_max, skips, atomic, compound_atomic, between, ahead, not_ahead, with_token, in_sequence, exactly, at_least, at_most, from_to, skipped, push_literal, tag}
+use Rattle.meta_stacks.specs.Reports.{AltersStack, by_push, by_builtin, by_rule, in_left, in_right, in_first, in_second, in_opt, in_rep, in_rep_once, in_rep_exact, in_rep_min, in_rep_max, in_rep_min_max, in_restore, TakesEntries, SkippingAltersStack, skips_in, by_push_literal, in_tag}
 use Rattle.meta_stacks.proofs.Walking.{Kept}
 
 abbrev pub Keeps : State → Outcome → Type 0
@@ -151,6 +151,8 @@ module _ (g : Grammar) where
     unchanged (pos_pred {s = s} {o = o} d) c = ahead_keeps s o
     unchanged (neg_pred {s = s} {o = o} d) c = not_ahead_keeps s o
     unchanged (push d) c = absurd (c by_push)
+    unchanged push_literal c = absurd (c by_push_literal)
+    unchanged (tag d) c = unchanged d (λ x. c (in_tag x))
     unchanged (restore d) c = unchanged d (λ x. c (in_restore x))
     unchanged (seq a k b) c = unchanged b (λ x. c (in_right x)) ∙ unchanged k calm ∙ unchanged a (λ x. c (in_left x))
     unchanged (seq_first a) c = tt

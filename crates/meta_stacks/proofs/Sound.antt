@@ -3,14 +3,14 @@ use Rattle.std.proofs.Common.{◌≡◌, ℕ, zero, suc, ◌-◌, min, List, [],
 use Rattle.std.proofs.Math.Dec.{leb-zero}
 use mathlib.Core.List.{reverse_aux}
 use Rattle.std.specs.Char.{eq_ignore_ascii_case}
-use Rattle.meta_base.specs.Language.Expression.{Grammar, Expression, Str, Insens, Range, Ident, PeekSlice, PosPred, NegPred, Seq, Choice, Opt, Rep, RepOnce, RepExact, RepMin, RepMax, RepMinMax, Skip, Push, RestoreOnErr, RuleType, Normal, Silent, Atomic, CompoundAtomic, NonAtomic, Rule, rule_of, whitespace, comment}
-use Rattle.meta_base.specs.Language.State.{Classes, Mode, IsRuleMode, NonAtomicMode, AtomicMode, CompoundAtomicMode, Between, State, Outcome, Success, Failure}
+use Rattle.meta_base.specs.Language.Expression.{Grammar, Expression, Str, Insens, Range, Ident, PeekSlice, PosPred, NegPred, Seq, Choice, Opt, Rep, RepOnce, RepExact, RepMin, RepMax, RepMinMax, Skip, Push, RestoreOnErr, RuleType, Normal, Silent, Atomic, CompoundAtomic, NonAtomic, Rule, rule_of, whitespace, comment, PushLiteral, NodeTag}
+use Rattle.meta_base.specs.Language.State.{Classes, Mode, IsRuleMode, NonAtomicMode, AtomicMode, CompoundAtomicMode, Between, State, None', Outcome, Success, Failure}
 use Rattle.meta_base.specs.Language.Text.{Text}
 use Rattle.meta_base.specs.Language.Matching.{text_outcome, slice_at, slice_outcome, other_outcome, named_outcome, peek_outcome, pop_outcome, drop_outcome, with_stack, range_set, concatenated}
 use Rattle.meta_base.specs.Language.Builtins.{Builtin, One, Property, Newline, Soi, Eoi, Peek, Pop, Drop, PeekAll, PopAll, builtin_of}
-use Rattle.meta_base.specs.Language.Meaning.{Does, Run, Skipping, str, insens, range, slice, skip, call, other, pos_pred, neg_pred, push, restore, seq, seq_first, seq_second, left, right, opt, opt_none, rep_once, rep_exact, rep_min, rep_max, rep_min_max, ahead, not_ahead, pushed, with_token, in_sequence, body_mode, mode_in}
+use Rattle.meta_base.specs.Language.Meaning.{Does, Run, Skipping, str, insens, range, slice, skip, call, other, pos_pred, neg_pred, push, restore, seq, seq_first, seq_second, left, right, opt, opt_none, rep_once, rep_exact, rep_min, rep_max, rep_min_max, ahead, not_ahead, pushed, with_token, in_sequence, body_mode, mode_in, push_literal, tag, with_top}
 use Rattle.meta_stacks.specs.Stack.{Base, Empty, Blank, Any, AbstractStack, AreBlank, Above, Marked, Describes, unknown, all_blank, push_mark, pop_all, popped, failed}
-use Rattle.meta_stacks.specs.Reading.{Reading, surely, maybe, anything, from, only_if, peek_all_reading, pop_all_reading, top_reading, drop_reading, builtin_reading, slice_reading, text_reading, pushed_reading, ahead_reading, not_ahead_reading, seq_reading, choice_reading, opt_reading, stays, Copy, Required, Optional, Endless, at_least_copies, from_to_copies, reading, rule_reading, name_reading, walked}
+use Rattle.meta_stacks.specs.Reading.{Reading, surely, maybe, anything, from, only_if, peek_all_reading, pop_all_reading, top_reading, drop_reading, builtin_reading, slice_reading, text_reading, pushed_reading, ahead_reading, not_ahead_reading, seq_reading, choice_reading, opt_reading, stays, Copy, Required, Optional, Endless, at_least_copies, from_to_copies, reading, rule_reading, name_reading, walked, literal_reading}
 use Rattle.meta_stacks.proofs.Stacks.{and_left, and_right, Has, Can, either_left, either_right, has_failed, pushes, blank_entries}
 use Rattle.meta_stacks.proofs.Walking.{Agrees, Kept, stays_still, is_not, walked_agrees, listed, copied}
 use Rattle.meta_stacks.proofs.Skipping.{Keeps, text_keeps, one_keeps, slices_keep, builtin_keeps, outcome_same}
@@ -26,6 +26,10 @@ blank_text (t ∷ ts) h = rw h.0 (blank_text ts h.1)
 text_agrees : (alike : ℕ → ℕ → Bool) (t : Text) (a : AbstractStack) (s : State) → Describes a s.stack → Agrees (text_reading t a) s (text_outcome alike t s)
 text_agrees alike [] a s h = (h, λ q. refl)
 text_agrees alike (c ∷ t) a s h = maybe_agrees a s (text_outcome alike (c ∷ t) s) h (text_keeps alike (c ∷ t) s)
+
+literal_agrees : (t : Text) (a : AbstractStack) (s : State) → Describes a s.stack → Agrees (literal_reading t a) s (Success (with_top t s) None')
+literal_agrees [] a s h = (pushes true a [] s.stack refl h, λ q. refl)
+literal_agrees (c ∷ t) a s h = (pushes false a (c ∷ t) s.stack tt h, λ q. refl)
 
 surely_agrees : (t : Text) (a : AbstractStack) (s : State) → t ≡ [] → Describes a s.stack → Agrees (surely a) s (text_outcome nat_eq t s)
 surely_agrees t a s e h = subst (λ x. Agrees (surely a) s (text_outcome nat_eq x s)) (sym e) (h, λ q. refl)
@@ -260,6 +264,8 @@ module _ (g : Grammar) (classes : Classes) (limit : ℕ) (skips : Bool) (skippin
     sound (RepMinMax e k n) m r s o (rep_min_max d) a h = sound_copies m r e (λ a. reading limit skips named e a) (sound e) (from_to_copies k n) (replicate (min k n) e ++ replicate (n - k) (Opt e)) (of_from_to m r e (λ a. reading limit skips named e a) (sound e) k n) s o d a h
     sound (Skip ts) m r s o skip a h = (h, λ q. cc)
     sound (Push e) m r s o (push {o = p} d) a h = pushed_agrees g classes (reading limit skips named e a) s p (sound e m r s p d a h)
+    sound (PushLiteral t) m r s o push_literal a h = literal_agrees t a s h
+    sound (NodeTag e t) m r s o (tag d) a h = sound e m r s o d a h
     sound (RestoreOnErr e) m r s o (restore d) a h = sound e m r s o d a h
 
 real_body : (y : RuleType) (b : Bool) (m : Mode) → IsRuleMode (mode_in y b m)

@@ -1,7 +1,7 @@
 -- What an expression may do to a stack of which something is known.
 use Rattle.std.specs.Prelude.{ℕ, zero, suc, ◌-◌, min, List, [], ◌∷◌, ◌++◌, replicate, Option, Some, None, is_some, Bool, true, false, not, ◌&&◌, ◌||◌, if◌then◌else◌, ℤ, pos}
 use Rattle.meta_base.specs.Language.Text.{Text}
-use Rattle.meta_base.specs.Language.Expression.{Expression, Str, Insens, Range, Ident, PeekSlice, PosPred, NegPred, Seq, Choice, Opt, Rep, RepOnce, RepExact, RepMin, RepMax, RepMinMax, Skip, Push, RestoreOnErr, Rule, Grammar, rule_of}
+use Rattle.meta_base.specs.Language.Expression.{Expression, Str, Insens, Range, Ident, PeekSlice, PosPred, NegPred, Seq, Choice, Opt, Rep, RepOnce, RepExact, RepMin, RepMax, RepMinMax, Skip, Push, RestoreOnErr, Rule, Grammar, rule_of, PushLiteral, NodeTag}
 use Rattle.meta_base.specs.Language.Builtins.{Builtin, Peek, Pop, Drop, PeekAll, PopAll, builtin_of}
 use Rattle.meta_stacks.specs.Stack.{Base, Empty, Blank, Any, AbstractStack, unknown, made_intact, all_blank, push_mark, pop_one, pop_all, join_any, failed, is_among, are_among}
 
@@ -83,6 +83,11 @@ slice_reading _ _ a = maybe a
 abbrev pub text_reading : Text → AbstractStack → Reading
 text_reading [] a = surely a
 text_reading (c ∷ t) a = maybe a
+
+-- a literal push: one more mark, blank where its string is empty
+abbrev pub literal_reading : Text → AbstractStack → Reading
+literal_reading [] a = surely (push_mark true a)
+literal_reading (c ∷ t) a = surely (push_mark false a)
 
 -- `PUSH(e)`, `&e` and `!e`, from the reading of e
 abbrev pub pushed_reading : Reading → Reading
@@ -225,6 +230,8 @@ module _ (limit : ℕ) (skips : Bool) (named : Text → AbstractStack → Readin
   reading (RepMinMax e m n) a = walked limit (λ b. reading e b) skips a (from_to_copies m n)
   reading (Skip ts) a = maybe a
   reading (Push e) a = pushed_reading (reading e a)
+  reading (PushLiteral t) a = literal_reading t a
+  reading (NodeTag e t) a = reading e a
   reading (RestoreOnErr e) a = reading e a
 
 -- calls are followed, so many deep at most, but not those of rules that are `recursive`

@@ -1,7 +1,7 @@
 -- Where the reading goes, where matching goes, what is reported, and which reports are certain.
 use Rattle.std.specs.Prelude.{◌≡◌, ℕ, zero, suc, List, [], ◌∷◌, replicate, length, Option, Some, None, is_some, Bool, true, ◌||◌, ⊤, ◌⊎◌}
 use Rattle.meta_base.specs.Language.Text.{Text}
-use Rattle.meta_base.specs.Language.Expression.{Expression, Ident, PosPred, NegPred, Seq, Choice, Opt, Rep, RepOnce, RepExact, RepMin, RepMax, RepMinMax, Push, RestoreOnErr, Rule, Grammar, rule_of, whitespace, comment}
+use Rattle.meta_base.specs.Language.Expression.{Expression, Ident, PosPred, NegPred, Seq, Choice, Opt, Rep, RepOnce, RepExact, RepMin, RepMax, RepMinMax, Push, RestoreOnErr, Rule, Grammar, rule_of, whitespace, comment, PushLiteral, NodeTag}
 use Rattle.meta_base.specs.Language.State.{Classes, Mode, IsRuleMode, State, Trees, Outcome, Success, Failure}
 use Rattle.meta_base.specs.Language.Builtins.{Builtin, One, Property, Newline, Soi, Eoi, Peek, Pop, Drop, PeekAll, PopAll, builtin_of}
 use Rattle.meta_base.specs.Language.Meaning.{Does, Run, Skipping, Matches}
@@ -27,9 +27,10 @@ TakesEntries PeekAll = ⊥
 TakesEntries PopAll = ⊤
 
 module _ (g : Grammar) where
-  -- outside predicates it has a `PUSH`, `POP`, `DROP` or `POP_ALL`, itself or by way of rules
+  -- outside predicates it has a `PUSH`, `PUSH_LITERAL`, `POP`, `DROP` or `POP_ALL`, itself or by way of rules
   pub data AltersStack : Expression → Type 0 where
     by_push : {e : Expression} → AltersStack (Push e)
+    by_push_literal : {t : Text} → AltersStack (PushLiteral t)
     by_builtin : {n : Text} {b : Builtin} → rule_of g n ≡ None → builtin_of n ≡ Some b → TakesEntries b
         → AltersStack (Ident n)
     by_rule : {n : Text} {r : Rule} → rule_of g n ≡ Some r → AltersStack r.body → AltersStack (Ident n)
@@ -44,6 +45,7 @@ module _ (g : Grammar) where
     in_rep_min : {e : Expression} {i : ℕ} → AltersStack e → AltersStack (RepMin e i)
     in_rep_max : {e : Expression} {i : ℕ} → AltersStack e → AltersStack (RepMax e i)
     in_rep_min_max : {e : Expression} {i j : ℕ} → AltersStack e → AltersStack (RepMinMax e i j)
+    in_tag : {e : Expression} {t : Text} → AltersStack e → AltersStack (NodeTag e t)
     in_restore : {e : Expression} → AltersStack e → AltersStack (RestoreOnErr e)
 
   -- what is skipped changes the stack
@@ -96,6 +98,7 @@ pub data StandsAt : Expression → Route → Expression → Type 0 where
   to_choice_second : {a b p : Expression} {r : Route} → StandsAt b r p → StandsAt (Choice a b) (Second r) p
   to_opt : {e p : Expression} {r : Route} → StandsAt e r p → StandsAt (Opt e) (Inner r) p
   to_push : {e p : Expression} {r : Route} → StandsAt e r p → StandsAt (Push e) (Inner r) p
+  to_tag : {e p : Expression} {t : Text} {r : Route} → StandsAt e r p → StandsAt (NodeTag e t) (Inner r) p
   to_pos_pred : {e p : Expression} {r : Route} → StandsAt e r p → StandsAt (PosPred e) (Inner r) p
   to_neg_pred : {e p : Expression} {r : Route} → StandsAt e r p → StandsAt (NegPred e) (Inner r) p
   to_turn : {e p : Expression} {q : Repetition} {i : ℕ} {r : Route} → repetition e ≡ Some q
@@ -130,6 +133,8 @@ module _ (step : Expression → AbstractStack → Reading) where
         → Visits (Opt e) (Inner r) a b
     visit_push : {e : Expression} {r : Route} {a b : AbstractStack} → Visits e r a b
         → Visits (Push e) (Inner r) a b
+    visit_tag : {e : Expression} {t : Text} {r : Route} {a b : AbstractStack} → Visits e r a b
+        → Visits (NodeTag e t) (Inner r) a b
     visit_pos_pred : {e : Expression} {r : Route} {a b : AbstractStack} → Visits e r a b
         → Visits (PosPred e) (Inner r) a b
     visit_neg_pred : {e : Expression} {r : Route} {a b : AbstractStack} → Visits e r a b
@@ -169,6 +174,8 @@ module _ (g : Grammar) (classes : Classes) (m : Mode) where
         → ReachesRoute (Opt e) (Inner r) s t
     reach_push : {e : Expression} {r : Route} {s t : State} → ReachesRoute e r s t
         → ReachesRoute (Push e) (Inner r) s t
+    reach_tag : {e : Expression} {u : Text} {r : Route} {s t : State} → ReachesRoute e r s t
+        → ReachesRoute (NodeTag e u) (Inner r) s t
     reach_pos_pred : {e : Expression} {r : Route} {s t : State} → ReachesRoute e r s t
         → ReachesRoute (PosPred e) (Inner r) s t
     reach_neg_pred : {e : Expression} {r : Route} {s t : State} → ReachesRoute e r s t

@@ -12,13 +12,13 @@ use Rattle.meta_syntax.proofs.Quiet.{and_first, and_second}
 use Rattle.meta_syntax.proofs.Steps.{fails_right, finds_left, finds_right}
 
 -- with one rule more
-among_more : (e : Expression) (rs : List Rule) (i : ℕ) (d : Rule) → i < length rs → choice_among e (take (suc i) rs) ≡ Choice (choice_among e (take i rs)) (Ident (name_of (get_or rs i d)))
+pub among_more : (e : Expression) (rs : List Rule) (i : ℕ) (d : Rule) → i < length rs → choice_among e (take (suc i) rs) ≡ Choice (choice_among e (take i rs)) (Ident (name_of (get_or rs i d)))
 among_more e [] i d h = absurd (omega arith)
 among_more e (r ∷ rs) zero d h = refl
 among_more e (r ∷ rs) (suc i) d h = among_more (Choice e (Ident (name_of r))) rs i d (omega arith)
 
 -- in two parts
-among_parts : (e : Expression) (rs : List Rule) (i : ℕ) → choice_among (choice_among e (take i rs)) (drop i rs) ≡ choice_among e rs
+pub among_parts : (e : Expression) (rs : List Rule) (i : ℕ) → choice_among (choice_among e (take i rs)) (drop i rs) ≡ choice_among e rs
 among_parts e rs zero = refl
 among_parts e [] (suc i) = refl
 among_parts e (r ∷ rs) (suc i) = among_parts (Choice e (Ident (name_of r))) rs i

@@ -1,6 +1,7 @@
 pub mod Choices
 pub mod CommentEnds
 pub mod EntryLists
+pub mod Expectations
 pub mod FirstCharacters
 pub mod LeafLemmas
 pub mod Lookup
@@ -8,6 +9,7 @@ pub mod Making
 pub mod Memory
 pub mod MetaWellFormed
 pub mod Naming
+pub mod NotingSteps
 pub mod Numerals
 pub mod Parsing
 pub mod Quiet
@@ -18,5 +20,6 @@ pub mod ShapeOfTrees
 pub mod SingleCharacters
 pub mod Steps
 pub mod Taken
+pub mod Untold
 pub mod Yielding
 pub mod Yields

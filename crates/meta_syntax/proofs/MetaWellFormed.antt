@@ -6,9 +6,9 @@ use Rattle.std.proofs.lemmas.List.Elements.{All-nil, All-cons, All-contains}
 use Rattle.std.specs.List.{All, list_all}
 use Rattle.meta_base.specs.Language.Expression as spec
 use Rattle.meta_base.specs.Language.Text.{Text}
-use Rattle.meta_base.specs.Language.Expression.{Expression, Str, Range, Ident, PeekSlice, PosPred, NegPred, Seq, Choice, Opt, Rep, RepOnce, RepMin, RepMinMax, RuleType, NonAtomic, Grammar, rule_of, whitespace, comment, Part, whole, of_pos_pred, of_neg_pred, of_seq_left, of_seq_right, of_choice_left, of_choice_right, of_opt, of_rep, of_rep_once, of_rep_exact, of_rep_min, of_rep_max, of_rep_min_max, of_push, of_restore, RepExact, RepMax, or_else}
+use Rattle.meta_base.specs.Language.Expression.{Expression, Str, Range, Ident, PeekSlice, PosPred, NegPred, Seq, Choice, Opt, Rep, RepOnce, RepMin, RepMinMax, RuleType, NonAtomic, Grammar, rule_of, whitespace, comment, Part, whole, of_pos_pred, of_neg_pred, of_seq_left, of_seq_right, of_choice_left, of_choice_right, of_opt, of_rep, of_rep_once, of_rep_exact, of_rep_min, of_rep_max, of_rep_min_max, of_push, of_restore, RepExact, RepMax, or_else, of_tag}
 use Rattle.meta_base.specs.Language.Builtins.{builtin_of}
-use Rattle.meta_base.specs.Language.WellFormed.{IsNullable, nullable_str, nullable_insens, nullable_soi, nullable_eoi, nullable_call, nullable_pos_pred, nullable_neg_pred, nullable_opt, nullable_rep, nullable_rep_max, nullable_seq, nullable_left, nullable_right, nullable_rep_once, nullable_push, nullable_exact_zero, nullable_exact, nullable_min_zero, nullable_min, nullable_min_max_zero, nullable_min_max, nullable_skip, nullable_restore, LeftCalls, left_name, left_first, left_second, left_pos_pred, left_neg_pred, left_left, left_right, left_opt, left_rep, left_rep_once, left_rep_exact, left_rep_min, left_rep_max, left_rep_min_max, left_push, left_restore, Leads, at_once, by_way, InRules, InSomeRule, IsSkipped, is_whitespace, is_comment, IsWellFormed, IsPlain, IsPlainName, of_rule, of_builtin, HasReadableCounts}
+use Rattle.meta_base.specs.Language.WellFormed.{IsNullable, nullable_str, nullable_insens, nullable_soi, nullable_eoi, nullable_call, nullable_pos_pred, nullable_neg_pred, nullable_opt, nullable_rep, nullable_rep_max, nullable_seq, nullable_left, nullable_right, nullable_rep_once, nullable_push, nullable_exact_zero, nullable_exact, nullable_min_zero, nullable_min, nullable_min_max_zero, nullable_min_max, nullable_skip, nullable_restore, LeftCalls, left_name, left_first, left_second, left_pos_pred, left_neg_pred, left_left, left_right, left_opt, left_rep, left_rep_once, left_rep_exact, left_rep_min, left_rep_max, left_rep_min_max, left_push, left_restore, Leads, at_once, by_way, InRules, InSomeRule, IsSkipped, is_whitespace, is_comment, IsWellFormed, IsPlain, IsPlainName, of_rule, of_builtin, HasReadableCounts, nullable_push_literal, nullable_tag, left_tag}
 use Rattle.meta_base.specs.Pieces.MetaRules.{name_of, meta_rules}
 use Rattle.meta_base.specs.declared.grammar.Rule.{Rule}
 use Rattle.meta_base.specs.declared.grammar.Rule.TheVariants as is
@@ -242,6 +242,8 @@ empty (nullable_left a) = or-first _ _ (empty a)
 empty (nullable_right b) = or-second _ _ (empty b)
 empty (nullable_rep_once d) = empty d
 empty (nullable_push d) = refl
+empty nullable_push_literal = refl
+empty (nullable_tag d) = refl
 empty nullable_exact_zero = refl
 empty (nullable_exact d) = refl
 empty nullable_min_zero = refl
@@ -267,6 +269,7 @@ sound_part (of_rep_min d) h = cc
 sound_part (of_rep_max d) h = cc
 sound_part (of_rep_min_max d) h = sound_part d (and-second _ _ h)
 sound_part (of_push d) h = cc
+sound_part (of_tag d) h = cc
 sound_part (of_restore d) h = cc
 
 sound_in : (p : Expression) → InRules meta_grammar p → is_sound p ≡ true
@@ -288,6 +291,7 @@ below b (left_rep_min d) h = cc
 below b (left_rep_max d) h = cc
 below b (left_rep_min_max d) h = below b d h
 below b (left_push d) h = cc
+below b (left_tag d) h = cc
 below b (left_restore d) h = cc
 
 leads_below : {n k : Text} → Leads meta_grammar n k → rank k < rank n

@@ -23,7 +23,7 @@ use Rattle.meta_syntax.specs.Parses.{FailsAt, IsSyntaxErrorOrMemory, ParseRefuse
 use Rattle.meta_syntax.specs.Runs.{Fails, Finds, at}
 use Rattle.meta_syntax.proofs.EntryLists.{entries-whole}
 
-at_start : (text : List ℕ) → at text text ≡ start_of text
+pub at_start : (text : List ℕ) → at text text ≡ start_of text
 at_start text =
     let z : length text - length text ≡ 0 = omega arith in
     let f : ℕ → State = λ p. record { position = p; rest = chars text; stack = [] } in

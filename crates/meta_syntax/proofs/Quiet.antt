@@ -6,7 +6,7 @@ use Rattle.meta_base.specs.Language.Expression.{Expression, Str, Range, Ident, P
 use Rattle.meta_base.specs.Language.State.{Classes, State, Mode, NonAtomicMode, AtomicMode, CompoundAtomicMode, Between, Trees, None', joined, Outcome, Success, Failure, moved}
 use Rattle.meta_base.specs.Language.Matching.{begins, text_outcome, starts_in, character_outcome, range_set, end_outcome, with_stack, peek_outcome, pop_outcome, drop_outcome, concatenated, builtin_outcome, named_outcome, other_outcome}
 use Rattle.meta_base.specs.Language.Builtins.{Builtin, One, Property, Newline, Soi, Eoi, Peek, Pop, Drop, PeekAll, PopAll, builtin_of}
-use Rattle.meta_base.specs.Language.Meaning.{Does, Task, Run, Turns, Skipping, str, insens, range, slice, skip, call, other, pos_pred, neg_pred, push, restore, seq, seq_first, seq_second, left, right, opt, opt_none, rep, rep_none, turn, turn_none, rep_once, rep_exact, rep_min, rep_max, rep_min_max, skips, atomic, compound_atomic, between, ahead, not_ahead, with_token, gives_token, inherited, mode_in, body_mode, from_to}
+use Rattle.meta_base.specs.Language.Meaning.{Does, Task, Run, Turns, Skipping, str, insens, range, slice, skip, call, other, pos_pred, neg_pred, push, restore, seq, seq_first, seq_second, left, right, opt, opt_none, rep, rep_none, turn, turn_none, rep_once, rep_exact, rep_min, rep_max, rep_min_max, skips, atomic, compound_atomic, between, ahead, not_ahead, with_token, gives_token, inherited, mode_in, body_mode, from_to, push_literal, tag}
 use Rattle.meta_base.specs.Pieces.MetaRules.{name_of}
 use Rattle.meta_base.specs.declared.grammar.Rule.{Rule}
 use Rattle.meta_base.specs.declared.grammar.Rule.TheVariants as is
@@ -220,6 +220,8 @@ module _ (classes : Classes) where
   quiet (pos_pred {s = s} {o = o} d) h = no_trees_ahead s o
   quiet (neg_pred {s = s} {o = o} d) h = no_trees_not_ahead s o
   quiet (push d) h = cc
+  quiet push_literal h = cc
+  quiet (tag d) h = cc
   quiet (restore d) h = cc
   quiet (seq a k b) h = none_joined (quiet a (h.0, and_first _ _ h.1)) (quiet k h.0) (quiet b (h.0, and_second _ _ h.1))
   quiet (seq_first a) h = tt

@@ -109,7 +109,7 @@ module _ (text : List ℕ) where
   closed is.number i j us d p h = placed_at p h
   closed is.integer i j us d p h = placed_at p h
   closed is._push i j us d p (both (both (both none mark) (tree e)) mark) = tree (shape.pushed e)
-  closed is._push_literal i j us d p h = tree shape.push_literal
+  closed is._push_literal i j us d p (both (both (both none mark) (tree q)) mark) = tree (shape.push_literal q)
   closed is.peek_slice i j us d p (both (both (both (both (both none mark) (inl none)) mark) (inl none)) mark) = tree (shape.in_brackets (shape.open_start shape.open_end))
   closed is.peek_slice i j us d p (both (both (both (both (both none mark) (inl none)) mark) (inr (placed l))) mark) = tree (shape.in_brackets (shape.open_start (shape.up_to l)))
   closed is.peek_slice i j us d p (both (both (both (both (both none mark) (inr (placed k))) mark) (inl none)) mark) = tree (shape.in_brackets (shape.from k shape.open_end))

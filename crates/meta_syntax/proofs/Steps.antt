@@ -39,7 +39,7 @@ pub adds_on : (start middle now : List Entry) (us : Trees) → named_entries mid
 adds_on start middle now us k a = rw k at a
 
 -- what a builtin's name does in a mode of the code
-by_builtin : (classes : Classes) (m : mode.Mode) (n : Text) (b : Builtin) (s : State) → builtin_of n ≡ Some b → other_outcome classes (mode_of m) n s ≡ builtin_outcome classes (mode_of m) b s
+pub by_builtin : (classes : Classes) (m : mode.Mode) (n : Text) (b : Builtin) (s : State) → builtin_of n ≡ Some b → other_outcome classes (mode_of m) n s ≡ builtin_outcome classes (mode_of m) b s
 by_builtin classes in_mode.NonAtomic n b s h = rw h refl
 by_builtin classes in_mode.Atomic n b s h = rw h refl
 by_builtin classes in_mode.CompoundAtomic n b s h = rw h refl

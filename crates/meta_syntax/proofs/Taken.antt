@@ -8,7 +8,7 @@ use Rattle.meta_base.specs.Language.Text.{Text, size_of}
 use Rattle.meta_base.specs.Language.Expression.{Expression, Str, Range, Ident, Seq, Choice, Opt, Rep, RepOnce, rule_of}
 use Rattle.meta_base.specs.Language.State.{Classes, State, Mode, AtomicMode, None', Outcome, Success, Failure, moved}
 use Rattle.meta_base.specs.Language.Matching.{begins, starts_in, range_set}
-use Rattle.meta_base.specs.Language.Meaning.{Does, Task, Run, Turns, Skipping, str, insens, range, slice, skip, call, other, pos_pred, neg_pred, push, restore, seq, seq_first, seq_second, left, right, opt, opt_none, rep, rep_none, turn, turn_none, rep_once, rep_exact, rep_min, rep_max, rep_min_max, skips, atomic, compound_atomic, between, ahead, not_ahead, pushed, with_token, body_mode}
+use Rattle.meta_base.specs.Language.Meaning.{Does, Task, Run, Turns, Skipping, str, insens, range, slice, skip, call, other, pos_pred, neg_pred, push, restore, seq, seq_first, seq_second, left, right, opt, opt_none, rep, rep_none, turn, turn_none, rep_once, rep_exact, rep_min, rep_max, rep_min_max, skips, atomic, compound_atomic, between, ahead, not_ahead, pushed, with_token, body_mode, push_literal, tag}
 use Rattle.meta_base.specs.declared.grammar.Rule.TheVariants as is
 use Rattle.meta_base.proofs.OneOutcome.{same_rule}
 use Rattle.meta_syntax.specs.MetaGrammar.{meta_grammar, rule_at, body_of}
@@ -102,6 +102,8 @@ module _ (classes : Classes) (P : Text → Type 0) (number_takes : (s u : State)
   takes (pos_pred {s = s} {o = o} d) h = anywhere (ahead s o)
   takes (neg_pred {s = s} {o = o} d) h = anywhere (not_ahead s o)
   takes (push {s = s} {o = o} d) h = anywhere (pushed s o)
+  takes push_literal h = tt
+  takes (tag {o = o} d) h = anywhere o
   takes (restore {o = o} d) h = anywhere o
   takes (seq {t = t} a k b) h = (t, takes a h, rw (takes k h) (takes b h))
   takes (seq_first a) h = tt

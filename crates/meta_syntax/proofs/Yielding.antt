@@ -7,7 +7,7 @@ use Rattle.meta_base.specs.Language.Text.{Text}
 use Rattle.meta_base.specs.Language.Expression.{Ident, Choice, RuleType, Normal, Silent, Atomic, CompoundAtomic, NonAtomic, rule_of, whitespace, comment}
 use Rattle.meta_base.specs.Language.State.{Classes, State, Mode, NonAtomicMode, AtomicMode, CompoundAtomicMode, Between, Trees, None', Tree, joined, Outcome, Success, Failure}
 use Rattle.meta_base.specs.Language.Matching.{begins, starts_in, range_set, end_outcome, other_outcome}
-use Rattle.meta_base.specs.Language.Meaning.{Does, Task, Run, Turns, Skipping, str, insens, range, slice, skip, call, other, pos_pred, neg_pred, push, restore, seq, seq_first, seq_second, left, right, opt, opt_none, rep, rep_none, turn, turn_none, rep_once, rep_exact, rep_min, rep_max, rep_min_max, skips, atomic, compound_atomic, between, ahead, not_ahead, pushed, with_token, gives_token, seen_from, mode_in, body_mode, skipped}
+use Rattle.meta_base.specs.Language.Meaning.{Does, Task, Run, Turns, Skipping, str, insens, range, slice, skip, call, other, pos_pred, neg_pred, push, restore, seq, seq_first, seq_second, left, right, opt, opt_none, rep, rep_none, turn, turn_none, rep_once, rep_exact, rep_min, rep_max, rep_min_max, skips, atomic, compound_atomic, between, ahead, not_ahead, pushed, with_token, gives_token, seen_from, mode_in, body_mode, skipped, push_literal, tag}
 use Rattle.meta_base.specs.Pieces.MetaRules.{name_of}
 use Rattle.meta_base.specs.Language.Places.{Stands}
 use Rattle.meta_base.specs.declared.grammar.Rule.{Rule}
@@ -230,6 +230,8 @@ module _ (text : List ℕ) (utf8 : IsUtf8 text) (classes : Classes) where
   yields (pos_pred {s = s} {o = o} d) h w = anything (ahead s o)
   yields (neg_pred {s = s} {o = o} d) h w = none_not_ahead s o
   yields (push {s = s} {o = o} d) h w = anything (pushed s o)
+  yields push_literal h w = tt
+  yields (tag {o = o} d) h w = anything o
   yields (restore {o = o} d) h w = anything o
   yields (seq {b = f} {vs = vs} {ws = ws} a k b) h w =
       let x = stands_after a w in

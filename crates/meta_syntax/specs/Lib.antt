@@ -1,6 +1,8 @@
 pub mod Building
 pub mod CommentEnds
 pub mod Entries
+pub mod ExpectedRules
+pub mod Expecting
 pub mod Firsts
 pub mod Forms
 pub mod MetaGrammar

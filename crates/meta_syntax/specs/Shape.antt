@@ -132,7 +132,10 @@ module _ (text : List ℕ) where
         (Mark (codes "range_operator") dots_at dots_to
         (Tree (codes "character") high_at high_to high None')))
     slice : {us : Trees} → IsSlice us → IsTerminal (codes "peek_slice") us
-    push_literal : {us : Trees} → IsTerminal (codes "_push_literal") us
+    push_literal : {open_at open_to string_at string_to close_at close_to : ℕ} {us : Trees} → IsQuoted us
+        → IsTerminal (codes "_push_literal") (Mark (codes "opening_paren") open_at open_to
+        (Tree (codes "string") string_at string_to us
+        (Mark (codes "closing_paren") close_at close_to None')))
 
   mutual
     -- a chain, and a bar before it that says nothing

@@ -3,15 +3,17 @@ ghost use Rattle.std.specs.Prelude.{◌≡◌, alloc_error, IfErr, IfOk, MatchRe
 ghost use Rattle.std.specs.Str.{IsCharBoundary};
 ghost use Rattle.meta_base.specs.Pieces.Pairs.{pairs_text};
 ghost use Rattle.meta_syntax.specs.Entries.{IsWhole, named_entries};
+ghost use Rattle.meta_syntax.specs.ExpectedRules.{AreExpected, ExpectsNothing};
 ghost use Rattle.meta_syntax.specs.Parses.{AreSpelled, IsSyntaxError, IsSyntaxErrorOrMemory, ParseRefuses, TokensGive};
 
 pub use crate::entries::Entry;
+use crate::expecting::expected_rules;
 use crate::modes::Mode;
 use crate::recognize::Recognizer;
 use crate::trees::from_entries;
 pub use meta_base::grammar::Rule;
 use meta_base::runtime::{Error, ErrorVariant, Fault, Pairs, Position};
-use std::alloc::Global;
+use std::alloc::{AllocError, Global};
 
 /// The parser of the meta-grammar.
 #[derive(Clone, Copy, Debug, PartialEq, Eq)]
@@ -52,6 +54,26 @@ impl PestParser {
             Ok(Some(_)) => Ok(recognizer.into_entries()),
             Ok(None) => Err(syntax_error(alloc, text, recognizer.furthest)),
             Err(error) => Err(Fault::Memory(error)),
+        }
+    }
+
+    /// What would have let the text get further: the rules that are expected at the place of the error that
+    /// `parse` tells of, `EOI` among them, in the order of the meta-grammar (`EOI` before all), each once.
+    ///
+    /// A rule is expected there if a call of it that began at that place failed, gives a token, was made in a
+    /// mode other than Atomic and not below a `!`, and is within no other such call. The list is empty where
+    /// `parse` gives pairs, and where all that failed at that place stood below a `!`.
+    ///
+    /// It reads a text that fails twice, and one that doesn't once: ask it where `parse` refused the text. The
+    /// only error is a want of memory.
+    pub fn expected(alloc: Global, rule: Rule, text: &str) -> Result<Vec<Rule>, AllocError>
+        ensures nothing { IfOk result (λ rules. ExpectsNothing rule text.now rules.items) }
+        ensures expected { IfOk result (λ rules. AreExpected rule text.now rules.items) }
+    {
+        let mut recognizer = Recognizer::new(alloc);
+        match recognizer.call(text, rule, Mode::NonAtomic, text)? {
+            Some(_) => Ok(Vec::new(alloc)),
+            None => expected_rules(alloc, rule, text, recognizer.furthest),
         }
     }
 }

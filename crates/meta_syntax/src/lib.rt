@@ -3,6 +3,7 @@
 
 mod comments;
 pub mod entries;
+mod expecting;
 mod firsts;
 pub mod grammar;
 pub mod laws;

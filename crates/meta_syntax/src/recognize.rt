@@ -713,7 +713,7 @@ impl Recognizer {
     /// skip.
     #[inline(always)]
     #[cycle(recognize)]
-    fn skip<'i>(&mut self, text: &str, mode: Mode, from: &'i str) -> Result<&'i str, AllocError>
+    pub fn skip<'i>(&mut self, text: &str, mode: Mode, from: &'i str) -> Result<&'i str, AllocError>
         requires ready { IsReady text.now from.now self.old }
         ensures goes_on { IfOk result (λ after. GoesOn text.now from.entry.now true after.now) }
         ensures remembers { OnOk result (RemembersTruly text.now self.new) }

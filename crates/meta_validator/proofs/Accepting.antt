@@ -2,7 +2,7 @@
 use Rattle.std.proofs.Common.{◌≡◌, inl, inr, ℕ, List, [], ◌∷◌, Option, Some, None, Bool, true, false, if◌then◌else◌, nat_eq, bytes_eq, slice_get, refl, sym, ◌∙◌, ap, subst}
 use Rattle.std.proofs.lemmas.Slice.Eq.{bytes_eq-Decides}
 use Rattle.meta_base.specs.Language.Text.{Text}
-use Rattle.meta_base.specs.Language.Expression.{Expression, Rule, Grammar, rule_of, or_else, whitespace, comment, Part, whole, of_pos_pred, of_neg_pred, of_seq_left, of_seq_right, of_choice_left, of_choice_right, of_opt, of_rep, of_rep_once, of_rep_exact, of_rep_min, of_rep_max, of_rep_min_max, of_push, of_restore}
+use Rattle.meta_base.specs.Language.Expression.{Expression, Rule, Grammar, rule_of, or_else, whitespace, comment, Part, whole, of_pos_pred, of_neg_pred, of_seq_left, of_seq_right, of_choice_left, of_choice_right, of_opt, of_rep, of_rep_once, of_rep_exact, of_rep_min, of_rep_max, of_rep_min_max, of_push, of_restore, of_tag}
 use Rattle.meta_base.specs.Language.WellFormed.{IsNullable, InRules, IsSkipped, is_whitespace, is_comment, Leads, IsWellFormed}
 use Rattle.meta_nodes.specs.Nodes.{view}
 use Rattle.meta_nodes.specs.declared.node.ParserRule.{ParserRule}
@@ -65,6 +65,7 @@ module _ (rules : List ParserRule) (facts : Facts) (right : AreFacts rules facts
   part_lies (of_rep_max p) i s = part_lies p s.0 s.3
   part_lies (of_rep_min_max p) i s = part_lies p s.0 s.3
   part_lies (of_push p) i s = part_lies p s.0 s.3
+  part_lies (of_tag p) i s = part_lies p s.0 s.3
   part_lies (of_seq_left p) i s = part_lies p s.0 s.5
   part_lies (of_seq_right p) i s = part_lies p s.1 s.6
   part_lies (of_choice_left p) i s = part_lies p s.0 s.5

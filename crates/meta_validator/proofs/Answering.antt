@@ -3,9 +3,9 @@ use Rattle.std.proofs.Common.{◌≡◌, ℕ, zero, suc, ◌⊎◌, inl, inr, Li
 use Rattle.std.specs.Cmp.{unsigned_Decides}
 use Rattle.std.proofs.lemmas.Slice.Eq.{bytes_eq-Decides}
 use Rattle.meta_base.specs.Language.Text.{Text}
-use Rattle.meta_base.specs.Language.Expression.{Expression, Str, Insens, Range, Ident, PeekSlice, PosPred, NegPred, Seq, Choice, Opt, Rep, RepOnce, RepExact, RepMin, RepMax, RepMinMax, Skip, Push, RestoreOnErr, Rule, Grammar, rule_of, or_else}
+use Rattle.meta_base.specs.Language.Expression.{Expression, Str, Insens, Range, Ident, PeekSlice, PosPred, NegPred, Seq, Choice, Opt, Rep, RepOnce, RepExact, RepMin, RepMax, RepMinMax, Skip, Push, RestoreOnErr, Rule, Grammar, rule_of, or_else, PushLiteral, NodeTag}
 use Rattle.std.specs.Bool.{Decides}
-use Rattle.meta_base.specs.Language.WellFormed.{IsNullable, nullable_str, nullable_insens, nullable_soi, nullable_eoi, nullable_call, nullable_pos_pred, nullable_neg_pred, nullable_opt, nullable_rep, nullable_rep_max, nullable_seq, nullable_left, nullable_right, nullable_rep_once, nullable_push, nullable_exact_zero, nullable_exact, nullable_min_zero, nullable_min, nullable_min_max_zero, nullable_min_max, nullable_skip, nullable_restore, CannotFail, cannot_fail_str, cannot_fail_insens, cannot_fail_call, cannot_fail_opt, cannot_fail_rep, cannot_fail_rep_max, cannot_fail_seq, cannot_fail_left, cannot_fail_right, cannot_fail_rep_once, cannot_fail_push, cannot_fail_pos_pred, cannot_fail_exact_zero, cannot_fail_exact, cannot_fail_min_zero, cannot_fail_min, cannot_fail_min_max_zero, cannot_fail_min_max, cannot_fail_skip, cannot_fail_restore}
+use Rattle.meta_base.specs.Language.WellFormed.{IsNullable, nullable_str, nullable_insens, nullable_soi, nullable_eoi, nullable_call, nullable_pos_pred, nullable_neg_pred, nullable_opt, nullable_rep, nullable_rep_max, nullable_seq, nullable_left, nullable_right, nullable_rep_once, nullable_push, nullable_exact_zero, nullable_exact, nullable_min_zero, nullable_min, nullable_min_max_zero, nullable_min_max, nullable_skip, nullable_restore, CannotFail, cannot_fail_str, cannot_fail_insens, cannot_fail_call, cannot_fail_opt, cannot_fail_rep, cannot_fail_rep_max, cannot_fail_seq, cannot_fail_left, cannot_fail_right, cannot_fail_rep_once, cannot_fail_push, cannot_fail_pos_pred, cannot_fail_exact_zero, cannot_fail_exact, cannot_fail_min_zero, cannot_fail_min, cannot_fail_min_max_zero, cannot_fail_min_max, cannot_fail_skip, cannot_fail_restore, nullable_push_literal, nullable_tag, cannot_fail_push_literal, cannot_fail_tag}
 use Rattle.meta_nodes.specs.Nodes.{view}
 use Rattle.meta_nodes.specs.declared.node.ParserRule.{ParserRule}
 use Rattle.meta_validator.specs.Names.{grammar_of, kind_in, rule_said, last_place, name_kind, is_end}
@@ -100,6 +100,14 @@ module _ (g : Grammar) where
   push_asked asks.TakesNothing e d = nullable_push d
   push_asked asks.CannotFail e d = cannot_fail_push d
 
+  tag_asked : (q : Question) (e : Expression) (t : Text) → Asked q g e → Asked q g (NodeTag e t)
+  tag_asked asks.TakesNothing e t d = nullable_tag d
+  tag_asked asks.CannotFail e t d = cannot_fail_tag d
+
+  literal_asked : (q : Question) (t : Text) → Asked q g (PushLiteral t)
+  literal_asked asks.TakesNothing t = nullable_push_literal
+  literal_asked asks.CannotFail t = cannot_fail_push_literal
+
   seq_asked : (q : Question) (a b : Expression) → Asked q g a → Asked q g b → Asked q g (Seq a b)
   seq_asked asks.TakesNothing a b d e = nullable_seq d e
   seq_asked asks.CannotFail a b d e = cannot_fail_seq d e
@@ -189,6 +197,8 @@ module _ (q : Question) (G : Grammar) (place_of : Text → Option ℕ) (t : Tabl
     step i k (RepMax e n) at s f = max_asked G q e n
     step i k (RepOnce e) at s f = once_asked G q e (below s.0 e (subst (λ z. fires q t.roots.items p z ≡ true) (same_kind _ at s.2) f) s.3)
     step i k (Push e) at s f = push_asked G q e (below s.0 e (subst (λ z. fires q t.roots.items p z ≡ true) (same_kind _ at s.2) f) s.3)
+    step i k (PushLiteral u) at s f = literal_asked G q u
+    step i k (NodeTag e u) at s f = tag_asked G q e u (below s.0 e (subst (λ z. fires q t.roots.items p z ≡ true) (same_kind _ at s.2) f) s.3)
     step i k (RepExact e n) at s f = exact_asked G q e n (elim (counted_fires q t.roots.items p n s.0 (subst (λ z. fires q t.roots.items p z ≡ true) (same_kind _ at s.2) f)) [ inl h ↦ inl h | inr h ↦ inr (below s.0 e h s.3) ])
     step i k (RepMin e n) at s f = min_asked G q e n (elim (repeated_fires q t.roots.items p n s.0 (subst (λ z. fires q t.roots.items p z ≡ true) (same_kind _ at s.2) f)) [ inl h ↦ inl h | inr h ↦ inr (below s.0 e h s.3) ])
     step i k (RepMinMax e m n) at s f = min_max_asked G q e m n (elim (counted_fires q t.roots.items p m s.0 (subst (λ z. fires q t.roots.items p z ≡ true) (same_kind _ at s.2) f)) [ inl h ↦ inl h | inr h ↦ inr (below s.0 e h s.3) ])
@@ -262,6 +272,8 @@ module _ (G : Grammar) (place_of : Text → Option ℕ) (t : Table) (sense : (n 
     null_marked (nullable_right d) i s = closed i _ s.4 (or_true (is_set_at marks s.0) (is_set_at marks s.1) (null_marked d s.1 s.6))
     null_marked (nullable_rep_once d) i s = closed i _ s.2 (null_marked d s.0 s.3)
     null_marked (nullable_push d) i s = closed i _ s.2 (null_marked d s.0 s.3)
+    null_marked nullable_push_literal i s = closed i _ s refl
+    null_marked (nullable_tag d) i s = closed i _ s.2 (null_marked d s.0 s.3)
     null_marked nullable_exact_zero i s = closed i _ s.2 refl
     null_marked (nullable_exact {i = n} d) i s = closed i _ s.2 (counted_holds asks.TakesNothing t.roots.items (is_set_at marks) n s.0 (null_marked d s.0 s.3))
     null_marked nullable_min_zero i s = closed i _ s.2 refl
@@ -284,6 +296,8 @@ module _ (G : Grammar) (place_of : Text → Option ℕ) (t : Table) (sense : (n 
     sure_marked (cannot_fail_right d) i s = closed i _ s.4 (or_true (is_set_at marks s.0) (is_set_at marks s.1) (sure_marked d s.1 s.6))
     sure_marked (cannot_fail_rep_once d) i s = closed i _ s.2 (sure_marked d s.0 s.3)
     sure_marked (cannot_fail_push d) i s = closed i _ s.2 (sure_marked d s.0 s.3)
+    sure_marked cannot_fail_push_literal i s = closed i _ s refl
+    sure_marked (cannot_fail_tag d) i s = closed i _ s.2 (sure_marked d s.0 s.3)
     sure_marked (cannot_fail_pos_pred d) i s = closed i _ s.2 (sure_marked d s.0 s.3)
     sure_marked cannot_fail_exact_zero i s = closed i _ s.2 refl
     sure_marked (cannot_fail_exact {i = n} d) i s = closed i _ s.2 (counted_holds asks.CannotFail t.roots.items (is_set_at marks) n s.0 (sure_marked d s.0 s.3))

@@ -2,7 +2,7 @@
 use Rattle.std.proofs.Common.{◌≡◌, ℕ, ◌<◌, List, Option, Some, Bool, true, false, if◌then◌else◌, slice_get, nat_eq, sym, ◌∙◌, subst, arith}
 use Rattle.meta_base.specs.Language.Text.{Text}
 use Rattle.meta_base.specs.Language.Expression.{Expression, Rule, Grammar, rule_of}
-use Rattle.meta_base.specs.Language.WellFormed.{LeftCalls, left_name, left_first, left_second, left_pos_pred, left_neg_pred, left_left, left_right, left_opt, left_rep, left_rep_once, left_rep_exact, left_rep_min, left_rep_max, left_rep_min_max, left_push, left_restore, Leads, at_once, by_way}
+use Rattle.meta_base.specs.Language.WellFormed.{LeftCalls, left_name, left_first, left_second, left_pos_pred, left_neg_pred, left_left, left_right, left_opt, left_rep, left_rep_once, left_rep_exact, left_rep_min, left_rep_max, left_rep_min_max, left_push, left_restore, Leads, at_once, by_way, left_tag}
 use Rattle.meta_nodes.specs.Nodes.{view}
 use Rattle.meta_nodes.specs.declared.node.ParserRule.{ParserRule}
 use Rattle.meta_validator.specs.Names.{grammar_of, kind_in, rule_said, last_place, name_kind, is_end}
@@ -76,6 +76,7 @@ module _ (rules : List ParserRule) (facts : Facts) (order : List ℕ) (right : A
   left_falls (left_rep_once l) i s j r = down i s.0 j (left_falls l s.0 s.3 j r) (fall i _ s.2)
   left_falls (left_rep_max l) i s j r = down i s.0 j (left_falls l s.0 s.3 j r) (fall i _ s.2)
   left_falls (left_push l) i s j r = down i s.0 j (left_falls l s.0 s.3 j r) (fall i _ s.2)
+  left_falls (left_tag l) i s j r = down i s.0 j (left_falls l s.0 s.3 j r) (fall i _ s.2)
   left_falls (left_rep_exact {i = n} l) i s j r = down i s.0 j (left_falls l s.0 s.3 j r) (counted_falls i s.0 n (fall i _ s.2))
   left_falls (left_rep_min {i = n} l) i s j r = down i s.0 j (left_falls l s.0 s.3 j r) (repeated_falls i s.0 n (fall i _ s.2))
   left_falls (left_rep_min_max {i = n} l) i s j r = down i s.0 j (left_falls l s.0 s.3 j r) (counted_falls i s.0 n (fall i _ s.2))

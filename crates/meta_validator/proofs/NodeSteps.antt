@@ -40,6 +40,7 @@ leaf_none g passing (plain.Str (c ∷ t)) s h = (refl, refl)
 leaf_none g passing (plain.Insens []) s h = (refl, refl)
 leaf_none g passing (plain.Insens (c ∷ t)) s h = (refl, refl)
 leaf_none g passing (plain.Range a b) s h = (refl, refl)
+leaf_none g passing (plain.PushLiteral t) s h = (refl, refl)
 leaf_none g passing (plain.PeekSlice i j) s h = (refl, refl)
 leaf_none g passing (Ident n) s h = absurd h
 leaf_none g passing _ s h = absurd s

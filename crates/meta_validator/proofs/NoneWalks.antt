@@ -6,7 +6,7 @@ use Rattle.std.proofs.lemmas.List.Elements.{Contains-append_left, Contains-appen
 use Rattle.std.proofs.lemmas.Option.{slice_get_within}
 use Rattle.std.proofs.lemmas.Slice.Eq.{bytes_eq-Decides}
 use Rattle.meta_base.specs.Language.Text.{Text}
-use Rattle.meta_base.specs.Language.Expression.{Expression, Str, Insens, Range, Ident, PeekSlice, PosPred, NegPred, Seq as plain_seq, Choice as plain_choice, Opt, Rep, RepOnce, RepExact, RepMin, RepMax, RepMinMax, Skip, Push, RestoreOnErr}
+use Rattle.meta_base.specs.Language.Expression.{Expression, Str, Insens, Range, Ident, PeekSlice, PosPred, NegPred, Seq as plain_seq, Choice as plain_choice, Opt, Rep, RepOnce, RepExact, RepMin, RepMax, RepMinMax, Skip, Push, RestoreOnErr, PushLiteral, NodeTag}
 use Rattle.meta_nodes.specs.Erasure.{without_spans, round}
 use Rattle.meta_nodes.specs.Spanned as spanned
 use Rattle.meta_nodes.specs.Spanned.{Spanned, Leaf, One, Two, Unary, Seq, Choice, SpannedRule}
@@ -136,6 +136,8 @@ module _ (rules : List SpannedRule) where
   sort (RepMinMax e m n) = of_no_name tt
   sort (Skip ts) = of_no_name tt
   sort (Push e) = of_no_name tt
+  sort (PushLiteral t) = of_no_name tt
+  sort (NodeTag e t) = of_no_name tt
   sort (RestoreOnErr e) = of_no_name tt
 
   -- 4. `P`: rules that hold no call of the start, and call only rules of `base` and such rules

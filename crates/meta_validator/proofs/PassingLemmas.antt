@@ -5,8 +5,8 @@ use Rattle.std.specs.Cmp.{unsigned_Decides}
 use Rattle.std.specs.Option.{option_map}
 use Rattle.std.proofs.lemmas.Option.{slice_get-map}
 use Rattle.meta_base.specs.Language.Text.{Text}
-use Rattle.meta_base.specs.Language.Expression.{Expression, Str, Insens, Range, Ident, PeekSlice, PosPred, NegPred, Seq, Choice, Opt, Rep, RepOnce, RepExact, RepMin, RepMax, RepMinMax, Skip, Push, RestoreOnErr, Rule, Grammar, rule_of}
-use Rattle.meta_base.specs.Language.WellFormed.{IsNullable, nullable_str, nullable_insens, nullable_soi, nullable_eoi, nullable_call, nullable_pos_pred, nullable_neg_pred, nullable_opt, nullable_rep, nullable_rep_max, nullable_seq, nullable_left, nullable_right, nullable_rep_once, nullable_push, nullable_exact_zero, nullable_exact, nullable_min_zero, nullable_min, nullable_min_max_zero, nullable_min_max, nullable_skip, nullable_restore}
+use Rattle.meta_base.specs.Language.Expression.{Expression, Str, Insens, Range, Ident, PeekSlice, PosPred, NegPred, Seq, Choice, Opt, Rep, RepOnce, RepExact, RepMin, RepMax, RepMinMax, Skip, Push, RestoreOnErr, Rule, Grammar, rule_of, PushLiteral, NodeTag}
+use Rattle.meta_base.specs.Language.WellFormed.{IsNullable, nullable_str, nullable_insens, nullable_soi, nullable_eoi, nullable_call, nullable_pos_pred, nullable_neg_pred, nullable_opt, nullable_rep, nullable_rep_max, nullable_seq, nullable_left, nullable_right, nullable_rep_once, nullable_push, nullable_exact_zero, nullable_exact, nullable_min_zero, nullable_min, nullable_min_max_zero, nullable_min_max, nullable_skip, nullable_restore, nullable_push_literal, nullable_tag}
 use Rattle.meta_nodes.specs.Erasure.{without_spans, rule_without_spans}
 use Rattle.meta_nodes.specs.Nodes.{rule_view, rule_views}
 use Rattle.meta_nodes.specs.Spanned.{Spanned, SpannedRule}
@@ -57,6 +57,8 @@ module _ (g : Grammar) (v : Text) (takes : (r : Rule) → rule_of g v ≡ Some r
   null_less (nullable_right d) = nullable_right (null_less d)
   null_less (nullable_rep_once d) = nullable_rep_once (null_less d)
   null_less (nullable_push d) = nullable_push (null_less d)
+  null_less nullable_push_literal = nullable_push_literal
+  null_less (nullable_tag d) = nullable_tag (null_less d)
   null_less (nullable_exact d) = nullable_exact (null_less d)
   null_less (nullable_min d) = nullable_min (null_less d)
   null_less (nullable_min_max d) = nullable_min_max (null_less d)
@@ -116,6 +118,8 @@ module _ (place_of : Text → Option ℕ) (v : ℕ) (ks : List Kind) where
   says_without i (RepMax e n) s = (s.0, s.1, got i _ _ s.2 refl, says_without s.0 e s.3)
   says_without i (RepOnce e) s = (s.0, s.1, got i _ _ s.2 refl, says_without s.0 e s.3)
   says_without i (Push e) s = (s.0, s.1, got i _ _ s.2 refl, says_without s.0 e s.3)
+  says_without i (PushLiteral t) s = got i _ _ s refl
+  says_without i (NodeTag e t) s = (s.0, s.1, got i _ _ s.2 refl, says_without s.0 e s.3)
   says_without i (RepExact e n) s = (s.0, s.1, got i _ _ s.2 (wrap_same v (counted n) s.0), says_without s.0 e s.3)
   says_without i (RepMin e n) s = (s.0, s.1, got i _ _ s.2 (wrap_same v (repeated n) s.0), says_without s.0 e s.3)
   says_without i (RepMinMax e m n) s = (s.0, s.1, got i _ _ s.2 (wrap_same v (counted m) s.0), says_without s.0 e s.3)

@@ -70,6 +70,8 @@ leaf_kinds P t s e c d g (plain.RepMax x n) = t
 leaf_kinds P t s e c d g (plain.RepMinMax x m n) = t
 leaf_kinds P t s e c d g (plain.Skip ts) = t
 leaf_kinds P t s e c d g (plain.Push x) = t
+leaf_kinds P t s e c d g (plain.PushLiteral u) = s
+leaf_kinds P t s e c d g (plain.NodeTag x u) = t
 leaf_kinds P t s e c d g (plain.RestoreOnErr x) = t
 
 wrap_kinds : (P : Kind → Type 0) → ((j : ℕ) → P (is.Ahead j)) → ((j : ℕ) → P (is.NotAhead j)) → ((j : ℕ) → P (is.Free j)) → ((j : ℕ) → P (is.Inside j)) → ((j : ℕ) → P (is.Again j)) → ((j : ℕ) → P (is.OnceAgain j)) → (w : Wrap) (j : ℕ) → P (wrap_kind w j)

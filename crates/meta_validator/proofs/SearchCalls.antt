@@ -31,6 +31,7 @@ simple_none : (rules : List SpannedRule) (v : Text) (e : Expression) (n : Text) 
 simple_none rules v (plain.Str t) n s h w = elim w [ ]
 simple_none rules v (plain.Insens t) n s h w = elim w [ ]
 simple_none rules v (plain.Range t u) n s h w = elim w [ ]
+simple_none rules v (plain.PushLiteral t) n s h w = elim w [ ]
 simple_none rules v (plain.PeekSlice i j) n s h w = elim w [ ]
 simple_none rules v (Ident m) n s h w = absurd h
 simple_none rules v _ n s h w = absurd s

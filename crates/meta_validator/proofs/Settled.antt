@@ -4,8 +4,8 @@ use Rattle.std.specs.Bool.{Decides}
 use Rattle.std.specs.Cmp.{unsigned_Decides}
 use Rattle.std.proofs.lemmas.List.{length_push}
 use Rattle.meta_base.specs.Language.Text.{Text}
-use Rattle.meta_base.specs.Language.Expression.{Expression, Str, Insens, Range, Ident, PeekSlice, Seq, Choice, RepOnce, RepExact, RepMin, RepMinMax, Push, Rule, Grammar, rule_of}
-use Rattle.meta_base.specs.Language.WellFormed.{IsNullable, nullable_str, nullable_insens, nullable_soi, nullable_eoi, nullable_call, nullable_pos_pred, nullable_neg_pred, nullable_opt, nullable_rep, nullable_rep_max, nullable_seq, nullable_left, nullable_right, nullable_rep_once, nullable_push, nullable_exact_zero, nullable_exact, nullable_min_zero, nullable_min, nullable_min_max_zero, nullable_min_max, nullable_skip, nullable_restore}
+use Rattle.meta_base.specs.Language.Expression.{Expression, Str, Insens, Range, Ident, PeekSlice, Seq, Choice, RepOnce, RepExact, RepMin, RepMinMax, Push, Rule, Grammar, rule_of, PushLiteral}
+use Rattle.meta_base.specs.Language.WellFormed.{IsNullable, nullable_str, nullable_insens, nullable_soi, nullable_eoi, nullable_call, nullable_pos_pred, nullable_neg_pred, nullable_opt, nullable_rep, nullable_rep_max, nullable_seq, nullable_left, nullable_right, nullable_rep_once, nullable_push, nullable_exact_zero, nullable_exact, nullable_min_zero, nullable_min, nullable_min_max_zero, nullable_min_max, nullable_skip, nullable_restore, nullable_push_literal, nullable_tag}
 use Rattle.meta_nodes.specs.Erasure.{without_spans}
 use Rattle.meta_nodes.specs.Nodes.{rule_views}
 use Rattle.meta_nodes.specs.Spanned as spanned
@@ -152,6 +152,8 @@ module _ (rules : List ParserRule) (facts : Facts) (right : AreFacts rules facts
   below (nullable_right d) i s low = nullable_right (below d s.1 s.6 (down _ _ _ (rest i _ s.4).1 low))
   below (nullable_rep_once d) i s low = nullable_rep_once (below d s.0 s.3 (down _ _ _ (rest i _ s.2) low))
   below (nullable_push d) i s low = nullable_push (below d s.0 s.3 (down _ _ _ (rest i _ s.2) low))
+  below nullable_push_literal i s low = nullable_push_literal
+  below (nullable_tag d) i s low = nullable_tag (below d s.0 s.3 (down _ _ _ (rest i _ s.2) low))
   below (nullable_exact {e = e} {i = n} d) i s low = none_or n (λ m. IsNullable other (RepExact e m)) nullable_exact_zero (elim (counted_rests i s.0 n (rest i _ s.2)) [ inl h ↦ inl h | inr l ↦ inr (nullable_exact (below d s.0 s.3 (down _ _ _ l low))) ])
   below (nullable_min {e = e} {i = n} d) i s low = none_or n (λ m. IsNullable other (RepMin e m)) nullable_min_zero (elim (repeated_rests i s.0 n (rest i _ s.2)) [ inl h ↦ inl h | inr l ↦ inr (nullable_min (below d s.0 s.3 (down _ _ _ l low))) ])
   below (nullable_min_max {e = e} {i = m} {j = n} d) i s low = none_or m (λ k. IsNullable other (RepMinMax e k n)) nullable_min_max_zero (elim (counted_rests i s.0 m (rest i _ s.2)) [ inl h ↦ inl h | inr l ↦ inr (nullable_min_max (below d s.0 s.3 (down _ _ _ l low))) ])
@@ -211,6 +213,7 @@ module _ (rules : List ParserRule) (facts : Facts) (right : AreFacts rules facts
     of_leaf (Insens (c ∷ t)) i s = ((λ z. cc), (λ d. elim d [ ]))
     of_leaf (Range a b) i s = ((λ z. cc), (λ d. elim d [ ]))
     of_leaf (PeekSlice a b) i s = ((λ z. cc), (λ d. elim d [ ]))
+    of_leaf (PushLiteral t) i s = ((λ z. nullable_push_literal), (λ d. refl))
     of_leaf (Ident n) i s = of_name n s
     of_leaf _ i s = absurd i
 

@@ -76,6 +76,7 @@ simple_says kind_of ks i (plain.Insens t) l h = h
 simple_says kind_of ks i (plain.Range t u) l h = h
 simple_says kind_of ks i (plain.Ident n) l h = h
 simple_says kind_of ks i (plain.PeekSlice a b) l h = h
+simple_says kind_of ks i (plain.PushLiteral t) l h = h
 simple_says kind_of ks i _ l h = absurd l
 
 pub says : (kind_of : Text → Kind) (ks : List Kind) (i : ℕ) (x : Spanned) → Stands kind_of ks i x → Says kind_of ks i (without_spans x)

@@ -3,8 +3,8 @@ use Rattle.std.proofs.Common.{◌≡◌, ◌⊎◌, inl, inr, Bool, true, false,
 use Rattle.std.proofs.lemmas.Slice.Eq.{bytes_eq-Decides}
 use Rattle.meta_base.specs.Language.Text.{Text}
 use Rattle.meta_base.specs.Language.Expression.{Expression, Ident, Seq, Rule, Grammar, rule_of, or_else}
-use Rattle.meta_base.specs.Language.WellFormed.{IsNullable, nullable_str, nullable_insens, nullable_soi, nullable_eoi, nullable_call, nullable_pos_pred, nullable_neg_pred, nullable_opt, nullable_rep, nullable_rep_max, nullable_seq, nullable_left, nullable_right, nullable_rep_once, nullable_push, nullable_exact_zero, nullable_exact, nullable_min_zero, nullable_min, nullable_min_max_zero, nullable_min_max, nullable_skip, nullable_restore, CannotFail, LeftCalls, left_name, left_first, left_second, left_pos_pred, left_neg_pred, left_left, left_right, left_opt, left_rep, left_rep_once, left_rep_exact, left_rep_min, left_rep_max, left_rep_min_max, left_push, left_restore, Leads, at_once, by_way}
-use Rattle.meta_validator.specs.Walk.{without, Walked, w_name, w_first, w_second, w_pos_pred, w_neg_pred, w_left, w_right, w_opt, w_rep, w_rep_once, w_rep_exact, w_rep_min, w_rep_max, w_rep_min_max, w_push, w_restore, WalkLeads, w_at_once, w_by_way}
+use Rattle.meta_base.specs.Language.WellFormed.{IsNullable, nullable_str, nullable_insens, nullable_soi, nullable_eoi, nullable_call, nullable_pos_pred, nullable_neg_pred, nullable_opt, nullable_rep, nullable_rep_max, nullable_seq, nullable_left, nullable_right, nullable_rep_once, nullable_push, nullable_exact_zero, nullable_exact, nullable_min_zero, nullable_min, nullable_min_max_zero, nullable_min_max, nullable_skip, nullable_restore, CannotFail, LeftCalls, left_name, left_first, left_second, left_pos_pred, left_neg_pred, left_left, left_right, left_opt, left_rep, left_rep_once, left_rep_exact, left_rep_min, left_rep_max, left_rep_min_max, left_push, left_restore, Leads, at_once, by_way, nullable_push_literal, nullable_tag, left_tag}
+use Rattle.meta_validator.specs.Walk.{without, Walked, w_name, w_first, w_second, w_pos_pred, w_neg_pred, w_left, w_right, w_opt, w_rep, w_rep_once, w_rep_exact, w_rep_min, w_rep_max, w_rep_min_max, w_push, w_restore, WalkLeads, w_at_once, w_by_way, w_tag}
 use Rattle.meta_validator.proofs.Certain.{sure_null}
 
 -- 1. the rules without those of a name
@@ -78,6 +78,8 @@ module _ (g : Grammar) where
   null_more v (nullable_right d) = nullable_right (null_more v d)
   null_more v (nullable_rep_once d) = nullable_rep_once (null_more v d)
   null_more v (nullable_push d) = nullable_push (null_more v d)
+  null_more v nullable_push_literal = nullable_push_literal
+  null_more v (nullable_tag d) = nullable_tag (null_more v d)
   null_more v (nullable_exact d) = nullable_exact (null_more v d)
   null_more v (nullable_min d) = nullable_min (null_more v d)
   null_more v (nullable_min_max d) = nullable_min_max (null_more v d)
@@ -101,6 +103,7 @@ module _ (g : Grammar) where
   left_called (w_rep_max w) = left_rep_max (left_called w)
   left_called (w_rep_min_max w) = left_rep_min_max (left_called w)
   left_called (w_push w) = left_push (left_called w)
+  left_called (w_tag w) = left_tag (left_called w)
   left_called (w_restore w) = left_restore (left_called w)
   left_called (w_first w) = left_first (left_called w)
   left_called (w_left w) = left_left (left_called w)
@@ -165,6 +168,8 @@ module _ (g : Grammar) where
     found (nullable_right d) v w = found_in (λ k i. w_right i) (λ i. nullable_right i) (found d v w)
     found (nullable_rep_once d) v w = found_in (λ k i. w_rep_once i) (λ i. nullable_rep_once i) (found d v w)
     found (nullable_push d) v w = found_in (λ k i. w_push i) (λ i. nullable_push i) (found d v w)
+    found nullable_push_literal v w = still nullable_push_literal
+    found (nullable_tag d) v w = found_in (λ k i. w_tag i) (λ i. nullable_tag i) (found d v w)
     found (nullable_exact d) v w = found_in (λ k i. w_rep_exact i) (λ i. nullable_exact i) (found d v w)
     found (nullable_min d) v w = found_in (λ k i. w_rep_min i) (λ i. nullable_min i) (found d v w)
     found (nullable_min_max d) v w = found_in (λ k i. w_rep_min_max i) (λ i. nullable_min_max i) (found d v w)
@@ -194,6 +199,7 @@ module _ (g : Grammar) where
     walked (left_rep_max l) = in_one (λ k i. w_rep_max i) (walked l)
     walked (left_rep_min_max l) = in_one (λ k i. w_rep_min_max i) (walked l)
     walked (left_push l) = in_one (λ k i. w_push i) (walked l)
+    walked (left_tag l) = in_one (λ k i. w_tag i) (walked l)
     walked (left_restore l) = in_one (λ k i. w_restore i) (walked l)
     walked (left_first l) = in_one (λ k i. w_first i) (walked l)
     walked (left_left l) = in_one (λ k i. w_left i) (walked l)

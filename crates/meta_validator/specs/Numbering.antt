@@ -26,6 +26,7 @@ abbrev pub leaf_kind : (Text → Kind) → Expression → Kind
 leaf_kind kind_of (plain.Str t) = text_kind t
 leaf_kind kind_of (plain.Insens t) = text_kind t
 leaf_kind kind_of (plain.Ident n) = kind_of n
+leaf_kind kind_of (plain.PushLiteral t) = is.Still
 leaf_kind kind_of _ = is.Taking
 
 -- what an expression of code without operands does
@@ -82,6 +83,7 @@ IsSimple (plain.Insens t) = ⊤
 IsSimple (plain.Range t u) = ⊤
 IsSimple (plain.Ident n) = ⊤
 IsSimple (plain.PeekSlice i j) = ⊤
+IsSimple (plain.PushLiteral t) = ⊤
 IsSimple _ = ⊥
 
 -- an expression is made of these, wherever it stands
@@ -108,6 +110,7 @@ Says kind_of ks i (plain.Insens t) = slice_get ks i ≡ Some (text_kind t)
 Says kind_of ks i (plain.Range t u) = slice_get ks i ≡ Some is.Taking
 Says kind_of ks i (plain.Ident n) = slice_get ks i ≡ Some (kind_of n)
 Says kind_of ks i (plain.PeekSlice a b) = slice_get ks i ≡ Some is.Taking
+Says kind_of ks i (plain.PushLiteral t) = slice_get ks i ≡ Some is.Still
 Says kind_of ks i (plain.PosPred e) = (j : ℕ) × (j < i) × (slice_get ks i ≡ Some (is.Ahead j))
     × Says kind_of ks j e
 Says kind_of ks i (plain.NegPred e) = (j : ℕ) × (j < i) × (slice_get ks i ≡ Some (is.NotAhead j))
@@ -121,6 +124,8 @@ Says kind_of ks i (plain.RepMax e n) = (j : ℕ) × (j < i) × (slice_get ks i �
 Says kind_of ks i (plain.RepOnce e) = (j : ℕ) × (j < i) × (slice_get ks i ≡ Some (is.OnceAgain j))
     × Says kind_of ks j e
 Says kind_of ks i (plain.Push e) = (j : ℕ) × (j < i) × (slice_get ks i ≡ Some (is.Inside j))
+    × Says kind_of ks j e
+Says kind_of ks i (plain.NodeTag e t) = (j : ℕ) × (j < i) × (slice_get ks i ≡ Some (is.Inside j))
     × Says kind_of ks j e
 Says kind_of ks i (plain.RepExact e n) = (j : ℕ) × (j < i)
     × (slice_get ks i ≡ Some (wrap_kind (counted n) j)) × Says kind_of ks j e

@@ -1,7 +1,7 @@
 -- Left recursion, as it is sought.
 use Rattle.std.specs.Prelude.{◌≡◌, ◌⊎◌, ℕ, [], ◌∷◌, Some, bytes_eq, if◌then◌else◌}
 use Rattle.meta_base.specs.Language.Text.{Text}
-use Rattle.meta_base.specs.Language.Expression.{Expression, Ident, PosPred, NegPred, Seq, Choice, Opt, Rep, RepOnce, RepExact, RepMin, RepMax, RepMinMax, Push, RestoreOnErr, Rule, Grammar, rule_of}
+use Rattle.meta_base.specs.Language.Expression.{Expression, Ident, PosPred, NegPred, Seq, Choice, Opt, Rep, RepOnce, RepExact, RepMin, RepMax, RepMinMax, Push, RestoreOnErr, Rule, Grammar, rule_of, NodeTag}
 use Rattle.meta_base.specs.Language.WellFormed.{IsNullable, CannotFail}
 
 -- the other rules
@@ -29,6 +29,7 @@ module _ (g : Grammar) (v : Text) where
     w_rep_max : {e : Expression} {n : Text} {i : ℕ} → Walked e n → Walked (RepMax e i) n
     w_rep_min_max : {e : Expression} {n : Text} {i j : ℕ} → Walked e n → Walked (RepMinMax e i j) n
     w_push : {e : Expression} {n : Text} → Walked e n → Walked (Push e) n
+    w_tag : {e : Expression} {n t : Text} → Walked e n → Walked (NodeTag e t) n
     w_restore : {e : Expression} {n : Text} → Walked e n → Walked (RestoreOnErr e) n
 
 -- the walk from n comes to k, at once or by way of others

@@ -11,7 +11,7 @@ use crate::facts::facts_of;
 use crate::findings::{Finding, choices, repetitions, skips, spans_of};
 use crate::recursions::recursions;
 use meta_base::grammar::Rule;
-use meta_base::runtime::{Error, ErrorVariant, Fault, Span};
+use meta_base::runtime::{Error, ErrorVariant, Fault, Span, Survey};
 use meta_nodes::ParserRule;
 use std::alloc::{AllocError, Global};
 
@@ -96,16 +96,28 @@ pub(crate) fn sorted_findings<'i>(
     Ok(found)
 }
 
-/// The error that tells of a finding.
-fn error_of<'i>(alloc: Global, finding: &Finding<'i>) -> Result<Error<Rule>, Fault>
+/// The error that tells of a finding, made by the survey where the finding is in its text.
+fn error_of<'i>(
+    alloc: Global,
+    survey: &mut Survey<'_>,
+    finding: &Finding<'i>,
+) -> Result<Error<Rule>, Fault>
     ensures tells { IfOk result (λ error.
         SaysAt (finding_of finding.now).message (finding_of finding.now).span error) }
     ensures memory { IfErr result (λ fault. fault ≡ Fault.Memory alloc_error) }
 {
     let message = String::from_str(alloc, finding.message.as_str()).map_err(Fault::Memory)?;
     let variant = ErrorVariant::CustomError { message };
-    let error = Error::new_from_span(alloc, variant, finding.span)?;
+    let error = Error::new_where_surveyed(alloc, variant, survey, finding.span)?;
     Ok(error)
+}
+
+/// The text of the first of these, which is that of all of them where they are found in one text.
+fn first_text<'i>(found: &[Finding<'i>]) -> &'i str {
+    match found.first() {
+        Some(finding) => finding.span.get_input(),
+        None => "",
+    }
 }
 
 /// The errors that tell of findings, in their order.
@@ -114,8 +126,9 @@ pub(crate) fn errors_of<'i>(alloc: Global, found: &[Finding<'i>]) -> Result<Vec<
     ensures memory { IfErr result (λ fault. fault ≡ Fault.Memory alloc_error) }
 {
     let mut errors = Vec::new(alloc);
+    let mut survey = Survey::new(alloc, first_text(found)).map_err(Fault::Memory)?;
     for place in 0..found.len() {
-        let error = error_of(alloc, &found[place])?;
+        let error = error_of(alloc, &mut survey, &found[place])?;
         match errors.push(error) {
             Ok(()) => {}
             Err(refused) => return Err(Fault::Memory(refused.into())),

@@ -1,5 +1,5 @@
--- What a writer has gained, step by step.
-use Rattle.std.proofs.Common.{◌≡◌, refl, sym, ◌∙◌, ap, ℕ, ◌+◌, ◌<◌, ◌≤◌, List, [], ◌∷◌, ◌++◌, append_assoc, append-nil, take, length, get_or, Option, Some, None, Result, Ok, Err, OnOk, subst, string_bytes, codes, lit<}
+-- The lines of rules, one after another, and what a writer gains.
+use Rattle.std.proofs.Common.{◌≡◌, refl, sym, ◌∙◌, ap, ap₂, ℕ, ◌+◌, ◌<◌, ◌≤◌, List, [], ◌∷◌, ◌++◌, append_assoc, append-nil, take, length, get_or, Option, Some, None, Result, Ok, Err, OnOk, subst, string_bytes, codes, lit<}
 use Rattle.std.proofs.Math.Utf8.{encodes}
 use Rattle.std.proofs.lemmas.List.{map-append, take_all, take_more}
 use Rattle.std.proofs.lemmas.Str.{encode_ascii, encodes-append}
@@ -14,24 +14,12 @@ use Rattle.meta_ast.specs.declared.optimized.OptimizedRule.{OptimizedRule}
 use Rattle.meta_ast.proofs.Characters.{encodes-text_of}
 use Rattle.reading_back.specs.ReadsBack.{grammar_text, modifier, rule_line}
 
--- two gains are one
-pub Appends-twice : (a b c : Option (List ℕ)) (xs ys : List ℕ) → Appends a b xs → Appends b c ys → Appends a c (xs ++ ys)
-Appends-twice None b c xs ys h k = tt
-Appends-twice (Some a) None c xs ys h k = absurd h
-Appends-twice (Some a) (Some b) None xs ys h k = absurd k
-Appends-twice (Some a) (Some b) (Some c) xs ys h k = k ∙ (ap (λ t. t ++ ys) h ∙ append_assoc a xs ys)
-
 -- what is kept behind a gain
 pub Appends-kept : (a b c : Option (List ℕ)) (xs : List ℕ) → Appends a b xs → Keeps b c → Appends a c xs
 Appends-kept None b c xs h k = tt
 Appends-kept (Some a) None c xs h k = absurd h
 Appends-kept (Some a) (Some b) None xs h k = absurd k
 Appends-kept (Some a) (Some b) (Some c) xs h k = k ∙ h
-
--- nothing is gained where nothing changes
-pub Appends-none : (a : Option (List ℕ)) → Appends a a []
-Appends-none None = tt
-Appends-none (Some a) = sym (append-nil a)
 
 -- a rule type's sign is the same in bytes
 encodes-modifier : (t : RuleType) → encodes (modifier t) ≡ modifier t
@@ -78,23 +66,17 @@ encodes-grammar_text rules i r h e =
     ∙ ap encodes (sym (grammar_text-more before (optimized_rule_of r)) ∙ ap grammar_text (sym more))
 
 -- a rule's line behind those of the rules before it
-pub Appends-line : (a b c : Option (List ℕ)) (rules : List OptimizedRule) (i : ℕ) (r : OptimizedRule) (sign : List ℕ)
+pub one_line_more : (old new : List ℕ) (rules : List OptimizedRule) (i : ℕ) (r : OptimizedRule) (sign : List ℕ)
     → i < length rules → r ≡ get_or rules i r → sign ≡ modifier (rule_type_of r.ty)
-    → Appends a b (encodes (grammar_text (optimized_rules_of (take i rules))))
-    → Appends b c (line_bytes (string_bytes r.name) sign r.expr)
-    → Appends a c (encodes (grammar_text (optimized_rules_of (take (i + 1) rules))))
-Appends-line a b c rules i r sign h e m before gained =
-    let P : List ℕ → Type 0 = λ t. Appends a c t in
-    let Q : List ℕ → Type 0 = λ s. Appends b c (line_bytes (string_bytes r.name) s r.expr) in
-    let R : List ℕ → Type 0 = λ t. Appends b c t in
-    let line : Appends b c (encodes (rule_line (optimized_rule_of r))) = subst R (sym (encodes-rule_line r)) (subst Q m gained) in
-    subst P (encodes-grammar_text rules i r h e) (Appends-twice a b c _ _ before line)
+    → old ≡ encodes (grammar_text (optimized_rules_of (take i rules)))
+    → new ≡ old ++ line_bytes (string_bytes r.name) sign r.expr
+    → new ≡ encodes (grammar_text (optimized_rules_of (take (i + 1) rules)))
+one_line_more old new rules i r sign h e m before gained =
+    let line : line_bytes (string_bytes r.name) sign r.expr ≡ encodes (rule_line (optimized_rule_of r)) =
+    ap (λ s. line_bytes (string_bytes r.name) s r.expr) m ∙ sym (encodes-rule_line r) in
+    gained ∙ (ap₂ ◌++◌ before line ∙ encodes-grammar_text rules i r h e)
 
 -- all rules' lines
-pub Appends-lines : {E : Type 0} (a b c : Option (List ℕ)) (rules : List OptimizedRule) (i : ℕ) (flushed : Result (Unit {0}) E)
-    → length rules ≤ i → Appends a b (encodes (grammar_text (optimized_rules_of (take i rules)))) → Keeps b c
-    → OnOk flushed (Appends a c (encodes (grammar_text (optimized_rules_of rules))))
-Appends-lines a b c rules i (Ok u) h before kept =
-    let P : List OptimizedRule → Type 0 = λ rs. Appends a c (encodes (grammar_text (optimized_rules_of rs))) in
-    subst P (take_all i rules h) (Appends-kept a b c _ before kept)
-Appends-lines a b c rules i (Err e) h before kept = tt
+pub all_lines : (text : List ℕ) (rules : List OptimizedRule) (i : ℕ) → length rules ≤ i
+    → text ≡ encodes (grammar_text (optimized_rules_of (take i rules))) → text ≡ encodes (grammar_text (optimized_rules_of rules))
+all_lines text rules i h before = before ∙ ap (λ rs. encodes (grammar_text (optimized_rules_of rs))) (take_all i rules h)

@@ -27,10 +27,11 @@ pub value : {X : Type 0} (outcome : Result X Fault) (answer : Result X Report) (
 value (Ok v) answer x P p a b e = let same : v ≡ x = cc in subst P same p
 value (Err fault) answer x P p a b e = absurd (rw e at b)
 
--- rules that were written, or could not be, are neither status of what cannot be read
-pub not_three : (status : ℕ) → (status ≡ 0) ⊎ (status ≡ 4) → status ≡ 3 → ⊥
+-- where there are rules, the status is not that of what cannot be read
+pub not_three : (status : ℕ) → (status ≡ 0) ⊎ (status ≡ 2) ⊎ (status ≡ 4) → status ≡ 3 → ⊥
 not_three status (inl e) three = omega (arith, e, three)
-not_three status (inr e) three = omega (arith, e, three)
+not_three status (inr (inl e)) three = omega (arith, e, three)
+not_three status (inr (inr e)) three = omega (arith, e, three)
 
 -- what holds where a write succeeds holds where the status is that of rules that were printed
 pub where_printed : {X E : Type 0} (written : Result X E) (status : ℕ) (P : Type 0) → OnOk written P → (IsErr written → status ≡ 4) → status ≡ 0 → P

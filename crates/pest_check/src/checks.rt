@@ -1,5 +1,5 @@
 //! What the program does once its input is read.
-ghost use Rattle.std.specs.Prelude.{◌≡◌, ◌≢◌, ◌≤◌, ◌⊎◌, ◌↔◌, IfNone, IfSome, IsErr, IsOk, IsUtf8, OnOk, codes, encode_utf8_all};
+ghost use Rattle.std.specs.Prelude.{◌≡◌, ◌≢◌, ◌≤◌, ◌⊎◌, ◌↔◌, IfNone, IfOk, IfSome, IsErr, IsOk, IsUtf8, OnOk, codes, encode_utf8_all, string_bytes};
 ghost use Rattle.std.specs.Io.KnownBytes.{Appends};
 ghost use Rattle.meta_ast.specs.Ast.{rule_type_of};
 ghost use Rattle.meta_ast.specs.Optimized.{optimized_rules_of};
@@ -11,7 +11,7 @@ use meta_ast::optimized::release;
 use pest_meta::ast::RuleType;
 use pest_meta::optimizer::OptimizedRule;
 use pest_meta::{Report, parse_and_optimize, unwrap_or_report};
-use std::alloc::Global;
+use std::alloc::{AllocError, Global};
 use std::io::{self, Write};
 
 /// The grammar was read, and its rules were printed.
@@ -38,7 +38,8 @@ pub struct Exit {
 ///
 /// Otherwise one text with a line break behind it goes to `err`: the report of a text that is refused (1),
 /// `out of memory` (2), `cannot read` where there is no input or it isn't UTF-8 (3), `cannot write` where
-/// `out` refuses a write (4), which leaves what it took before. A write that `err` refuses changes no status.
+/// `out` refuses a write (4), which leaves what it took before. All lines are made before the first of them is
+/// written. A write that `err` refuses changes no status.
 pub fn run<W: Write, E: Write>(
     alloc: Global,
     input: Option<&[u8]>,
@@ -73,9 +74,33 @@ pub fn run<W: Write, E: Write>(
         return told(err, "cannot read", UNREADABLE);
     };
     match unwrap_or_report(alloc, parse_and_optimize(alloc, grammar)) {
-        Ok((_, rules)) => written(err, print(out, rules)),
+        Ok((_, rules)) => answered(alloc, rules, out, err),
         Err(Report::Memory) => told(err, "out of memory", OUT_OF_MEMORY),
         Err(Report::Text(text)) => told(err, text.as_str(), REFUSED),
+    }
+}
+
+/// How a run ends where the text has rules: they are printed, or a want of memory or a write that is refused is
+/// told.
+fn answered<W: Write, E: Write>(
+    alloc: Global,
+    rules: Vec<OptimizedRule>,
+    out: &mut W,
+    err: &mut E,
+) -> Exit
+    ensures known { (result.status ≡ 0) ⊎ (result.status ≡ 2) ⊎ (result.status ≡ 4) }
+    ensures printed { result.status ≡ 0 → Appends (W.contents out.old) (W.contents out.new)
+        (encode_utf8_all (grammar_text (optimized_rules_of rules.items))) }
+    ensures unprinted { result.status ≢ 0 → result.status ≢ 4 → out.new ≡ out.old }
+    ensures silent { result.status ≡ 0 → err.new ≡ err.old }
+    ensures tells_memory { result.status ≡ 2
+        → TellsLine (codes "out of memory") result.told (E.contents err.old) (E.contents err.new) }
+    ensures tells_unwritten { result.status ≡ 4
+        → TellsLine (codes "cannot write") result.told (E.contents err.old) (E.contents err.new) }
+{
+    match printed(alloc, rules) {
+        Ok(text) => written(err, write_text(out, text.as_str())),
+        Err(_) => told(err, "out of memory", OUT_OF_MEMORY),
     }
 }
 
@@ -106,25 +131,35 @@ fn told<E: Write>(err: &mut E, message: &str, status: u8) -> Exit
     Exit { status, told }
 }
 
-/// Writes rules, and lets them go by a loop: a wide rule takes no deep stack.
-fn print<W: Write>(out: &mut W, rules: Vec<OptimizedRule>) -> io::Result<()>
-    ensures { OnOk result (Appends (W.contents out.old) (W.contents out.new)
-        (encode_utf8_all (grammar_text (optimized_rules_of rules.items)))) }
+/// The lines of rules, which are let go by a loop: a wide rule takes no deep stack. The only fault is a want of
+/// memory.
+fn printed(alloc: Global, rules: Vec<OptimizedRule>) -> Result<String, AllocError>
+    ensures { IfOk result (λ text. string_bytes text
+        ≡ encode_utf8_all (grammar_text (optimized_rules_of rules.items))) }
 {
-    let outcome = write_lines(out, &rules);
+    let text = lines_of(alloc, &rules);
     release(rules);
-    outcome
+    text
 }
 
-/// Writes each rule on a line of its own.
-fn write_lines<W: Write>(out: &mut W, rules: &[OptimizedRule]) -> io::Result<()>
-    ensures { OnOk result (Appends (W.contents out.old) (W.contents out.new)
-        (encode_utf8_all (grammar_text (optimized_rules_of rules.now)))) }
+/// Each rule on a line of its own.
+fn lines_of(alloc: Global, rules: &[OptimizedRule]) -> Result<String, AllocError>
+    ensures { IfOk result (λ text. string_bytes text
+        ≡ encode_utf8_all (grammar_text (optimized_rules_of rules.now))) }
 {
+    let mut text = String::new(alloc);
     for rule in rules {
         let modifier = sign_of(rule.ty);
-        writeln!(out, "{} = {modifier}{{ {} }}", rule.name, rule.expr)?;
+        writeln!(text, "{} = {modifier}{{ {} }}", rule.name, rule.expr)?;
     }
+    Ok(text)
+}
+
+/// Writes a text, all of it.
+fn write_text<W: Write>(out: &mut W, text: &str) -> io::Result<()>
+    ensures { OnOk result (Appends (W.contents out.old) (W.contents out.new) text.now) }
+{
+    out.write_all(text.as_bytes())?;
     out.flush()
 }
 

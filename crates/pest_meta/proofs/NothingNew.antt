@@ -9,7 +9,7 @@ use Rattle.meta_base.proofs.StepsKeepOutcomes.{Matched, each_body, each_pair, ne
 use Rattle.meta_base.specs.Language.Expression.{Expression, Grammar, Ident, Part, RepMin, Rule, RuleType, rule_of}
 use Rattle.meta_base.specs.Language.Text.{Text}
 use Rattle.meta_base.specs.Language.WellFormed.{Reaches, itself, onward}
-use Rattle.meta_base.specs.Rewritings.Rewriting.{Chain, Many, Rewrites, Within, by_factoring, by_joining, by_rotating, by_skipping, by_unrolling, done, factor_absorbed, factor_optional, factor_optional_compound, factor_prefix, join_insensitive, join_literals, no_step, one_step, rotate_choice, rotate_sequence, skip_until, step, unroll_exact, unroll_max, unroll_min, unroll_min_max, unroll_once}
+use Rattle.meta_base.specs.Rewritings.Rewriting.{Chain, Many, Rewrites, Within, by_factoring, by_joining, by_rotating, by_skipping, by_unrolling, done, factor_absorbed, factor_optional, factor_optional_compound, factor_prefix, join_insensitive, join_literals, no_step, one_step, rotate_choice, rotate_sequence, skip_until, step, unroll_exact, unroll_max, unroll_min, unroll_min_max}
 use Rattle.meta_restorer.specs.Agreeing.{WrappersSuffice}
 
 -- 1. at the root: what is so of every name before is so of every name behind
@@ -17,7 +17,6 @@ module _ (N : Text → Type 0) where
   step_here : {g : Grammar} {y : RuleType} {a b : Expression} → Rewrites g y a b → Everywhere (naming N) a → Everywhere (naming N) b
   step_here (by_rotating rotate_sequence) h = (h.0.0, (h.0.1, h.1))
   step_here (by_rotating rotate_choice) h = (h.0.0, (h.0.1, h.1))
-  step_here (by_unrolling unroll_once) h = (h.1, h)
   step_here (by_unrolling (unroll_exact {i = i})) h = in_sequence_too (naming N) tt (each_copy _ i h.1)
   step_here (by_unrolling (unroll_min {i = i})) h = in_sequence_too (naming N) tt (each_of_both _ (each_copy _ i h.1) (also (h.0.0, h.1) no_more))
   step_here (by_unrolling (unroll_max {i = i})) h = in_sequence_too (naming N) tt (each_copy _ i h.1)

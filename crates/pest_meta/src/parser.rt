@@ -15,7 +15,7 @@ use meta_nodes::erase_spans;
 pub use meta_nodes::release;
 pub use meta_reader::parser::{
     ParserExpr, ParserNode, ParserRule, PestParser, Rule, consume_rules_with_spans,
-    filter_internal, parse, rename_meta_rule,
+    filter_internal, parse, plain_name, rename_meta_rule,
 };
 use std::alloc::Global;
 

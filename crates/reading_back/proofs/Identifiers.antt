@@ -9,19 +9,19 @@ use Rattle.meta_base.specs.Pieces.MetaRules.{name_of}
 use Rattle.meta_base.specs.declared.grammar.Rule.TheVariants as is
 use Rattle.meta_base.proofs.OneOutcome.{same}
 use Rattle.meta_syntax.specs.MetaGrammar.{meta_grammar}
-use Rattle.reading_back.specs.ReadsBack.{IsIdentifier, NamesAreIdentifiers, is_name, is_name_start, is_name_character, are_name_characters}
+use Rattle.reading_back.specs.ReadsBack.{TakesAll, NamesAreIdentifiers, is_name, is_name_start, is_name_character, are_name_characters}
 use Rattle.reading_back.proofs.Deriving.{at, Gives, Calls, str, call, neg_pred, seq_first, seq_second, right, atomic}
 use Rattle.reading_back.proofs.Characters.{start_misses, text_misses}
 use Rattle.reading_back.proofs.Names.{following, at_end, name_does, range_at_end}
 
-not_empty : {s t : State} {us vs : Trees} {c : ℕ} {K : Text} → Success s us ≡ Success t vs → s.rest ≡ c ∷ K → t.rest ≡ [] → ⊥
+pub not_empty : {s t : State} {us vs : Trees} {c : ℕ} {K : Text} → Success s us ≡ Success t vs → s.rest ≡ c ∷ K → t.rest ≡ [] → ⊥
 not_empty h i j = cc
 
-no_success : {t : State} {us : Trees} → Failure ≡ Success t us → ⊥
+pub no_success : {t : State} {us : Trees} → Failure ≡ Success t us → ⊥
 no_success h = cc
 
 -- a text that is not all letters: the letters, and the first other character
-split_words : (m : Text) → are_name_characters m ≡ false → (w : Text) × (x : ℕ) × (R : Text) × (m ≡ w ++ (x ∷ R)) × (are_name_characters w ≡ true) × (is_name_character x ≡ false)
+pub split_words : (m : Text) → are_name_characters m ≡ false → (w : Text) × (x : ℕ) × (R : Text) × (m ≡ w ++ (x ∷ R)) × (are_name_characters w ≡ true) × (is_name_character x ≡ false)
 split_words [] h = cc
 split_words (c ∷ m) h = go (is_name_character c) refl (split_words m) h
   where
@@ -62,7 +62,7 @@ unfolding whitespace comment
 start_fails c m h k = call is.identifier refl (seq_first (seq_second (neg_pred (text_misses (codes "PUSH") (c ∷ m) 0 h)) atomic (start_misses c m 0 k)))
 
 module _ (classes : Classes) where
-  accepted : (n : Text) → is_name n ≡ true → IsIdentifier classes n
+  accepted : (n : Text) → is_name n ≡ true → TakesAll is.identifier classes n
   accepted [] h = cc
   accepted (c ∷ m) h =
       let (q, d) = name_does c m [] h at_end 0 in
@@ -73,7 +73,7 @@ module _ (classes : Classes) where
         all = refl;
       }
 
-  partly : (c : ℕ) (m : Text) → begins nat_eq (codes "PUSH") (c ∷ m) ≡ false → is_name_start c ≡ true → are_name_characters m ≡ false → IsIdentifier classes (c ∷ m) → ⊥
+  partly : (c : ℕ) (m : Text) → begins nat_eq (codes "PUSH") (c ∷ m) ≡ false → is_name_start c ≡ true → are_name_characters m ≡ false → TakesAll is.identifier classes (c ∷ m) → ⊥
   partly c m h i j a =
       let (w, x, R, e, k, l) = split_words m j in
       let unpushed : begins nat_eq (codes "PUSH") (c ∷ w) ≡ false = not_pushed (c ∷ w) (x ∷ R) (subst (λ z. begins nat_eq (codes "PUSH") (c ∷ z) ≡ false) e h) in
@@ -81,7 +81,7 @@ module _ (classes : Classes) where
       let f = subst (λ z. Does meta_grammar classes (Run NonAtomicMode (Ident (name_of is.identifier))) (at 0 (c ∷ z)) (Success (at q (x ∷ R)) (Tree (codes "identifier") 0 q None' None'))) (sym e) (d classes) in
       not_empty (same meta_grammar classes f a.matched) refl a.all
 
-  refused : (n : Text) → is_name n ≡ false → IsIdentifier classes n → ⊥
+  refused : (n : Text) → is_name n ≡ false → TakesAll is.identifier classes n → ⊥
   refused [] h a = no_success (same meta_grammar classes (end_fails classes) a.matched)
   refused (c ∷ m) h a = go (begins nat_eq (codes "PUSH") (c ∷ m)) (is_name_start c) (are_name_characters m) refl refl refl h
     where
@@ -94,6 +94,6 @@ module _ (classes : Classes) where
 pub names_are_identifiers : NamesAreIdentifiers
 names_are_identifiers n classes = (accepted classes n, λ a. go (is_name n) refl a)
   where
-    go : (b : Bool) → is_name n ≡ b → IsIdentifier classes n → b ≡ true
+    go : (b : Bool) → is_name n ≡ b → TakesAll is.identifier classes n → b ≡ true
     go true e a = refl
     go false e a = absurd (refused classes n e a)

@@ -2,7 +2,7 @@
 use Rattle.std.proofs.Common.{ℕ, ◌+◌, List, [], ◌∷◌, ◌++◌, false, codes}
 use Rattle.std.specs.Str.{chars, IsUtf8}
 use Rattle.meta_base.specs.Language.Text.{Text}
-use Rattle.meta_base.specs.Language.Expression.{Expression, Str, Insens, Range, Ident, PeekSlice, PosPred, NegPred, Seq, Choice, Opt, Rep, RepOnce, RepExact, RepMin, RepMax, RepMinMax, Skip, Push, RestoreOnErr}
+use Rattle.meta_base.specs.Language.Expression.{Expression, Str, Insens, Range, Ident, PeekSlice, PosPred, NegPred, Seq, Choice, Opt, Rep, RepOnce, RepExact, RepMin, RepMax, RepMinMax, Skip, Push, RestoreOnErr, PushLiteral, NodeTag}
 use Rattle.meta_base.specs.Language.State.{NonAtomicMode}
 use Rattle.meta_base.specs.Language.Meaning.{Run}
 use Rattle.meta_base.specs.Language.Expression as plain
@@ -140,6 +140,8 @@ module _ (text : List ℕ) (utf8 : IsUtf8 text) where
   is_read (RepMinMax e i j) h = everywhere _ _ (min_max_text text utf8 _ e i j h.1 h.2 h.3 (is_read e h.0).node)
   is_read (Skip ts) h = absurd h
   is_read (Push e) h = everywhere _ _ (push_text _ e (one_text _ e (is_read e h).term))
+  is_read (PushLiteral t) h = absurd h
+  is_read (NodeTag e t) h = absurd h
   is_read (RestoreOnErr e) h = absurd h
 
   pub whole_text : (e : Expression) → IsWritable e → IsExpressionText text (λ K. printed_before Alone e K) e

@@ -13,6 +13,7 @@ pub mod Operators
 pub mod Slices
 pub mod Induction
 pub mod Identifiers
+pub mod Tags
 pub mod WholeGrammar
 pub mod Texts
 pub mod OneReading

@@ -100,7 +100,7 @@ words_turns [] _ h at_end p = (p, turn_none atomic (no_word_at_end p))
 words_turns [] _ h (following c L i) p = (p, turn_none atomic (word_misses c L p i))
 words_turns (c ∷ n) K₀ h f p = let (q, d) = words_turns n K₀ (and_right _ _ h) f (past p c) in (q, turn atomic (word_takes c (n ++ K₀) p (and_left _ _ h)) d)
 
-words_rep : (n K₀ : Text) → are_name_characters n ≡ true → MayFollowName K₀ → (p : ℕ) → (q : ℕ) × Gives (Run AtomicMode (Rep word)) (at p (n ++ K₀)) (Success (at q K₀) None')
+pub words_rep : (n K₀ : Text) → are_name_characters n ≡ true → MayFollowName K₀ → (p : ℕ) → (q : ℕ) × Gives (Run AtomicMode (Rep word)) (at p (n ++ K₀)) (Success (at q K₀) None')
 words_rep [] _ h at_end p = (p, rep_none (no_word_at_end p))
 words_rep [] _ h (following c L i) p = (p, rep_none (word_misses c L p i))
 words_rep (c ∷ n) K₀ h f p = let (q, d) = words_turns n K₀ (and_right _ _ h) f (past p c) in (q, rep (word_takes c (n ++ K₀) p (and_left _ _ h)) d)

@@ -4,7 +4,7 @@ use Rattle.std.proofs.Common.{◌≡◌, refl, ◌∙◌, ap, ℕ, ℤ, [], ◌�
 use Rattle.std.specs.List.{flat_map}
 use Rattle.std.specs.Fmt.{decimal, signed_decimal}
 use Rattle.meta_base.specs.Language.Text.{Text}
-use Rattle.meta_base.specs.Language.Expression.{Expression, Str, Insens, Range, Ident, PeekSlice, PosPred, NegPred, Seq, Choice, Opt, Rep, RepOnce, RepExact, RepMin, RepMax, RepMinMax, Skip, Push, RestoreOnErr}
+use Rattle.meta_base.specs.Language.Expression.{Expression, Str, Insens, Range, Ident, PeekSlice, PosPred, NegPred, Seq, Choice, Opt, Rep, RepOnce, RepExact, RepMin, RepMax, RepMinMax, Skip, Push, RestoreOnErr, PushLiteral, NodeTag}
 use Rattle.meta_ast.specs.Printing.{escaped, literal, parenthesized}
 use Rattle.meta_ast.specs.Printing.{Place, Alone, AfterTilde, AfterBar, BeforePostfix, inside_wrapper, slice_end, printed_at, predicate_at, bound_literal}
 
@@ -51,6 +51,8 @@ printed_before k (RepMax e i) K = printed_before BeforePostfix e (123 ∷ 44 ∷
 printed_before k (RepMinMax e i j) K = printed_before BeforePostfix e (123 ∷ (decimal i ++ (44 ∷ 32 ∷ (decimal j ++ (125 ∷ K)))))
 printed_before k (Skip ts) K = printed_at k (Skip ts) ++ K
 printed_before k (Push e) K = codes "PUSH(" ++ printed_before Alone e (41 ∷ K)
+printed_before k (PushLiteral t) K = printed_at k (PushLiteral t) ++ K
+printed_before k (NodeTag e t) K = printed_at k (NodeTag e t) ++ K
 printed_before k (RestoreOnErr e) K = printed_before (inside_wrapper k) e K
 
 pub append-escapes : (q : ℕ) (t K : Text) → flat_map (escaped q) t ++ K ≡ escapes_before q t K
@@ -114,4 +116,6 @@ append-printed_at k (RepMinMax e i j) K =
     (more (P ++ codes "{" ++ decimal i ++ codes ", ") (decimal j) (λ L. printed_before BeforePostfix e (123 ∷ (decimal i ++ (44 ∷ 32 ∷ L)))) (counted P (codes "{") (decimal i) (codes ", ") (λ L. printed_before BeforePostfix e L) (append-printed_at BeforePostfix e))) K
 append-printed_at k (Skip ts) K = refl
 append-printed_at k (Push e) K = ap (λ x. codes "PUSH(" ++ x) (append_assoc (printed_at Alone e) (41 ∷ []) K ∙ append-printed_at Alone e (41 ∷ K))
+append-printed_at k (PushLiteral t) K = refl
+append-printed_at k (NodeTag e t) K = refl
 append-printed_at k (RestoreOnErr e) K = append-printed_at (inside_wrapper k) e K

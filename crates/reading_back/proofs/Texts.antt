@@ -10,7 +10,7 @@ use Rattle.std.proofs.lemmas.Str.{chars-encodes}
 use Rattle.std.proofs.lemmas.Str.Parse.{digit_from_value}
 use Rattle.meta_base.specs.Language.Text.{Text, IsText, IsScalarValue}
 use Rattle.meta_base.specs.Language.Builtins.{is_between}
-use Rattle.meta_base.specs.Language.Expression.{Expression, Str, Insens, Range, Ident, PeekSlice, PosPred, NegPred, Seq, Choice, Opt, Rep, RepOnce, RepExact, RepMin, RepMax, RepMinMax, Skip, Push, RestoreOnErr, RuleType, Normal, Silent, Atomic, CompoundAtomic, NonAtomic, Rule, Grammar}
+use Rattle.meta_base.specs.Language.Expression.{Expression, Str, Insens, Range, Ident, PeekSlice, PosPred, NegPred, Seq, Choice, Opt, Rep, RepOnce, RepExact, RepMin, RepMax, RepMinMax, Skip, Push, RestoreOnErr, RuleType, Normal, Silent, Atomic, CompoundAtomic, NonAtomic, Rule, Grammar, PushLiteral, NodeTag}
 use Rattle.meta_ast.specs.Printing.{escaped, is_control, numbered, hex_digit}
 use Rattle.meta_reader.specs.Flaws.{fits_i32}
 use Rattle.meta_ast.specs.Printing.{Place, Alone, AfterTilde, AfterBar, BeforePostfix, slice_end}
@@ -148,6 +148,8 @@ printed_is k (RepMax e m) h K i = printed_is BeforePostfix e h.0 _ (one refl (on
 printed_is k (RepMinMax e m n) h K i = printed_is BeforePostfix e h.0 _ (one refl (joined (number m h.1) (one refl (one refl (joined (number n h.3) (one refl i))))))
 printed_is k (Skip ts) h K i = absurd h
 printed_is k (Push e) h K i = one refl (one refl (one refl (one refl (one refl (printed_is Alone e h _ (one refl i))))))
+printed_is k (PushLiteral t) h K i = absurd h
+printed_is k (NodeTag e t) h K i = absurd h
 printed_is k (RestoreOnErr e) h K i = absurd h
 
 pub texts_exist : TextsExist

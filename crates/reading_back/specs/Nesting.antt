@@ -1,6 +1,6 @@
 -- Sequences and choices nested to the right, as the rotations leave them.
 use Rattle.std.specs.Prelude.{map}
-use Rattle.meta_base.specs.Language.Expression.{Expression, Rule, Grammar, PosPred, NegPred, Seq, Choice, Opt, Rep, RepOnce, RepExact, RepMin, RepMax, RepMinMax, Push, RestoreOnErr}
+use Rattle.meta_base.specs.Language.Expression.{Expression, Rule, Grammar, PosPred, NegPred, Seq, Choice, Opt, Rep, RepOnce, RepExact, RepMin, RepMax, RepMinMax, Push, RestoreOnErr, NodeTag}
 
 -- one expression after another, where the first is nested to the right already
 abbrev pub sequence_of : Expression → Expression → Expression
@@ -26,6 +26,7 @@ nested_right (RepMin e i) = RepMin (nested_right e) i
 nested_right (RepMax e i) = RepMax (nested_right e) i
 nested_right (RepMinMax e i j) = RepMinMax (nested_right e) i j
 nested_right (Push e) = Push (nested_right e)
+nested_right (NodeTag e t) = NodeTag (nested_right e) t
 nested_right (RestoreOnErr e) = RestoreOnErr (nested_right e)
 nested_right e = e
 

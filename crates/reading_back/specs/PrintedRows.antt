@@ -1,6 +1,6 @@
 -- How some expressions are printed.
 use Rattle.std.specs.Prelude.{◌≡◌, pos, negsuc, [], ◌∷◌, ◌++◌, Some, None, codes}
-use Rattle.meta_base.specs.Language.Expression.{Str, Insens, Range, Ident, PeekSlice, PosPred, NegPred, Seq, Choice, Opt, Rep, RepMinMax, Skip, Push, RestoreOnErr}
+use Rattle.meta_base.specs.Language.Expression.{Str, Insens, Range, Ident, PeekSlice, PosPred, NegPred, Seq, Choice, Opt, Rep, RepMinMax, Skip, Push, RestoreOnErr, PushLiteral, NodeTag}
 use Rattle.meta_ast.specs.Printing.{printed}
 
 pub record PrintedRows : Type 0 where
@@ -23,3 +23,5 @@ pub record PrintedRows : Type 0 where
   pub slices : printed (Choice (PeekSlice (pos 0) None) (PeekSlice (pos 0) (Some (negsuc 0))))
       ≡ codes "(PEEK[0..] | PEEK[0..-1])"
   pub pushed : printed (Push (Insens (codes "a"))) ≡ codes "PUSH(^\"a\")"
+  pub literal_push : printed (PushLiteral (codes "a\"")) ≡ codes "PUSH_LITERAL(\"a\\\"\")"
+  pub tagged : printed (Rep (NodeTag (NegPred (Ident (codes "a"))) (codes "t"))) ≡ codes "(#t = !a)*"

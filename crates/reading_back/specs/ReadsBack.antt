@@ -4,12 +4,13 @@ use Rattle.std.specs.Str.{IsUtf8, chars}
 use Rattle.meta_base.specs.Language.Text.{Text, IsText}
 use Rattle.meta_base.specs.Language.Builtins.{is_letter, is_between}
 use Rattle.meta_base.specs.Language.Matching.{begins}
-use Rattle.meta_base.specs.Language.Expression.{Expression, Str, Insens, Range, Ident, PeekSlice, PosPred, NegPred, Seq, Choice, Opt, Rep, RepOnce, RepExact, RepMin, RepMax, RepMinMax, Skip, Push, RestoreOnErr, RuleType, Normal, Silent, Atomic, CompoundAtomic, NonAtomic, Rule, Grammar}
+use Rattle.meta_base.specs.Language.Expression.{Expression, Str, Insens, Range, Ident, PeekSlice, PosPred, NegPred, Seq, Choice, Opt, Rep, RepOnce, RepExact, RepMin, RepMax, RepMinMax, Skip, Push, RestoreOnErr, RuleType, Normal, Silent, Atomic, CompoundAtomic, NonAtomic, Rule, Grammar, PushLiteral, NodeTag}
 use Rattle.meta_base.specs.Language.State.{Classes, NonAtomicMode, State, Success, Trees}
 use Rattle.meta_base.specs.Language.Meaning.{Matches}
 use Rattle.meta_base.specs.Pieces.MetaRules.{name_of}
 use Rattle.meta_syntax.specs.MetaGrammar.{meta_grammar}
-use Rattle.meta_base.specs.declared.grammar.Rule.TheVariants.{grammar_rules, identifier}
+use Rattle.meta_base.specs.declared.grammar.Rule as meta
+use Rattle.meta_base.specs.declared.grammar.Rule.TheVariants.{grammar_rules, identifier, tag_id}
 use Rattle.meta_syntax.specs.Parses.{Spells}
 use Rattle.meta_nodes.specs.Spanned.{SpannedRule}
 use Rattle.meta_nodes.specs.Erasure.{rules_without_spans}
@@ -29,10 +30,14 @@ abbrev pub are_name_characters : Text → Bool
 are_name_characters [] = true
 are_name_characters (c ∷ t) = is_name_character c && are_name_characters t
 
--- a name: a letter or `_`, then letters, digits and `_`; it does not begin with PUSH
+-- a tag, without its `#`: a letter or `_`, then letters, digits and `_`
+abbrev pub is_tag : Text → Bool
+is_tag [] = false
+is_tag (c ∷ t) = is_name_start c && are_name_characters t
+
+-- a name: the same, where it does not begin with PUSH
 abbrev pub is_name : Text → Bool
-is_name [] = false
-is_name (c ∷ t) = not (begins nat_eq (codes "PUSH") (c ∷ t)) && (is_name_start c && are_name_characters t)
+is_name t = not (begins nat_eq (codes "PUSH") t) && is_tag t
 
 -- a slice's end, if there is one, is an i32
 abbrev pub FitsI32 : Option ℤ → Type 0
@@ -40,7 +45,8 @@ FitsI32 None = Unit {0}
 FitsI32 (Some i) = fits_i32 i ≡ true
 
 -- what the text of a grammar can say: strings of scalar values, bounds of one character, names, numbers
--- within their types, and no count of at most 0; forward searches and wrappers are the optimizer's alone
+-- within their types, and no count of at most 0; forward searches and wrappers are the optimizer's alone, and
+-- no text gives literal pushes and tags yet
 abbrev pub IsWritable : Expression → Type 0
 IsWritable (Str t) = IsText t
 IsWritable (Insens t) = IsText t
@@ -60,19 +66,26 @@ IsWritable (RepMax e n) = IsWritable e × (1 ≤ n) × (n < 2 ^ 32)
 IsWritable (RepMinMax e m n) = IsWritable e × (m < 2 ^ 32) × (1 ≤ n) × (n < 2 ^ 32)
 IsWritable (Skip ts) = ⊥
 IsWritable (Push e) = IsWritable e
+IsWritable (PushLiteral t) = ⊥
+IsWritable (NodeTag e t) = ⊥
 IsWritable (RestoreOnErr e) = ⊥
 
--- the rule `identifier` takes the whole text
-pub record IsIdentifier (classes : Classes) (n : Text) : Type 0 where
+-- a rule of the meta-grammar takes the whole text
+pub record TakesAll (rule : meta.Rule) (classes : Classes) (t : Text) : Type 0 where
   pub end : State
   pub trees : Trees
-  pub matched : Matches meta_grammar classes (Ident (name_of identifier)) NonAtomicMode
-      (record { position = 0; rest = n; stack = [] }) (Success end trees)
+  pub matched : Matches meta_grammar classes (Ident (name_of rule)) NonAtomicMode
+      (record { position = 0; rest = t; stack = [] }) (Success end trees)
   pub all : end.rest ≡ []
 
 -- names are what the rule `identifier` takes as a whole
 abbrev pub NamesAreIdentifiers : Type 0
-NamesAreIdentifiers = (n : Text) (classes : Classes) → (is_name n ≡ true) ↔ IsIdentifier classes n
+NamesAreIdentifiers = (n : Text) (classes : Classes) → (is_name n ≡ true) ↔ TakesAll identifier classes n
+
+-- tags are what the rule `tag_id` takes behind `#`, to the end of the text
+abbrev pub TagsAreTagIds : Type 0
+TagsAreTagIds = (t : Text) (classes : Classes)
+    → (is_tag t ≡ true) ↔ TakesAll tag_id classes (codes "#" ++ t)
 
 -- a rule whose name and body can be written
 abbrev pub IsWritableRule : Rule → Type 0

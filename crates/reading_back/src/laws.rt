@@ -1,8 +1,9 @@
 //! Laws of printing and reading.
+ghost use Rattle.std.specs.Prelude.{◌≡◌, true, false, codes};
 ghost use Rattle.reading_back.specs.PrintedRows.{PrintedRows};
 ghost use Rattle.reading_back.specs.ReadsBack.{GrammarsReadBack, GrammarTextsExist, NamesAreIdentifiers};
 ghost use Rattle.reading_back.specs.ReadsBack.{PredicateBeforeQuestionMark, ReadsAsOne};
-ghost use Rattle.reading_back.specs.ReadsBack.{ReadsBack, TextsExist};
+ghost use Rattle.reading_back.specs.ReadsBack.{ReadsBack, TagsAreTagIds, TextsExist, is_name, is_tag};
 
 /// What is printed as a rule's body is read as the same expression, once sequences and choices are
 /// nested to the right in both.
@@ -31,6 +32,13 @@ pub fn texts_exist()
 /// The names of which `reads_back` speaks are those that the rule `identifier` takes as a whole.
 pub fn names_are_identifiers()
     ensures { NamesAreIdentifiers }
+{}
+
+/// Tags are what the rule `tag_id` takes behind `#`, to the end of the text. Unlike a name, a tag may
+/// begin with `PUSH`.
+pub fn tags_are_tag_ids()
+    ensures takes { TagsAreTagIds }
+    ensures may_begin_with_push { (is_tag (codes "PUSHED") ≡ true) × (is_name (codes "PUSHED") ≡ false) }
 {}
 
 /// A text is read as one grammar at most, up to the nesting of sequences and choices.

@@ -55,6 +55,7 @@ enum Sign<'a> {
     NegPred,
     Opt,
     Rep,
+    RepOnce,
     Push,
     RestoreOnErr,
     // A `~` or a `|` whose left side is copied, with the right one; and with the copy of the left one.
@@ -102,6 +103,7 @@ impl<'a> Rebuild for Around<'a> {
             E::NegPred(inner) => (Sign::NegPred, inner),
             E::Opt(inner) => (Sign::Opt, inner),
             E::Rep(inner) => (Sign::Rep, inner),
+            E::RepOnce(inner) => (Sign::RepOnce, inner),
             E::Push(inner) => (Sign::Push, inner),
             E::RestoreOnErr(inner) => (Sign::RestoreOnErr, inner),
             E::Seq(left, right) => (Sign::FirstOfSeq(right), left),
@@ -130,6 +132,7 @@ impl<'a> Rebuild for Around<'a> {
             Sign::NegPred => E::NegPred(copy),
             Sign::Opt => E::Opt(copy),
             Sign::Rep => E::Rep(copy),
+            Sign::RepOnce => E::RepOnce(copy),
             Sign::Push => E::Push(copy),
             Sign::RestoreOnErr => E::RestoreOnErr(copy),
             Sign::SecondOfSeq(left) => E::Seq(left.into_inner(), copy),

@@ -67,6 +67,7 @@ fn allocator_of(expr: &OptimizedExpr) -> Option<Global> {
         | OptimizedExpr::NegPred(inner)
         | OptimizedExpr::Opt(inner)
         | OptimizedExpr::Rep(inner)
+        | OptimizedExpr::RepOnce(inner)
         | OptimizedExpr::Push(inner)
         | OptimizedExpr::RestoreOnErr(inner) => { Some(*Box::allocator(inner)) }
         OptimizedExpr::Seq(left, _) | OptimizedExpr::Choice(left, _) => Some(*Box::allocator(left)),
@@ -168,6 +169,7 @@ fn compared<'a>(a: &'a OptimizedExpr, b: &'a OptimizedExpr) -> Left<'a>
         | (E::NegPred(first), E::NegPred(second))
         | (E::Opt(first), E::Opt(second))
         | (E::Rep(first), E::Rep(second))
+        | (E::RepOnce(first), E::RepOnce(second))
         | (E::RestoreOnErr(first), E::RestoreOnErr(second))
         | (E::Push(first), E::Push(second)) => Left::One(Both { first, second }, true),
         (E::Seq(first, x), E::Seq(second, y)) | (E::Choice(first, x), E::Choice(second, y)) => {

@@ -36,7 +36,7 @@ impl OptimizedExpr {
                 E::PosPred(inner) | E::NegPred(inner) | E::Opt(inner) => {
                     rest = Box::into_inner(inner);
                 }
-                E::Rep(inner) | E::Push(inner) | E::RestoreOnErr(inner) => {
+                E::Rep(inner) | E::RepOnce(inner) | E::Push(inner) | E::RestoreOnErr(inner) => {
                     rest = Box::into_inner(inner);
                 }
                 E::Seq(left, right) | E::Choice(left, right) => rest = leaned(left, right),
@@ -60,6 +60,7 @@ fn leaned(mut left: Box<OptimizedExpr>, right: Box<OptimizedExpr>) -> OptimizedE
         | E::NegPred(inner)
         | E::Opt(inner)
         | E::Rep(inner)
+        | E::RepOnce(inner)
         | E::Push(inner)
         | E::RestoreOnErr(inner) => E::Seq(inner, right),
         _ => Box::into_inner(right),

@@ -108,6 +108,7 @@ pub(crate) enum Sign {
     NegPred,
     Opt,
     Rep,
+    RepOnce,
     Push,
 }
 
@@ -125,6 +126,7 @@ impl Tree for OptimizedExpr {
             E::NegPred(inner) => (Sign::NegPred, inner),
             E::Opt(inner) => (Sign::Opt, inner),
             E::Rep(inner) => (Sign::Rep, inner),
+            E::RepOnce(inner) => (Sign::RepOnce, inner),
             E::Push(inner) => (Sign::Push, inner),
             E::Seq(left, right) => return two(Joint::Sequence, left, right),
             E::Choice(left, right) => return two(Joint::Choice, left, right),
@@ -141,6 +143,7 @@ impl Tree for OptimizedExpr {
             Sign::NegPred => E::NegPred(inner),
             Sign::Opt => E::Opt(inner),
             Sign::Rep => E::Rep(inner),
+            Sign::RepOnce => E::RepOnce(inner),
             Sign::Push => E::Push(inner),
         };
         Ok(whole)

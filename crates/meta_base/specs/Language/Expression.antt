@@ -21,6 +21,8 @@ pub data Expression : Type 0 where
   RepMinMax : Expression → ℕ → ℕ → Expression
   Skip : List Text → Expression
   Push : Expression → Expression
+  PushLiteral : Text → Expression
+  NodeTag : Expression → Text → Expression
   RestoreOnErr : Expression → Expression
 
 pub data RuleType : Type 0 where
@@ -72,4 +74,5 @@ pub data Part : Expression → Expression → Type 0 where
   of_rep_max : {e p : Expression} {i : ℕ} → Part e p → Part (RepMax e i) p
   of_rep_min_max : {e p : Expression} {i j : ℕ} → Part e p → Part (RepMinMax e i j) p
   of_push : {e p : Expression} → Part e p → Part (Push e) p
+  of_tag : {e p : Expression} {t : Text} → Part e p → Part (NodeTag e t) p
   of_restore : {e p : Expression} → Part e p → Part (RestoreOnErr e) p

@@ -3,7 +3,7 @@ use Rattle.std.specs.Prelude.{ℕ, max, Bool, if◌then◌else◌, ◌&&◌, byt
 use Rattle.meta_base.specs.Language.Text.{Text}
 use Rattle.meta_base.specs.Language.Expression.{Grammar}
 use Rattle.meta_base.specs.Language.State.{State, Outcome, Success, Failure, Classes}
-use Rattle.meta_base.specs.Language.Meaning.{Does, Task, str, insens, range, slice, skip, call, other, pos_pred, neg_pred, push, restore, seq, seq_first, seq_second, left, right, opt, opt_none, rep_none, turn, turn_none, rep_exact, rep_max, rep_min_max, skips, atomic, compound_atomic, between, gives_token, seen_from, rep, rep_once, rep_min}
+use Rattle.meta_base.specs.Language.Meaning.{Does, Task, str, insens, range, slice, skip, call, other, pos_pred, neg_pred, push, restore, seq, seq_first, seq_second, left, right, opt, opt_none, rep_none, turn, turn_none, rep_exact, rep_max, rep_min_max, skips, atomic, compound_atomic, between, gives_token, seen_from, rep, rep_once, rep_min, push_literal, tag}
 
 -- the place of a call where it counts: it failed, and gives tokens to a mode other than Atomic
 abbrev pub place_of : Bool → State → Outcome → ℕ
@@ -27,6 +27,8 @@ furthest (other {m = m} {n = n} {s = s} {o = o} h b) = place_of (seen_from m && 
 furthest (pos_pred d) = furthest d
 furthest (neg_pred d) = furthest d
 furthest (push d) = furthest d
+furthest push_literal = 0
+furthest (tag d) = furthest d
 furthest (restore d) = furthest d
 furthest (seq a k b) = max (furthest a) (max (furthest k) (furthest b))
 furthest (seq_first a) = furthest a

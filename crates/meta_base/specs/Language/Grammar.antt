@@ -1,7 +1,7 @@
 -- Which lists of rules are grammars.
 use Rattle.std.specs.Prelude.{◌≡◌, ◌<◌, ◌^◌, [], ◌∷◌, List, None, Option, Some, ⊤, ℕ, ℤ, pos, negsuc, All, false, codes}
 use Rattle.meta_base.specs.Language.Text.{Text, IsText}
-use Rattle.meta_base.specs.Language.Expression.{Expression, Str, Insens, Range, Ident, PeekSlice, RepExact, RepMin, RepMax, RepMinMax, Skip, Grammar, rule_of}
+use Rattle.meta_base.specs.Language.Expression.{Expression, Str, Insens, Range, Ident, PeekSlice, RepExact, RepMin, RepMax, RepMinMax, Skip, PushLiteral, NodeTag, Grammar, rule_of}
 use Rattle.meta_base.specs.Language.Builtins.{is_one_of}
 use Rattle.meta_base.specs.Language.WellFormed.{HasReadableCounts, InSomeRule}
 
@@ -38,6 +38,8 @@ FitsItsTypes (RepMin e i) = FitsUnsigned32 i
 FitsItsTypes (RepMax e i) = FitsUnsigned32 i
 FitsItsTypes (RepMinMax e i j) = FitsUnsigned32 i × FitsUnsigned32 j
 FitsItsTypes (Skip ts) = All IsText ts
+FitsItsTypes (PushLiteral t) = IsText t
+FitsItsTypes (NodeTag e t) = IsText t
 FitsItsTypes _ = ⊤
 
 pub record IsGrammar (g : Grammar) : Type 0 where

@@ -2,11 +2,11 @@
 use Rattle.std.specs.Prelude.{◌≡◌, ◌↔◌, ◌-◌, ℕ, List, [], ◌∷◌, Option, Some, None, if◌then◌else◌, nat_eq, length, take, drop, ⊤, ℤ}
 use Rattle.std.specs.Char.{eq_ignore_ascii_case}
 use Rattle.meta_base.specs.Language.Text.{Text}
-use Rattle.meta_base.specs.Language.Expression.{Expression, Str, Insens, Range, Ident, PeekSlice, PosPred, NegPred, Seq, Choice, Opt, Rep, RepOnce, RepExact, RepMin, RepMax, RepMinMax, Skip, Push, RestoreOnErr, Rule, Grammar, rule_of, Part}
+use Rattle.meta_base.specs.Language.Expression.{Expression, Str, Insens, Range, Ident, PeekSlice, PosPred, NegPred, Seq, Choice, Opt, Rep, RepOnce, RepExact, RepMin, RepMax, RepMinMax, Skip, Push, RestoreOnErr, Rule, Grammar, rule_of, Part, PushLiteral, NodeTag}
 use Rattle.meta_base.specs.Language.State.{Mode, NonAtomicMode, AtomicMode, CompoundAtomicMode, Between, State, Trees, None', Tree, joined, Outcome, Success, Failure, Classes, moved}
 use Rattle.meta_base.specs.Language.Matching.{text_outcome, character_outcome, range_set, slice_outcome, distance, other_outcome, begins}
 use Rattle.meta_base.specs.Language.Builtins.{builtin_of, Builtin, Pop, PopAll}
-use Rattle.meta_base.specs.Language.Meaning.{Task, Run, Turns, Skipping, body_mode, gives_token, once_or_more, exactly, at_least, at_most, from_to, skipped, Matches}
+use Rattle.meta_base.specs.Language.Meaning.{Task, Run, Turns, Skipping, body_mode, gives_token, with_top, once_or_more, exactly, at_least, at_most, from_to, skipped, Matches}
 use Rattle.meta_base.specs.Language.WellFormed.{IsSkipped}
 
 -- a success, or a failure with the stack that it leaves
@@ -82,6 +82,10 @@ module _ (g : Grammar) (classes : Classes) where
         → DoesLoosely (Run m (NegPred e)) s (not_looked s o)
     loose_push : {m : Mode} {e : Expression} {s : State} {o : Ending} → DoesLoosely (Run m e) s o
         → DoesLoosely (Run m (Push e)) s (pushing s o)
+    loose_push_literal : {m : Mode} {t : Text} {s : State}
+        → DoesLoosely (Run m (PushLiteral t)) s (Done (with_top t s) None')
+    loose_tag : {m : Mode} {e : Expression} {t : Text} {s : State} {o : Ending} → DoesLoosely (Run m e) s o
+        → DoesLoosely (Run m (NodeTag e t)) s o
     loose_restore : {m : Mode} {e : Expression} {s : State} {o : Ending} → DoesLoosely (Run m e) s o
         → DoesLoosely (Run m (RestoreOnErr e)) s (restoring s o)
     loose_seq : {m : Mode} {a b : Expression} {s t u v : State} {us vs ws : Trees}
@@ -141,6 +145,7 @@ pub data Pops (g : Grammar) : Expression → Type 0 where
   pops_left : {a b : Expression} → Pops g a → Pops g (Choice a b)
   pops_right : {a b : Expression} → Pops g b → Pops g (Choice a b)
   pops_push : {e : Expression} → Pops g e → Pops g (Push e)
+  pops_tag : {e : Expression} {t : Text} → Pops g e → Pops g (NodeTag e t)
   pops_rep_exact : {e : Expression} {i : ℕ} → Pops g (exactly e i) → Pops g (RepExact e i)
   pops_rep_min_max : {e : Expression} {i j : ℕ} → Pops g (from_to e i j) → Pops g (RepMinMax e i j)
 

@@ -2,7 +2,7 @@
 use Rattle.std.specs.Prelude.{◌≡◌, ℕ, ◌-◌, min, List, [], ◌∷◌, ◌++◌, Option, Some, None, Bool, true, false, ◌||◌, ℤ, if◌then◌else◌, bytes_eq, nat_eq, length, take, replicate}
 use Rattle.std.specs.Char.{eq_ignore_ascii_case}
 use Rattle.meta_base.specs.Language.Text.{Text}
-use Rattle.meta_base.specs.Language.Expression.{Expression, Str, Insens, Range, Ident, PeekSlice, PosPred, NegPred, Seq, Choice, Opt, Rep, RepOnce, RepExact, RepMin, RepMax, RepMinMax, Skip, Push, RestoreOnErr, RuleType, Normal, Silent, Atomic, CompoundAtomic, NonAtomic, Rule, Grammar, rule_of, whitespace, comment}
+use Rattle.meta_base.specs.Language.Expression.{Expression, Str, Insens, Range, Ident, PeekSlice, PosPred, NegPred, Seq, Choice, Opt, Rep, RepOnce, RepExact, RepMin, RepMax, RepMinMax, Skip, Push, RestoreOnErr, RuleType, Normal, Silent, Atomic, CompoundAtomic, NonAtomic, Rule, Grammar, rule_of, whitespace, comment, PushLiteral, NodeTag}
 use Rattle.meta_base.specs.Language.State.{Mode, NonAtomicMode, AtomicMode, CompoundAtomicMode, Between, State, Trees, None', Tree, joined, Outcome, Success, Failure, Classes, moved}
 use Rattle.meta_base.specs.Language.Matching.{text_outcome, character_outcome, range_set, slice_outcome, distance, other_outcome}
 
@@ -58,6 +58,10 @@ pushed s Failure = Failure
 pushed s (Success t us) =
     Success (record t { stack = take (length s.rest - length t.rest) s.rest ∷ t.stack }) us
 
+-- with a text on top of the stack
+abbrev pub with_top : Text → State → State
+with_top t s = record s { stack = t ∷ s.stack }
+
 -- expressions in sequence, nested to the right
 abbrev pub in_sequence : List Expression → Expression
 in_sequence [] = Str []
@@ -112,6 +116,10 @@ module _ (g : Grammar) (classes : Classes) where
         → Does (Run m (NegPred e)) s (not_ahead s o)
     push : {m : Mode} {e : Expression} {s : State} {o : Outcome} → Does (Run m e) s o
         → Does (Run m (Push e)) s (pushed s o)
+    push_literal : {m : Mode} {t : Text} {s : State}
+        → Does (Run m (PushLiteral t)) s (Success (with_top t s) None')
+    tag : {m : Mode} {e : Expression} {t : Text} {s : State} {o : Outcome} → Does (Run m e) s o
+        → Does (Run m (NodeTag e t)) s o
     restore : {m : Mode} {e : Expression} {s : State} {o : Outcome} → Does (Run m e) s o
         → Does (Run m (RestoreOnErr e)) s o
     seq : {m : Mode} {a b : Expression} {s t u v : State} {us vs ws : Trees}

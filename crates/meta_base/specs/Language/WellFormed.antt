@@ -2,7 +2,7 @@
 use Rattle.std.specs.Prelude.{◌≡◌, ℕ, ◌<◌, List, [], Option, Some, ℤ, codes, ⊤}
 use Rattle.std.specs.List.{Contains}
 use Rattle.meta_base.specs.Language.Text.{Text}
-use Rattle.meta_base.specs.Language.Expression.{Expression, Str, Insens, Ident, PeekSlice, PosPred, NegPred, Seq, Choice, Opt, Rep, RepOnce, RepExact, RepMin, RepMax, RepMinMax, Skip, Push, RestoreOnErr, NonAtomic, Rule, Grammar, rule_of, whitespace, comment, Part}
+use Rattle.meta_base.specs.Language.Expression.{Expression, Str, Insens, Ident, PeekSlice, PosPred, NegPred, Seq, Choice, Opt, Rep, RepOnce, RepExact, RepMin, RepMax, RepMinMax, Skip, Push, RestoreOnErr, NonAtomic, Rule, Grammar, rule_of, whitespace, comment, Part, PushLiteral, NodeTag}
 use Rattle.meta_base.specs.Language.State.{Mode, State, Outcome, Classes}
 use Rattle.meta_base.specs.Language.Builtins.{Builtin, One, Property, Newline, Soi, Eoi, Peek, Pop, Drop, PeekAll, PopAll, builtin_of}
 use Rattle.meta_base.specs.Language.Meaning.{Matches}
@@ -25,6 +25,8 @@ module _ (g : Grammar) where
     nullable_right : {a b : Expression} → IsNullable b → IsNullable (Choice a b)
     nullable_rep_once : {e : Expression} → IsNullable e → IsNullable (RepOnce e)
     nullable_push : {e : Expression} → IsNullable e → IsNullable (Push e)
+    nullable_push_literal : {t : Text} → IsNullable (PushLiteral t)
+    nullable_tag : {e : Expression} {t : Text} → IsNullable e → IsNullable (NodeTag e t)
     nullable_exact_zero : {e : Expression} → IsNullable (RepExact e 0)
     nullable_exact : {e : Expression} {i : ℕ} → IsNullable e → IsNullable (RepExact e i)
     nullable_min_zero : {e : Expression} → IsNullable (RepMin e 0)
@@ -47,6 +49,8 @@ module _ (g : Grammar) where
     cannot_fail_right : {a b : Expression} → CannotFail b → CannotFail (Choice a b)
     cannot_fail_rep_once : {e : Expression} → CannotFail e → CannotFail (RepOnce e)
     cannot_fail_push : {e : Expression} → CannotFail e → CannotFail (Push e)
+    cannot_fail_push_literal : {t : Text} → CannotFail (PushLiteral t)
+    cannot_fail_tag : {e : Expression} {t : Text} → CannotFail e → CannotFail (NodeTag e t)
     cannot_fail_pos_pred : {e : Expression} → CannotFail e → CannotFail (PosPred e)
     cannot_fail_exact_zero : {e : Expression} → CannotFail (RepExact e 0)
     cannot_fail_exact : {e : Expression} {i : ℕ} → CannotFail e → CannotFail (RepExact e i)
@@ -74,6 +78,7 @@ module _ (g : Grammar) where
     left_rep_max : {e : Expression} {n : Text} {i : ℕ} → LeftCalls e n → LeftCalls (RepMax e i) n
     left_rep_min_max : {e : Expression} {n : Text} {i j : ℕ} → LeftCalls e n → LeftCalls (RepMinMax e i j) n
     left_push : {e : Expression} {n : Text} → LeftCalls e n → LeftCalls (Push e) n
+    left_tag : {e : Expression} {n t : Text} → LeftCalls e n → LeftCalls (NodeTag e t) n
     left_restore : {e : Expression} {n : Text} → LeftCalls e n → LeftCalls (RestoreOnErr e) n
 
   -- the rule n left-calls k, at once or by way of others

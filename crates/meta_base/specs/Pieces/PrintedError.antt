@@ -1,5 +1,6 @@
 -- The six lines that an error prints.
 use Rattle.std.specs.Prelude.{ℕ, ◌-◌, ◌==◌, ◌&&◌, not, Bool, List, [], ◌∷◌, ◌++◌, take, length, map, filter, replicate, nat_lt, if◌then◌else◌, codes, string_bytes}
+use Rattle.std.specs.Arc.{arc_value}
 use Rattle.std.specs.Fmt.{decimal}
 use Rattle.std.specs.List.{join_with_byte}
 use Rattle.std.specs.Str.{chars, encode_utf8_all}
@@ -69,7 +70,7 @@ printed_error message place line = let number = (start_of place).0 in
 
 -- the printed line that an error keeps, as bytes
 abbrev pub error_line : {R : Type 0} → Error R → List ℕ
-error_line error = string_bytes error.line
+error_line error = string_bytes (arc_value error.line)
 
 -- what an error prints
 abbrev pub error_text : {R : Type 0} → Error R → List ℕ

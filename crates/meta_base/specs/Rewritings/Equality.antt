@@ -10,7 +10,7 @@ use Rattle.std.proofs.lemmas.Bool.{false≢true}
 use Rattle.std.proofs.lemmas.Slice.Eq.{slice_eq-Decides}
 use lib.Pointwise.{pointwise}
 use Rattle.meta_base.specs.Language.Text.{Text}
-use Rattle.meta_base.specs.Language.Expression.{Expression, Str, Insens, Range, Ident, PeekSlice, PosPred, NegPred, Seq, Choice, Opt, Rep, RepOnce, RepExact, RepMin, RepMax, RepMinMax, Skip, Push, RestoreOnErr, RuleType, Normal, Silent, Atomic, CompoundAtomic, NonAtomic, Rule}
+use Rattle.meta_base.specs.Language.Expression.{Expression, Str, Insens, Range, Ident, PeekSlice, PosPred, NegPred, Seq, Choice, Opt, Rep, RepOnce, RepExact, RepMin, RepMax, RepMinMax, Skip, Push, RestoreOnErr, RuleType, Normal, Silent, Atomic, CompoundAtomic, NonAtomic, Rule, PushLiteral, NodeTag}
 
 -- character by character
 abbrev pub text_eq : Text → Text → Bool
@@ -39,6 +39,8 @@ expression_eq (RepMax x i) (RepMax y j) = expression_eq x y && nat_eq i j
 expression_eq (RepMinMax x i k) (RepMinMax y j l) = expression_eq x y && nat_eq i j && nat_eq k l
 expression_eq (Skip ts) (Skip us) = texts_eq ts us
 expression_eq (Push x) (Push y) = expression_eq x y
+expression_eq (PushLiteral t) (PushLiteral u) = text_eq t u
+expression_eq (NodeTag x t) (NodeTag y u) = expression_eq x y && text_eq t u
 expression_eq (RestoreOnErr x) (RestoreOnErr y) = expression_eq x y
 expression_eq _ _ = false
 
@@ -112,6 +114,9 @@ equal_expressions (RepMinMax x i k) (RepMinMax y j l) h =
     ((unsigned_Decides k l).0 q)
 equal_expressions (Skip ts) (Skip us) h = ap Skip ((texts_eq-Decides ts us).0 h)
 equal_expressions (Push x) (Push y) h = ap Push (equal_expressions x y h)
+equal_expressions (PushLiteral t) (PushLiteral u) h = ap PushLiteral ((text_eq-Decides t u).0 h)
+equal_expressions (NodeTag x t) (NodeTag y u) h =
+    let (p, q) = parts _ _ h in ap₂ NodeTag (equal_expressions x y p) ((text_eq-Decides t u).0 q)
 equal_expressions (RestoreOnErr x) (RestoreOnErr y) h = ap RestoreOnErr (equal_expressions x y h)
 equal_expressions _ _ h = absurd (false≢true h)
 
@@ -135,6 +140,8 @@ expression_itself (RepMinMax x i j) =
     both (both (expression_itself x) ((unsigned_Decides i i).1 refl)) ((unsigned_Decides j j).1 refl)
 expression_itself (Skip ts) = (texts_eq-Decides ts ts).1 refl
 expression_itself (Push x) = expression_itself x
+expression_itself (PushLiteral t) = (text_eq-Decides t t).1 refl
+expression_itself (NodeTag x t) = both (expression_itself x) ((text_eq-Decides t t).1 refl)
 expression_itself (RestoreOnErr x) = expression_itself x
 
 pub expression_eq-Decides : (a b : Expression) → Decides (expression_eq a b) (a ≡ b)

@@ -1,5 +1,5 @@
 -- Expressions without wrappers.
-use Rattle.meta_base.specs.Language.Expression.{Expression, PosPred, NegPred, Seq, Choice, Opt, Rep, RepOnce, RepExact, RepMin, RepMax, RepMinMax, Push, RestoreOnErr}
+use Rattle.meta_base.specs.Language.Expression.{Expression, PosPred, NegPred, Seq, Choice, Opt, Rep, RepOnce, RepExact, RepMin, RepMax, RepMinMax, Push, NodeTag, RestoreOnErr}
 
 -- each `RestoreOnErr(e)` becomes `e`
 abbrev pub erased : Expression → Expression
@@ -16,4 +16,5 @@ erased (RepMin e i) = RepMin (erased e) i
 erased (RepMax e i) = RepMax (erased e) i
 erased (RepMinMax e i j) = RepMinMax (erased e) i j
 erased (Push e) = Push (erased e)
+erased (NodeTag e t) = NodeTag (erased e) t
 erased e = e

@@ -1,6 +1,6 @@
 -- The listing.
 use Rattle.std.specs.Prelude.{◌≡◌, ◌⊎◌, if◌then◌else◌}
-use Rattle.meta_base.specs.Language.Expression.{Expression, PosPred, NegPred, Seq, Choice, Opt, Rep, RepOnce, RepExact, RepMin, RepMax, RepMinMax, Push, RestoreOnErr, Grammar}
+use Rattle.meta_base.specs.Language.Expression.{Expression, PosPred, NegPred, Seq, Choice, Opt, Rep, RepOnce, RepExact, RepMin, RepMax, RepMinMax, Push, NodeTag, RestoreOnErr, Grammar}
 use Rattle.meta_base.specs.Language.State.{AtomicMode, Classes, CompoundAtomicMode, Mode, State, Success, Trees}
 use Rattle.meta_base.specs.Language.Meaning.{Matches}
 use Rattle.meta_base.specs.Rewritings.Rewriting.{EachBody}
@@ -25,6 +25,7 @@ listed (RepMin e i) = RepMin (listed e) i
 listed (RepMax e i) = RepMax (listed e) i
 listed (RepMinMax e i j) = RepMinMax (listed e) i j
 listed (Push e) = Push (listed e)
+listed (NodeTag e t) = NodeTag (listed e) t
 listed (RestoreOnErr e) = RestoreOnErr (listed e)
 listed e = e
 

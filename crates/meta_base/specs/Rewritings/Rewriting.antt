@@ -1,9 +1,9 @@
 -- The eight rewritings, at any place of any rule.
 use Rattle.std.specs.Prelude.{◌≡◌, ℕ, List, [], ◌∷◌, ◌++◌, Some, None, ◌↔◌, codes}
 use Rattle.meta_base.specs.Language.Text.{Text}
-use Rattle.meta_base.specs.Language.Expression.{Expression, Str, Insens, Ident, PosPred, NegPred, Seq, Choice, Opt, Rep, RepOnce, RepExact, RepMin, RepMax, RepMinMax, Skip, Push, RestoreOnErr, RuleType, Atomic, CompoundAtomic, Rule, Grammar, rule_of, Part}
+use Rattle.meta_base.specs.Language.Expression.{Expression, Str, Insens, Ident, PosPred, NegPred, Seq, Choice, Opt, Rep, RepOnce, RepExact, RepMin, RepMax, RepMinMax, Skip, Push, NodeTag, RestoreOnErr, RuleType, Atomic, CompoundAtomic, Rule, Grammar, rule_of, Part}
 use Rattle.meta_base.specs.Language.State.{Mode, State, Outcome, Classes}
-use Rattle.meta_base.specs.Language.Meaning.{once_or_more, exactly, at_least, at_most, from_to, Matches}
+use Rattle.meta_base.specs.Language.Meaning.{exactly, at_least, at_most, from_to, Matches}
 
 -- a literal or a name
 pub data IsLeaf : Expression → Type 0 where
@@ -15,9 +15,8 @@ pub data Rotates : Expression → Expression → Type 0 where
   rotate_sequence : {a b c : Expression} → Rotates (Seq (Seq a b) c) (Seq a (Seq b c))
   rotate_choice : {a b c : Expression} → Rotates (Choice (Choice a b) c) (Choice a (Choice b c))
 
--- `+` and counted repetitions to the copies that they mean
+-- counted repetitions to the copies that they mean
 pub data Unrolls : Expression → Expression → Type 0 where
-  unroll_once : {e : Expression} → Unrolls (RepOnce e) (once_or_more e)
   unroll_exact : {e : Expression} {i : ℕ} → Unrolls (RepExact e i) (exactly e i)
   unroll_min : {e : Expression} {i : ℕ} → Unrolls (RepMin e i) (at_least e i)
   unroll_max : {e : Expression} {i : ℕ} → Unrolls (RepMax e i) (at_most e i)
@@ -76,6 +75,7 @@ module _ (R : Expression → Expression → Type 0) where
     in_rep_max : {a b : Expression} {i : ℕ} → Within a b → Within (RepMax a i) (RepMax b i)
     in_rep_min_max : {a b : Expression} {i j : ℕ} → Within a b → Within (RepMinMax a i j) (RepMinMax b i j)
     in_push : {a b : Expression} → Within a b → Within (Push a) (Push b)
+    in_tag : {a b : Expression} {t : Text} → Within a b → Within (NodeTag a t) (NodeTag b t)
     in_restore : {a b : Expression} → Within a b → Within (RestoreOnErr a) (RestoreOnErr b)
 
   -- rewritings one after another

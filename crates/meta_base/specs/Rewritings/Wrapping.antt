@@ -1,7 +1,7 @@
 -- What changes the stack, and where the restorer wraps.
 use Rattle.std.specs.Prelude.{◌≡◌, ℕ, List, Option, Some, ℤ}
 use Rattle.meta_base.specs.Language.Text.{Text}
-use Rattle.meta_base.specs.Language.Expression.{Expression, Str, Insens, Range, Ident, PeekSlice, PosPred, NegPred, Seq, Choice, Opt, Rep, RepOnce, RepExact, RepMin, RepMax, RepMinMax, Skip, Push, RestoreOnErr, Rule, Grammar, rule_of}
+use Rattle.meta_base.specs.Language.Expression.{Expression, Str, Insens, Range, Ident, PeekSlice, PosPred, NegPred, Seq, Choice, Opt, Rep, RepOnce, RepExact, RepMin, RepMax, RepMinMax, Skip, Push, PushLiteral, NodeTag, RestoreOnErr, Rule, Grammar, rule_of}
 use Rattle.meta_base.specs.Language.Builtins.{builtin_of, Pop, PopAll, Drop}
 use Rattle.meta_base.specs.Rewritings.Rewriting.{EachBody}
 
@@ -10,6 +10,7 @@ module _ (g : Grammar) where
   -- there
   pub data ChangesStack : Expression → Type 0 where
     changes_push : {e : Expression} → ChangesStack (Push e)
+    changes_tag : {e : Expression} {t : Text} → ChangesStack e → ChangesStack (NodeTag e t)
     changes_pop : {n : Text} → builtin_of n ≡ Some Pop → ChangesStack (Ident n)
     changes_pop_all : {n : Text} → builtin_of n ≡ Some PopAll → ChangesStack (Ident n)
     changes_drop : {n : Text} → builtin_of n ≡ Some Drop → ChangesStack (Ident n)
@@ -33,9 +34,9 @@ module _ (g : Grammar) where
     wraps : {e : Expression} → ChangesStack e → Wraps e (RestoreOnErr e)
     leaves : {e : Expression} → (ChangesStack e → ⊥) → Wraps e e
 
-  -- what the restorer makes of an expression without wrappers and with no repetitions but `*`: from the
-  -- inside out, the operands of `?` and `*` and both sides of `|` are wrapped where they change the stack as
-  -- they then stand
+  -- what the restorer makes of an expression without wrappers and with no counted repetitions: from the
+  -- inside out, the operands of `?`, `*` and `+` and both sides of `|` are wrapped where they change the stack
+  -- as they then stand
   pub data RestoresTo : Expression → Expression → Type 0 where
     restores_str : {t : Text} → RestoresTo (Str t) (Str t)
     restores_insens : {t : Text} → RestoresTo (Insens t) (Insens t)
@@ -46,11 +47,14 @@ module _ (g : Grammar) where
     restores_pos_pred : {a b : Expression} → RestoresTo a b → RestoresTo (PosPred a) (PosPred b)
     restores_neg_pred : {a b : Expression} → RestoresTo a b → RestoresTo (NegPred a) (NegPred b)
     restores_push : {a b : Expression} → RestoresTo a b → RestoresTo (Push a) (Push b)
+    restores_push_literal : {t : Text} → RestoresTo (PushLiteral t) (PushLiteral t)
+    restores_tag : {a b : Expression} {t : Text} → RestoresTo a b → RestoresTo (NodeTag a t) (NodeTag b t)
     restores_seq : {a b c d : Expression} → RestoresTo a b → RestoresTo c d → RestoresTo (Seq a c) (Seq b d)
     restores_choice : {a b c d e f : Expression} → RestoresTo a b → Wraps b c → RestoresTo d e → Wraps e f
         → RestoresTo (Choice a d) (Choice c f)
     restores_opt : {a b c : Expression} → RestoresTo a b → Wraps b c → RestoresTo (Opt a) (Opt c)
     restores_rep : {a b c : Expression} → RestoresTo a b → Wraps b c → RestoresTo (Rep a) (Rep c)
+    restores_rep_once : {a b c : Expression} → RestoresTo a b → Wraps b c → RestoresTo (RepOnce a) (RepOnce c)
 
 -- every body is restored, names being looked up in the rules before any was; names, types and order stay
 abbrev pub EachRestored : Grammar → Grammar → Type 0

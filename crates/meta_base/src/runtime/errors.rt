@@ -1,7 +1,9 @@
 //! Errors, with the places and the line that they print.
 ghost use Rattle.std.specs.Prelude.{◌≡◌, Some, IfOk, IfErr, ◌++◌, filter, alloc_error, string_bytes};
+ghost use Rattle.std.specs.Arc.{arc_value};
 ghost use Rattle.std.specs.Str.{chars, encode_utf8_all};
 ghost use Rattle.meta_base.specs.Pieces.Span.{span_text, span_start, span_end, position_text, position_offset};
+ghost use Rattle.meta_base.specs.Pieces.Survey.{survey_text};
 ghost use Rattle.meta_base.specs.Pieces.LineColumn.{line_column};
 ghost use Rattle.meta_base.specs.Pieces.PrintedError.{message_of, start_of, is_printed, printed_line, error_line, error_text};
 
@@ -9,9 +11,11 @@ use super::faults::Fault;
 use super::layout::{Margin, Underline};
 use super::lines::{first_line, last_line};
 use super::places::{Position, Span};
+use super::surveys::Survey;
 use std::alloc::{AllocError, Global};
 use std::fmt;
 use std::marker::PhantomData;
+use std::sync::Arc;
 
 /// What is wrong with a text.
 #[derive(Debug, PartialEq, Eq, Drop)]
@@ -59,14 +63,15 @@ impl LineColLocation {
     }
 }
 
-/// An error in a text that rules of type `R` read. It keeps the line that it prints.
+/// An error in a text that rules of type `R` read. It keeps the line that it prints, which errors of one
+/// survey share.
 #[derive_where(Debug, PartialEq, Eq)]
 #[derive(Drop)]
 pub struct Error<R> {
     pub variant: ErrorVariant,
     pub location: InputLocation,
     pub line_col: LineColLocation,
-    line: String,
+    line: Arc<String>,
     rule: PhantomData<R>,
 }
 
@@ -114,7 +119,7 @@ impl<R> Error<R> {
         ensures memory { IfErr result (λ fault. fault ≡ Fault.Memory alloc_error) }
     {
         let start = span.start_pos();
-        let line = printed_line(alloc, start).map_err(Fault::Memory)?;
+        let line = shared_line(alloc, start).map_err(Fault::Memory)?;
         Ok(Error {
             variant,
             location: InputLocation::Span((span.start(), span.end())),
@@ -122,6 +127,65 @@ impl<R> Error<R> {
             line,
             rule: PhantomData,
         })
+    }
+
+    /// The error `variant` at `span`, as `new_from_span` makes it, where the span's text was surveyed: its
+    /// places are found by the survey, and errors that stand in one line, and are made one after another,
+    /// share the line that they print. The only fault is a want of memory.
+    pub fn new_in_survey(
+        alloc: Global,
+        variant: ErrorVariant,
+        survey: &mut Survey<'_>,
+        span: Span<'_>,
+    ) -> Result<Error<R>, Fault>
+        requires same_text { span_text span ≡ survey_text survey.old }
+        ensures variant { IfOk result (λ error. error.variant ≡ variant) }
+        ensures location { IfOk result (λ error. error.location
+            ≡ InputLocation.Span (span_start span.entry, span_end span.entry)) }
+        ensures line_col { let text = span_text span.entry in
+            IfOk result (λ error. error.line_col ≡ LineColLocation.Span
+            (line_column text (span_start span.entry)) (line_column text (span_end span.entry))) }
+        ensures line { IfOk result (λ error. error_line error
+            ≡ printed_line (span_text span.entry) (span_start span.entry)) }
+        ensures memory { IfErr result (λ fault. fault ≡ Fault.Memory alloc_error) }
+        ensures survey { survey_text survey.new ≡ survey_text survey.old }
+    {
+        let start = survey.mark_at(span.start_pos());
+        let end = survey.mark_at(span.end_pos());
+        let line = survey.line_at(alloc, start).map_err(Fault::Memory)?;
+        Ok(Error {
+            variant,
+            location: InputLocation::Span((start.place, end.place)),
+            line_col: LineColLocation::Span((start.line, start.column), (end.line, end.column)),
+            line,
+            rule: PhantomData,
+        })
+    }
+
+    /// The error `variant` at `span`, as `new_from_span` makes it: by the survey, where the span's text is
+    /// byte by byte the one that was surveyed. The only fault is a want of memory.
+    pub fn new_where_surveyed(
+        alloc: Global,
+        variant: ErrorVariant,
+        survey: &mut Survey<'_>,
+        span: Span<'_>,
+    ) -> Result<Error<R>, Fault>
+        ensures variant { IfOk result (λ error. error.variant ≡ variant) }
+        ensures location { IfOk result (λ error. error.location
+            ≡ InputLocation.Span (span_start span.entry, span_end span.entry)) }
+        ensures line_col { let text = span_text span.entry in
+            IfOk result (λ error. error.line_col ≡ LineColLocation.Span
+            (line_column text (span_start span.entry)) (line_column text (span_end span.entry))) }
+        ensures line { IfOk result (λ error. error_line error
+            ≡ printed_line (span_text span.entry) (span_start span.entry)) }
+        ensures memory { IfErr result (λ fault. fault ≡ Fault.Memory alloc_error) }
+        ensures survey { survey_text survey.new ≡ survey_text survey.old }
+    {
+        if span.get_input() == survey.get_input() {
+            Error::new_in_survey(alloc, variant, survey, span)
+        } else {
+            Error::new_from_span(alloc, variant, span)
+        }
     }
 
     /// The error `variant` at `pos`: its place is that position, and it prints the line in which the
@@ -140,7 +204,7 @@ impl<R> Error<R> {
             ≡ printed_line (position_text pos.entry) (position_offset pos.entry)) }
         ensures memory { IfErr result (λ fault. fault ≡ Fault.Memory alloc_error) }
     {
-        let line = printed_line(alloc, pos).map_err(Fault::Memory)?;
+        let line = shared_line(alloc, pos).map_err(Fault::Memory)?;
         Ok(Error {
             variant,
             location: InputLocation::Pos(pos.pos()),
@@ -149,6 +213,16 @@ impl<R> Error<R> {
             rule: PhantomData,
         })
     }
+}
+
+/// The line in which `pos` stands, without any `\r` and `\n`, to be shared.
+fn shared_line(alloc: Global, pos: Position<'_>) -> Result<Arc<String>, AllocError>
+    ensures { IfOk result (λ line. string_bytes (arc_value line)
+        ≡ printed_line (position_text pos.entry) (position_offset pos.entry)) }
+{
+    let line = printed_line(alloc, pos)?;
+    let shared = Arc::new(alloc, line)?;
+    Ok(shared)
 }
 
 /// The line in which `pos` stands, without any `\r` and `\n`.
@@ -160,7 +234,7 @@ fn printed_line(alloc: Global, pos: Position<'_>) -> Result<String, AllocError>
 }
 
 /// `before` and `after` in one text, without any `\r` and `\n`.
-fn without_breaks(alloc: Global, before: &str, after: &str) -> Result<String, AllocError>
+pub(super) fn without_breaks(alloc: Global, before: &str, after: &str) -> Result<String, AllocError>
     ensures { IfOk result (λ text. string_bytes text
         ≡ encode_utf8_all (filter is_printed (chars (before.now ++ after.now)))) }
 {

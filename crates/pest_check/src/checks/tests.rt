@@ -85,7 +85,7 @@ static PRINTED: [(&str, &str); 29] = [
     ("a = { \"x\"{3,2} }", "a = { (\"x\" ~ \"x\") }\n"),
     (
         "WHITESPACE = _{ \" \" } a = { \"x\"+ }",
-        "WHITESPACE = _{ \" \" }\na = { (\"x\" ~ \"x\"*) }\n",
+        "WHITESPACE = _{ \" \" }\na = { \"x\"+ }\n",
     ),
     (
         "WHITESPACE = _{ b } b = !{ \"x\"? ~ \"y\" }",

@@ -2,8 +2,7 @@ use Rattle.std.proofs.Common.{◌≡◌, ◌∙◌, ◌++◌, refl}
 use Rattle.std.proofs.lemmas.List.{append_assoc}
 use Rattle.std.proofs.lemmas.Str.{chars-append, chars-nil, IsUtf8-string_bytes}
 use Rattle.meta_ast.specs.Ast.{text_of}
-use Rattle.meta_optimizer.specs.Joined.{backwards}
-use Rattle.meta_optimizer.proofs.Concatenated.{backwards_last}
+use Rattle.meta_optimizer.specs.Joined.{in_order}
 use Rattle.meta_optimizer.proofs.joined.together.Goals as goal
 
 pub parts-init : goal.parts-init
@@ -12,5 +11,5 @@ parts-init c = rw (c.new-text.ensures.bytes, chars-nil) refl
 pub parts-preserved : goal.parts-preserved
 parts-preserved c =
     let added : text_of c.push_str.new.self ≡ text_of c.parts.text ++ text_of c.in-Some.part = rw (c.in_ok-push_str.ensures.bytes, c.deref.ensures) (chars-append _ _ (IsUtf8-string_bytes c.parts.text)) in
-    let so_far = rw (c.in-Some.ensures.items, backwards_last c.pop.new.self.items c.in-Some.part) at c.parts.invariant in
-    rw added (append_assoc (text_of c.parts.text) (text_of c.in-Some.part) (backwards c.pop.new.self.items) ∙ so_far)
+    let so_far = rw c.in-Some.ensures.items at c.parts.invariant in
+    rw added (append_assoc (text_of c.parts.text) (text_of c.in-Some.part) (in_order c.pop_front.new.self.items) ∙ so_far)

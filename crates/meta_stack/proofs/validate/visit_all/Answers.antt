@@ -6,12 +6,13 @@ use Rattle.std.proofs.lemmas.Option.{slice_get_read}
 use Rattle.meta_stack.specs.Flags.{is_set_at}
 use Rattle.meta_stack.specs.Table.{nodes_of}
 use Rattle.meta_stack.specs.Visiting.{FindsAll}
+use Rattle.meta_stack.proofs.StaysApart.{movable}
 use Rattle.meta_stack.proofs.Whole.{all_none}
 use Rattle.meta_stack.proofs.validate.visit_all.Goals as goal
 
 pub loop-rule-init : goal.loop-rule-init
 loop-rule-init c = record {
-  right = λ meaning h. c.in_ok-read_wanted.ensures meaning h (c.new-memory.ensures meaning);
+  right = λ meaning h. c.in_ok-read_wanted.ensures meaning h (c.new-memory.ensures meaning (movable c.args.table.now meaning c.in_ok-apart.apart.items h c.requires.ordered c.in_ok-apart.ensures.apart c.in_ok-apart.ensures.within));
   found = subst (λ z. FindsAll c.args.table.now [] z) (sym c.new-found.ensures.items) (all_none c.args.table.now);
 }
 

@@ -1,6 +1,7 @@
 use Rattle.std.proofs.Common.{◌≡◌, Err, ap, ◌∙◌, string_bytes, subst, ℕ, List}
+use Rattle.std.specs.Io.KnownBytes.{Appends}
 use Rattle.pest_check.specs.Written.{PrintsAnswer, TellsLine, TellsRefusal}
-use Rattle.pest_check.proofs.Reported.{not_three, refusal, value, where_printed}
+use Rattle.pest_check.proofs.Reported.{not_three, refusal, value}
 use Rattle.pest_check.proofs.checks.run.Goals as goal
 
 pub returns-clause-refused : goal.returns-clause-refused
@@ -12,16 +13,17 @@ returns-clause-refused g c =
     let old = g.E.Write.contents c.args.err.now in
     let new = g.E.Write.contents told.new.err in
     let P : List ℕ → Type 0 = λ t. TellsLine t told.result.told old new in
-    let line : TellsLine (string_bytes c.in-Err-Text.text) told.result.told old new = subst P c.as_str.ensures.value told.ensures.tells in
+    let value = rw c.in-Err-Text.field-0-is at c.as_str.ensures.value in
+    let line : TellsLine (string_bytes c.in-Err-Text.text) told.result.told old new = subst P value told.ensures.tells in
     let told_all = refusal c.in-Ok.grammar.now parsed.result reported.result c.in-Err-Text.text told.result.told old new parsed.ensures.refused reported.ensures.value reported.ensures.report said line in
     let here : TellsRefusal c.in-Some.bytes.now told.result.told old new = rw (← c.in-Ok.ensures.cases.0) told_all in
     rw c.in-Some.is (λ status. here)
 
--- where rules were written, or not, the text could be read
+-- where there are rules, the text could be read
 pub returns-in-Ok-unwrap_or_report-clause-decoded : goal.returns-in-Ok-unwrap_or_report-clause-decoded
 returns-in-Ok-unwrap_or_report-clause-decoded g c =
-    let status = c.written.result.status in
-    let known = c.written.ensures.known in
+    let status = c.answered.result.status in
+    let known = c.answered.ensures.known in
     let utf8 = c.in-Ok.ensures.cases.1 in
     rw c.in-Some.is (λ three. absurd (not_three status known three), λ not_utf8. absurd (not_utf8 utf8))
 
@@ -31,10 +33,9 @@ returns-in-Ok-unwrap_or_report-clause-printed g c =
     let reported = c.unwrap_or_report in
     let answer = c.in-Ok-unwrap_or_report in
     let old = g.W.Write.contents c.args.out.now in
-    let new = g.W.Write.contents c.print.new.out in
+    let new = g.W.Write.contents c.answered.new.out in
     let answers = value parsed.result reported.result _ _ parsed.ensures.answer reported.ensures.value reported.ensures.report answer.is in
-    let gained = where_printed c.print.result c.written.result.status _ c.print.ensures c.written.ensures.unwritten in
-    let prints : c.written.result.status ≡ 0 → PrintsAnswer c.in-Ok.grammar.now old new =
-    λ zero. record { builtins = answer.field-0-0.items; rules = answer.rules.items; answers = answers; gained = gained zero } in
-    let here : c.written.result.status ≡ 0 → PrintsAnswer c.in-Some.bytes.now old new = rw (← c.in-Ok.ensures.cases.0) prints in
+    let prints : c.answered.result.status ≡ 0 → PrintsAnswer c.in-Ok.grammar.now old new =
+    λ zero. record { builtins = answer.field-0-0.items; rules = answer.rules.items; answers = answers; gained = c.answered.ensures.printed zero } in
+    let here : c.answered.result.status ≡ 0 → PrintsAnswer c.in-Some.bytes.now old new = rw (← c.in-Ok.ensures.cases.0) prints in
     rw c.in-Some.is here

@@ -19,4 +19,6 @@ returns c = record {
   apart = refl;
   slices = refl;
   pushed = refl;
+  literal_push = refl;
+  tagged = refl;
 }

@@ -1,4 +1,4 @@
-use Rattle.std.proofs.Common.{rules, refl, sym, true, length, ◌≡◌, ◌<◌, ap, ◌∙◌, Some, arith}
+use Rattle.std.proofs.Common.{rules, refl, sym, true, ◌≡◌, ap, ◌∙◌, Some, arith}
 use Rattle.std.proofs.lemmas.Bool.{ltb-true}
 use Rattle.meta_base.specs.Language.Expression.{Ident}
 use Rattle.meta_base.specs.Pieces.MetaRules.{name_of}

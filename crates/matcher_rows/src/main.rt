@@ -1,0 +1,161 @@
+//! Prints what rules match, row by row: the matcher over the front end.
+//!
+//! Standard input has the rows, a line each: the name of a rule, the text that it is run on, and the grammar,
+//! with ` ; ` between them. A line that begins with `#` says what the rows below it show. Each line is printed
+//! as it stands, and below a row what the rule matches.
+#![tactic(auto)]
+
+ghost use Rattle.std.specs.Prelude.{◌∷◌, []};
+ghost use Rattle.meta_matcher.specs.Programs.{is_in_ranges};
+
+use meta_matcher::compile::Unfit;
+use meta_matcher::entries::Entry;
+use meta_matcher::machine::Stop;
+use meta_matcher::matcher::{Found, Matcher, Refusal};
+use meta_matcher::properties::Properties;
+use pest_meta::optimizer::release;
+use pest_meta::parse_and_optimize;
+use std::alloc::{AllocError, Global};
+use std::io;
+use std::process::ExitCode;
+
+/// How many calls may stand within one another.
+const DEPTH: usize = 1000;
+
+/// Each property is the small Greek letters.
+struct Greek;
+
+impl Properties for Greek {
+    ghost classes = { λ n c. is_in_ranges ((945, 969) ∷ []) c };
+
+    fn ranges(&self, alloc: Global, _name: &str) -> Result<Option<Vec<(u32, u32)>>, AllocError> {
+        let mut ranges = Vec::new(alloc);
+        ranges.push((945, 969))?;
+        Ok(Some(ranges))
+    }
+}
+
+/// The text with line feeds and carriage returns for the signs that stand for them.
+fn written(alloc: Global, text: &str) -> Result<String, AllocError> {
+    let mut out = String::new(alloc);
+    for c in text.chars() {
+        let c = match c {
+            '⏎' => '\n',
+            '␍' => '\r',
+            _ => c,
+        };
+        out.push(c)?;
+    }
+    Ok(out)
+}
+
+/// Where the tree ends whose end has a number in the list.
+fn end_of(entries: &[Entry], partner: usize) -> usize {
+    match entries.get(partner) {
+        Some(Entry::End { pos, .. }) => *pos,
+        _ => 0,
+    }
+}
+
+/// Writes a tree's line, further in the more trees it stands in.
+fn write_tree(
+    out: &mut String,
+    within: usize,
+    rule: &str,
+    from: usize,
+    to: usize,
+) -> Result<(), AllocError> {
+    out.push_str("    ")?;
+    for _ in 0..within {
+        out.push_str("  ")?;
+    }
+    write!(out, "{rule} {from}..{to}\n")
+}
+
+/// Writes what was found: where it ends, and the trees.
+fn write_found(out: &mut String, found: &Found) -> Result<(), AllocError> {
+    write!(out, "    ends at {}\n", found.end)?;
+    let mut within: usize = 0;
+    for entry in &found.entries {
+        match entry {
+            Entry::Start { rule, pos, partner } => {
+                write_tree(out, within, rule, *pos, end_of(&found.entries, *partner))?;
+                within = within.saturating_add(1);
+            }
+            Entry::End { .. } => within = within.saturating_sub(1),
+        }
+    }
+    Ok(())
+}
+
+/// Writes why there are no trees.
+fn write_refusal(out: &mut String, refusal: &Refusal) -> Result<(), AllocError> {
+    match refusal {
+        Refusal::UnknownRule(name) => write!(out, "    no rule {name}\n"),
+        Refusal::NoMatch(place) => write!(out, "    fails at {place}\n"),
+        Refusal::Stopped(stop) => out.push_str(match stop {
+            Stop::Memory => "    out of memory\n",
+            Stop::OutOfSteps => "    out of depth\n",
+            Stop::EmptyStack => "    no outcome\n",
+            Stop::Unsliced => "    no slice\n",
+        }),
+    }
+}
+
+/// Writes why rules are not run.
+fn write_unfit(out: &mut String, unfit: &Unfit) -> Result<(), AllocError> {
+    match unfit {
+        Unfit::Memory => out.push_str("    out of memory\n"),
+        Unfit::UnknownName(name) => write!(out, "    {name} is unknown\n"),
+        Unfit::Bound(bound) => write!(out, "    {bound} is no bound\n"),
+    }
+}
+
+/// Writes what the rule of a name of a grammar matches in a text.
+fn write_answer(
+    alloc: Global,
+    out: &mut String,
+    rule: &str,
+    text: &str,
+    grammar: &str,
+) -> Result<(), AllocError> {
+    let Ok((_builtins, rules)) = parse_and_optimize(alloc, grammar) else {
+        return out.push_str("    refused\n");
+    };
+    let matcher = Matcher::new(alloc, &rules, &Greek);
+    release(rules);
+    match matcher {
+        Ok(matcher) => match matcher.parse(alloc, rule, text, DEPTH) {
+            Ok(found) => write_found(out, &found),
+            Err(refusal) => write_refusal(out, &refusal),
+        },
+        Err(unfit) => write_unfit(out, &unfit),
+    }
+}
+
+/// What is printed below a row.
+fn answer(alloc: Global, row: &str) -> Result<String, AllocError> {
+    let mut out = String::new(alloc);
+    if let Some((rule, rest)) = row.split_once(" ; ") {
+        if let Some((text, grammar)) = rest.split_once(" ; ") {
+            let text = written(alloc, text)?;
+            write_answer(alloc, &mut out, rule, text.as_str(), grammar)?;
+        }
+    }
+    Ok(out)
+}
+
+fn main(rt: HostRuntime) -> io::Result<ExitCode> {
+    let alloc = rt.alloc();
+    let rows = io::read_to_string(alloc, rt.stdin())?;
+    for row in rows.as_str().lines() {
+        println!(rt; "{row}")?;
+        if !row.starts_with('#') {
+            match answer(alloc, row) {
+                Ok(answer) => print!(rt; "{answer}")?,
+                Err(_) => println!(rt; "    out of memory")?,
+            }
+        }
+    }
+    Ok(ExitCode::from(0))
+}

@@ -1,0 +1,174 @@
+//! Texts in which the places and the lines of many errors are found, none of them by a walk from the text's
+//! start.
+ghost use Rattle.std.specs.Prelude.{◌≡◌, ◌+◌, ◌<◌, ◌≤◌, ◌^◌, IfOk, length, string_bytes};
+ghost use Rattle.std.specs.Arc.{arc_value};
+ghost use Rattle.std.specs.Option.{ForSome};
+ghost use Rattle.std.specs.Str.{IsCharBoundary};
+ghost use Rattle.meta_base.specs.Pieces.Marks.{AreMarks, IsKnownLine, IsMark, column_behind, start};
+ghost use Rattle.meta_base.specs.Pieces.PrintedError.{printed_line};
+ghost use Rattle.meta_base.specs.Pieces.Span.{position_text, position_offset};
+
+use super::errors::without_breaks;
+use super::lines::{first_line, last_line};
+use super::places::Position;
+use std::alloc::{AllocError, Global};
+use std::sync::Arc;
+
+/// How many bytes of the text stand between one mark and the next, but for parts of a character.
+const STRIDE: usize = 256;
+
+/// Where every text begins.
+const START: Mark = Mark {
+    place: 0,
+    line: 1,
+    column: 1,
+};
+
+/// A place of a text in bytes, with its line and its column, both counted from 1.
+#[derive(Clone, Copy)]
+pub(crate) struct Mark {
+    pub place: usize,
+    pub line: usize,
+    pub column: usize,
+}
+
+/// A line of a text as it is printed, and a mark that stands in it.
+#[derive(Drop)]
+struct KnownLine {
+    mark: Mark,
+    line: Arc<String>,
+}
+
+/// A text that was walked over once, for the places and the lines of many errors.
+#[derive(Drop)]
+pub struct Survey<'i> {
+    text: &'i str,
+    marks: Vec<Mark>,
+    known: Option<KnownLine>,
+    pub ghost begins: { IsMark text.now start },
+    pub ghost marked: { AreMarks text.now marks.items },
+    pub ghost known_right: { ForSome known (IsKnownLine text.now) },
+}
+
+impl<'i> Survey<'i> {
+    ghost use Rattle.meta_base.specs.Pieces.Survey.{survey_text};
+
+    /// A survey of `text`. The only fault is a want of memory.
+    pub fn new(alloc: Global, text: &'i str) -> Result<Survey<'i>, AllocError>
+        ensures { IfOk result (λ survey. survey_text survey ≡ text.now) }
+    {
+        let marks = marks(alloc, text)?;
+        Ok(Survey {
+            text,
+            marks,
+            known: None,
+        })
+    }
+
+    /// The text that was surveyed.
+    pub fn get_input(&self) -> &'i str
+        ensures { result.now ≡ survey_text self.now }
+    {
+        self.text
+    }
+
+    /// The mark at a place of the text.
+    pub(crate) fn mark_at(&self, pos: Position<'_>) -> Mark
+        requires same_text { position_text pos ≡ survey_text self.now }
+        ensures mark { IsMark (survey_text self.now) result }
+        ensures place { result.place ≡ position_offset pos.entry }
+    {
+        let place = pos.pos();
+        self.mark_before(place).moved(self.text, place)
+    }
+
+    /// A mark that stands at a place or not far before it.
+    fn mark_before(&self, place: usize) -> Mark
+        ensures mark { IsMark (survey_text self.now) result }
+        ensures before { result.place ≤ place }
+    {
+        match self.marks.get(place / STRIDE) {
+            Some(mark) if mark.place <= place => *mark,
+            _ => START,
+        }
+    }
+
+    /// The line in which a mark stands, without any `\r` and `\n`: the one that was asked for last is kept,
+    /// and shared where it is asked for again.
+    pub(crate) fn line_at(&mut self, alloc: Global, mark: Mark) -> Result<Arc<String>, AllocError>
+        requires mark { IsMark (survey_text self.old) mark }
+        ensures text { survey_text self.new ≡ survey_text self.old }
+        ensures line { IfOk result (λ line. string_bytes (arc_value line)
+            ≡ printed_line (survey_text self.old) mark.place) }
+    {
+        if let Some(known) = &self.known {
+            if known.mark.line == mark.line {
+                return known.line.clone();
+            }
+        }
+        let line = line_of(alloc, self.text, mark.place)?;
+        let shared = line.clone()?;
+        self.known = Some(KnownLine { mark, line });
+        Ok(shared)
+    }
+}
+
+impl Mark {
+    /// The mark at a place that stands at this one or behind it.
+    fn moved(self, text: &str, place: usize) -> Mark
+        requires mark { IsMark text.now self }
+        requires between { IsCharBoundary text.now place }
+        requires behind { self.place ≤ place }
+        ensures mark { IsMark text.now result }
+        ensures place { result.place ≡ place }
+    {
+        let passed = &text[self.place..place];
+        let line = self.line + passed.bytes().filter(|byte| *byte == b'\n').count();
+        Mark {
+            place,
+            line,
+            column: column_behind(self.column, passed),
+        }
+    }
+}
+
+/// The column behind a piece of a text that begins at `column`.
+fn column_behind(column: usize, passed: &str) -> usize
+    requires from_one { 1 ≤ column }
+    requires fits { column + length passed.now < 2 ^ 64 }
+    ensures column { result ≡ column_behind column passed.now }
+    ensures from_one { 1 ≤ result }
+    ensures fits { result ≤ column + length passed.now }
+{
+    let last = last_line(passed);
+    let length = last.chars().count();
+    if last.len() == passed.len() {
+        column + length
+    } else {
+        1 + length
+    }
+}
+
+/// Marks of a text, the first where it begins.
+fn marks(alloc: Global, text: &str) -> Result<Vec<Mark>, AllocError>
+    ensures { IfOk result (λ marks. AreMarks text.now marks.items) }
+{
+    let mut mark = START;
+    let mut marks = vec![in alloc; mark]?;
+    for count in 0..text.len() / STRIDE {
+        let place = text.floor_char_boundary((count + 1) * STRIDE);
+        mark = mark.moved(text, place);
+        marks.push(mark)?;
+    }
+    Ok(marks)
+}
+
+/// The line in which a place stands, without any `\r` and `\n`.
+fn line_of(alloc: Global, text: &str, place: usize) -> Result<Arc<String>, AllocError>
+    requires between { IsCharBoundary text.now place }
+    ensures { IfOk result (λ line. string_bytes (arc_value line) ≡ printed_line text.now place) }
+{
+    let line = without_breaks(alloc, last_line(&text[..place]), first_line(&text[place..]))?;
+    let shared = Arc::new(alloc, line)?;
+    Ok(shared)
+}

@@ -1,0 +1,6 @@
+pub mod Leaving
+pub mod Steps
+pub mod Whole
+pub mod Compiling
+pub mod Stacking
+pub mod Texts

@@ -1,0 +1,16 @@
+use Rattle.std.proofs.Common.{refl}
+use Rattle.meta_base.specs.Language.State.{None'}
+use Rattle.meta_syntax.proofs.EntryLists.{not_grown}
+use Rattle.meta_matcher.specs.Written.{seen}
+use Rattle.meta_matcher.proofs.Steps.{adds_tree, eoi_chars, end_found, end_missing, ran_end, ran_not_end}
+use Rattle.meta_matcher.proofs.machine.Machine.end_of_input.Goals as goal
+
+pub returns-then-not-is_empty-clause-means : goal.returns-then-not-is_empty-clause-means
+returns-then-not-is_empty-clause-means c = record { kept = refl; same = refl; ran = λ classes fits. ran_not_end c.args.mode _ c.requires.unnamed (end_missing _ _ _ _ _ c.utf8.rest c.is_empty.ensures c.if-not-is_empty.true) c.is_seen_from-seen.ensures c.noted-self.ensures.value }
+
+pub returns-clause-means : goal.returns-clause-means
+returns-clause-means c = record {
+  trees = _;
+  added = let x = adds_tree _ _ _ _ _ _ (seen c.open.new.entries.items) (seen c.open.new.entries.items) _ None' c.in_ok-open.ensures (not_grown (seen c.open.new.entries.items)) c.written-first.ensures c.in_ok-close.ensures in rw eoi_chars at x;
+  ran = λ classes fits. ran_end c.args.mode c.requires.unnamed (end_found _ _ _ _ _ _ c.is_empty.ensures c.if-not-is_empty.false c.is_seen_from-seen.ensures);
+}

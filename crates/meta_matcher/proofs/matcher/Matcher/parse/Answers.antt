@@ -1,0 +1,23 @@
+use Rattle.std.proofs.Common.{refl, sym, ap, chars}
+use Rattle.meta_matcher.specs.Programs.{IsRuleOf, grammar_of}
+use Rattle.meta_matcher.specs.Written.{seen}
+use Rattle.meta_matcher.proofs.Steps.{row_meant}
+use Rattle.meta_matcher.proofs.Whole.{failed, matched}
+use Rattle.meta_matcher.proofs.matcher.Matcher.parse.Goals as goal
+
+pub call-requires-clause-meant : goal.call-requires-clause-meant
+call-requires-clause-meant c =
+    let h : IsRuleOf (grammar_of c.args.self.now.program.rows.items) (chars c.args.rule.now) c.in-Some.number = rw c.deref.ensures.value at c.in-Some.ensures in
+    (row_meant c.args.self.now.program.rows.items _ _ c.index-row.result.now h c.index-row.ensures).0
+
+pub returns-in-Ok-Some-clause-matched : goal.returns-in-Ok-Some-clause-matched
+returns-in-Ok-Some-clause-matched c =
+    let h : IsRuleOf (grammar_of c.args.self.now.program.rows.items) (chars c.args.rule.now) c.in-Some.number = rw c.deref.ensures.value at c.in-Some.ensures in
+    let x = rw c.in-Ok-Some.field-0-is at c.in-Ok-Some.ensures.means in
+    matched _ _ _ _ _ _ _ _ _ (row_meant c.args.self.now.program.rows.items _ _ c.index-row.result.now h c.index-row.ensures).1 x c.new-machine.ensures.entries c.new-machine.ensures.stack (sym (ap (λ v. seen v.items) c.into_entries.ensures)) refl
+
+pub returns-in-Ok-None-clause-refused : goal.returns-in-Ok-None-clause-refused
+returns-in-Ok-None-clause-refused c =
+    let h : IsRuleOf (grammar_of c.args.self.now.program.rows.items) (chars c.args.rule.now) c.in-Some.number = rw c.deref.ensures.value at c.in-Some.ensures in
+    let x = rw c.in-Ok-None.field-0-is at c.in-Ok-None.ensures.means in
+    failed _ _ _ _ _ _ (row_meant c.args.self.now.program.rows.items _ _ c.index-row.result.now h c.index-row.ensures).1 x c.new-machine.ensures.stack c.new-machine.ensures.furthest

@@ -1,0 +1,42 @@
+-- What a text has for a rule.
+use Rattle.std.specs.Prelude.{◌≡◌, List, [], ℕ, None, chars, ⊤}
+use Rattle.meta_base.specs.Language.Text.{Text}
+use Rattle.meta_base.specs.Language.Expression.{Grammar, Ident, rule_of}
+use Rattle.meta_base.specs.Language.State.{NonAtomicMode, State, Trees, Outcome, Success, Failure, Classes}
+use Rattle.meta_base.specs.Language.Meaning.{Matches}
+use Rattle.meta_base.specs.Language.FurthestFailure.{furthest}
+use Rattle.meta_syntax.specs.Entries.{entries_of}
+use Rattle.meta_matcher.specs.declared.form.Property.{Property}
+use Rattle.meta_matcher.specs.declared.entries.Entry.{Entry}
+use Rattle.meta_matcher.specs.declared.matcher.Refusal.{Refusal}
+use Rattle.meta_matcher.specs.declared.matcher.Refusal.TheVariants as is
+use Rattle.meta_matcher.specs.declared.matcher.Matcher.{Matcher}
+use Rattle.meta_matcher.specs.Programs.{Fits, IsSound}
+use Rattle.meta_matcher.specs.Written.{seen}
+
+-- the names of its rules mean what they are resolved to
+abbrev pub IsSoundMatcher : Matcher → Type 0
+IsSoundMatcher matcher = IsSound matcher.program.rows.items matcher.program.properties.items matcher.program.whitespace matcher.program.comment
+
+-- the start of a text, with the empty stack
+abbrev pub start_of : List ℕ → State
+start_of text = record { position = 0; rest = chars text; stack = [] }
+
+-- the rule, called in NonAtomic at the start of the text, has this outcome
+abbrev pub Has : Grammar → Text → List ℕ → Classes → Outcome → Type 0
+Has g n text classes o = Matches g classes (Ident n) NonAtomicMode (start_of text) o
+
+-- these are the entries of the trees that the rule gives, and it ends there, whatever the classes are
+pub record IsMatched (g : Grammar) (ps : List Property) (n : Text) (text : List ℕ) (end_ : ℕ) (es : List Entry) : Type 0 where
+  pub trees : Trees
+  pub found : (classes : Classes) → Fits ps classes
+      → (t : State) × (t.position ≡ end_) × Has g n text classes (Success t trees)
+  pub entries : seen es ≡ entries_of 0 trees
+
+-- no rule has the name; or the rule fails, whatever the classes are, and this is the place of the failure; or
+-- the run was stopped
+abbrev pub IsRefused : Grammar → List Property → Text → List ℕ → Refusal → Type 0
+IsRefused g ps n text (is.UnknownRule name) = (rule_of g n ≡ None) × (chars name.now ≡ n)
+IsRefused g ps n text (is.NoMatch place) =
+    (classes : Classes) → Fits ps classes → (d : Has g n text classes Failure) × (place ≡ furthest d)
+IsRefused g ps n text (is.Stopped stop) = ⊤

@@ -1,0 +1,21 @@
+-- The list of entries of the code, and what is added to it.
+use Rattle.std.specs.Prelude.{◌≡◌, ℕ, List, ◌++◌, length, map, Bool, chars}
+use Rattle.meta_base.specs.Language.Text.{Text}
+use Rattle.meta_base.specs.Language.State.{Trees}
+use Rattle.meta_syntax.specs.Entries.{Entry, Starts, Ends, entries_of, open_start, token}
+use Rattle.meta_matcher.specs.declared.entries.Entry as code
+use Rattle.meta_matcher.specs.declared.entries.Entry.TheVariants as is
+
+abbrev pub entry_of : code.Entry → Entry
+entry_of (is.Start r i m) = Starts (chars r.now) i m
+entry_of (is.End j n) = Ends j n
+
+abbrev pub seen : List code.Entry → List Entry
+seen es = map entry_of es
+
+-- whatever trees were written behind an open_start start of the number `first`, they stand now in one tree, if there is to be one
+abbrev pub Closes : Bool → Text → ℕ → ℕ → ℕ → List code.Entry → List code.Entry → Type 0
+Closes gives r i j first old new =
+    (before : List Entry) (us : Trees) → length before ≡ first
+    → seen old ≡ (before ++ open_start gives r i) ++ entries_of (length (before ++ open_start gives r i)) us
+    → seen new ≡ before ++ entries_of first (token gives r i j us)

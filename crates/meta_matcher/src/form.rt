@@ -1,0 +1,75 @@
+//! Rules as they are run: names are resolved.
+use meta_ast::ast::RuleType;
+
+/// The builtins that match one character of a set.
+#[derive(Clone, Copy, Debug, PartialEq, Eq)]
+pub enum Class {
+    Any,
+    Digit,
+    NonzeroDigit,
+    BinDigit,
+    OctDigit,
+    HexDigit,
+    AlphaLower,
+    AlphaUpper,
+    Alpha,
+    Alphanumeric,
+    Ascii,
+}
+
+/// An expression whose names are resolved.
+#[derive(Drop)]
+pub enum Form {
+    Str(String),
+    Insens(String),
+    Range(char, char),
+    One(Class),
+    Start,
+    End,
+    Newline,
+    /// A rule, by its number.
+    Call(usize),
+    /// A property's name, and the number of its set.
+    Property(String, usize),
+    PosPred(Box<Form>),
+    NegPred(Box<Form>),
+    Seq(Box<Form>, Box<Form>),
+    Choice(Box<Form>, Box<Form>),
+    Opt(Box<Form>),
+    Rep(Box<Form>),
+    RepOnce(Box<Form>),
+    Skip(Vec<String>),
+    Push(Box<Form>),
+    Restore(Box<Form>),
+    Peek,
+    Pop,
+    Discard,
+    PeekAll,
+    PopAll,
+    PeekSlice(i32, Option<i32>),
+}
+
+/// A rule: `blank` if it has one of the two names that are skipped.
+#[derive(Drop)]
+pub struct Row {
+    pub name: String,
+    pub kind: RuleType,
+    pub blank: bool,
+    pub body: Form,
+}
+
+/// The set of characters of a property's name: ranges of code points with both their ends.
+#[derive(Drop)]
+pub struct Property {
+    pub name: String,
+    pub ranges: Vec<(u32, u32)>,
+}
+
+/// Rules, the properties that they name, and which of them are skipped.
+#[derive(Drop)]
+pub struct Program {
+    pub rows: Vec<Row>,
+    pub properties: Vec<Property>,
+    pub whitespace: Option<usize>,
+    pub comment: Option<usize>,
+}

@@ -1,0 +1,12 @@
+//! A matcher that runs any grammar's optimized rules on any text.
+#![tactic(auto)]
+
+pub mod compile;
+pub mod entries;
+pub mod form;
+mod leaves;
+pub mod machine;
+pub mod matcher;
+mod modes;
+pub mod properties;
+pub mod stack;

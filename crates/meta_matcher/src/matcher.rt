@@ -1,0 +1,109 @@
+//! Rules that are run on whole texts.
+ghost use Rattle.std.specs.Prelude.{◌≡◌, IfErr, IfOk, chars};
+ghost use Rattle.meta_ast.specs.Optimized.{optimized_rules_of};
+ghost use Rattle.meta_matcher.specs.Programs.{Fits, IsSkippedRule, grammar_of};
+
+use crate::compile::{Unfit, program_of, same};
+use crate::entries::Entry;
+use crate::form::{Program, Row};
+use crate::machine::{Machine, Scene, Stop};
+use crate::modes::Mode;
+use crate::properties::Properties;
+use meta_ast::optimized::OptimizedRule;
+use std::alloc::Global;
+
+/// What a rule matched.
+#[derive(Debug, Drop)]
+pub struct Found<'a> {
+    /// The starts and the ends of the token trees, in the order of the text.
+    pub entries: Vec<Entry<'a>>,
+    /// Where the match ended, in bytes.
+    pub end: usize,
+}
+
+/// Why a text has no entries.
+#[derive(Debug, Drop)]
+pub enum Refusal<'a> {
+    /// No rule has this name.
+    UnknownRule(&'a str),
+    /// The rule fails, and this is the furthest place at which a call that counts failed, in bytes.
+    NoMatch(usize),
+    /// The run was stopped.
+    Stopped(Stop),
+}
+
+/// Optimized rules whose names are resolved.
+#[derive(Drop)]
+pub struct Matcher {
+    pub program: Program,
+}
+
+/// The number of the last row of a name.
+fn find_row(rows: &[Row], name: &str) -> Option<usize>
+    ensures { IsSkippedRule (grammar_of rows.now) (chars name.now) result }
+{
+    let mut below = rows.len();
+    while below > 0 {
+        below -= 1;
+        if same(rows[below].name.as_str(), name) {
+            return Some(below);
+        }
+    }
+    None
+}
+
+impl Matcher {
+    ghost use Rattle.meta_matcher.specs.Answers.{IsMatched, IsRefused, IsSoundMatcher};
+
+    /// The rules, with each name resolved once: to the last rule of that name, or to a builtin where no rule
+    /// has it. A name that is neither, and a bound of a range that is not one character, are refused; so is
+    /// want of memory.
+    pub fn new<P: Properties>(
+        alloc: Global,
+        rules: &[OptimizedRule],
+        properties: &P,
+    ) -> Result<Matcher, Unfit>
+        ensures sound { IfOk result IsSoundMatcher }
+        ensures means { IfOk result (λ matcher.
+            grammar_of matcher.program.rows.items ≡ optimized_rules_of rules.now) }
+        ensures fits { IfOk result (λ matcher. Fits matcher.program.properties.items P.classes) }
+    {
+        let program = program_of(alloc, rules, properties)?;
+        Ok(Matcher { program })
+    }
+
+    /// What the rule of a name matches in NonAtomic from the start of a text, with the empty stack. `depth`
+    /// is how many calls of the machine may stand within one another, and how many turns of a loop may take
+    /// nothing. Refused are a name that no rule has, a text on which the rule fails, and what stops a run.
+    pub fn parse<'a>(
+        &'a self,
+        alloc: Global,
+        rule: &'a str,
+        text: &'a str,
+        depth: usize,
+    ) -> Result<Found<'a>, Refusal<'a>>
+        requires sound { IsSoundMatcher self.now }
+        ensures matched { IfOk result (λ found. IsMatched (grammar_of self.entry.now.program.rows.items)
+            self.entry.now.program.properties.items (chars rule.entry.now) text.entry.now found.end found.entries.items) }
+        ensures refused { IfErr result (IsRefused (grammar_of self.entry.now.program.rows.items)
+            self.entry.now.program.properties.items (chars rule.entry.now) text.entry.now) }
+    {
+        let Some(number) = find_row(&self.program.rows, rule) else {
+            return Err(Refusal::UnknownRule(rule));
+        };
+        let row = &self.program.rows[number];
+        let scene = Scene {
+            program: &self.program,
+            text,
+        };
+        let mut machine = Machine::new(alloc);
+        match machine.call(&scene, row, Mode::NonAtomic, text, depth) {
+            Ok(Some(after)) => Ok(Found {
+                entries: machine.into_entries(),
+                end: text.len() - after.len(),
+            }),
+            Ok(None) => Err(Refusal::NoMatch(machine.furthest)),
+            Err(stop) => Err(Refusal::Stopped(stop)),
+        }
+    }
+}

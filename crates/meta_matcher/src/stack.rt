@@ -1,0 +1,72 @@
+//! The stack of texts, as a list that is shared.
+ghost use Rattle.std.specs.Prelude.{◌≡◌, ◌∷◌, ◌-◌, ◌≤◌, [], IfOk, IfSome, IfNone, None, Option, chars, drop, length, map, reverse, take};
+ghost use Rattle.meta_base.specs.Language.Matching.{end_place, place};
+ghost use Rattle.meta_matcher.specs.Stacked.{stack_of};
+
+use std::alloc::{AllocError, Global};
+use std::rc::Rc;
+
+/// A stack: its top, and those below it.
+#[derive(Drop)]
+pub enum Stack<'a> {
+    Empty,
+    Pushed(&'a str, Rc<Stack<'a>>),
+}
+
+/// The same stack again.
+#[inline(always)]
+pub fn shared<'a>(stack: &Stack<'a>) -> Result<Stack<'a>, AllocError>
+    ensures { IfOk result (λ copy. stack_of copy ≡ stack_of stack.now) }
+{
+    match stack {
+        Stack::Empty => Ok(Stack::Empty),
+        Stack::Pushed(text, below) => Ok(Stack::Pushed(text, below.clone()?)),
+    }
+}
+
+/// One more text on top.
+pub fn pushed<'a>(alloc: Global, text: &'a str, below: Stack<'a>) -> Result<Stack<'a>, AllocError>
+    ensures { IfOk result (λ more. stack_of more ≡ chars text.entry.now ∷ stack_of below.entry) }
+{
+    Ok(Stack::Pushed(text, Rc::new(alloc, below)?))
+}
+
+/// The texts of a stack, from its top.
+pub fn texts_of<'a>(alloc: Global, stack: &Stack<'a>) -> Result<Vec<&'a str>, AllocError>
+    ensures { IfOk result (λ texts. map (λ t. chars t.now) texts.items ≡ stack_of stack.now) }
+{
+    let mut texts = Vec::new(alloc);
+    let mut entries = stack;
+    while let Stack::Pushed(text, below) = entries {
+        texts.push(*text)?;
+        entries = below.as_ref();
+    }
+    Ok(texts)
+}
+
+/// A slice's number as a place in a stack of so many entries: from the end where it is below zero.
+pub fn place(count: usize, number: i32) -> Option<usize>
+    ensures { result ≡ place count number }
+{
+    if number >= 0 {
+        let at = number as usize;
+        if at <= count { Some(at) } else { None }
+    } else {
+        let back = number.unsigned_abs() as usize;
+        if back <= count {
+            Some(count - back)
+        } else {
+            None
+        }
+    }
+}
+
+/// A slice's end as a place: the stack's length where there is none.
+pub fn end_place(count: usize, number: Option<i32>) -> Option<usize>
+    ensures { result ≡ end_place count number }
+{
+    match number {
+        Some(number) => place(count, number),
+        None => Some(count),
+    }
+}

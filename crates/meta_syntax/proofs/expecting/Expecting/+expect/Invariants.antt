@@ -1,0 +1,79 @@
+use Rattle.std.proofs.Common.{◌+◌, ◌<◌, ◌≤◌, Some, ◌∷◌, length, max, take, if◌then◌else◌}
+use denote.Shadow.{shadow}
+use denote.Text.{Utf8}
+use Rattle.meta_base.specs.Language.Expression.{Ident}
+use Rattle.meta_base.specs.Language.Meaning.{Run, Turns}
+use Rattle.meta_base.specs.Pieces.MetaRules.{name_of}
+use Rattle.meta_syntax.specs.Expecting.{FailsNoting, IsTruly, sought_of}
+use Rattle.meta_syntax.specs.Forms.{IsGood, IsSpelled, choice_among, cost, count_of_parts, expression_of, followed, greatest_rank, null, rank_of}
+use Rattle.meta_syntax.specs.Runs.{IsLeft, measure, mode_of, skips_in, skips_in_call}
+use Rattle.meta_syntax.proofs.NotingSteps.{FoundSoFar, SoFarNoting}
+use Rattle.meta_syntax.proofs.Sequences.{Begun}
+use Rattle.meta_syntax.proofs.expecting.Expecting.+expect.Given as goal
+
+abbrev pub decreases-call : goal.decreases-call
+decreases-call l = measure l.rest.now (skips_in_call l.rule l.mode) (rank_of l.rule + 2)
+
+abbrev pub decreases-run : goal.decreases-run
+decreases-run l = measure l.rest.now (skips_in l.mode) (cost l.form.now)
+
+abbrev pub decreases-copies : goal.decreases-copies
+decreases-copies l = measure l.rest.now (skips_in l.mode) (1 + cost l.spelled.now)
+
+abbrev pub decreases-choice : goal.decreases-choice
+decreases-choice l = measure l.rest.now (skips_in l.mode) (1 + max (cost l.first.now) (cost l.second.now))
+
+abbrev pub decreases-first_of : goal.decreases-first_of
+decreases-first_of l = measure l.rest.now (skips_in l.mode) (3 + greatest_rank (l.first ∷ l.others.now))
+
+abbrev pub invariant-first_of-loop-rule : goal.invariant-first_of-loop-rule
+invariant-first_of-loop-rule l = record {
+  means : FailsNoting (Run (mode_of l.mode) (choice_among (Ident (name_of l.fn.first)) (take l.rule-index l.others))) l.text l.rest (sought_of l.fn.self) (sought_of l.self);
+  truly : IsTruly l.text l.self;
+}
+
+abbrev pub decreases-option : goal.decreases-option
+decreases-option l = measure l.rest.now (skips_in l.mode) (1 + cost l.body.now)
+
+abbrev pub decreases-negation : goal.decreases-negation
+decreases-negation l = measure l.rest.now (skips_in l.mode) (1 + cost l.body.now)
+
+abbrev pub decreases-once_or_more : goal.decreases-once_or_more
+decreases-once_or_more l = measure l.rest.now (skips_in l.mode) (2 + cost l.body.now)
+
+abbrev pub decreases-sequence : goal.decreases-sequence
+decreases-sequence l = measure l.from.now (skips_in l.mode) (2 + max (cost l.first.now) (if null l.first.now then cost l.others.now else 0))
+
+abbrev pub invariant-sequence-loop-next : goal.invariant-sequence-loop-next
+invariant-sequence-loop-next l = record {
+  text : shadow (Utf8 l.rest);
+  means : FoundSoFar (mode_of l.mode) (followed (Some (expression_of l.first)) l.others) l.text l.from (sought_of l.fn.self) l.left l.rest (sought_of l.self);
+  good : IsGood l.left;
+  spelled : IsSpelled l.left;
+  below : cost l.left < 1000;
+  left : IsLeft l.text l.rest;
+  shorter : length l.rest ≤ length l.from;
+  begun : Begun l.from l.rest l.first l.others l.left;
+  truly : IsTruly l.text l.self;
+}
+
+abbrev pub decreases-sequence-loop-next : goal.decreases-sequence-loop-next
+decreases-sequence-loop-next l = count_of_parts l.left
+
+abbrev pub decreases-repetition : goal.decreases-repetition
+decreases-repetition l = measure l.rest.now (skips_in l.mode) (1 + cost l.body.now)
+
+abbrev pub decreases-turns : goal.decreases-turns
+decreases-turns l = measure l.from.now 1 999
+
+abbrev pub invariant-turns-loop-next : goal.invariant-turns-loop-next
+invariant-turns-loop-next l = record {
+  text : shadow (Utf8 l.rest);
+  means : SoFarNoting (Turns (mode_of l.mode) (expression_of l.body)) l.text l.from (sought_of l.fn.self) l.rest (sought_of l.self);
+  left : IsLeft l.text l.rest;
+  shorter : length l.rest ≤ length l.from;
+  truly : IsTruly l.text l.self;
+}
+
+abbrev pub decreases-turns-loop-next : goal.decreases-turns-loop-next
+decreases-turns-loop-next l = length l.rest

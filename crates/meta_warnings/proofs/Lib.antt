@@ -1,0 +1,5 @@
+pub mod Called
+pub mod Failing
+pub mod Known
+pub mod Names
+pub mod Steps

@@ -1,0 +1,110 @@
+-- Steps of the walks, and what is found on the way.
+use Rattle.std.proofs.Common.{◌≡◌, ℕ, ◌+◌, ◌<◌, ◌≤◌, List, [], ◌∷◌, ◌++◌, Bor, map, length, take, get_or, refl, sym, ap, ◌∙◌, append_assoc, append-nil, length-append, arith}
+use Rattle.std.specs.Prelude.{flat_map}
+use Rattle.std.proofs.lemmas.Grind.{flat_map-append}
+use Rattle.std.proofs.lemmas.List.{map-append, take_more, take_all}
+use Rattle.meta_nodes.specs.Nodes.{piece_of, rule_view, rule_views, view, view_at}
+use Rattle.meta_nodes.specs.Spanned.{Spanned, SpannedRule, Span, Leaf, One, Two, Choice, span_of}
+use Rattle.meta_nodes.specs.Erasure.{without_spans}
+use Rattle.meta_nodes.specs.Walk.{preorder, waiting}
+use Rattle.meta_nodes.specs.declared.node.ParserExpr.{ParserExpr}
+use Rattle.meta_nodes.specs.declared.node.ParserExpr as expr
+use Rattle.meta_nodes.specs.declared.node.ParserExpr.TheVariants as is
+use Rattle.meta_nodes.specs.declared.node.ParserNode.{ParserNode}
+use Rattle.meta_nodes.specs.declared.node.ParserRule.{ParserRule}
+use Rattle.meta_nodes.proofs.Walks.{waiting_push, operands_wait}
+use Rattle.meta_base.specs.declared.runtime.places.Span as code
+use Rattle.meta_warnings.specs.Choices.{alternatives, beginning_of, literal_of, literals, own_literal, told_behind, unreachable_behind}
+use Rattle.meta_warnings.specs.Lists.{AreOperands, IsTold, Knows, left_over}
+use Rattle.meta_warnings.specs.declared.literals.Literals.{Literals}
+use Rattle.meta_warnings.specs.declared.nodes.Operands.{Operands}
+use Rattle.meta_warnings.specs.declared.nodes.Operands.TheVariants as operands
+
+-- where a node of code stands
+span_at : (t : Span) (e : ParserExpr) → span_of (view_at t e) ≡ t
+span_at t (is.Str s) = refl
+span_at t _ = refl
+
+pub span_of-view : (n : ParserNode) → span_of (view n) ≡ piece_of n.span
+span_of-view n = span_at (piece_of n.span) n.expr
+
+-- one more place
+pub push_piece : (found : List code.Span) (n : ParserNode) → map piece_of (found ++ n.span ∷ []) ≡ map piece_of found ++ span_of (view n) ∷ []
+push_piece found n = map-append piece_of found (n.span ∷ []) ∙ ap (λ s. map piece_of found ++ s ∷ []) (sym (span_of-view n))
+
+-- an operand waits in the place of its node
+pub one_waits : (v : Spanned) (ns ms : List (Bor ParserNode)) (x : Bor ParserNode) (s : Span) (f : _) → v ≡ One s f (view x.now) → ms ≡ ns ++ (x ∷ []) → v ∷ waiting ms ≡ preorder v ++ waiting ns
+one_waits v ns ms x s f e h = rw (h, waiting_push ns x, e) refl
+
+-- a node was looked at, and what was found at it
+pub walk_step : {A : Type 0} (f : Spanned → List A) (old new all : List A) (w v : List Spanned) (x : Spanned) → new ≡ old ++ f x → w ≡ x ∷ v → old ++ flat_map f w ≡ all → new ++ flat_map f v ≡ all
+walk_step f old new all w v x e h i =
+    ap (λ l. l ++ flat_map f v) e ∙ append_assoc old (f x) (flat_map f v) ∙ sym (ap (λ l. old ++ flat_map f l) h) ∙ i
+
+-- a rule was looked at, and what was found in it
+pub rule_step : {A : Type 0} (f : SpannedRule → List A) (rules : List ParserRule) (i : ℕ) (x : ParserRule) (old new : List A) → i < length rules → x ≡ get_or rules i x
+    → new ≡ old ++ f (rule_view x) → old ≡ flat_map f (rule_views (take i rules)) → new ≡ flat_map f (rule_views (take (i + 1) rules))
+rule_step f rules i x old new h at e o =
+    let more : take (i + 1) rules ≡ take i rules ++ x ∷ [] = take_more rules i x h ∙ ap (λ r. take i rules ++ r ∷ []) (sym at) in
+    e ∙ (ap (λ l. l ++ f (rule_view x)) o
+    ∙ sym (ap (λ l. flat_map f (rule_views l)) more
+    ∙ (ap (flat_map f) (map-append rule_view (take i rules) (x ∷ []))
+    ∙ (flat_map-append f (rule_views (take i rules)) (rule_view x ∷ [])
+    ∙ ap (λ l. flat_map f (rule_views (take i rules)) ++ l) (append-nil (f (rule_view x)))))))
+
+pub all_rules : {A : Type 0} (f : SpannedRule → List A) (rules : List ParserRule) (i : ℕ) (found : List A) → length rules ≤ i → found ≡ flat_map f (rule_views (take i rules)) → found ≡ flat_map f (rule_views rules)
+all_rules f rules i found h e = e ∙ ap (λ l. flat_map f (rule_views l)) (take_all i rules h)
+
+-- the alternatives on a stack
+pub left_over_push : (ns : List (Bor ParserNode)) (n : Bor ParserNode) → left_over (ns ++ (n ∷ [])) ≡ alternatives (view n.now) ++ left_over ns
+left_over_push [] n = sym (append-nil (alternatives (view n.now)))
+left_over_push (m ∷ ns) n = rw (left_over_push ns n) (append_assoc (alternatives (view n.now)) (left_over ns) (alternatives (view m.now)))
+
+pub sides_left : (s : Span) (v : Spanned) (ns ms ks : List (Bor ParserNode)) (l r : Bor ParserNode) → v ≡ Two s Choice (view l.now) (view r.now) → ms ≡ ns ++ (r ∷ []) → ks ≡ ms ++ (l ∷ []) → alternatives v ++ left_over ns ≡ left_over ks
+sides_left s v ns ms ks l r e g h =
+    let p : left_over ks ≡ alternatives (view l.now) ++ (alternatives (view r.now) ++ left_over ns) = rw (h, left_over_push ms l, g, left_over_push ns r) refl in
+    rw (p, e) (append_assoc (alternatives (view l.now)) (alternatives (view r.now)) (left_over ns))
+
+preorder_some : (v : Spanned) → 0 < length (preorder v)
+preorder_some (Leaf s e) = omega arith
+preorder_some (One s f x) = omega arith
+preorder_some (Two s f x y) = omega arith
+
+pub fewer : (v : Spanned) (n : ℕ) → n < length (preorder v) + n
+fewer v n = let h = preorder_some v in omega arith
+
+pub sides_fewer : (s : Span) (v : Spanned) (ns ms ks : List (Bor ParserNode)) (l r : Bor ParserNode) → v ≡ Two s Choice (view l.now) (view r.now) → ms ≡ ns ++ (r ∷ []) → ks ≡ ms ++ (l ∷ []) → length (waiting ks) < length (preorder v) + length (waiting ns)
+sides_fewer s v ns ms ks l r e g h =
+    let w = ap length (operands_wait s Choice v ns ms ks l r e g h) ∙ length-append (preorder v) (waiting ns) in
+    omega arith
+
+-- what is no choice is its one alternative
+pub only_choice : (v : Spanned) (o : Operands) → AreOperands v o → ((x y : Bor ParserNode) → o ≡ operands.Choice x y → ⊥) → alternatives v ≡ v ∷ []
+only_choice v operands.None (s, e, h) f = rw h refl
+only_choice v (operands.One x) (s, u, h) f = rw h refl
+only_choice v (operands.Sequence x y) (s, h) f = rw h refl
+only_choice v (operands.Choice x y) h f = absurd (f x y refl)
+
+-- what is no sequence begins with the literal that it is
+pub no_sequence : (t : Span) (e : ParserExpr) → ((x y : _) → e ≡ expr.Seq x y → ⊥) → beginning_of (without_spans (view_at t e)) ≡ literal_of (without_spans (view_at t e))
+no_sequence t (is.Str s) h = refl
+no_sequence t (is.Seq' p e s q f u) h = absurd (h _ _ refl)
+no_sequence t _ h = refl
+
+pub literals_more : (earlier : List Spanned) (x : Spanned) → literals (earlier ++ x ∷ []) ≡ literals earlier ++ own_literal x
+literals_more earlier x = flat_map-append own_literal earlier (x ∷ []) ∙ ap (λ l. literals earlier ++ l) (append-nil (own_literal x))
+
+-- the next alternative was looked at
+pub told_more : (all : List Span) (earlier left : List Spanned) (x : Spanned) (old new : Literals) (found after : List Span) → IsTold all earlier (x ∷ left) old found
+    → (Knows (literals earlier) old → after ≡ found ++ told_behind (literals earlier) x)
+    → (Knows (literals earlier) old → Knows (literals earlier ++ own_literal x) new) → IsTold all (earlier ++ x ∷ []) left new after
+told_more all earlier left x old new found after h tells adds = record {
+  knows = rw (literals_more earlier x) (adds h.knows);
+  told = h.told ∙ (sym (append_assoc found (told_behind (literals earlier) x) (unreachable_behind (earlier ++ x ∷ []) left)) ∙ ap (λ l. l ++ unreachable_behind (earlier ++ x ∷ []) left) (sym (tells h.knows)));
+}
+
+pub told_along : (all : List Span) (earlier left right : List Spanned) (known : Literals) (found : List Span) → left ≡ right → IsTold all earlier left known found → IsTold all earlier right known found
+told_along all earlier left right known found e h = record {
+  knows = h.knows;
+  told = h.told ∙ ap (λ l. found ++ unreachable_behind earlier l) e;
+}

@@ -1,0 +1,15 @@
+use Rattle.std.proofs.Common.{◌++◌, List, map, length}
+use Rattle.meta_nodes.specs.Nodes.{piece_of, view}
+use Rattle.meta_nodes.specs.Spanned.{Spanned}
+use Rattle.meta_nodes.specs.Walk.{waiting}
+use Rattle.meta_warnings.specs.Choices.{unreachable_at}
+use Rattle.meta_warnings.specs.Lists.{IsTold, left_over}
+use Rattle.meta_warnings.proofs.choices.add_of_choice.Given as goal
+
+abbrev pub invariant-loop-next : goal.invariant-loop-next
+invariant-loop-next l =
+    (earlier : List Spanned) × IsTold (map piece_of l.fn.found.items ++ unreachable_at (view l.fn.whole)) earlier
+    (left_over l.stack.items) l.literals (map piece_of l.found.items)
+
+abbrev pub decreases-loop-next : goal.decreases-loop-next
+decreases-loop-next l = length (waiting l.stack.items)

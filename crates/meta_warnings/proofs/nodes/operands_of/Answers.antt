@@ -1,0 +1,69 @@
+use Rattle.std.proofs.Common.{inl, inr, ap}
+use Rattle.meta_ast.specs.Ast.{text_of}
+use Rattle.meta_base.specs.Language.Expression as plain
+use Rattle.meta_nodes.specs.Nodes.{view_at, piece_of}
+use Rattle.meta_nodes.specs.Spanned as spanned
+use Rattle.meta_warnings.proofs.nodes.operands_of.Goals as goal
+
+pub returns-in-Seq : goal.returns-in-Seq
+returns-in-Seq c = let place = piece_of c.args.node.now.span in (place, rw (c.deref.ensures, c.deref-in-Seq.ensures) (ap (view_at place) c.in-Seq.is))
+
+pub returns-in-Choice : goal.returns-in-Choice
+returns-in-Choice c = let place = piece_of c.args.node.now.span in (place, rw (c.deref-in-Choice.ensures, c.deref-in-Choice-2.ensures) (ap (view_at place) c.in-Choice.is))
+
+pub returns-in-Range : goal.returns-in-Range
+returns-in-Range c =
+    let place = piece_of c.args.node.now.span in
+    elim c.in-Range.is [
+      | inl h ↦ (place, plain.Range (text_of h.0) (text_of h.1), ap (view_at place) h.2)
+      | inr h ↦ (place, plain.PeekSlice h.0 h.1, ap (view_at place) h.2)
+    ]
+
+pub returns-in-Str : goal.returns-in-Str
+returns-in-Str c =
+    let place = piece_of c.args.node.now.span in
+    elim c.in-Str.is [
+      | inl h ↦ (place, plain.Str (text_of h.0), ap (view_at place) h.1)
+      | inr k ↦ elim k [
+        | inl h ↦ (place, plain.Insens (text_of h.0), ap (view_at place) h.1)
+        | inr h ↦ (place, plain.Ident (text_of h.0), ap (view_at place) h.1)
+      ]
+    ]
+
+pub returns-in-RepMax : goal.returns-in-RepMax
+returns-in-RepMax c =
+    let place = piece_of c.args.node.now.span in
+    rw c.deref-in-RepMax.ensures (elim c.in-RepMax.is [
+      | inl h ↦ (place, spanned.RepMax h.0, ap (view_at place) h.1)
+      | inr h ↦ (place, spanned.RepMinMax h.0 h.1, ap (view_at place) h.2)
+    ])
+
+pub returns-in-RepExact : goal.returns-in-RepExact
+returns-in-RepExact c =
+    let place = piece_of c.args.node.now.span in
+    rw c.deref-in-RepExact.ensures (elim c.in-RepExact.is [
+      | inl h ↦ (place, spanned.RepExact h.0, ap (view_at place) h.1)
+      | inr h ↦ (place, spanned.RepMin h.0, ap (view_at place) h.1)
+    ])
+
+pub returns-in-Rep : goal.returns-in-Rep
+returns-in-Rep c =
+    let place = piece_of c.args.node.now.span in
+    rw c.deref-in-Rep.ensures (elim c.in-Rep.is [
+      | inl h ↦ (place, spanned.Rep, ap (view_at place) h)
+      | inr k ↦ elim k [
+        | inl h ↦ (place, spanned.RepOnce, ap (view_at place) h)
+        | inr h ↦ (place, spanned.Push, ap (view_at place) h)
+      ]
+    ])
+
+pub returns-in-PosPred : goal.returns-in-PosPred
+returns-in-PosPred c =
+    let place = piece_of c.args.node.now.span in
+    rw c.deref-in-PosPred.ensures (elim c.in-PosPred.is [
+      | inl h ↦ (place, spanned.PosPred, ap (view_at place) h)
+      | inr k ↦ elim k [
+        | inl h ↦ (place, spanned.NegPred, ap (view_at place) h)
+        | inr h ↦ (place, spanned.Opt, ap (view_at place) h)
+      ]
+    ])

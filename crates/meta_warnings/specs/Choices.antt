@@ -1,0 +1,73 @@
+-- Alternatives that are never taken.
+use Rattle.std.specs.Prelude.{List, [], ◌∷◌, ◌++◌, Option, Some, None, Bool, false, if◌then◌else◌, flat_map, option_to_list}
+use Rattle.meta_base.specs.Language.Text.{Text}
+use Rattle.meta_base.specs.Language.Expression.{Expression, Str}
+use Rattle.meta_base.specs.Language.Expression as plain
+use Rattle.meta_base.specs.Language.Matching.{any_begins}
+use Rattle.meta_nodes.specs.Erasure.{without_spans}
+use Rattle.meta_nodes.specs.Spanned.{Span, Spanned, SpannedRule, Leaf, One, Two, Seq, Choice, span_of}
+use Rattle.meta_nodes.specs.Walk.{preorder}
+
+-- the alternatives of an expression, in order: those of both sides of a choice, or else itself
+abbrev pub alternatives : Spanned → List Spanned
+alternatives (Two s Choice x y) = alternatives x ++ alternatives y
+alternatives (Two s Seq x y) = Two s Seq x y ∷ []
+alternatives (One s f x) = One s f x ∷ []
+alternatives (Leaf s e) = Leaf s e ∷ []
+
+-- the operands of a node that is no choice
+abbrev pub parts : Spanned → List Spanned
+parts (Leaf s e) = []
+parts (One s f x) = x ∷ []
+parts (Two s Seq x y) = x ∷ y ∷ []
+parts (Two s Choice x y) = []
+
+-- the literal that an expression is
+abbrev pub literal_of : Expression → Option Text
+literal_of (Str t) = Some t
+literal_of _ = None
+
+-- the literal with which all that an expression matches begins: its own, or that of a sequence's first part
+abbrev pub beginning_of : Expression → Option Text
+beginning_of (Str t) = Some t
+beginning_of (plain.Seq a b) = beginning_of a
+beginning_of _ = None
+
+abbrev pub own_literal : Spanned → List Text
+own_literal x = option_to_list (literal_of (without_spans x))
+
+-- the literals among some alternatives
+abbrev pub literals : List Spanned → List Text
+literals xs = flat_map own_literal xs
+
+abbrev pub begins_so : List Text → Option Text → Bool
+begins_so texts None = false
+begins_so texts (Some t) = any_begins texts t
+
+-- one of these texts begins all that the expression matches
+abbrev pub is_begun : List Text → Spanned → Bool
+is_begun texts x = begins_so texts (beginning_of (without_spans x))
+
+-- the place of an alternative behind these literals, where one of them begins it
+abbrev pub told_behind : List Text → Spanned → List Span
+told_behind texts x = if is_begun texts x then span_of x ∷ [] else []
+
+-- the places of those among alternatives that a literal before them begins
+abbrev pub unreachable_behind : List Spanned → List Spanned → List Span
+unreachable_behind earlier [] = []
+unreachable_behind earlier (x ∷ xs) =
+    told_behind (literals earlier) x ++ unreachable_behind (earlier ++ x ∷ []) xs
+
+-- of an expression as a choice; as one alternative nothing is told of it
+abbrev pub unreachable_at : Spanned → List Span
+unreachable_at x = unreachable_behind [] (alternatives x)
+
+abbrev pub unreachable_in_parts : Spanned → List Span
+unreachable_in_parts x = flat_map unreachable_at (parts x)
+
+-- of a body, and of what stands in it and is no alternative of a choice around it
+abbrev pub unreachable_in : Spanned → List Span
+unreachable_in body = unreachable_at body ++ flat_map unreachable_in_parts (preorder body)
+
+abbrev pub unreachable_alternatives : List SpannedRule → List Span
+unreachable_alternatives rules = flat_map (λ r. unreachable_in r.body) rules

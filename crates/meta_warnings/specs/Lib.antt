@@ -1,0 +1,5 @@
+pub mod Choices
+pub mod Laws
+pub mod Lists
+pub mod Ranges
+pub mod Rules

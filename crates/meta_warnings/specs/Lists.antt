@@ -1,0 +1,59 @@
+-- What the code's lists and sets stand for. No public contract speaks of it.
+use Rattle.std.specs.Prelude.{◌≡◌, ℕ, List, [], ◌∷◌, ◌++◌, Bool, true, bytes_eq, length, ◌==◌}
+use Rattle.std.specs.Borrow.{Bor}
+use Rattle.std.specs.HashSet.{HashSet, contains_by}
+use Rattle.std.specs.List.{list_any}
+use Rattle.std.specs.Str.{IsUtf8, chars}
+use Rattle.std.specs.declared.hash.FoldHasher.{FoldHasher}
+use Rattle.std.specs.declared.hash.BuildHasherDefault.{BuildHasherDefault}
+use Rattle.meta_base.specs.Language.Builtins.{is_one_of}
+use Rattle.meta_base.specs.Language.Expression.{Expression}
+use Rattle.meta_base.specs.Language.Text.{Text}
+use Rattle.meta_nodes.specs.Nodes.{view}
+use Rattle.meta_nodes.specs.Spanned as spanned
+use Rattle.meta_nodes.specs.Spanned.{Span, Spanned, SpannedRule, Leaf, One, Two, Unary}
+use Rattle.meta_nodes.specs.declared.node.ParserNode.{ParserNode}
+use Rattle.meta_warnings.specs.Choices.{alternatives, literals, unreachable_behind}
+use Rattle.meta_warnings.specs.Rules.{is_called}
+use Rattle.meta_warnings.specs.declared.nodes.Operands.{Operands}
+use Rattle.meta_warnings.specs.declared.nodes.Operands.TheVariants as is
+use Rattle.meta_warnings.specs.declared.literals.Literals.{Literals}
+
+-- a node has these operands
+abbrev pub AreOperands : Spanned → Operands → Type 0
+AreOperands v is.None = (s : Span) × (e : Expression) × (v ≡ Leaf s e)
+AreOperands v (is.One x) = (s : Span) × (f : Unary) × (v ≡ One s f (view x.now))
+AreOperands v (is.Sequence x y) = (s : Span) × (v ≡ Two s spanned.Seq (view x.now) (view y.now))
+AreOperands v (is.Choice x y) = (s : Span) × (v ≡ Two s spanned.Choice (view x.now) (view y.now))
+
+-- the alternatives of the nodes on a stack, from its top to its bottom
+abbrev pub left_over : List (Bor ParserNode) → List Spanned
+left_over [] = []
+left_over (n ∷ ns) = left_over ns ++ alternatives (view n.now)
+
+-- a set of texts
+abbrev pub TextSet : Type 0
+TextSet = HashSet (Bor (List ℕ)) (BuildHasherDefault FoldHasher)
+
+abbrev pub has_name : TextSet → List ℕ → Bool
+has_name set name = contains_by (λ k. bytes_eq name k.now) set
+
+-- the set has the names that a rule of another name calls, and no others
+abbrev pub HasNames : List SpannedRule → TextSet → Type 0
+HasNames rules set = (name : List ℕ) → IsUtf8 name → has_name set name ≡ is_called rules (chars name)
+
+abbrev pub IsKnown : Literals → List ℕ → Bool
+IsKnown literals text = has_name literals.texts text
+
+-- the literals are these texts, and the length of each is there
+pub record Knows (texts : List Text) (literals : Literals) : Type 0 where
+  pub has : (text : List ℕ) → IsUtf8 text → has_name literals.texts text ≡ is_one_of texts (chars text)
+  pub lengths : (text : List ℕ) → IsUtf8 text → is_one_of texts (chars text) ≡ true
+      → list_any (λ n. n == length text) literals.lengths.items ≡ true
+
+-- what is found so far, and what is still to be found among these alternatives behind the earlier ones, of
+-- which the literals are known, are all
+pub record IsTold (all : List Span) (earlier left : List Spanned) (known : Literals)
+    (found : List Span) : Type 0 where
+  pub knows : Knows (literals earlier) known
+  pub told : all ≡ found ++ unreachable_behind earlier left

@@ -1,0 +1,147 @@
+//! Alternatives that are never taken.
+ghost use Rattle.std.specs.Prelude.{◌≡◌, ◌++◌, ◌+◌, ◌<◌, IfOk, OnOk, List, length, map};
+ghost use Rattle.meta_base.specs.Language.Text.{Text};
+ghost use Rattle.meta_nodes.specs.Nodes.{piece_of, rule_views, view};
+ghost use Rattle.meta_nodes.specs.Spanned.{Span as Place, Spanned};
+ghost use Rattle.meta_nodes.specs.Walk.{preorder, waiting};
+ghost use Rattle.meta_warnings.specs.Choices as spec;
+ghost use Rattle.meta_warnings.specs.Choices.{alternatives};
+ghost use Rattle.meta_warnings.specs.Lists.{IsTold, Knows, left_over};
+
+use crate::literals::{Literals, beginning, literal};
+use crate::nodes::{Operands, operands_of, push_both, push_operands};
+use meta_base::runtime::Span;
+use meta_nodes::{ParserNode, ParserRule};
+use std::alloc::{AllocError, Global};
+
+/// Where alternatives stand that are never taken, since one before them in their choice is a literal with
+/// which all that they match begins, as `"ab"` and `"a" ~ b` behind `"a"`: rule by rule, and in a body choice
+/// by choice. A choice inside a choice is part of it. The only fault is a want of memory.
+///
+/// For each alternative there is a look-up for each length that a literal of its choice has, so the time is at
+/// most the text's length times the square root of that.
+pub fn unreachable_alternatives<'i>(
+    alloc: Global,
+    rules: &[ParserRule<'i>],
+) -> Result<Vec<Span<'i>>, AllocError>
+    ensures { IfOk result (λ found.
+        map piece_of found.items ≡ spec.unreachable_alternatives (rule_views rules.now)) }
+{
+    let mut found = Vec::new(alloc);
+    for rule in rules {
+        add_of_body(alloc, &rule.node, &mut found)?;
+    }
+    Ok(found)
+}
+
+/// Adds those of a body: of the choice that it is, and of those that stand in it.
+fn add_of_body<'i>(
+    alloc: Global,
+    body: &ParserNode<'i>,
+    found: &mut Vec<Span<'i>>,
+) -> Result<(), AllocError>
+    ensures { OnOk result (map piece_of found.new.items
+        ≡ map piece_of found.old.items ++ spec.unreachable_in (view body.now)) }
+{
+    add_of_choice(alloc, body, found)?;
+    let mut stack = Vec::new(alloc);
+    stack.push(body)?;
+    while let Some(next) = stack.pop() {
+        add_of_parts(alloc, next, found)?;
+        push_operands(next, &mut stack)?;
+    }
+    Ok(())
+}
+
+/// Adds those of the choices that the operands of a node are, where it is no choice itself.
+fn add_of_parts<'i>(
+    alloc: Global,
+    node: &ParserNode<'i>,
+    found: &mut Vec<Span<'i>>,
+) -> Result<(), AllocError>
+    ensures { OnOk result (map piece_of found.new.items
+        ≡ map piece_of found.old.items ++ spec.unreachable_in_parts (view node.now)) }
+{
+    match operands_of(node) {
+        Operands::None | Operands::Choice(_, _) => Ok(()),
+        Operands::One(inner) => add_of_choice(alloc, inner, found),
+        Operands::Sequence(left, right) => {
+            add_of_choice(alloc, left, found)?;
+            add_of_choice(alloc, right, found)
+        }
+    }
+}
+
+/// Adds those of a choice.
+fn add_of_choice<'i>(
+    alloc: Global,
+    whole: &ParserNode<'i>,
+    found: &mut Vec<Span<'i>>,
+) -> Result<(), AllocError>
+    ensures { OnOk result (map piece_of found.new.items
+        ≡ map piece_of found.old.items ++ spec.unreachable_at (view whole.now)) }
+{
+    let mut literals = Literals::new(alloc);
+    let mut stack = Vec::new(alloc);
+    stack.push(whole)?;
+    while let Some(next) = stack.pop() {
+        take(next, &mut stack, &mut literals, found)?;
+    }
+    Ok(())
+}
+
+/// Puts both sides of a choice on a stack, the left one on top; any other node is the next alternative.
+fn take<'n, 'i>(
+    node: &'n ParserNode<'i>,
+    stack: &mut Vec<&'n ParserNode<'i>>,
+    literals: &mut Literals<'n>,
+    found: &mut Vec<Span<'i>>,
+) -> Result<(), AllocError>
+    ensures told { OnOk result ((all : List Place) (earlier : List Spanned)
+        → IsTold all earlier (alternatives (view node.entry.now) ++ left_over stack.old.items)
+        literals.old (map piece_of found.old.items)
+        → (later : List Spanned)
+        × IsTold all later (left_over stack.new.items) literals.new (map piece_of found.new.items)) }
+    ensures less { OnOk result (length (waiting stack.new.items)
+        < length (preorder (view node.entry.now)) + length (waiting stack.old.items)) }
+{
+    match operands_of(node) {
+        Operands::Choice(left, right) => push_both(left, right, stack)?,
+        _ => {
+            add_where_begun(node, literals, found)?;
+            add_literal(node, literals)?;
+        }
+    }
+    Ok(())
+}
+
+/// Adds the place of an alternative that one of these literals begins.
+fn add_where_begun<'i>(
+    alternative: &ParserNode<'i>,
+    literals: &Literals<'_>,
+    found: &mut Vec<Span<'i>>,
+) -> Result<(), AllocError>
+    ensures { OnOk result ((texts : List Text) → Knows texts literals.now → map piece_of found.new.items
+        ≡ map piece_of found.old.items ++ spec.told_behind texts (view alternative.now)) }
+{
+    if let Some(text) = beginning(alternative) {
+        if literals.begin(text) {
+            found.push(alternative.span)?;
+        }
+    }
+    Ok(())
+}
+
+/// Adds the literal that an alternative is, where it is one.
+fn add_literal<'n, 'i>(
+    alternative: &'n ParserNode<'i>,
+    literals: &mut Literals<'n>,
+) -> Result<(), AllocError>
+    ensures { OnOk result ((texts : List Text) → Knows texts literals.old
+        → Knows (texts ++ spec.own_literal (view alternative.entry.now)) literals.new) }
+{
+    match literal(alternative) {
+        Some(text) => literals.add(text),
+        None => Ok(()),
+    }
+}

@@ -1,0 +1,14 @@
+//! Warnings that are certain: rules that no other rule calls, alternatives that are never taken, and ranges
+//! that match nothing.
+#![tactic(auto)]
+
+mod choices;
+pub mod laws;
+mod literals;
+mod nodes;
+mod ranges;
+mod rules;
+
+pub use crate::choices::unreachable_alternatives;
+pub use crate::ranges::reversed_ranges;
+pub use crate::rules::uncalled_rules;

@@ -1,0 +1,64 @@
+//! The operands of a node.
+ghost use Rattle.std.specs.Prelude.{◌≡◌, ◌++◌, ◌∷◌, [], OnOk};
+ghost use Rattle.meta_nodes.specs.Nodes.{view};
+ghost use Rattle.meta_nodes.specs.Walk.{preorder, waiting};
+ghost use Rattle.meta_warnings.specs.Lists.{AreOperands};
+
+use meta_nodes::{ParserExpr, ParserNode};
+use std::alloc::{AllocError, Global};
+
+/// The operands of a node, by what stands between two of them.
+#[derive(Clone, Copy)]
+pub(crate) enum Operands<'n, 'i> {
+    None,
+    One(&'n ParserNode<'i>),
+    Sequence(&'n ParserNode<'i>, &'n ParserNode<'i>),
+    Choice(&'n ParserNode<'i>, &'n ParserNode<'i>),
+}
+
+/// The operands of a node.
+pub(crate) fn operands_of<'n, 'i>(node: &'n ParserNode<'i>) -> Operands<'n, 'i>
+    ensures { AreOperands (view node.entry.now) result }
+{
+    use ParserExpr as E;
+    match &node.expr {
+        E::Str(_) | E::Insens(_) | E::Ident(_) => Operands::None,
+        E::Range(_, _) | E::PeekSlice(_, _) => Operands::None,
+        E::PosPred(inner) | E::NegPred(inner) | E::Opt(inner) => Operands::One(inner),
+        E::Rep(inner) | E::RepOnce(inner) | E::Push(inner) => Operands::One(inner),
+        E::RepExact(inner, _) | E::RepMin(inner, _) => Operands::One(inner),
+        E::RepMax(inner, _) | E::RepMinMax(inner, _, _) => Operands::One(inner),
+        E::Seq(left, right) => Operands::Sequence(left, right),
+        E::Choice(left, right) => Operands::Choice(left, right),
+    }
+}
+
+/// Puts the operands of a node on a stack, the left one on top.
+pub(crate) fn push_operands<'n, 'i>(
+    node: &'n ParserNode<'i>,
+    stack: &mut Vec<&'n ParserNode<'i>>,
+) -> Result<(), AllocError>
+    ensures { OnOk result (view node.entry.now ∷ waiting stack.new.items
+        ≡ preorder (view node.entry.now) ++ waiting stack.old.items) }
+{
+    match operands_of(node) {
+        Operands::None => {}
+        Operands::One(inner) => stack.push(inner)?,
+        Operands::Sequence(left, right) => push_both(left, right, stack)?,
+        Operands::Choice(left, right) => push_both(left, right, stack)?,
+    }
+    Ok(())
+}
+
+/// Puts two nodes on a stack, the left one on top.
+pub(crate) fn push_both<'n, 'i>(
+    left: &'n ParserNode<'i>,
+    right: &'n ParserNode<'i>,
+    stack: &mut Vec<&'n ParserNode<'i>>,
+) -> Result<(), AllocError>
+    ensures { OnOk result (stack.new.items ≡ stack.old.items ++ right.entry ∷ [] ++ left.entry ∷ []) }
+{
+    stack.push(right)?;
+    stack.push(left)?;
+    Ok(())
+}
