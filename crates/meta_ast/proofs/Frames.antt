@@ -3,7 +3,7 @@ use Rattle.std.proofs.Common.{◌≡◌, ℕ, ◌+◌, ◌*◌, ◌<◌, ◌≤�
 use Rattle.meta_base.specs.Language.Expression.{Expression}
 use Rattle.meta_base.specs.Language.Expression as e
 use Rattle.meta_ast.specs.Operands.{operands, over, count_of_nodes}
-use Rattle.meta_ast.specs.Frames.{Unary, PosPred, NegPred, Opt, Rep, RepOnce, RepExact, RepMin, RepMax, RepMinMax, Push, around, joined, AllClose, Opens, leaf, one, two, Closes, enclosed, put_together, turned, work_aside, work_left}
+use Rattle.meta_ast.specs.Frames.{Unary, PosPred, NegPred, Opt, Rep, RepOnce, RepExact, RepMin, RepMax, RepMinMax, Push, NodeTag, around, joined, AllClose, Opens, leaf, one, two, Closes, enclosed, put_together, turned, work_aside, work_left}
 use Rattle.meta_ast.specs.declared.walks.Joint.{Joint}
 use Rattle.meta_ast.specs.declared.walks.Joint.TheVariants as joint
 use Rattle.meta_ast.specs.declared.walks.Frame.{Frame}
@@ -22,6 +22,7 @@ operands-around (RepMin i) x = refl
 operands-around (RepMax i) x = refl
 operands-around (RepMinMax i j) x = refl
 operands-around Push x = refl
+operands-around (NodeTag t) x = refl
 
 pub over-around : (u : Unary) (x y : Expression) → over (around u x) (y ∷ []) ≡ around u y
 over-around PosPred x y = refl
@@ -34,6 +35,7 @@ over-around (RepMin i) x y = refl
 over-around (RepMax i) x y = refl
 over-around (RepMinMax i j) x y = refl
 over-around Push x y = refl
+over-around (NodeTag t) x y = refl
 
 pub count_of_nodes-around : (u : Unary) (x : Expression) → count_of_nodes (around u x) ≡ count_of_nodes x + 1
 count_of_nodes-around PosPred x = refl
@@ -46,6 +48,7 @@ count_of_nodes-around (RepMin i) x = refl
 count_of_nodes-around (RepMax i) x = refl
 count_of_nodes-around (RepMinMax i j) x = refl
 count_of_nodes-around Push x = refl
+count_of_nodes-around (NodeTag t) x = refl
 
 pub operands-joined : (j : Joint) (x y : Expression) → operands (joined j x y) ≡ x ∷ (y ∷ [])
 operands-joined joint.Sequence x y = refl

@@ -3,7 +3,7 @@ use Rattle.std.proofs.Common.{◌≡◌, ◌<◌, List, [], ◌∷◌, ◌++◌,
 use Rattle.meta_base.specs.Language.Expression.{Expression}
 use Rattle.meta_base.specs.Language.Expression as e
 use Rattle.meta_ast.specs.Operands.{operands, preorder}
-use Rattle.meta_ast.specs.Frames.{Unary, PosPred, NegPred, Opt, Rep, RepOnce, RepExact, RepMin, RepMax, RepMinMax, Push, around, joined}
+use Rattle.meta_ast.specs.Frames.{Unary, PosPred, NegPred, Opt, Rep, RepOnce, RepExact, RepMin, RepMax, RepMinMax, Push, NodeTag, around, joined}
 use Rattle.meta_ast.specs.TopDownIterators.{waiting}
 use Rattle.meta_ast.specs.declared.walks.Joint.{Joint}
 use Rattle.meta_ast.specs.declared.walks.Joint.TheVariants as joint
@@ -19,6 +19,7 @@ preorder-around (RepMin i) x = refl
 preorder-around (RepMax i) x = refl
 preorder-around (RepMinMax i j) x = refl
 preorder-around Push x = refl
+preorder-around (NodeTag t) x = refl
 
 preorder-joined : (j : Joint) (x y : Expression) → preorder (joined j x y) ≡ joined j x y ∷ (preorder x ++ preorder y)
 preorder-joined joint.Sequence x y = refl

@@ -1,5 +1,5 @@
 -- What is written of an expression, in UTF-8, is its printed text.
-use Rattle.std.proofs.Common.{◌≡◌, refl, sym, ◌∙◌, ap, ap₂, Box, ℕ, zero, suc, ℤ, pos, negsuc, ◌+◌, ◌/◌, ◌%◌, ◌<◌, lt-ltb, List, [], ◌∷◌, ◌++◌, Bool, true, false, ◌&&◌, nat_lt, Option, Some, None, codes, arith, if◌then◌else◌, ◌==◌, ltb-true, encode_utf8_all, map, append-nil, append_assoc}
+use Rattle.std.proofs.Common.{◌≡◌, refl, sym, ◌∙◌, ap, ap₂, Box, ℕ, zero, suc, ℤ, pos, negsuc, ◌+◌, ◌/◌, ◌%◌, ◌<◌, lt-ltb, List, [], ◌∷◌, ◌++◌, Bool, true, false, ◌&&◌, nat_lt, Option, Some, None, codes, arith, if◌then◌else◌, ◌==◌, ltb-true, encode_utf8_all, map, append-nil, append_assoc, string_bytes}
 use Rattle.std.proofs.Math.Utf8.{encodes, encode}
 use Rattle.std.proofs.lemmas.Str.{encodes-append, encode_ascii, chars_past_char}
 use Rattle.std.specs.Str.{IsUtf8, chars}
@@ -13,7 +13,7 @@ use Rattle.meta_ast.specs.Optimized.{optimized_expression_of}
 use Rattle.meta_ast.specs.declared.ast.Expr as plain
 use Rattle.meta_ast.specs.declared.optimized.OptimizedExpr as optimized
 use Rattle.meta_ast.specs.Printing.{escaped, literal, parenthesized, Place, Alone, AfterTilde, AfterBar, BeforePostfix, inside_wrapper, sequence_at, choice_at, printed_at, printed, predicate_at, bound_literal, slice_end, alternatives}
-use Rattle.meta_ast.specs.PrintedBytes.{ByPlace, everywhere, enclosed, literal_bytes, one_more, alternatives_bytes, skip_bytes, range_bytes, slice_bytes, predicate_bytes, sequence_bytes, choice_bytes, wrapper_bytes, written_bytes, optimized_bytes}
+use Rattle.meta_ast.specs.PrintedBytes.{ByPlace, everywhere, enclosed, literal_bytes, one_more, alternatives_bytes, skip_bytes, range_bytes, slice_bytes, predicate_bytes, sequence_bytes, choice_bytes, push_literal_bytes, wrapper_bytes, written_bytes, optimized_bytes}
 use Rattle.meta_ast.proofs.Characters.{encodes-text_of}
 
 -- a text and its bytes; a record, so that both can be found from a proof
@@ -141,6 +141,15 @@ postfix sign h f = f BeforePostfix then signs sign h
 pushed : {a : Place → Text} {x : ByPlace} → AreInBytes a x → IsInBytes (codes "PUSH(" ++ a Alone ++ codes ")") (codes "PUSH(" ++ x.alone ++ codes ")")
 pushed f = signs (codes "PUSH(") refl then f Alone then signs (codes ")") refl
 
+pushed_literal : (s : String Global) → IsInBytes (codes "PUSH_LITERAL(" ++ literal 34 (text_of s) ++ codes ")") (push_literal_bytes s)
+pushed_literal s = signs (codes "PUSH_LITERAL(") refl then itself (literal 34 (text_of s)) then signs (codes ")") refl
+
+tagged : {a : Place → Text} {x : ByPlace} (t : String Global) → AreInBytes a x
+    → IsInBytes (parenthesized (codes "#" ++ text_of t ++ codes " = " ++ a Alone)) (enclosed (codes "#" ++ string_bytes t ++ codes " = " ++ x.alone))
+tagged t f =
+    let tag : IsInBytes (text_of t) (string_bytes t) = record { same = encodes-text_of t } in
+    in_parentheses (signs (codes "#") refl then tag then signs (codes " = ") refl then f Alone)
+
 sequence : {a b : Place → Text} {x y : ByPlace} → AreInBytes a x → AreInBytes b y
     → AreInBytes (λ k. sequence_at k (a Alone ++ codes " ~ " ++ b AfterTilde)) (sequence_bytes x y)
 sequence f g Alone = in_parentheses (f Alone then signs (codes " ~ ") refl then g AfterTilde)
@@ -184,6 +193,8 @@ in_bytes (plain.RepMinMax' p x m n) k =
     all_places k (grouped (in_bytes x BeforePostfix then signs (codes "{") refl then number m then signs (codes ", ") refl then number n then signs (codes "}") refl) (five_behind (written_bytes x).before_postfix (codes "{") (decimal m) (codes ", ") (decimal n) (codes "}")))
 in_bytes (plain.Skip ss) k = all_places k (search_for ss.items)
 in_bytes (plain.Push' p x) k = all_places k (pushed (in_bytes x))
+in_bytes (plain.PushLiteral s) k = all_places k (pushed_literal s)
+in_bytes (plain.NodeTag' p x t) k = all_places k (tagged t (in_bytes x))
 
 optimized_in_bytes : (x : optimized.OptimizedExpr) → AreInBytes (λ k. printed_at k (optimized_expression_of x)) (optimized_bytes x)
 optimized_in_bytes (optimized.Str s) k = all_places k (itself _)
@@ -200,6 +211,8 @@ optimized_in_bytes (optimized.Rep' p x) k = all_places k (postfix (codes "*") re
 optimized_in_bytes (optimized.RepOnce' p x) k = all_places k (postfix (codes "+") refl (optimized_in_bytes x))
 optimized_in_bytes (optimized.Skip ss) k = all_places k (search_for ss.items)
 optimized_in_bytes (optimized.Push' p x) k = all_places k (pushed (optimized_in_bytes x))
+optimized_in_bytes (optimized.PushLiteral s) k = all_places k (pushed_literal s)
+optimized_in_bytes (optimized.NodeTag' p x t) k = all_places k (tagged t (optimized_in_bytes x))
 optimized_in_bytes (optimized.RestoreOnErr' p x) k = wrapper (optimized_in_bytes x) k
 
 pub encodes-printed : (x : plain.Expr) → encode_utf8_all (printed (expression_of x)) ≡ (written_bytes x).alone

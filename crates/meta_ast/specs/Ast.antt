@@ -6,7 +6,7 @@ use Rattle.std.specs.declared.alloc.Global.{Global}
 use Rattle.meta_base.specs.Language.Text.{Text}
 use Rattle.meta_base.specs.Language.Expression.{Expression, RuleType, Rule, Grammar}
 use Rattle.meta_base.specs.Language.Expression as e
-use Rattle.meta_ast.specs.declared.ast.Expr.{Expr, Str, Insens, Range, Ident, PeekSlice, PosPred', NegPred', Seq', Choice', Opt', Rep', RepOnce', RepExact', RepMin', RepMax', RepMinMax', Skip, Push'}
+use Rattle.meta_ast.specs.declared.ast.Expr.{Expr, Str, Insens, Range, Ident, PeekSlice, PosPred', NegPred', Seq', Choice', Opt', Rep', RepOnce', RepExact', RepMin', RepMax', RepMinMax', Skip, Push', PushLiteral, NodeTag'}
 use Rattle.meta_ast.specs.declared.ast.RuleType as code
 use Rattle.meta_ast.specs.declared.ast.RuleType.TheVariants.{Normal, Silent, Atomic, CompoundAtomic, NonAtomic}
 use Rattle.meta_ast.specs.declared.ast.Rule as code_rule
@@ -43,6 +43,8 @@ expression_of (RepMax' p x n) = e.RepMax (expression_of x) n
 expression_of (RepMinMax' p x m n) = e.RepMinMax (expression_of x) m n
 expression_of (Skip ss) = e.Skip (map text_of ss.items)
 expression_of (Push' p x) = e.Push (expression_of x)
+expression_of (PushLiteral s) = e.PushLiteral (text_of s)
+expression_of (NodeTag' p x t) = e.NodeTag (expression_of x) (text_of t)
 
 -- a rule's
 abbrev pub rule_of_code : code_rule.Rule → Rule

@@ -2,7 +2,7 @@
 use Rattle.std.specs.Prelude.{ℕ, ◌+◌, ◌*◌}
 use Rattle.meta_base.specs.Language.Expression as e
 use Rattle.meta_base.specs.Language.Expression.{Expression}
-use Rattle.meta_ast.specs.Ast.{expression_of}
+use Rattle.meta_ast.specs.Ast.{expression_of, text_of}
 use Rattle.meta_ast.specs.Weight.{weight}
 use Rattle.meta_ast.specs.declared.ast.cloned.Sign.{Sign}
 use Rattle.meta_ast.specs.declared.ast.cloned.Sign.TheVariants as sign
@@ -19,6 +19,7 @@ with_operand (sign.RepMin m) x = e.RepMin x m
 with_operand (sign.RepMax n) x = e.RepMax x n
 with_operand (sign.RepMinMax m n) x = e.RepMinMax x m n
 with_operand sign.Push x = e.Push x
+with_operand (sign.NodeTag t) x = e.NodeTag x (text_of t)
 with_operand (sign.FirstOfSeq right) x = e.Seq x (expression_of right.now.value)
 with_operand (sign.FirstOfChoice right) x = e.Choice x (expression_of right.now.value)
 with_operand (sign.SecondOfSeq left) x = e.Seq (expression_of left.value.value) x

@@ -1,12 +1,12 @@
 -- What the walks over expressions of code go by.
 use Rattle.std.specs.Prelude.{List}
 use Rattle.meta_base.specs.Language.Expression.{Expression}
-use Rattle.meta_ast.specs.Ast.{expression_of}
+use Rattle.meta_ast.specs.Ast.{expression_of, text_of}
 use Rattle.meta_ast.specs.TopDownIterators.{waiting}
 use Rattle.meta_ast.specs.Frames as frames
 use Rattle.meta_ast.specs.Frames.{Unary}
 use Rattle.meta_ast.specs.declared.ast.walked.Sign.{Sign}
-use Rattle.meta_ast.specs.declared.ast.walked.Sign.TheVariants.{PosPred, NegPred, Opt, Rep, RepOnce, RepExact, RepMin, RepMax, RepMinMax, Push}
+use Rattle.meta_ast.specs.declared.ast.walked.Sign.TheVariants.{PosPred, NegPred, Opt, Rep, RepOnce, RepExact, RepMin, RepMax, RepMinMax, Push, NodeTag}
 use Rattle.meta_ast.specs.declared.ast.walked.ExprTopDownIterator.{ExprTopDownIterator}
 
 -- the expressions that an iterator has still to give
@@ -24,3 +24,4 @@ unary_of (RepMin i) = frames.RepMin i
 unary_of (RepMax i) = frames.RepMax i
 unary_of (RepMinMax i j) = frames.RepMinMax i j
 unary_of Push = frames.Push
+unary_of (NodeTag t) = frames.NodeTag (text_of t)

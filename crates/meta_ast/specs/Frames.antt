@@ -1,5 +1,6 @@
 -- How a walk takes expressions apart, and what stands round the place where it is.
 use Rattle.std.specs.Prelude.{◌≡◌, ℕ, ◌+◌, ◌*◌, List, [], ◌∷◌, ◌++◌, Result}
+use Rattle.meta_base.specs.Language.Text.{Text}
 use Rattle.meta_base.specs.Language.Expression.{Expression}
 use Rattle.meta_base.specs.Language.Expression as e
 use Rattle.meta_base.specs.declared.runtime.faults.Fault.{Fault}
@@ -26,6 +27,7 @@ pub data Unary : Type 0 where
   RepMax : ℕ → Unary
   RepMinMax : ℕ → ℕ → Unary
   Push : Unary
+  NodeTag : Text → Unary
 
 abbrev pub around : Unary → Expression → Expression
 around PosPred x = e.PosPred x
@@ -38,6 +40,7 @@ around (RepMin i) x = e.RepMin x i
 around (RepMax i) x = e.RepMax x i
 around (RepMinMax i j) x = e.RepMinMax x i j
 around Push x = e.Push x
+around (NodeTag t) x = e.NodeTag x t
 
 abbrev pub joined : Joint → Expression → Expression → Expression
 joined joint.Sequence a b = e.Seq a b

@@ -3,7 +3,7 @@ use Rattle.std.specs.Prelude.{List, map}
 use Rattle.meta_base.specs.Language.Expression.{Expression, Rule, Grammar}
 use Rattle.meta_base.specs.Language.Expression as e
 use Rattle.meta_ast.specs.Ast.{text_of, rule_type_of}
-use Rattle.meta_ast.specs.declared.optimized.OptimizedExpr.{OptimizedExpr, Str, Insens, Range, Ident, PeekSlice, PosPred', NegPred', Seq', Choice', Opt', Rep', RepOnce', Skip, Push', RestoreOnErr'}
+use Rattle.meta_ast.specs.declared.optimized.OptimizedExpr.{OptimizedExpr, Str, Insens, Range, Ident, PeekSlice, PosPred', NegPred', Seq', Choice', Opt', Rep', RepOnce', Skip, Push', PushLiteral, NodeTag', RestoreOnErr'}
 use Rattle.meta_ast.specs.declared.optimized.OptimizedRule.{OptimizedRule}
 
 -- an expression's; the `p` and `q` are where its boxes lie
@@ -22,6 +22,8 @@ optimized_expression_of (Rep' p x) = e.Rep (optimized_expression_of x)
 optimized_expression_of (RepOnce' p x) = e.RepOnce (optimized_expression_of x)
 optimized_expression_of (Skip ss) = e.Skip (map text_of ss.items)
 optimized_expression_of (Push' p x) = e.Push (optimized_expression_of x)
+optimized_expression_of (PushLiteral s) = e.PushLiteral (text_of s)
+optimized_expression_of (NodeTag' p x t) = e.NodeTag (optimized_expression_of x) (text_of t)
 optimized_expression_of (RestoreOnErr' p x) = e.RestoreOnErr (optimized_expression_of x)
 
 -- a rule's

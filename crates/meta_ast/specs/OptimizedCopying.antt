@@ -2,6 +2,7 @@
 use Rattle.std.specs.Prelude.{ℕ, ◌+◌, ◌*◌}
 use Rattle.meta_base.specs.Language.Expression as e
 use Rattle.meta_base.specs.Language.Expression.{Expression}
+use Rattle.meta_ast.specs.Ast.{text_of}
 use Rattle.meta_ast.specs.Optimized.{optimized_expression_of}
 use Rattle.meta_ast.specs.Weight.{weight}
 use Rattle.meta_ast.specs.declared.optimized.cloned.Sign.{Sign}
@@ -15,6 +16,7 @@ with_operand sign.Opt x = e.Opt x
 with_operand sign.Rep x = e.Rep x
 with_operand sign.RepOnce x = e.RepOnce x
 with_operand sign.Push x = e.Push x
+with_operand (sign.NodeTag t) x = e.NodeTag x (text_of t)
 with_operand sign.RestoreOnErr x = e.RestoreOnErr x
 with_operand (sign.FirstOfSeq right) x = e.Seq x (optimized_expression_of right.now.value)
 with_operand (sign.FirstOfChoice right) x = e.Choice x (optimized_expression_of right.now.value)

@@ -1,12 +1,13 @@
 -- What the walks over optimized expressions of code go by.
 use Rattle.std.specs.Prelude.{List}
 use Rattle.meta_base.specs.Language.Expression.{Expression}
+use Rattle.meta_ast.specs.Ast.{text_of}
 use Rattle.meta_ast.specs.Optimized.{optimized_expression_of}
 use Rattle.meta_ast.specs.TopDownIterators.{waiting}
 use Rattle.meta_ast.specs.Frames as frames
 use Rattle.meta_ast.specs.Frames.{Unary}
 use Rattle.meta_ast.specs.declared.optimized.walked.Sign.{Sign}
-use Rattle.meta_ast.specs.declared.optimized.walked.Sign.TheVariants.{PosPred, NegPred, Opt, Rep, RepOnce, Push}
+use Rattle.meta_ast.specs.declared.optimized.walked.Sign.TheVariants.{PosPred, NegPred, Opt, Rep, RepOnce, Push, NodeTag}
 use Rattle.meta_ast.specs.declared.optimized.walked.OptimizedExprTopDownIterator.{OptimizedExprTopDownIterator}
 
 -- the expressions that an iterator has still to give
@@ -20,3 +21,4 @@ optimized_unary_of Opt = frames.Opt
 optimized_unary_of Rep = frames.Rep
 optimized_unary_of RepOnce = frames.RepOnce
 optimized_unary_of Push = frames.Push
+optimized_unary_of (NodeTag t) = frames.NodeTag (text_of t)

@@ -3,7 +3,7 @@ use Rattle.std.specs.Prelude.{◌≡◌, ◌≤◌, ℕ, ◌+◌, ◌*◌, List,
 use Rattle.std.specs.Borrow.{Bor}
 use Rattle.std.specs.Str.{chars}
 use Rattle.meta_ast.specs.Printing.{literal}
-use Rattle.meta_ast.specs.PrintedBytes.{ByPlace, everywhere, skip_bytes, range_bytes, slice_bytes, counts_bytes, predicate_bytes, sequence_bytes, choice_bytes, postfix_bytes, wrapper_bytes}
+use Rattle.meta_ast.specs.PrintedBytes.{ByPlace, everywhere, skip_bytes, range_bytes, slice_bytes, counts_bytes, predicate_bytes, sequence_bytes, choice_bytes, postfix_bytes, tagged_bytes, wrapper_bytes}
 use Rattle.meta_ast.specs.declared.printing.pieces.Leaf.{Leaf}
 use Rattle.meta_ast.specs.declared.printing.pieces.Leaf.TheVariants as leaf
 use Rattle.meta_ast.specs.declared.printing.pieces.Parts.{Parts}
@@ -21,6 +21,7 @@ leaf_bytes (leaf.Range s u) = range_bytes (chars s.now) (chars u.now)
 leaf_bytes (leaf.Ident s) = s.now
 leaf_bytes (leaf.PeekSlice i j) = slice_bytes i j
 leaf_bytes (leaf.Skip ss) = skip_bytes ss.now
+leaf_bytes (leaf.PushLiteral s) = codes "PUSH_LITERAL(" ++ encode_utf8_all (literal 34 (chars s.now)) ++ codes ")"
 
 -- what is written at a place
 abbrev pub bytes_at : Place → ByPlace → List ℕ
@@ -44,6 +45,7 @@ module _ {E : Type 0} (bytes : E → ByPlace) where
   bytes_of_parts (parts.Postfix x sign) = postfix_bytes (bytes x.now.value) sign.now
   bytes_of_parts (parts.Counted x counts) = postfix_bytes (bytes x.now.value) (counts_bytes counts)
   bytes_of_parts (parts.Push x) = everywhere (codes "PUSH(" ++ (bytes x.now.value).alone ++ codes ")")
+  bytes_of_parts (parts.Tag tag x) = tagged_bytes tag.now (bytes x.now.value)
   bytes_of_parts (parts.Wrapper x) = wrapper_bytes (bytes x.now.value)
 
   abbrev pub piece_bytes : Piece E → List ℕ
@@ -66,6 +68,7 @@ module _ {E : Type 0} (heft : E → ℕ) where
   heft_of_parts (parts.Postfix x sign) = heft x.now.value
   heft_of_parts (parts.Counted x counts) = heft x.now.value
   heft_of_parts (parts.Push x) = heft x.now.value
+  heft_of_parts (parts.Tag tag x) = heft x.now.value
   heft_of_parts (parts.Wrapper x) = heft x.now.value
 
   abbrev pub piece_load : Piece E → ℕ

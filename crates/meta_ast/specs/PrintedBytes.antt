@@ -81,6 +81,14 @@ counts_bytes (counts.AtLeast m) = codes "{" ++ decimal m ++ codes ",}"
 counts_bytes (counts.AtMost n) = codes "{," ++ decimal n ++ codes "}"
 counts_bytes (counts.Between m n) = codes "{" ++ decimal m ++ codes ", " ++ decimal n ++ codes "}"
 
+-- what pushes a text itself
+abbrev pub push_literal_bytes : String Global → List ℕ
+push_literal_bytes s = codes "PUSH_LITERAL(" ++ literal_bytes s ++ codes ")"
+
+-- what is under a tag
+abbrev pub tagged_bytes : List ℕ → ByPlace → ByPlace
+tagged_bytes tag x = everywhere (enclosed (codes "#" ++ tag ++ codes " = " ++ x.alone))
+
 -- what a wrapper holds
 abbrev pub wrapper_bytes : ByPlace → ByPlace
 wrapper_bytes x =
@@ -106,6 +114,8 @@ written_bytes (plain.RepMax' p x n) = postfix_bytes (written_bytes x) (counts_by
 written_bytes (plain.RepMinMax' p x m n) = postfix_bytes (written_bytes x) (counts_bytes (counts.Between m n))
 written_bytes (plain.Skip ss) = everywhere (skip_bytes ss.items)
 written_bytes (plain.Push' p x) = everywhere (codes "PUSH(" ++ (written_bytes x).alone ++ codes ")")
+written_bytes (plain.PushLiteral s) = everywhere (push_literal_bytes s)
+written_bytes (plain.NodeTag' p x t) = tagged_bytes (string_bytes t) (written_bytes x)
 
 -- an optimized expression
 abbrev pub optimized_bytes : optimized.OptimizedExpr → ByPlace
@@ -123,4 +133,6 @@ optimized_bytes (optimized.Rep' p x) = postfix_bytes (optimized_bytes x) (codes 
 optimized_bytes (optimized.RepOnce' p x) = postfix_bytes (optimized_bytes x) (codes "+")
 optimized_bytes (optimized.Skip ss) = everywhere (skip_bytes ss.items)
 optimized_bytes (optimized.Push' p x) = everywhere (codes "PUSH(" ++ (optimized_bytes x).alone ++ codes ")")
+optimized_bytes (optimized.PushLiteral s) = everywhere (push_literal_bytes s)
+optimized_bytes (optimized.NodeTag' p x t) = tagged_bytes (string_bytes t) (optimized_bytes x)
 optimized_bytes (optimized.RestoreOnErr' p x) = wrapper_bytes (optimized_bytes x)

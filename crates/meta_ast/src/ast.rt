@@ -80,4 +80,8 @@ pub enum Expr {
     Skip(Vec<String>),
     /// The expression, whose text then lies on the stack: `PUSH(e)`.
     Push(Box<Expr>),
+    /// Pushes the text onto the stack, and takes nothing: `PUSH_LITERAL("a")`.
+    PushLiteral(String),
+    /// The expression under a tag, without the `#`; it means what the expression means: `#tag = e`.
+    NodeTag(Box<Expr>, String),
 }

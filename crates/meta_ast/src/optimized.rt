@@ -54,6 +54,10 @@ pub enum OptimizedExpr {
     Skip(Vec<String>),
     /// The expression, whose text then lies on the stack: `PUSH(e)`.
     Push(Box<OptimizedExpr>),
+    /// Pushes the text onto the stack, and takes nothing: `PUSH_LITERAL("a")`.
+    PushLiteral(String),
+    /// The expression under a tag, without the `#`; it means what the expression means: `#tag = e`.
+    NodeTag(Box<OptimizedExpr>, String),
     /// The expression; where it fails, the stack is as it was before.
     RestoreOnErr(Box<OptimizedExpr>),
 }

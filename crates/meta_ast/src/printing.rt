@@ -138,6 +138,16 @@ pub(crate) fn fmt_skip<W: fmt::Write>(f: &mut fmt::Formatter<W>, texts: &[String
     f.write_str(") ~ ANY)*")
 }
 
+// Writes what pushes a text itself: `PUSH_LITERAL("a")`.
+pub(crate) fn fmt_push_literal<W: fmt::Write>(f: &mut fmt::Formatter<W>, text: &str) -> fmt::Result
+    ensures { WritesOnOk W.write_str_gives f.old result
+        (codes "PUSH_LITERAL(" ++ encode_utf8_all (literal 34 (chars text.now)) ++ codes ")") f.new }
+{
+    f.write_str("PUSH_LITERAL(")?;
+    fmt_literal(f, text, '"')?;
+    f.write_str(")")
+}
+
 // Writes texts as literals with bars between them.
 fn fmt_alternatives<W: fmt::Write>(f: &mut fmt::Formatter<W>, texts: &[String]) -> fmt::Result
     ensures { WritesOnOk W.write_str_gives f.old result (alternatives_bytes texts.now) f.new }

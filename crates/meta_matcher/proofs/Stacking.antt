@@ -11,11 +11,11 @@ use Rattle.std.proofs.lemmas.Str.{chars-append}
 use Rattle.std.proofs.lemmas.List.{length-append, take-append-drop, drop-drop, length-drop}
 use Rattle.std.proofs.Math.Seq.{take-append_seam}
 use Rattle.meta_base.specs.Language.State.{Classes, Mode, State, None', Outcome, Success, moved}
-use Rattle.meta_base.specs.Language.Expression.{Expression, Grammar, Ident, Insens, PeekSlice, Push, Skip, rule_of}
+use Rattle.meta_base.specs.Language.Expression.{Expression, Grammar, Ident, Insens, PeekSlice, Push, PushLiteral, Skip, rule_of}
 use Rattle.meta_base.specs.Language.Text.{Text}
 use Rattle.meta_base.specs.Language.Builtins.{Builtin, Eoi, Newline, Peek, PeekAll, Pop, PopAll, Property, Drop, builtin_of, builtins}
 use Rattle.meta_base.specs.Language.Matching.{builtin_outcome, character_outcome, concatenated, distance, newline_outcome, slice_outcome, text_outcome, with_stack, peek_outcome, pop_outcome, drop_outcome}
-use Rattle.meta_base.specs.Language.Meaning.{Run, insens, push, pushed, seen_from, skip, slice}
+use Rattle.meta_base.specs.Language.Meaning.{Run, insens, push, push_literal, pushed, seen_from, skip, slice}
 use Rattle.meta_base.specs.Language.FurthestFailure.{is_eoi}
 use Rattle.meta_base.specs.Language.Ran.{Ran}
 use Rattle.meta_base.proofs.Steps.{ran_quietly}
@@ -154,6 +154,14 @@ taken_chars text rest after taken l k s e u =
 
 ran_push : {g : Grammar} {classes : Classes} {m : Mode} {e : Expression} {s : State} {o : Outcome} {p q : ℕ} → Ran g classes (Run m e) s o p q → Ran g classes (Run m (Push e)) s (pushed s o) p q
 ran_push x = record { found = push x.found; noted = x.noted }
+
+-- a literal push
+pub finds_literal_push : (g : Setting) (m : Mode) (t : Text) (text rest : List ℕ) (a c : Now) → c.entries ≡ a.entries → c.furthest ≡ a.furthest → c.stack ≡ t ∷ a.stack → Finds g (Run m (PushLiteral t)) text rest a c rest
+finds_literal_push g m t text rest a c ce cf cs = record {
+  trees = None';
+  added = ce ∙ not_grown a.entries;
+  ran = λ classes fits. rw (cf, cs) (record { found = push_literal; noted = omega arith });
+}
 
 pub fails_push : {g : Setting} {m : Mode} {e : Expression} {text rest : List ℕ} {a b : Now} → Fails g (Run m e) text rest a b → Fails g (Run m (Push e)) text rest a b
 fails_push f = record { kept = f.kept; same = f.same; ran = λ classes fits. ran_push (f.ran classes fits) }

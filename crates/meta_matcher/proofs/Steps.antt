@@ -4,11 +4,11 @@ use Rattle.std.specs.Prelude.{chars, IsUtf8}
 use Rattle.std.proofs.lemmas.List.{length-drop, length-map, get_or-map}
 use Rattle.std.specs.Borrow.{Bor}
 use Rattle.meta_base.specs.Language.State.{Classes, Mode, NonAtomicMode, Between, State, Trees, None', joined, Outcome, Success, Failure}
-use Rattle.meta_base.specs.Language.Expression.{Grammar, Expression, Ident, NegPred, PosPred, Opt, Seq, Choice, Rep, RepOnce, RestoreOnErr, Rule, rule_of, whitespace, comment}
+use Rattle.meta_base.specs.Language.Expression.{Grammar, Expression, Ident, NegPred, PosPred, Opt, Seq, Choice, Rep, RepOnce, NodeTag, RestoreOnErr, Rule, rule_of, whitespace, comment}
 use Rattle.meta_base.specs.Language.Text.{Text}
 use Rattle.meta_base.specs.Language.Builtins.{Builtin, One, Soi, Eoi, builtin_of, builtins}
 use Rattle.meta_base.specs.Language.Matching.{character_outcome, other_outcome, builtin_outcome, end_outcome, with_stack}
-use Rattle.meta_base.specs.Language.Meaning.{Task, Run, Turns, Skipping, restore, body_mode, mode_in, gives_token, seen_from, with_token}
+use Rattle.meta_base.specs.Language.Meaning.{Task, Run, Turns, Skipping, restore, tag, body_mode, mode_in, gives_token, seen_from, with_token}
 use Rattle.meta_base.specs.Language.FurthestFailure.{place_of, is_eoi}
 use Rattle.meta_base.specs.Language.Ran.{Ran}
 use Rattle.meta_base.proofs.Steps.{after_trees, after_assoc, after_none, joined_nil, ran_other, ran_quietly, ran_call, ran_ahead, ran_not_ahead, ran_opt, ran_opt_none, ran_seq_fails, ran_seq, ran_left, ran_right, ran_rep_none, ran_rep, ran_rep_once, ran_turns_end, ran_turns_more, ran_more, ran_skips, ran_atomic, ran_compound_atomic, ran_between, ran_blank}
@@ -91,6 +91,9 @@ module _ {g : Grammar} {classes : Classes} where
 
   pub ran_not_end : (m : mode.Mode) {s : State} {p q : ℕ} (sees : Bool) → rule_of g (codes "EOI") ≡ None → Failure ≡ end_outcome (mode_of m) s.rest s → sees ≡ seen_from (mode_of m) → q ≡ max p (if sees then s.position else 0) → Ran g classes (Run (mode_of m) (Ident (codes "EOI"))) s Failure p q
   ran_not_end m sees u e h n = ran_eoi m u e (rw (← h) n)
+
+  ran_tag : {m : Mode} {e : Expression} {t : Text} {s : State} {o : Outcome} {p q : ℕ} → Ran g classes (Run m e) s o p q → Ran g classes (Run m (NodeTag e t)) s o p q
+  ran_tag x = record { found = tag x.found; noted = x.noted }
 
   ran_restore : {m : Mode} {e : Expression} {s : State} {o : Outcome} {p q : ℕ} → Ran g classes (Run m e) s o p q → Ran g classes (Run m (RestoreOnErr e)) s o p q
   ran_restore x = record { found = restore x.found; noted = x.noted }
@@ -216,6 +219,12 @@ module _ {g : Setting} {m : Mode} {x : Expression} {text rest : List ℕ} {a b :
 
   pub fails_ahead : Fails g (Run m x) text rest a b → Fails g (Run m (PosPred x)) text rest a b
   fails_ahead f = record { kept = f.kept; same = f.same; ran = λ classes fits. ran_ahead (f.ran classes fits) }
+
+  pub finds_tagged : {s : List ℕ} {t : Text} → Finds g (Run m x) text rest a b s → Finds g (Run m (NodeTag x t)) text rest a b s
+  finds_tagged f = finds_as (λ classes s o p q r. ran_tag r) f
+
+  pub fails_tagged : {t : Text} → Fails g (Run m x) text rest a b → Fails g (Run m (NodeTag x t)) text rest a b
+  fails_tagged f = fails_as (λ classes s o p q r. ran_tag r) f
 
   pub finds_restored : {s : List ℕ} → Finds g (Run m x) text rest a b s → Finds g (Run m (RestoreOnErr x)) text rest a b s
   finds_restored f = finds_as (λ classes s o p q r. ran_restore r) f

@@ -75,6 +75,8 @@ module _ (names : List Text) where
   expression_of (form.RepOnce' p a) = spec.RepOnce (expression_of a)
   expression_of (form.Skip ss) = spec.Skip (map text_of ss.items)
   expression_of (form.Push' p a) = spec.Push (expression_of a)
+  expression_of (form.PushLiteral s) = spec.PushLiteral (text_of s)
+  expression_of (form.Tag' p a t) = spec.NodeTag (expression_of a) (text_of t)
   expression_of (form.Restore' p a) = spec.RestoreOnErr (expression_of a)
   expression_of form.Peek = spec.Ident (codes "PEEK")
   expression_of form.Pop = spec.Ident (codes "POP")
@@ -132,6 +134,7 @@ IsBound g names ps (form.Opt' p a) = IsBound g names ps a
 IsBound g names ps (form.Rep' p a) = IsBound g names ps a
 IsBound g names ps (form.RepOnce' p a) = IsBound g names ps a
 IsBound g names ps (form.Push' p a) = IsBound g names ps a
+IsBound g names ps (form.Tag' p a t) = IsBound g names ps a
 IsBound g names ps (form.Restore' p a) = IsBound g names ps a
 IsBound g names ps form.Peek = rule_of g (codes "PEEK") ≡ None
 IsBound g names ps form.Pop = rule_of g (codes "POP") ≡ None

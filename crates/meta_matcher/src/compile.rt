@@ -256,6 +256,11 @@ fn form_of(
         OptimizedExpr::RepOnce(inner) => Ok(Form::RepOnce(boxed(alloc, rules, properties, inner)?)),
         OptimizedExpr::Skip(texts) => Ok(Form::Skip(copy_texts(texts)?)),
         OptimizedExpr::Push(inner) => Ok(Form::Push(boxed(alloc, rules, properties, inner)?)),
+        OptimizedExpr::PushLiteral(text) => Ok(Form::PushLiteral(text.clone()?)),
+        OptimizedExpr::NodeTag(inner, tag) => {
+            let tag = tag.clone()?;
+            Ok(Form::Tag(boxed(alloc, rules, properties, inner)?, tag))
+        }
         OptimizedExpr::RestoreOnErr(inner) => Ok(Form::Restore(boxed(
             alloc, rules, properties, inner,
         )?)),

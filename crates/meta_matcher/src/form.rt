@@ -40,6 +40,9 @@ pub enum Form {
     RepOnce(Box<Form>),
     Skip(Vec<String>),
     Push(Box<Form>),
+    PushLiteral(String),
+    /// What is tagged, with its tag.
+    Tag(Box<Form>, String),
     Restore(Box<Form>),
     Peek,
     Pop,

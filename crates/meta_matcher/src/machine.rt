@@ -1,7 +1,7 @@
 //! The interpreter of compiled rules.
 ghost use Rattle.std.specs.Prelude.{◌≡◌, ℕ, List, IfOk, IfSome, OnOk, [], true, false, None, Some, codes, chars, length, ◌≤◌, ◌<◌, ◌+◌};
 ghost use Rattle.meta_ast.specs.Ast.{text_of};
-ghost use Rattle.meta_base.specs.Language.Expression.{Choice, Ident, NegPred, PosPred, Opt, PeekSlice, Rep, RepOnce, Seq, Push, RestoreOnErr, comment, whitespace, rule_of};
+ghost use Rattle.meta_base.specs.Language.Expression.{Choice, Ident, NegPred, NodeTag, PosPred, Opt, PeekSlice, Rep, RepOnce, Seq, Push, PushLiteral, RestoreOnErr, comment, whitespace, rule_of};
 ghost use Rattle.meta_base.specs.Language.Meaning.{Run, Skipping, Turns};
 ghost use Rattle.meta_base.specs.Language.State.{Between};
 ghost use Rattle.meta_base.specs.Language.Text.{Text};
@@ -247,6 +247,26 @@ impl<'a> Machine<'a> {
         Ok(slice(&texts, from, to, rest))
     }
 
+    /// Puts a text on the stack.
+    fn push_text(
+        &mut self,
+        scene: &Scene<'a>,
+        pushed_text: &'a String,
+        mode: Mode,
+        rest: &'a str,
+    ) -> Result<Option<&'a str>, Stop>
+        requires left { IsLeft scene.now.text.now rest.now }
+        ensures goes_on { IfOk result (Progress scene.entry.now.text.now rest.entry.now) }
+        ensures means { IfOk result
+            (GivesIn scene.entry.now (Run (mode_of mode) (PushLiteral (text_of pushed_text.entry.now)))
+            rest.entry.now self.old self.new) }
+    {
+        let alloc = *self.entries.allocator();
+        let below = shared(&self.stack)?;
+        self.stack = pushed(alloc, pushed_text.as_str(), below)?;
+        Ok(Some(rest))
+    }
+
     /// Runs a form on what is left of the text. The answer is what is left after it, or `None`
     /// where it fails. The entries of its trees are then written, or none.
     #[inline(always)]
@@ -300,6 +320,8 @@ impl<'a> Machine<'a> {
             Form::PosPred(body) => self.lookahead(scene, body, mode, rest, depth),
             Form::Restore(body) => self.restored(scene, body, mode, rest, depth),
             Form::Push(body) => self.pushing(scene, body, mode, rest, depth),
+            Form::PushLiteral(text) => self.push_text(scene, text, mode, rest),
+            Form::Tag(body, tag) => self.tagged(scene, body, tag, mode, rest, depth),
             Form::Insens(literally) => Ok(insens(literally.as_str(), rest)),
             Form::Newline => Ok(newline(rest)),
             Form::Property(_, number) => {
@@ -336,6 +358,34 @@ impl<'a> Machine<'a> {
             (Run (mode_of mode) (RestoreOnErr (said scene.entry.now body.entry.now)))
             rest.entry.now self.old self.new) }
     {
+        match self.run(scene, body, mode, rest, depth)? {
+            Some(after) => Ok(Some(after)),
+            None => Ok(None),
+        }
+    }
+
+    /// The form under a tag, which means what the form means.
+    #[inline(never)]
+    #[cycle(machine)]
+    fn tagged(
+        &mut self,
+        scene: &Scene<'a>,
+        body: &'a Form,
+        tag: &'a String,
+        mode: Mode,
+        rest: &'a str,
+        depth: usize,
+    ) -> Result<Option<&'a str>, Stop>
+        requires sound { IsSoundIn scene.now }
+        requires bound { IsBoundIn scene.now body.now }
+        requires left { IsLeft scene.now.text.now rest.now }
+        ensures goes_on { IfOk result (Progress scene.entry.now.text.now rest.entry.now) }
+        ensures means { IfOk result
+            (GivesIn scene.entry.now
+            (Run (mode_of mode) (NodeTag (said scene.entry.now body.entry.now) (text_of tag.entry.now)))
+            rest.entry.now self.old self.new) }
+    {
+        let _ = tag;
         match self.run(scene, body, mode, rest, depth)? {
             Some(after) => Ok(Some(after)),
             None => Ok(None),

@@ -39,11 +39,13 @@ fn add_names<'a>(names: &mut Vec<&'a str>, expr: &'a OptimizedExpr) -> Result<()
         | OptimizedExpr::Insens(_)
         | OptimizedExpr::Range(_, _)
         | OptimizedExpr::PeekSlice(_, _)
-        | OptimizedExpr::Skip(_) => Ok(()),
+        | OptimizedExpr::Skip(_)
+        | OptimizedExpr::PushLiteral(_) => Ok(()),
         OptimizedExpr::Seq(left, right) | OptimizedExpr::Choice(left, right) => {
             add_names(names, left)?;
             add_names(names, right)
         }
+        OptimizedExpr::NodeTag(inner, _) => add_names(names, inner),
         OptimizedExpr::PosPred(inner)
         | OptimizedExpr::NegPred(inner)
         | OptimizedExpr::Opt(inner)

@@ -1,5 +1,6 @@
 -- What stands around an operand of an expression that is copied.
 use Rattle.std.specs.Prelude.{ℕ, ◌+◌}
+use Rattle.meta_ast.specs.Ast.{text_of}
 use Rattle.meta_nodes.specs.Nodes.{piece_of, view}
 use Rattle.meta_nodes.specs.Spanned as spanned
 use Rattle.meta_nodes.specs.Spanned.{Span, Spanned, One, Two}
@@ -21,6 +22,7 @@ signed (sign.RepMin m) t x = One t (spanned.RepMin m) x
 signed (sign.RepMax n) t x = One t (spanned.RepMax n) x
 signed (sign.RepMinMax m n) t x = One t (spanned.RepMinMax m n) x
 signed sign.Push t x = One t spanned.Push x
+signed (sign.NodeTag u) t x = One t (spanned.Tag (text_of u)) x
 signed (sign.FirstOfSeq right) t x = Two t spanned.Seq x (view right.now.value)
 signed (sign.FirstOfChoice right) t x = Two t spanned.Choice x (view right.now.value)
 signed (sign.SecondOfSeq left) t x = Two t spanned.Seq (view left.value.value) x
@@ -44,6 +46,7 @@ steps_of (is.RepMin' p e s m) = steps_of e + 2
 steps_of (is.RepMax' p e s n) = steps_of e + 2
 steps_of (is.RepMinMax' p e s m n) = steps_of e + 2
 steps_of (is.Push' p e s) = steps_of e + 2
+steps_of (is.NodeTag' p e s t) = steps_of e + 2
 steps_of _ = 0
 
 -- how many there are to be done once the operand is copied

@@ -2,7 +2,7 @@
 use Rattle.std.specs.Prelude.{ℕ, ◌+◌, ◌*◌}
 use Rattle.meta_base.specs.Language.Expression as e
 use Rattle.meta_base.specs.Language.Expression.{Expression}
-use Rattle.meta_ast.specs.Ast.{expression_of}
+use Rattle.meta_ast.specs.Ast.{expression_of, text_of}
 use Rattle.meta_ast.specs.Weight.{weight}
 use Rattle.meta_nodes.specs.Erasure.{without_spans}
 use Rattle.meta_nodes.specs.Nodes.{view}
@@ -21,6 +21,7 @@ with_operand (around.RepMin m) x = e.RepMin x m
 with_operand (around.RepMax n) x = e.RepMax x n
 with_operand (around.RepMinMax m n) x = e.RepMinMax x m n
 with_operand around.Push x = e.Push x
+with_operand (around.NodeTag t) x = e.NodeTag x (text_of t)
 with_operand (around.FirstOfSeq right) x = e.Seq x (without_spans (view right.value))
 with_operand (around.FirstOfChoice right) x = e.Choice x (without_spans (view right.value))
 with_operand (around.SecondOfSeq left) x = e.Seq (expression_of left.value.value) x

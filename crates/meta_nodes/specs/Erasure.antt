@@ -17,6 +17,7 @@ round (spanned.RepMin m) e = plain.RepMin e m
 round (spanned.RepMax n) e = plain.RepMax e n
 round (spanned.RepMinMax m n) e = plain.RepMinMax e m n
 round spanned.Push e = plain.Push e
+round (spanned.Tag t) e = plain.NodeTag e t
 
 -- what stands between two operands, between two expressions
 abbrev pub between : Binary → Expression → Expression → Expression

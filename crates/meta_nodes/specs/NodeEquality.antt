@@ -8,7 +8,7 @@ use Rattle.std.proofs.lemmas.Bool.{false≢true, and_parts, and_from}
 use Rattle.meta_base.specs.Language.Text.{Text}
 use Rattle.meta_base.specs.Language.Expression.{RuleType}
 use Rattle.meta_base.specs.Rewritings.Equality.{text_eq, text_eq-Decides, expression_eq, expression_eq-Decides, rule_type_eq, rule_type_eq-Decides, deciding_equiv}
-use Rattle.meta_nodes.specs.Spanned.{Span, Unary, PosPred, NegPred, Opt, Rep, RepOnce, RepExact, RepMin, RepMax, RepMinMax, Push, Binary, Seq, Choice, Spanned, Leaf, One, Two, SpannedRule}
+use Rattle.meta_nodes.specs.Spanned.{Span, Unary, PosPred, NegPred, Opt, Rep, RepOnce, RepExact, RepMin, RepMax, RepMinMax, Push, Tag, Binary, Seq, Choice, Spanned, Leaf, One, Two, SpannedRule}
 
 -- the same text, start and end
 abbrev pub span_eq : Span → Span → Bool
@@ -25,6 +25,7 @@ unary_eq (RepMin i) (RepMin j) = nat_eq i j
 unary_eq (RepMax i) (RepMax j) = nat_eq i j
 unary_eq (RepMinMax i k) (RepMinMax j l) = nat_eq i j && nat_eq k l
 unary_eq Push Push = true
+unary_eq (Tag t) (Tag u) = text_eq t u
 unary_eq _ _ = false
 
 abbrev pub binary_eq : Binary → Binary → Bool
@@ -80,6 +81,7 @@ equal_unaries (RepMax i) (RepMax j) h = ap RepMax ((unsigned_Decides i j).0 h)
 equal_unaries (RepMinMax i k) (RepMinMax j l) h =
     let (p, q) = and_parts _ _ h in ap₂ RepMinMax ((unsigned_Decides i j).0 p) ((unsigned_Decides k l).0 q)
 equal_unaries Push Push h = refl
+equal_unaries (Tag t) (Tag u) h = ap Tag ((text_eq-Decides t u).0 h)
 equal_unaries _ _ h = absurd (false≢true h)
 
 unary_itself : (f : Unary) → unary_eq f f ≡ true
@@ -93,6 +95,7 @@ unary_itself (RepMin i) = same_number i
 unary_itself (RepMax i) = same_number i
 unary_itself (RepMinMax i j) = and_from _ _ (same_number i) (same_number j)
 unary_itself Push = refl
+unary_itself (Tag t) = same_text t
 
 equal_binaries : (f g : Binary) → binary_eq f g ≡ true → f ≡ g
 equal_binaries Seq Seq h = refl

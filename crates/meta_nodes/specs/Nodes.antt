@@ -30,6 +30,8 @@ view_at t (is.RepMin' p e s m) = One t (spanned.RepMin m) (view_at (piece_of s) 
 view_at t (is.RepMax' p e s n) = One t (spanned.RepMax n) (view_at (piece_of s) e)
 view_at t (is.RepMinMax' p e s m n) = One t (spanned.RepMinMax m n) (view_at (piece_of s) e)
 view_at t (is.Push' p e s) = One t spanned.Push (view_at (piece_of s) e)
+view_at t (is.PushLiteral s) = Leaf t (plain.PushLiteral (text_of s))
+view_at t (is.NodeTag' p e s u) = One t (spanned.Tag (text_of u)) (view_at (piece_of s) e)
 
 -- a node of code
 abbrev pub view : ParserNode → Spanned

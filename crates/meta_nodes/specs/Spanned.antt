@@ -16,6 +16,7 @@ pub data Unary : Type 0 where
   RepMax : ℕ → Unary
   RepMinMax : ℕ → ℕ → Unary
   Push : Unary
+  Tag : Text → Unary
 
 -- what stands between two operands
 pub data Binary : Type 0 where

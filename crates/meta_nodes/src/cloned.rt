@@ -72,6 +72,7 @@ enum Sign<'n, 'i> {
     RepMax(u32),
     RepMinMax(u32, u32),
     Push,
+    NodeTag(String),
     /// A `~` whose left side is copied, and the right one.
     FirstOfSeq(&'n Box<ParserNode<'i>>),
     /// The same of a `|`.
@@ -114,6 +115,7 @@ impl<'n, 'i> Rebuild for Around<'n, 'i> {
                 return Ok(Step::Made(E::Range(first.clone()?, last.clone()?)));
             }
             E::Ident(name) => return Ok(Step::Made(E::Ident(name.clone()?))),
+            E::PushLiteral(text) => return Ok(Step::Made(E::PushLiteral(text.clone()?))),
             E::PeekSlice(start, end) => return Ok(Step::Made(E::PeekSlice(*start, *end))),
             E::PosPred(inner) => (Sign::PosPred, inner),
             E::NegPred(inner) => (Sign::NegPred, inner),
@@ -125,6 +127,7 @@ impl<'n, 'i> Rebuild for Around<'n, 'i> {
             E::RepMax(inner, greatest) => (Sign::RepMax(*greatest), inner),
             E::RepMinMax(inner, least, greatest) => (Sign::RepMinMax(*least, *greatest), inner),
             E::Push(inner) => (Sign::Push, inner),
+            E::NodeTag(inner, tag) => (Sign::NodeTag(tag.clone()?), inner),
             E::Seq(left, right) => (Sign::FirstOfSeq(right), left),
             E::Choice(left, right) => (Sign::FirstOfChoice(right), left),
         };
@@ -160,6 +163,7 @@ impl<'n, 'i> Rebuild for Around<'n, 'i> {
             Sign::RepMax(greatest) => E::RepMax(copy, greatest),
             Sign::RepMinMax(least, greatest) => E::RepMinMax(copy, least, greatest),
             Sign::Push => E::Push(copy),
+            Sign::NodeTag(tag) => E::NodeTag(copy, tag),
             Sign::SecondOfSeq(left) => E::Seq(left.into_inner(), copy),
             Sign::SecondOfChoice(left) => E::Choice(left.into_inner(), copy),
         };

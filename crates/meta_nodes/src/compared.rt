@@ -95,6 +95,7 @@ fn allocator_of(expr: &ParserExpr<'_>) -> Option<Global> {
         E::Rep(inner) | E::RepOnce(inner) | E::Push(inner) => Some(*Box::allocator(inner)),
         E::RepExact(inner, _) | E::RepMin(inner, _) => Some(*Box::allocator(inner)),
         E::RepMax(inner, _) | E::RepMinMax(inner, _, _) => Some(*Box::allocator(inner)),
+        E::NodeTag(inner, _) => Some(*Box::allocator(inner)),
         E::Seq(left, _) | E::Choice(left, _) => Some(*Box::allocator(left)),
         _ => None,
     }
@@ -156,6 +157,13 @@ fn equal_outside<'n, 'i>(
             others.push(Both { first, second })?;
             Ok(true)
         }
+        (E::NodeTag(first, s), E::NodeTag(second, t)) => {
+            if !same_text(s, t) {
+                return Ok(false);
+            }
+            others.push(Both { first, second })?;
+            Ok(true)
+        }
         (E::Seq(first, x), E::Seq(second, y)) | (E::Choice(first, x), E::Choice(second, y)) => {
             others.push(Both {
                 first: x,
@@ -183,9 +191,10 @@ fn same_expr(a: &ParserExpr<'_>, b: &ParserExpr<'_>) -> bool
 {
     use ParserExpr as E;
     match (a, b) {
-        (E::Str(s), E::Str(t)) | (E::Insens(s), E::Insens(t)) | (E::Ident(s), E::Ident(t)) => {
-            same_text(s, t)
-        }
+        (E::Str(s), E::Str(t))
+        | (E::Insens(s), E::Insens(t))
+        | (E::Ident(s), E::Ident(t))
+        | (E::PushLiteral(s), E::PushLiteral(t)) => same_text(s, t),
         (E::Range(s, u), E::Range(t, v)) => same_text(s, t) && same_text(u, v),
         (E::PeekSlice(i, j), E::PeekSlice(k, l)) => i == k && j == l,
         (E::PosPred(x), E::PosPred(y))
@@ -194,6 +203,7 @@ fn same_expr(a: &ParserExpr<'_>, b: &ParserExpr<'_>) -> bool
         | (E::Rep(x), E::Rep(y))
         | (E::RepOnce(x), E::RepOnce(y))
         | (E::Push(x), E::Push(y)) => same(x, y),
+        (E::NodeTag(x, s), E::NodeTag(y, t)) => same_text(s, t) && same(x, y),
         (E::Seq(x, y), E::Seq(z, w)) | (E::Choice(x, y), E::Choice(z, w)) => {
             same(x, z) && same(y, w)
         }

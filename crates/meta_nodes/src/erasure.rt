@@ -55,6 +55,7 @@ enum Around<'i> {
     RepMax(u32),
     RepMinMax(u32, u32),
     Push,
+    NodeTag(String),
     /// A `~` whose left side is at hand, and the right one.
     FirstOfSeq(Deep<ParserNode<'i>>),
     /// The same of a `|`.
@@ -93,6 +94,7 @@ impl<'i> Rebuild for Around<'i> {
             E::Insens(text) => return Ok(Step::Made(Expr::Insens(text))),
             E::Range(first, last) => return Ok(Step::Made(Expr::Range(first, last))),
             E::Ident(name) => return Ok(Step::Made(Expr::Ident(name))),
+            E::PushLiteral(text) => return Ok(Step::Made(Expr::PushLiteral(text))),
             E::PeekSlice(start, end) => return Ok(Step::Made(Expr::PeekSlice(start, end))),
             E::PosPred(inner) => (Around::PosPred, inner),
             E::NegPred(inner) => (Around::NegPred, inner),
@@ -104,6 +106,7 @@ impl<'i> Rebuild for Around<'i> {
             E::RepMax(inner, greatest) => (Around::RepMax(greatest), inner),
             E::RepMinMax(inner, least, greatest) => (Around::RepMinMax(least, greatest), inner),
             E::Push(inner) => (Around::Push, inner),
+            E::NodeTag(inner, tag) => (Around::NodeTag(tag), inner),
             E::Seq(left, right) => {
                 let value = Box::into_inner(right);
                 (Around::FirstOfSeq(Deep { value }), left)
@@ -141,6 +144,7 @@ impl<'i> Rebuild for Around<'i> {
             Around::RepMax(greatest) => Expr::RepMax(operand, greatest),
             Around::RepMinMax(least, greatest) => Expr::RepMinMax(operand, least, greatest),
             Around::Push => Expr::Push(operand),
+            Around::NodeTag(tag) => Expr::NodeTag(operand, tag),
             Around::SecondOfSeq(left) => Expr::Seq(left.into_inner(), operand),
             Around::SecondOfChoice(left) => Expr::Choice(left.into_inner(), operand),
         };

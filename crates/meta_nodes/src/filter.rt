@@ -104,7 +104,8 @@ fn push_operands<'n, 'i>(
         | ParserExpr::RepMin(inner, _)
         | ParserExpr::RepMax(inner, _)
         | ParserExpr::RepMinMax(inner, _, _)
-        | ParserExpr::Push(inner) => stack.push(inner)?,
+        | ParserExpr::Push(inner)
+        | ParserExpr::NodeTag(inner, _) => stack.push(inner)?,
         ParserExpr::Seq(left, right) | ParserExpr::Choice(left, right) => {
             stack.push(right)?;
             stack.push(left)?;

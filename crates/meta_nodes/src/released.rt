@@ -42,7 +42,7 @@ impl<'i> Release for ParserExpr<'i> {
         'parts: loop {
             match rest {
                 E::Str(_) | E::Insens(_) | E::Ident(_) => return,
-                E::Range(_, _) | E::PeekSlice(_, _) => return,
+                E::Range(_, _) | E::PeekSlice(_, _) | E::PushLiteral(_) => return,
                 E::PosPred(inner) | E::NegPred(inner) | E::Opt(inner) => {
                     rest = Box::into_inner(inner).expr;
                 }
@@ -53,6 +53,7 @@ impl<'i> Release for ParserExpr<'i> {
                     rest = Box::into_inner(inner).expr;
                 }
                 E::RepMinMax(inner, _, _) => rest = Box::into_inner(inner).expr,
+                E::NodeTag(inner, _tag) => rest = Box::into_inner(inner).expr,
                 E::Seq(left, right) | E::Choice(left, right) => rest = leaned(left, right),
             }
         }
@@ -87,6 +88,7 @@ fn leaned<'i>(mut left: Box<ParserNode<'i>>, right: Box<ParserNode<'i>>) -> Pars
         | E::RepMax(inner, _)
         | E::RepMinMax(inner, _, _)
         | E::Push(inner) => E::Seq(inner, right),
+        E::NodeTag(inner, _tag) => E::Seq(inner, right),
         _ => Box::into_inner(right).expr,
     }
 }

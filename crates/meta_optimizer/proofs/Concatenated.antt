@@ -3,7 +3,7 @@ use Rattle.std.proofs.Common.{◌≡◌, ◌∙◌, refl, sym, ap, List, [], ◌
 use Rattle.std.proofs.lemmas.List.{append_assoc, append-nil}
 use Rattle.std.specs.declared.string.String.{String}
 use Rattle.meta_ast.specs.Ast.{expression_of, text_of}
-use Rattle.meta_ast.specs.declared.ast.Expr.{Expr, Str, Insens, Range, Ident, PeekSlice, PosPred', NegPred', Seq', Choice', Opt', Rep', RepOnce', RepExact', RepMin', RepMax', RepMinMax', Skip, Push'}
+use Rattle.meta_ast.specs.declared.ast.Expr.{Expr, Str, Insens, Range, Ident, PeekSlice, PosPred', NegPred', Seq', Choice', Opt', Rep', RepOnce', RepExact', RepMin', RepMax', RepMinMax', Skip, Push', PushLiteral, NodeTag'}
 use Rattle.meta_optimizer.specs.Joined.{concatenated, in_order}
 use Rattle.meta_optimizer.specs.Traversals as trav
 use Rattle.meta_optimizer.specs.Traversals.{BottomUp}
@@ -23,6 +23,7 @@ from_the_leaves (Range s t) = trav.left (trav.Above.leaf tt) refl
 from_the_leaves (Ident s) = trav.left (trav.Above.leaf tt) refl
 from_the_leaves (PeekSlice i j) = trav.left (trav.Above.leaf tt) refl
 from_the_leaves (Skip ss) = trav.left (trav.Above.leaf tt) refl
+from_the_leaves (PushLiteral u) = trav.left (trav.Above.leaf tt) refl
 from_the_leaves (PosPred' p y) = trav.left (trav.Above.pos_pred (from_the_leaves y)) refl
 from_the_leaves (NegPred' p y) = trav.left (trav.Above.neg_pred (from_the_leaves y)) refl
 from_the_leaves (Opt' p y) = trav.left (trav.Above.opt (from_the_leaves y)) refl
@@ -33,5 +34,6 @@ from_the_leaves (RepMin' p y i) = trav.left (trav.Above.rep_min (from_the_leaves
 from_the_leaves (RepMax' p y i) = trav.left (trav.Above.rep_max (from_the_leaves y)) refl
 from_the_leaves (RepMinMax' p y i j) = trav.left (trav.Above.rep_min_max (from_the_leaves y)) refl
 from_the_leaves (Push' p y) = trav.left (trav.Above.push (from_the_leaves y)) refl
+from_the_leaves (NodeTag' p y u) = trav.left (trav.Above.tag (from_the_leaves y)) refl
 from_the_leaves (Seq' p y q z) = trav.left (trav.Above.seq (from_the_leaves y) (from_the_leaves z)) refl
 from_the_leaves (Choice' p y q z) = trav.left (trav.Above.choice (from_the_leaves y) (from_the_leaves z)) refl

@@ -6,7 +6,7 @@ use Rattle.meta_base.specs.Language.Expression.{Expression}
 use Rattle.meta_base.specs.Language.WellFormed.{CountIsReadable}
 use Rattle.meta_ast.specs.Ast.{expression_of}
 use Rattle.meta_ast.specs.Operands.{operands}
-use Rattle.meta_ast.specs.declared.ast.Expr.{Expr, Str, Insens, Range, Ident, PeekSlice, PosPred', NegPred', Seq', Choice', Opt', Rep', RepOnce', RepExact', RepMin', RepMax', RepMinMax', Skip, Push'}
+use Rattle.meta_ast.specs.declared.ast.Expr.{Expr, Str, Insens, Range, Ident, PeekSlice, PosPred', NegPred', Seq', Choice', Opt', Rep', RepOnce', RepExact', RepMin', RepMax', RepMinMax', Skip, Push', PushLiteral, NodeTag'}
 use Rattle.meta_optimizer.specs.Counts.{PartsAreReadable}
 use Rattle.meta_optimizer.proofs.Counted.{at_root}
 
@@ -21,6 +21,7 @@ over_operands (Range s t) r none = tt
 over_operands (Ident s) r none = tt
 over_operands (PeekSlice i j) r none = tt
 over_operands (Skip ss) r none = tt
+over_operands (PushLiteral u) r none = tt
 over_operands (PosPred' p y) r (h, t) = h
 over_operands (NegPred' p y) r (h, t) = h
 over_operands (Opt' p y) r (h, t) = h
@@ -31,6 +32,7 @@ over_operands (RepMin' p y i) r (h, t) = h
 over_operands (RepMax' p y i) r (h, t) = (r, h)
 over_operands (RepMinMax' p y i j) r (h, t) = (r, h)
 over_operands (Push' p y) r (h, t) = h
+over_operands (NodeTag' p y u) r (h, t) = h
 over_operands (Seq' p y q z) r (h, (k, none)) = (h, k)
 over_operands (Choice' p y q z) r (h, (k, none)) = (h, k)
 
@@ -41,6 +43,7 @@ at_operands (Range s t) h = tt
 at_operands (Ident s) h = tt
 at_operands (PeekSlice i j) h = tt
 at_operands (Skip ss) h = tt
+at_operands (PushLiteral u) h = tt
 at_operands (PosPred' p y) h = (h, tt)
 at_operands (NegPred' p y) h = (h, tt)
 at_operands (Opt' p y) h = (h, tt)
@@ -51,6 +54,7 @@ at_operands (RepMin' p y i) h = (h, tt)
 at_operands (RepMax' p y i) h = (h.1, tt)
 at_operands (RepMinMax' p y i j) h = (h.1, tt)
 at_operands (Push' p y) h = (h, tt)
+at_operands (NodeTag' p y u) h = (h, tt)
 at_operands (Seq' p y q z) h = (h.0, (h.1, tt))
 at_operands (Choice' p y q z) h = (h.0, (h.1, tt))
 

@@ -8,7 +8,7 @@ use Rattle.meta_ast.specs.Ast.{expression_of}
 use Rattle.meta_ast.specs.Maps as maps
 use Rattle.meta_ast.specs.Maps.{Becomes, answered, stayed, EachTopDown, EachBottomUp, none_met, next_met, none_left, next_left}
 use Rattle.meta_ast.specs.Operands.{operands, over}
-use Rattle.meta_ast.specs.declared.ast.Expr.{Expr, Str, Insens, Range, Ident, PeekSlice, PosPred', NegPred', Seq', Choice', Opt', Rep', RepOnce', RepExact', RepMin', RepMax', RepMinMax', Skip, Push'}
+use Rattle.meta_ast.specs.declared.ast.Expr.{Expr, Str, Insens, Range, Ident, PeekSlice, PosPred', NegPred', Seq', Choice', Opt', Rep', RepOnce', RepExact', RepMin', RepMax', RepMinMax', Skip, Push', PushLiteral, NodeTag'}
 use Rattle.meta_optimizer.specs.Traversals as trav
 use Rattle.meta_optimizer.specs.Traversals.{TopDown, Below, BottomUp, Above}
 
@@ -27,6 +27,7 @@ operands_of_code (Range s t) = tt
 operands_of_code (Ident s) = tt
 operands_of_code (PeekSlice i j) = tt
 operands_of_code (Skip ss) = tt
+operands_of_code (PushLiteral u) = tt
 operands_of_code (PosPred' p y) = ((y, refl), tt)
 operands_of_code (NegPred' p y) = ((y, refl), tt)
 operands_of_code (Seq' p y q z) = ((y, refl), ((z, refl), tt))
@@ -39,6 +40,7 @@ operands_of_code (RepMin' p y i) = ((y, refl), tt)
 operands_of_code (RepMax' p y i) = ((y, refl), tt)
 operands_of_code (RepMinMax' p y i j) = ((y, refl), tt)
 operands_of_code (Push' p y) = ((y, refl), tt)
+operands_of_code (NodeTag' p y u) = ((y, refl), tt)
 
 -- the same at each of some expressions
 module _ (D : Expression → Expression → Type 0) where
@@ -54,6 +56,7 @@ module _ (R : Expression → Expression → Type 0) where
   below (Ident s) _ none = trav.Below.leaf tt
   below (PeekSlice i j) _ none = trav.Below.leaf tt
   below (Skip ss) _ none = trav.Below.leaf tt
+  below (PushLiteral u) _ none = trav.Below.leaf tt
   below (PosPred' p y) _ (next d none) = trav.Below.pos_pred d
   below (NegPred' p y) _ (next d none) = trav.Below.neg_pred d
   below (Seq' p y q z) _ (next d (next e none)) = trav.Below.seq d e
@@ -66,6 +69,7 @@ module _ (R : Expression → Expression → Type 0) where
   below (RepMax' p y i) _ (next d none) = trav.Below.rep_max d
   below (RepMinMax' p y i j) _ (next d none) = trav.Below.rep_min_max d
   below (Push' p y) _ (next d none) = trav.Below.push d
+  below (NodeTag' p y u) _ (next d none) = trav.Below.tag d
 
   above : (x : Expr) (xs : List Expression) → Each (BottomUp R) (operands (expression_of x)) xs → Above R (expression_of x) (over (expression_of x) xs)
   above (Str s) _ none = trav.Above.leaf tt
@@ -74,6 +78,7 @@ module _ (R : Expression → Expression → Type 0) where
   above (Ident s) _ none = trav.Above.leaf tt
   above (PeekSlice i j) _ none = trav.Above.leaf tt
   above (Skip ss) _ none = trav.Above.leaf tt
+  above (PushLiteral u) _ none = trav.Above.leaf tt
   above (PosPred' p y) _ (next d none) = trav.Above.pos_pred d
   above (NegPred' p y) _ (next d none) = trav.Above.neg_pred d
   above (Seq' p y q z) _ (next d (next e none)) = trav.Above.seq d e
@@ -86,6 +91,7 @@ module _ (R : Expression → Expression → Type 0) where
   above (RepMax' p y i) _ (next d none) = trav.Above.rep_max d
   above (RepMinMax' p y i j) _ (next d none) = trav.Above.rep_min_max d
   above (Push' p y) _ (next d none) = trav.Above.push d
+  above (NodeTag' p y u) _ (next d none) = trav.Above.tag d
 
   -- `step f x r g`: a call of `f` at x answers r and leaves `g`; `Keeps f`: what is known of `f`
   module _ {F : Type 0} (step : F → Expr → Result Expr Fault → F → Type 0) (Keeps : F → Type 0)

@@ -6,7 +6,7 @@ use Rattle.meta_base.specs.Language.Expression as e
 use Rattle.meta_base.specs.Language.Expression.{Expression}
 use Rattle.meta_ast.specs.Ast.{expression_of}
 use Rattle.meta_ast.specs.Operands.{operands, count_of_nodes}
-use Rattle.meta_ast.specs.declared.ast.Expr.{Expr, Str, Insens, Range, Ident, PeekSlice, PosPred', NegPred', Seq', Choice', Opt', Rep', RepOnce', RepExact', RepMin', RepMax', RepMinMax', Skip, Push'}
+use Rattle.meta_ast.specs.declared.ast.Expr.{Expr, Str, Insens, Range, Ident, PeekSlice, PosPred', NegPred', Seq', Choice', Opt', Rep', RepOnce', RepExact', RepMin', RepMax', RepMinMax', Skip, Push', PushLiteral, NodeTag'}
 use Rattle.meta_optimizer.specs.Traversals as trav
 use Rattle.meta_optimizer.specs.Traversals.{TopDown, BottomUp, AllStay}
 
@@ -65,6 +65,7 @@ module _ (R : Expression → Expression → Type 0) where
   stays_down (Ident s) r = trav.met r (trav.Below.leaf tt)
   stays_down (PeekSlice i j) r = trav.met r (trav.Below.leaf tt)
   stays_down (Skip ss) r = trav.met r (trav.Below.leaf tt)
+  stays_down (PushLiteral u) r = trav.met r (trav.Below.leaf tt)
   stays_down (PosPred' p y) (r, h) = trav.met r (trav.Below.pos_pred (stays_down y h))
   stays_down (NegPred' p y) (r, h) = trav.met r (trav.Below.neg_pred (stays_down y h))
   stays_down (Opt' p y) (r, h) = trav.met r (trav.Below.opt (stays_down y h))
@@ -75,6 +76,7 @@ module _ (R : Expression → Expression → Type 0) where
   stays_down (RepMax' p y i) (r, h) = trav.met r (trav.Below.rep_max (stays_down y h))
   stays_down (RepMinMax' p y i j) (r, h) = trav.met r (trav.Below.rep_min_max (stays_down y h))
   stays_down (Push' p y) (r, h) = trav.met r (trav.Below.push (stays_down y h))
+  stays_down (NodeTag' p y u) (r, h) = trav.met r (trav.Below.tag (stays_down y h))
   stays_down (Seq' p y q z) (r, h, k) = trav.met r (trav.Below.seq (stays_down y h) (stays_down z k))
   stays_down (Choice' p y q z) (r, h, k) = trav.met r (trav.Below.choice (stays_down y h) (stays_down z k))
 
@@ -85,6 +87,7 @@ module _ (R : Expression → Expression → Type 0) where
   stays_up (Ident s) r = trav.left (trav.Above.leaf tt) r
   stays_up (PeekSlice i j) r = trav.left (trav.Above.leaf tt) r
   stays_up (Skip ss) r = trav.left (trav.Above.leaf tt) r
+  stays_up (PushLiteral u) r = trav.left (trav.Above.leaf tt) r
   stays_up (PosPred' p y) (r, h) = trav.left (trav.Above.pos_pred (stays_up y h)) r
   stays_up (NegPred' p y) (r, h) = trav.left (trav.Above.neg_pred (stays_up y h)) r
   stays_up (Opt' p y) (r, h) = trav.left (trav.Above.opt (stays_up y h)) r
@@ -95,6 +98,7 @@ module _ (R : Expression → Expression → Type 0) where
   stays_up (RepMax' p y i) (r, h) = trav.left (trav.Above.rep_max (stays_up y h)) r
   stays_up (RepMinMax' p y i j) (r, h) = trav.left (trav.Above.rep_min_max (stays_up y h)) r
   stays_up (Push' p y) (r, h) = trav.left (trav.Above.push (stays_up y h)) r
+  stays_up (NodeTag' p y u) (r, h) = trav.left (trav.Above.tag (stays_up y h)) r
   stays_up (Seq' p y q z) (r, h, k) = trav.left (trav.Above.seq (stays_up y h) (stays_up z k)) r
   stays_up (Choice' p y q z) (r, h, k) = trav.left (trav.Above.choice (stays_up y h) (stays_up z k)) r
 
@@ -109,6 +113,7 @@ module _ (R : Expression → Expression → Type 0) where
   over_operands (Ident s) r none = r
   over_operands (PeekSlice i j) r none = r
   over_operands (Skip ss) r none = r
+  over_operands (PushLiteral u) r none = r
   over_operands (PosPred' p y) r (h, t) = (r, h)
   over_operands (NegPred' p y) r (h, t) = (r, h)
   over_operands (Opt' p y) r (h, t) = (r, h)
@@ -119,6 +124,7 @@ module _ (R : Expression → Expression → Type 0) where
   over_operands (RepMax' p y i) r (h, t) = (r, h)
   over_operands (RepMinMax' p y i j) r (h, t) = (r, h)
   over_operands (Push' p y) r (h, t) = (r, h)
+  over_operands (NodeTag' p y u) r (h, t) = (r, h)
   over_operands (Seq' p y q z) r (h, (k, none)) = (r, h, k)
   over_operands (Choice' p y q z) r (h, (k, none)) = (r, h, k)
 

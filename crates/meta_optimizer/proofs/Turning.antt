@@ -7,10 +7,10 @@ use Rattle.std.specs.HashMap.{HashMap}
 use Rattle.std.specs.declared.string.String.{String}
 use Rattle.meta_base.specs.Language.Text.{Text}
 use Rattle.meta_base.specs.Language.Expression as e
-use Rattle.meta_base.specs.Language.Expression.{Expression, RuleType, Atomic, Rule, Grammar, Part, whole, of_pos_pred, of_neg_pred, of_seq_left, of_seq_right, of_choice_left, of_choice_right, of_opt, of_rep, of_rep_once, of_rep_exact, of_rep_min, of_rep_max, of_rep_min_max, of_push}
+use Rattle.meta_base.specs.Language.Expression.{Expression, RuleType, Atomic, Rule, Grammar, Part, whole, of_pos_pred, of_neg_pred, of_seq_left, of_seq_right, of_choice_left, of_choice_right, of_opt, of_rep, of_rep_once, of_rep_exact, of_rep_min, of_rep_max, of_rep_min_max, of_push, of_tag}
 use Rattle.meta_base.specs.Rewritings.Rewriting.{Within, here, in_pos_pred, in_neg_pred, in_seq_left, in_seq_right, in_choice_left, in_choice_right, in_opt, in_rep, in_rep_once, in_rep_exact, in_rep_min, in_rep_max, in_rep_min_max, in_push, in_restore, Many, no_step, one_step, IsDone, Rotates, rotate_sequence, rotate_choice, SkipsUntil, skip_until, in_tag}
 use Rattle.meta_ast.specs.Ast.{expression_of, rule_type_of}
-use Rattle.meta_ast.specs.declared.ast.Expr.{Expr, Str, Insens, Range, Ident, PeekSlice, PosPred', NegPred', Seq', Choice', Opt', Rep', RepOnce', RepExact', RepMin', RepMax', RepMinMax', Skip, Push'}
+use Rattle.meta_ast.specs.declared.ast.Expr.{Expr, Str, Insens, Range, Ident, PeekSlice, PosPred', NegPred', Seq', Choice', Opt', Rep', RepOnce', RepExact', RepMin', RepMax', RepMinMax', Skip, Push', PushLiteral, NodeTag'}
 use Rattle.meta_ast.specs.declared.ast.RuleType as code
 use Rattle.meta_ast.specs.declared.ast.RuleType.TheVariants as is
 use Rattle.meta_ast.specs.declared.ast.Expr.TheVariants as form
@@ -78,6 +78,7 @@ module _ (g : Grammar) (y : RuleType) where
   nowhere (Ident s) r p q whole k = r (turn k)
   nowhere (PeekSlice i j) r p q whole k = r (turn k)
   nowhere (Skip ss) r p q whole k = r (turn k)
+  nowhere (PushLiteral u) r p q whole k = r (turn k)
   nowhere (PosPred' b z) (r, h) p q whole k = r (turn k)
   nowhere (PosPred' b z) (r, h) p q (of_pos_pred d) k = nowhere z h p q d k
   nowhere (NegPred' b z) (r, h) p q whole k = r (turn k)
@@ -98,6 +99,8 @@ module _ (g : Grammar) (y : RuleType) where
   nowhere (RepMinMax' b z i j) (r, h) p q (of_rep_min_max d) k = nowhere z h p q d k
   nowhere (Push' b z) (r, h) p q whole k = r (turn k)
   nowhere (Push' b z) (r, h) p q (of_push d) k = nowhere z h p q d k
+  nowhere (NodeTag' b z u) (r, h) p q whole k = r (turn k)
+  nowhere (NodeTag' b z u) (r, h) p q (of_tag d) k = nowhere z h p q d k
   nowhere (Seq' b z c w) (r, f, h) p q whole k = r (turn k)
   nowhere (Seq' b z c w) (r, f, h) p q (of_seq_left d) k = nowhere z f p q d k
   nowhere (Seq' b z c w) (r, f, h) p q (of_seq_right d) k = nowhere w h p q d k
@@ -112,6 +115,7 @@ module _ (g : Grammar) (y : RuleType) where
   within_nowhere (Ident s) r (here k) = r (turn k)
   within_nowhere (PeekSlice i j) r (here k) = r (turn k)
   within_nowhere (Skip ss) r (here k) = r (turn k)
+  within_nowhere (PushLiteral u) r (here k) = r (turn k)
   within_nowhere (PosPred' b z) (r, h) (here k) = r (turn k)
   within_nowhere (PosPred' b z) (r, h) (in_pos_pred w) = within_nowhere z h w
   within_nowhere (NegPred' b z) (r, h) (here k) = r (turn k)
@@ -132,6 +136,8 @@ module _ (g : Grammar) (y : RuleType) where
   within_nowhere (RepMinMax' b z i j) (r, h) (in_rep_min_max w) = within_nowhere z h w
   within_nowhere (Push' b z) (r, h) (here k) = r (turn k)
   within_nowhere (Push' b z) (r, h) (in_push w) = within_nowhere z h w
+  within_nowhere (NodeTag' b z u) (r, h) (here k) = r (turn k)
+  within_nowhere (NodeTag' b z u) (r, h) (in_tag w) = within_nowhere z h w
   within_nowhere (Seq' b z c v) (r, f, h) (here k) = r (turn k)
   within_nowhere (Seq' b z c v) (r, f, h) (in_seq_left w) = within_nowhere z f w
   within_nowhere (Seq' b z c v) (r, f, h) (in_seq_right w) = within_nowhere v h w

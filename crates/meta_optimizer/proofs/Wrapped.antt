@@ -8,7 +8,7 @@ use Rattle.meta_base.specs.Language.Expression.{Expression, RestoreOnErr, RuleTy
 use Rattle.meta_base.specs.Rewritings.Listing.{listed}
 use Rattle.meta_base.specs.Rewritings.Rewriting.{EachBody, no_rules, also_rule}
 use Rattle.meta_ast.specs.Ast.{expression_of}
-use Rattle.meta_ast.specs.declared.ast.Expr.{Expr, Str, Insens, Range, Ident, PeekSlice, PosPred', NegPred', Seq', Choice', Opt', Rep', RepOnce', RepExact', RepMin', RepMax', RepMinMax', Skip, Push'}
+use Rattle.meta_ast.specs.declared.ast.Expr.{Expr, Str, Insens, Range, Ident, PeekSlice, PosPred', NegPred', Seq', Choice', Opt', Rep', RepOnce', RepExact', RepMin', RepMax', RepMinMax', Skip, Push', PushLiteral, NodeTag'}
 use Rattle.meta_restorer.specs.Changing.{HasNoWrappers}
 use Rattle.meta_restorer.specs.Restoring.{AreSameErased, HaveNoWrappers}
 use Rattle.meta_optimizer.specs.Passes.{IsListing, IsOptimizedBody}
@@ -21,6 +21,7 @@ bare (Range s t) y k = elim k [ ]
 bare (Ident s) y k = elim k [ ]
 bare (PeekSlice i j) y k = elim k [ ]
 bare (Skip ss) y k = elim k [ ]
+bare (PushLiteral u) y k = elim k [ ]
 bare (PosPred' p x) y (of_pos_pred k) = bare x y k
 bare (NegPred' p x) y (of_neg_pred k) = bare x y k
 bare (Seq' p x q z) y (of_seq_left k) = bare x y k
@@ -35,6 +36,7 @@ bare (RepMin' p x m) y (of_rep_min k) = bare x y k
 bare (RepMax' p x n) y (of_rep_max k) = bare x y k
 bare (RepMinMax' p x m n) y (of_rep_min_max k) = bare x y k
 bare (Push' p x) y (of_push k) = bare x y k
+bare (NodeTag' p x u) y (of_tag k) = bare x y k
 
 -- what has no wrappers is the same without them
 erased_same : (x : Expression) → HasNoWrappers x → erased x ≡ x

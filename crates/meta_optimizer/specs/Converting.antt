@@ -2,7 +2,7 @@
 use Rattle.std.specs.Prelude.{ℕ, ◌+◌, ◌*◌, ⊤}
 use Rattle.meta_base.specs.Language.Expression as e
 use Rattle.meta_base.specs.Language.Expression.{Expression}
-use Rattle.meta_ast.specs.Ast.{expression_of}
+use Rattle.meta_ast.specs.Ast.{expression_of, text_of}
 use Rattle.meta_ast.specs.Optimized.{optimized_expression_of}
 use Rattle.meta_ast.specs.Weight.{weight}
 use Rattle.meta_optimizer.specs.Unrolled.{IsUnrolled}
@@ -17,6 +17,7 @@ with_operand around.Opt x = e.Opt x
 with_operand around.Rep x = e.Rep x
 with_operand around.RepOnce x = e.RepOnce x
 with_operand around.Push x = e.Push x
+with_operand (around.NodeTag t) x = e.NodeTag x (text_of t)
 with_operand (around.FirstOfSeq right) x = e.Seq x (expression_of right.value.value)
 with_operand (around.FirstOfChoice right) x = e.Choice x (expression_of right.value.value)
 with_operand (around.SecondOfSeq left) x = e.Seq (optimized_expression_of left.value.value) x

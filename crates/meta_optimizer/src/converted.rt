@@ -32,6 +32,7 @@ enum Around {
     Rep,
     RepOnce,
     Push,
+    NodeTag(String),
     // A `~` or a `|` whose left side is at hand, with the right one; and with the left one as it is made.
     FirstOfSeq(Deep<Box<Expr>>),
     FirstOfChoice(Deep<Box<Expr>>),
@@ -69,12 +70,14 @@ impl Rebuild for Around {
             Expr::Ident(name) => return Ok(Step::Made(E::Ident(name))),
             Expr::PeekSlice(start, end) => return Ok(Step::Made(E::PeekSlice(start, end))),
             Expr::Skip(texts) => return Ok(Step::Made(E::Skip(texts))),
+            Expr::PushLiteral(text) => return Ok(Step::Made(E::PushLiteral(text))),
             Expr::PosPred(inner) => (Around::PosPred, inner),
             Expr::NegPred(inner) => (Around::NegPred, inner),
             Expr::Opt(inner) => (Around::Opt, inner),
             Expr::Rep(inner) => (Around::Rep, inner),
             Expr::RepOnce(inner) => (Around::RepOnce, inner),
             Expr::Push(inner) => (Around::Push, inner),
+            Expr::NodeTag(inner, tag) => (Around::NodeTag(tag), inner),
             Expr::Seq(left, right) => (Around::FirstOfSeq(Deep { value: right }), left),
             Expr::Choice(left, right) => (Around::FirstOfChoice(Deep { value: right }), left),
             Expr::RepExact(..) | Expr::RepMin(..) | Expr::RepMax(..) | Expr::RepMinMax(..) =>
@@ -105,6 +108,7 @@ impl Rebuild for Around {
             Around::Rep => E::Rep(operand),
             Around::RepOnce => E::RepOnce(operand),
             Around::Push => E::Push(operand),
+            Around::NodeTag(tag) => E::NodeTag(operand, tag),
             Around::SecondOfSeq(left) => E::Seq(left.into_inner(), operand),
             Around::SecondOfChoice(left) => E::Choice(left.into_inner(), operand),
         };

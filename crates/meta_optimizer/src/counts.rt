@@ -127,6 +127,7 @@ fn is_single_readable(expr: &Expr) -> bool
         Expr::RepMax(inner, max) => *max > 0 && is_readable_by_calls(inner),
         Expr::RepMinMax(inner, _, max) => *max > 0 && is_readable_by_calls(inner),
         Expr::Push(inner) => is_readable_by_calls(inner),
+        Expr::NodeTag(inner, _) => is_readable_by_calls(inner),
         _ => true,
     }
 }

@@ -52,6 +52,7 @@ enum Around {
     RepMax(u32),
     RepMinMax(u32, u32),
     Push,
+    NodeTag(String),
     // A `~` or a `|` whose left side is at hand, with the right one; and with the left one as it is made.
     FirstOfSeq(Deep<Box<Expr>>),
     FirstOfChoice(Deep<Box<Expr>>),
@@ -92,6 +93,7 @@ impl Rebuild for Around {
             Expr::RepMax(inner, max) => (Around::RepMax(max), inner),
             Expr::RepMinMax(inner, min, max) => (Around::RepMinMax(min, max), inner),
             Expr::Push(inner) => (Around::Push, inner),
+            Expr::NodeTag(inner, tag) => (Around::NodeTag(tag), inner),
             Expr::Seq(left, right) => (Around::FirstOfSeq(Deep { value: right }), left),
             Expr::Choice(left, right) => (Around::FirstOfChoice(Deep { value: right }), left),
             leaf => return Ok(Step::Made(Joined::Other(leaf))),
@@ -132,6 +134,7 @@ impl Rebuild for Around {
             Around::RepMax(max) => Expr::RepMax(operand, max),
             Around::RepMinMax(min, max) => Expr::RepMinMax(operand, min, max),
             Around::Push => Expr::Push(operand),
+            Around::NodeTag(tag) => Expr::NodeTag(operand, tag),
             Around::FirstOfSeq(_) | Around::SecondOfSeq(_) => unreachable!("a side of a `~`"),
         };
         Ok(Step::Made(Joined::Other(whole)))

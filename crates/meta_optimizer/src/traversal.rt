@@ -117,10 +117,12 @@ pub(crate) fn held_by<'a>(expr: &'a Expr) -> Held<'a>
         | Expr::RepMin(inner, _)
         | Expr::RepMax(inner, _)
         | Expr::RepMinMax(inner, _, _)
-        | Expr::Push(inner) => Held::One(&**inner),
+        | Expr::Push(inner)
+        | Expr::NodeTag(inner, _) => Held::One(&**inner),
         Expr::Seq(left, right) | Expr::Choice(left, right) => Held::Two(&**left, &**right),
         Expr::Str(_) | Expr::Insens(_) | Expr::Ident(_) => Held::Nothing,
-        Expr::Range(_, _) | Expr::PeekSlice(_, _) | Expr::Skip(_) => Held::Nothing,
+        Expr::Range(_, _) | Expr::PeekSlice(_, _) => Held::Nothing,
+        Expr::Skip(_) | Expr::PushLiteral(_) => Held::Nothing,
     }
 }
 

@@ -3,7 +3,7 @@ use Rattle.std.proofs.Common.{◌≡◌, ◌≤◌, ℕ, List, refl, ap, ◌∙�
 use Rattle.std.specs.Prelude.{codes}
 use Rattle.meta_base.specs.Language.State.{Trees, None', Tree, joined}
 use Rattle.meta_reader.specs.Pieces.{NestedInBytes}
-use Rattle.meta_reader.specs.Reading.{Category, Reads, Postfixed, done, more, barred, unbarred, one_alternative, choice, one_term, sequence, tagged, pos_pred, neg_pred, bare, grouped, leaf, pushed}
+use Rattle.meta_reader.specs.Reading.{Category, Reads, Postfixed, done, more, barred, unbarred, one_alternative, choice, one_term, sequence, tagged, pos_pred, neg_pred, bare, grouped, leaf, pushed, literally_pushed}
 use Rattle.meta_nodes.specs.Spanned.{Span, Spanned, Leaf, One, Two, span_of, start_of, end_of, placed, ending}
 use Rattle.meta_syntax.specs.Shape.{Mark}
 use Rattle.meta_reader.proofs.TreesStandInText.{nested_order}
@@ -56,9 +56,10 @@ module _ (text : List ℕ) where
       let t = s.2.4 in
       let v = reads_within e k l t.3 in
       record { same_text = refl; after = w.after; order = omega (arith, w.order, w.before, s.2.0, s.2.3, t.0, v.after, v.order); before = omega (arith, v.before, t.4) }
-  reads_within (tagged {tag_to = b} {equals_at = k} {equals_to = l} d) i j h =
+  reads_within (tagged {tag_at = a} {tag_to = b} {equals_at = k} {equals_to = l} d) i j h =
       let t = h.4 in
-      wider i l j j (reads_within d l j t.4) (omega (arith, h.0, h.3, t.0, t.3)) (omega arith)
+      let w = reads_within d l j t.4 in
+      record { same_text = refl; after = h.0; order = omega (arith, h.3, t.0, t.3, w.after, w.order); before = w.before }
   reads_within (pos_pred {sign_at = a} {sign_to = b} d) i j h =
       let w = reads_within d b j h.4 in
       record { same_text = refl; after = h.0; order = omega (arith, h.3, w.after, w.order); before = w.before }
@@ -92,3 +93,8 @@ module _ (text : List ℕ) where
       let v = u.4 in
       let w = reads_within d m n u.3 in
       record { same_text = refl; after = h.0; order = omega (arith, t.0, t.3, u.0, w.after, w.order); before = omega (arith, w.before, v.0, v.3, nested_order text us e b v.4, h.4) }
+  reads_within (literally_pushed {from = a} {to = b} {open_to = l} {string_at = m} {string_to = n} {close_at = c} {close_to = e} {us = us}) i j h =
+      let t = h.3 in
+      let u = t.4 in
+      let v = u.4 in
+      record { same_text = refl; after = omega (arith, h.0, t.0, t.3, u.0); order = nested_order text us m n u.3; before = omega (arith, v.0, v.3, v.4, h.4) }

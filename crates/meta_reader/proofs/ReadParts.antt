@@ -1,16 +1,16 @@
 -- What holds of every part of what is read, if it holds of what each tree gives.
-use Rattle.std.proofs.Common.{◌≡◌, ℕ, List, [], ◌∷◌, Option, Some, false, refl}
+use Rattle.std.proofs.Common.{◌≡◌, ℕ, List, [], ◌∷◌, Option, Some, false, codes, refl}
 use Rattle.std.proofs.lemmas.List.Elements.{All-nil, All-cons, All-contains}
 use Rattle.std.specs.List.{All}
 use Rattle.meta_base.specs.Language.Text.{Text}
 use Rattle.meta_base.specs.Language.Expression as plain
-use Rattle.meta_base.specs.Language.Expression.{Expression, Rule, Part, whole, of_pos_pred, of_neg_pred, of_seq_left, of_seq_right, of_choice_left, of_choice_right, of_opt, of_rep, of_rep_once, of_rep_exact, of_rep_min, of_rep_max, of_rep_min_max, of_push}
+use Rattle.meta_base.specs.Language.Expression.{Expression, Rule, Part, whole, of_pos_pred, of_neg_pred, of_seq_left, of_seq_right, of_choice_left, of_choice_right, of_opt, of_rep, of_rep_once, of_rep_exact, of_rep_min, of_rep_max, of_rep_min_max, of_push, of_tag}
 use Rattle.meta_base.specs.Language.State.{Trees, None', Tree, joined}
 use Rattle.meta_base.specs.Language.WellFormed.{InSomeRule}
 use Rattle.meta_nodes.specs.Erasure.{round, between, without_spans, rules_without_spans}
-use Rattle.meta_nodes.specs.Spanned.{Span, Spanned, Leaf, One, Two, Unary, PosPred, NegPred, Opt, Rep, RepOnce, RepExact, RepMin, RepMax, RepMinMax, Push, Binary, Seq, Choice, placed, SpannedRule}
+use Rattle.meta_nodes.specs.Spanned.{Span, Spanned, Leaf, One, Two, Unary, PosPred, NegPred, Opt, Rep, RepOnce, RepExact, RepMin, RepMax, RepMinMax, Push, Tag, Binary, Seq, Choice, placed, SpannedRule}
 use Rattle.meta_reader.specs.Flaws.{closes}
-use Rattle.meta_reader.specs.Reading.{Category, Postfix, Postfixed, done, more, Terminal, identifier, string, insensitive, range, slice, slice_from, slice_to, slice_between, Reads, barred, unbarred, one_alternative, choice, one_term, sequence, tagged, pos_pred, neg_pred, bare, grouped, leaf, pushed, ReadsRule, line_doc, normal, modified, ReadsRules, end_of_input, grammar_doc, documented, defined}
+use Rattle.meta_reader.specs.Reading.{Category, Postfix, Postfixed, done, more, Terminal, identifier, string, insensitive, range, slice, slice_from, slice_to, slice_between, Reads, barred, unbarred, one_alternative, choice, one_term, sequence, tagged, pos_pred, neg_pred, bare, grouped, leaf, pushed, literally_pushed, literal_value, tag_name, ReadsRule, line_doc, normal, modified, ReadsRules, end_of_input, grammar_doc, documented, defined}
 
 -- a condition on trees that is handed down: to what a tree holds, to what is behind it, and to trees before an operator
 pub record IsHandedDown (C : Trees → Type 0) : Type 0 where
@@ -25,6 +25,8 @@ pub record IsGiven (text : List ℕ) (C : Trees → Type 0) (P : Expression → 
   pub positive : (e : Expression) → P (plain.PosPred e)
   pub negative : (e : Expression) → P (plain.NegPred e)
   pub push : (e : Expression) → P (plain.Push e)
+  pub literal_push : {i j : ℕ} {us : Trees} (vs : Trees) → C (Tree (codes "string") i j us vs) → P (plain.PushLiteral (literal_value text us))
+  pub tag : {i j : ℕ} (us : Trees) → C (Tree (codes "tag_id") i j None' us) → (e : Expression) → P (plain.NodeTag e (tag_name text i j))
   pub between_two : (f : Binary) (a b : Expression) → P (between f a b)
 
 module _ (P : Expression → Type 0) where
@@ -53,6 +55,8 @@ module _ (P : Expression → Type 0) where
   one (RepMinMax i j) e c k p (of_rep_min_max d) = k p d
   one Push e c k p whole = c
   one Push e c k p (of_push d) = k p d
+  one (Tag t) e c k p whole = c
+  one (Tag t) e c k p (of_tag d) = k p d
 
   two : (f : Binary) (a b : Expression) → P (between f a b) → Throughout a → Throughout b → Throughout (between f a b)
   two Seq a b c k l p whole = c
@@ -92,6 +96,10 @@ module _ (text : List ℕ) (C : Trees → Type 0) (P : Expression → Type 0) (c
       go slice_to k p whole = k
       go slice_between k p whole = k
 
+  -- and so has a literal push
+  literal_so : {i j : ℕ} (us vs : Trees) → C (Tree (codes "string") i j us vs) → Throughout P (plain.PushLiteral (literal_value text us))
+  literal_so us vs h p whole = g.literal_push vs h
+
   -- the trees in brackets of some kind
   bracketed : (r q : Text) (i j k l : ℕ) (inner us : Trees) → C (Tree r i j None' (Tree q k l inner us)) → C inner
   bracketed r q i j k l inner us h = c.inner _ _ _ inner us (c.behind _ _ _ None' _ h)
@@ -105,16 +113,20 @@ module _ (text : List ℕ) (C : Trees → Type 0) (P : Expression → Type 0) (c
   reads_so (one_term {us = us} d) h = reads_so d (c.inner _ _ _ us None' h)
   reads_so (sequence i j k l {us} {vs} d e) h =
       two P Seq _ _ (g.between_two Seq _ _) (reads_so d (c.front us _ refl h)) (reads_so e (bracketed _ _ _ _ _ _ vs None' (rest us _ h)))
-  reads_so (tagged {us = us} d) h = reads_so d (c.behind _ _ _ None' us (c.behind _ _ _ None' _ h))
+  reads_so (tagged {us = us} {tag_at = i} {tag_to = j} d) h =
+      one P (Tag (tag_name text i j)) _ (g.tag _ h _) (reads_so d (c.behind _ _ _ None' us (c.behind _ _ _ None' _ h)))
   reads_so (pos_pred {us = us} d) h = one P PosPred _ (g.positive _) (reads_so d (c.behind _ _ _ None' us h))
   reads_so (neg_pred {us = us} d) h = one P NegPred _ (g.negative _) (reads_so d (c.behind _ _ _ None' us h))
   reads_so (bare {inner = inner} {us = us} (leaf t) q) h = postfixed_so q (c.behind _ _ _ inner us h) (alone t us h)
   reads_so (bare {inner = inner} {us = us} (pushed {inner = body} {us = vs} d) q) h =
       postfixed_so q (c.behind _ _ _ inner us h) (one P Push _ (g.push _) (reads_so d (bracketed _ _ _ _ _ _ body _ (c.inner _ _ _ inner us h))))
+  reads_so (bare {inner = inner} {us = us} (literally_pushed {us = vs}) q) h =
+      postfixed_so q (c.behind _ _ _ inner us h) (literal_so vs _ (c.behind _ _ _ None' _ (c.inner _ _ _ inner us h)))
   reads_so (grouped {inner = inner} {us = us} {x = x} {y = y} d q) h =
       let behind = c.behind _ _ _ None' us (c.behind _ _ _ inner _ (c.behind _ _ _ None' _ h)) in
       moved P _ y (postfixed_so q behind (moved P _ x (reads_so d (bracketed _ _ _ _ _ _ inner _ h))))
   reads_so (leaf t) h = alone t None' h
+  reads_so (literally_pushed {us = us}) h = literal_so us _ (c.behind _ _ _ None' _ (c.inner _ _ _ _ _ h))
   reads_so (pushed {inner = body} d) h = one P Push _ (g.push _) (reads_so d (bracketed _ _ _ _ _ _ body _ (c.inner _ _ _ _ _ h)))
 
   -- it holds throughout the body of a rule

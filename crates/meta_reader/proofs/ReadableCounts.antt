@@ -60,6 +60,8 @@ module _ (text : List ℕ) where
     positive = λ e. tt;
     negative = λ e. tt;
     push = λ e. tt;
+    literal_push = λ vs h. tt;
+    tag = λ us h e. tt;
     between_two = between_readable;
   }
 

@@ -1,7 +1,9 @@
--- Signs of predicates: what stands behind them, and what they make of it.
+-- Signs of predicates, and tags: what stands behind them, and what they make of it.
 use Rattle.std.proofs.Common.{◌≡◌, ◌≤◌, ℕ, List, [], ◌∷◌, ◌++◌, true, false, Some, refl, sym, ap, ◌∙◌, subst, arith}
+use Rattle.std.proofs.lemmas.Str.{chars_past_char}
 use Rattle.std.proofs.lemmas.List.Elements.{All-nil, All-push, All-pop}
-use Rattle.std.specs.Prelude.{codes, All}
+use Rattle.std.specs.Prelude.{codes, chars, All, IsUtf8, encode_utf8}
+use Rattle.std.specs.Borrow.{Bor}
 use Rattle.std.specs.Str.{IsCharBoundary}
 use Rattle.meta_base.specs.Language.Text.{Text}
 use Rattle.meta_base.specs.Language.State.{Trees, None', Tree}
@@ -12,17 +14,18 @@ use Rattle.meta_base.specs.declared.grammar.Rule.TheVariants as rule_is
 use Rattle.meta_base.proofs.MetaNames.{name_of-injective}
 use Rattle.meta_base.specs.Pieces.Saying.{piece}
 use Rattle.meta_syntax.specs.Shape.{Mark, IsTerm, tagged, predicate, grouped, bare, terminal, positive, negative}
-use Rattle.meta_nodes.specs.Spanned.{Spanned, One, Unary, PosPred, NegPred, end_of}
+use Rattle.meta_nodes.specs.Spanned.{Spanned, One, Unary, PosPred, NegPred, Tag, end_of}
 use Rattle.meta_nodes.specs.Nodes.{view, piece_of}
 use Rattle.meta_nodes.specs.declared.node.ParserNode.{ParserNode}
 use Rattle.meta_reader.specs.Flaws.{first_flaw, own_flaw}
 use Rattle.meta_reader.specs.Pieces.{IsPiece, NestedInBytes, StandIn}
 use Rattle.meta_reader.specs.Reading as reading
-use Rattle.meta_reader.specs.Reading.{Reads, ATerm}
+use Rattle.meta_reader.specs.Reading.{Reads, ATerm, tag_name, behind_first}
 use Rattle.meta_reader.specs.Signs as signs
-use Rattle.meta_reader.specs.Signs.{predicate_of, signed, IsOperand, SignsStand, IsBehindSigns}
+use Rattle.meta_reader.specs.Signs.{sign_of, signed, IsOperand, SignsStand, IsBehindSigns}
 use Rattle.meta_reader.specs.Views.{count_of}
 use Rattle.meta_reader.specs.declared.parser.signs.Sign.{Sign}
+use Rattle.meta_reader.specs.declared.parser.signs.SignKind.TheVariants as sign_is
 use Rattle.meta_reader.proofs.Chains.{same_text}
 use Rattle.meta_reader.proofs.Nodes.{start_of-view, end_of-view}
 use Rattle.meta_reader.proofs.SpansArePieces.{piece_in}
@@ -33,10 +36,10 @@ use Rattle.meta_reader.proofs.NodesStandInTrees.{reads_within}
 -- one sign more
 pub signed-push : (text : List ℕ) (signs : List Sign) (sign : Sign) (x : Spanned)
     → signed text (signs ++ sign ∷ []) x
-    ≡ signed text signs (One (piece text sign.start (end_of x)) (predicate_of sign.is_negative) x)
+    ≡ signed text signs (One (piece text sign.start (end_of x)) (sign_of sign.kind) x)
 signed-push text [] sign x = refl
 signed-push text (s ∷ signs) sign x =
-    ap (λ y. One (piece text s.start (end_of x)) (predicate_of s.is_negative) y) (signed-push text signs sign x)
+    ap (λ y. One (piece text s.start (end_of x)) (sign_of s.kind) y) (signed-push text signs sign x)
 
 -- what is left of a term, behind the signs so far
 pub record IsLeftOfTerm (text : List ℕ) (us : Trees) (signs : List Sign) (vs : Trees) : Type 0 where
@@ -67,6 +70,12 @@ stand_next {text} {r = r} {i = i} {j = j} {inner = inner} s =
       before = λ k d h. let b = s.before k d h in (b.0, omega (arith, b.1, s.nested.0, o));
     }
 
+-- the first tree is a piece of the text
+pub sign_piece : {text : List ℕ} {signs : List Sign} {r : Text} {i j : ℕ} {inner us : Trees}
+    → SignsStand text signs (Tree r i j inner us) → IsPiece text i j
+sign_piece {text} {i = i} {j = j} {inner = inner} s =
+    record { starts = s.nested.1; ends = s.nested.2; order = nested_order text inner i j s.nested.3 }
+
 -- and so does the sign that the first tree is
 stand_push : {text : List ℕ} {signs : List Sign} {r : Text} {j : ℕ} {inner us : Trees} (sign : Sign)
     → SignsStand text signs (Tree r sign.start j inner us) → SignsStand text (signs ++ sign ∷ []) us
@@ -81,22 +90,30 @@ stand_push {text} {signs} {r} {j} {inner} {us} sign s =
           (λ k d h. let b = s.before k d h in (b.0, omega (arith, b.1, s.nested.0, o))) (s.nested.1, o);
     }
 
+-- a text without its first character
+pub name_behind : (bs given r left : List ℕ) (c : ℕ) → IsUtf8 bs → given ≡ bs → given ≡ encode_utf8 c ++ r
+    → left ≡ r → chars left ≡ behind_first (chars bs)
+name_behind bs given r left c u g e l =
+    ap chars l ∙ sym (ap behind_first (chars_past_char bs r c u (sym g ∙ e)))
+
 pub term_tag : {text : List ℕ} {us : Trees} {signs : List Sign} {n : Text}
-    {i j k l : ℕ} {inner vs ws : Trees}
-    → IsLeftOfTerm text us signs (Tree (codes "tag_id") i j inner (Tree n k l vs ws)) → IsLeftOfTerm text us signs ws
-term_tag h =
+    {i j k l : ℕ} {inner vs ws : Trees} (tag : Bor (List ℕ)) → chars tag.now ≡ tag_name text i j
+    → IsLeftOfTerm text us signs (Tree (codes "tag_id") i j inner (Tree n k l vs ws))
+    → IsLeftOfTerm text us (signs ++ record { kind = sign_is.Tag tag; start = i } ∷ []) ws
+term_tag {text} {us} {signs} {n} {i} {j} {k} {l} {inner} {vs} {ws} tag e h =
     let g = tag_tree h.shape in
+    let whole = Tree (codes "tag_id") i j inner (Tree n k l vs ws) in
     record {
       shape = g.0;
       flaws = h.flaws ∙ g.1;
       shorter = omega (arith, h.shorter);
-      reads = λ x d. h.reads x (g.2 x d);
-      stand = λ s. stand_next (stand_next (h.stand s));
+      reads = λ x d. rw signed-push (h.reads _ (subst (λ t. Reads text ATerm whole (One (piece text i (end_of x)) (Tag t) x)) (sym e) (g.2 x d)));
+      stand = λ s. stand_next (stand_push (record { kind = sign_is.Tag tag; start = i }) (h.stand s));
     }
 
 pub term_positive : {text : List ℕ} {us : Trees} {signs : List Sign} {i j : ℕ} {inner vs : Trees}
     → IsLeftOfTerm text us signs (Tree (codes "positive_predicate_operator") i j inner vs)
-    → IsLeftOfTerm text us (signs ++ record { is_negative = false; start = i } ∷ []) vs
+    → IsLeftOfTerm text us (signs ++ record { kind = sign_is.Positive; start = i } ∷ []) vs
 term_positive {text} {us} {signs} {i} h =
     let g = positive_tree h.shape in
     record {
@@ -104,12 +121,12 @@ term_positive {text} {us} {signs} {i} h =
       flaws = h.flaws ∙ g.flaw;
       shorter = omega (arith, h.shorter);
       reads = λ x d. rw signed-push (h.reads _ (g.reads x d));
-      stand = λ s. stand_push (record { is_negative = false; start = i }) (h.stand s);
+      stand = λ s. stand_push (record { kind = sign_is.Positive; start = i }) (h.stand s);
     }
 
 pub term_negative : {text : List ℕ} {us : Trees} {signs : List Sign} {i j : ℕ} {inner vs : Trees}
     → IsLeftOfTerm text us signs (Tree (codes "negative_predicate_operator") i j inner vs)
-    → IsLeftOfTerm text us (signs ++ record { is_negative = true; start = i } ∷ []) vs
+    → IsLeftOfTerm text us (signs ++ record { kind = sign_is.Negative; start = i } ∷ []) vs
 term_negative {text} {us} {signs} {i} h =
     let g = negative_tree h.shape in
     record {
@@ -117,7 +134,7 @@ term_negative {text} {us} {signs} {i} h =
       flaws = h.flaws ∙ g.flaw;
       shorter = omega (arith, h.shorter);
       reads = λ x d. rw signed-push (h.reads _ (g.reads x d));
-      stand = λ s. stand_push (record { is_negative = true; start = i }) (h.stand s);
+      stand = λ s. stand_push (record { kind = sign_is.Negative; start = i }) (h.stand s);
     }
 
 operand_tree : {text : List ℕ} {n : Text} {i j : ℕ} {inner us : Trees} (r : Rule)
@@ -173,10 +190,10 @@ last_place n xs ys sign e h =
 -- and put round the node
 pub last_sign : {text : List ℕ} (n x : ParserNode) (xs ys : List Sign) (sign : Sign) → xs ≡ ys ++ sign ∷ []
     → piece_of x.span ≡ piece text sign.start (span_end n.span)
-    → view x ≡ One (piece_of x.span) (predicate_of sign.is_negative) (view n)
+    → view x ≡ One (piece_of x.span) (sign_of sign.kind) (view n)
     → signed text xs (view n) ≡ signed text ys (view x)
 last_sign {text} n x xs ys sign e f g =
-    let h = g ∙ ap (λ s. One s (predicate_of sign.is_negative) (view n)) f in
-    let k = ap (λ j. One (piece text sign.start j) (predicate_of sign.is_negative) (view n)) (end_of-view n) in
+    let h = g ∙ ap (λ s. One s (sign_of sign.kind) (view n)) f in
+    let k = ap (λ j. One (piece text sign.start j) (sign_of sign.kind) (view n)) (end_of-view n) in
     ap (λ ss. signed text ss (view n)) e ∙ signed-push text ys sign (view n)
     ∙ ap (λ y. signed text ys y) (k ∙ sym h)

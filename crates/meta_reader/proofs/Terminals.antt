@@ -4,12 +4,13 @@ use Rattle.std.specs.Prelude.{codes, unwrap_or}
 use Rattle.std.specs.Str.{all_scalars}
 use Rattle.std.specs.Option.{option_or}
 use Rattle.meta_base.specs.Language.Text.{Text}
-use Rattle.meta_base.specs.Language.Expression.{Expression, Str, Insens, Range, PeekSlice}
+use Rattle.meta_base.specs.Language.Expression.{Expression, Str, Insens, Range, PeekSlice, PushLiteral}
 use Rattle.meta_base.specs.Language.State.{Trees, None', Tree}
-use Rattle.meta_reader.specs.Flaws.{first_flaw, own_flaw, wrong_literal, past_i32, Flaw, PushLiteralCalled}
+use Rattle.meta_reader.specs.Flaws.{first_flaw, own_flaw, wrong_literal, past_i32, Flaw}
 use Rattle.meta_reader.specs.Reading as reading
-use Rattle.meta_reader.specs.Reading.{Terminal, literal_value, integer}
+use Rattle.meta_reader.specs.Reading.{Terminal, Reads, ANode, literal_value, integer}
 use Rattle.meta_base.specs.Pieces.MetaRules.{name_of}
+use Rattle.meta_nodes.specs.Spanned.{Leaf}
 use Rattle.meta_syntax.specs.Shape.{Mark, IsQuoted, in_quotes, in_single_quotes, IsTerminal, identifier, string, insensitive, range, slice, push_literal, IsInteger, MayBeNumber, IsSlice, in_brackets, IsSliceStart, IsSliceEnd}
 use Rattle.meta_syntax.specs.Shape as shape
 use Rattle.meta_reader.specs.Views as views
@@ -162,11 +163,22 @@ pub identifier_trees : {text : List ℕ} {us : Trees} (i j : ℕ) → IsTerminal
 unfolding own_flaw
 identifier_trees i j identifier = refl
 
-pub push_literal_flaw : (text : List ℕ) (us : Trees) (i j : ℕ) → first_flaw text
-    (Tree (codes "_push_literal") i j us None') ≡ Some
-    (record { cause = PushLiteralCalled; span = piece text i j })
+-- the string of a literal push
+pub record HoldsString (text : List ℕ) (us : Trees) (k l : ℕ) (inner : Trees) : Type 0 where
+  pub quoted : IsQuoted inner
+  pub flaw : (i j : ℕ) → first_flaw text (Tree (codes "_push_literal") i j us None') ≡ wrong_literal text k l inner
+  pub reads : (i j : ℕ) → Reads text ANode (Tree (codes "_push_literal") i j us None')
+      (Leaf (piece text k l) (PushLiteral (literal_value text inner)))
+
+pub push_literal_trees : {text : List ℕ} {r s : Text} {a b k l : ℕ} {vs inner ws : Trees}
+    → IsTerminal text (codes "_push_literal") (Tree r a b vs (Tree s k l inner ws))
+    → HoldsString text (Tree r a b vs (Tree s k l inner ws)) k l inner
 unfolding own_flaw
-push_literal_flaw text us i j = refl
+push_literal_trees {text} {k = k} {l = l} {inner = inner} (push_literal h) = record {
+  quoted = h;
+  flaw = λ i j. rw (quiet_quoted text h, or_none (wrong_literal text k l inner), or_none) refl;
+  reads = λ i j. reading.literally_pushed;
+}
 
 -- a terminal's rule is one of six
 pub terminal_rule : {text : List ℕ} {n : Text} {us : Trees} (r : Rule) → IsTerminal text n us → n ≡ name_of r

@@ -8,11 +8,11 @@ use Rattle.meta_base.specs.Language.State.{Trees, None', Tree}
 use Rattle.meta_reader.specs.Flaws.{first_flaw, own_flaw}
 use Rattle.meta_reader.specs.Pieces.{IsPiece, NestedInBytes, StandIn}
 use Rattle.meta_reader.specs.Reading as reading
-use Rattle.meta_reader.specs.Reading.{Reads, Postfixed, AnExpression, ATerm, ANode}
+use Rattle.meta_reader.specs.Reading.{Reads, Postfixed, AnExpression, ATerm, ANode, tag_name}
 use Rattle.meta_base.specs.Pieces.MetaRules.{name_of}
 use Rattle.meta_syntax.specs.Shape.{Mark, IsExpression, IsTerm, IsNode, IsTerminal, ArePostfixes, tagged, predicate, bare, terminal, pushed, identifier, string, insensitive, range, slice, push_literal}
 use Rattle.meta_nodes.specs.Spanned as spanned
-use Rattle.meta_nodes.specs.Spanned.{Spanned, One, PosPred, NegPred, Push, span_of, start_of, end_of, placed, starting, ending}
+use Rattle.meta_nodes.specs.Spanned.{Spanned, One, PosPred, NegPred, Push, Tag, span_of, start_of, end_of, placed, starting, ending}
 use Rattle.meta_reader.specs.Signs.{IsOperand, group, node}
 use Rattle.meta_reader.specs.Views.{StandsBefore, count_of}
 use Rattle.meta_nodes.specs.Nodes.{view, piece_of}
@@ -39,7 +39,7 @@ lone_tag (bare (terminal h) k) = elim h [ ]
 
 pub tag_tree : {text : List ℕ} {n : Text} {i j k l : ℕ} {inner vs us : Trees}
     → IsTerm text (Tree (codes "tag_id") i j inner (Tree n k l vs us))
-    → IsTerm text us × (first_flaw text (Tree (codes "tag_id") i j inner (Tree n k l vs us)) ≡ first_flaw text us) × ((x : Spanned) → Reads text ATerm us x → Reads text ATerm (Tree (codes "tag_id") i j inner (Tree n k l vs us)) x)
+    → IsTerm text us × (first_flaw text (Tree (codes "tag_id") i j inner (Tree n k l vs us)) ≡ first_flaw text us) × ((x : Spanned) → Reads text ATerm us x → Reads text ATerm (Tree (codes "tag_id") i j inner (Tree n k l vs us)) (One (piece text i (end_of x)) (Tag (tag_name text i j)) x))
 unfolding own_flaw
 tag_tree (tagged h) = (h, refl, λ x d. reading.tagged d)
 tag_tree (predicate p h) = elim p [ ]

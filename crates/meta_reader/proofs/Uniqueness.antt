@@ -8,9 +8,9 @@ use Rattle.meta_base.specs.Language.Expression.{Expression, RuleType, Normal}
 use Rattle.meta_base.specs.Language.State.{Trees, None', Tree, joined}
 use Rattle.meta_base.specs.Pieces.Saying.{piece}
 use Rattle.meta_reader.specs.Reading as reading
-use Rattle.meta_reader.specs.Reading.{Category, AnExpression, Alternatives, ASequence, ATerm, ANode, Modifies, Postfix, Postfixed, done, more, Terminal, Reads, barred, unbarred, one_alternative, choice, one_term, sequence, tagged, pos_pred, neg_pred, bare, grouped, leaf, pushed, both, around, characters_between, ReadsRule, ReadsRules, line_doc, normal, modified, end_of_input, grammar_doc, documented, defined}
+use Rattle.meta_reader.specs.Reading.{Category, AnExpression, Alternatives, ASequence, ATerm, ANode, Modifies, Postfix, Postfixed, done, more, Terminal, Reads, barred, unbarred, one_alternative, choice, one_term, sequence, tagged, pos_pred, neg_pred, bare, grouped, leaf, pushed, literally_pushed, tag_name, both, around, characters_between, ReadsRule, ReadsRules, line_doc, normal, modified, end_of_input, grammar_doc, documented, defined}
 use Rattle.meta_syntax.specs.Shape.{Mark}
-use Rattle.meta_nodes.specs.Spanned.{Spanned, Unary, SpannedRule, Seq, Choice, ending, starting, end_of, Leaf, One, PosPred, NegPred, Push}
+use Rattle.meta_nodes.specs.Spanned.{Spanned, Unary, SpannedRule, Seq, Choice, ending, starting, end_of, Leaf, One, PosPred, NegPred, Push, Tag}
 
 -- names that a test tells apart
 apart : (a b : Text) → bytes_eq a b ≡ false → a ≡ b → ⊥
@@ -46,7 +46,7 @@ terminal_once reading.slice_between reading.slice_between = refl
 
 -- the rules of nodes; the first tree of a term is one of them, or another
 is_node : Text → Bool
-is_node r = bytes_eq r (codes "identifier") || (bytes_eq r (codes "string") || (bytes_eq r (codes "insensitive_string") || (bytes_eq r (codes "range") || (bytes_eq r (codes "peek_slice") || bytes_eq r (codes "_push")))))
+is_node r = bytes_eq r (codes "identifier") || (bytes_eq r (codes "string") || (bytes_eq r (codes "insensitive_string") || (bytes_eq r (codes "range") || (bytes_eq r (codes "peek_slice") || (bytes_eq r (codes "_push") || bytes_eq r (codes "_push_literal"))))))
 
 terminal_name : {text : List ℕ} {r : Text} {i j : ℕ} {us : Trees} {e : Expression} → Terminal text r i j us e
     → is_node r ≡ true
@@ -65,6 +65,7 @@ node_name : {text : List ℕ} {r : Text} {i j : ℕ} {inner us : Trees} {x : Spa
 unfolding is_node
 node_name (leaf t) = terminal_name t
 node_name (pushed d) = refl
+node_name literally_pushed = refl
 
 other_name : {text : List ℕ} {r : Text} {i j : ℕ} {inner us : Trees} {x : Spanned} {A : Type 0}
     → is_node r ≡ false → Reads text ANode (Tree r i j inner us) x → A
@@ -244,7 +245,7 @@ reads_once {text} (sequence i j k l {us = us} {vs = vs} {x = x'} {y = y'} c d) e
       let n = reads_once d (subst (λ ws. Reads text ATerm ws f.last) (sym g.5) f.reads_back) in
       ap (λ z. both text Seq z y') m ∙ ap (λ z. both text Seq f.first z) n ∙ sym f.whole
 ]
-reads_once (tagged d) (tagged e) = reads_once d e
+reads_once {text} (tagged {tag_at = i} {tag_to = j} d) (tagged e) = ap (λ z. One (piece text i (end_of z)) (Tag (tag_name text i j)) z) (reads_once d e)
 reads_once (tagged d) (bare e q) = other_name refl e
 reads_once {text} (pos_pred {sign_at = i} d) (pos_pred e) = ap (λ z. One (piece text i (end_of z)) PosPred z) (reads_once d e)
 reads_once (pos_pred d) (bare e q) = other_name refl e
@@ -259,7 +260,10 @@ reads_once {text} (grouped {open_at = i} {close_to = n} {us = us} d p) (grouped 
 reads_once (grouped d p) (bare e q) = other_name refl e
 reads_once {text} (leaf {from = i} {to = j} t) (leaf u) = ap (λ f. Leaf (piece text i j) f) (terminal_once t u)
 reads_once (leaf t) (pushed e) = elim t [ ]
+reads_once (leaf t) literally_pushed = elim t [ ]
 reads_once (pushed d) (leaf u) = elim u [ ]
+reads_once literally_pushed (leaf u) = elim u [ ]
+reads_once literally_pushed literally_pushed = refl
 reads_once {text} (pushed {from = i} d) (pushed e) = ap (λ z. One (piece text i (end_of z)) Push z) (reads_once d e)
 
 -- rules

@@ -9,7 +9,6 @@ use Rattle.meta_nodes.specs.Spanned.{Span}
 use Rattle.meta_reader.specs.Reading.{number, integer, literal_value}
 
 pub data Cause : Type 0 where
-  PushLiteralCalled : Cause
   NoScalarValue : Cause
   PastI32 : Cause
   PastU32 : Cause
@@ -65,13 +64,12 @@ module _ (text : List ℕ) where
   -- behind it
   unfoldable pub own_flaw : Text → ℕ → ℕ → Trees → Trees → Option Flaw
   own_flaw r i j inner others =
-      if bytes_eq r (codes "_push_literal") then flaw_if true PushLiteralCalled i j
-      else (if bytes_eq r (codes "string") then wrong_literal i j inner
+      if bytes_eq r (codes "string") then wrong_literal i j inner
       else (if bytes_eq r (codes "character") then wrong_literal i j inner
       else (if bytes_eq r (codes "insensitive_string") then wrong_literal i j (first_inner inner)
       else (if bytes_eq r (codes "integer") then past_i32 i j
       else (if bytes_eq r (codes "number") then number_flaw i j others
-      else None)))))
+      else None))))
 
   -- the first flaw: of the first tree itself, in it, or behind it
   abbrev pub first_flaw : Trees → Option Flaw

@@ -3,11 +3,11 @@ use Rattle.std.specs.Prelude.{ℕ, ℤ, pos, List, [], ◌∷◌, Option, Some, 
 use Rattle.std.specs.List.{slice_range}
 use Rattle.std.specs.Str.Parse.{digits_value, signed_digits_value}
 use Rattle.meta_base.specs.Language.Text.{Text}
-use Rattle.meta_base.specs.Language.Expression.{Expression, Str, Insens, Range, Ident, PeekSlice, RuleType, Normal, Silent, Atomic, CompoundAtomic, NonAtomic}
+use Rattle.meta_base.specs.Language.Expression.{Expression, Str, Insens, Range, Ident, PeekSlice, PushLiteral, RuleType, Normal, Silent, Atomic, CompoundAtomic, NonAtomic}
 use Rattle.meta_base.specs.Language.State.{Trees, None', Tree, joined}
 use Rattle.meta_base.specs.Pieces.Saying.{piece}
 use Rattle.meta_syntax.specs.Shape.{Mark, Braced}
-use Rattle.meta_nodes.specs.Spanned.{Span, Spanned, Leaf, One, Two, Unary, PosPred, NegPred, Opt, Rep, RepOnce, RepExact, RepMin, RepMax, RepMinMax, Push, Binary, Seq, Choice, start_of, end_of, starting, ending, SpannedRule}
+use Rattle.meta_nodes.specs.Spanned.{Span, Spanned, Leaf, One, Two, Unary, PosPred, NegPred, Opt, Rep, RepOnce, RepExact, RepMin, RepMax, RepMinMax, Push, Tag, Binary, Seq, Choice, start_of, end_of, starting, ending, SpannedRule}
 use Rattle.meta_reader.specs.Literal.{unescaped}
 
 -- the categories of syntax: what a list of trees may be read as
@@ -25,6 +25,11 @@ pub data Modifies : Text → RuleType → Type 0 where
   compound_atomic : Modifies (codes "compound_atomic_modifier") CompoundAtomic
   non_atomic : Modifies (codes "non_atomic_modifier") NonAtomic
 
+-- a text without its first character
+abbrev pub behind_first : Text → Text
+behind_first [] = []
+behind_first (c ∷ t) = t
+
 module _ (text : List ℕ) where
   -- what is written there: characters, a number, a number with a sign
   abbrev pub characters_between : ℕ → ℕ → Text
@@ -35,6 +40,10 @@ module _ (text : List ℕ) where
 
   abbrev pub integer : ℕ → ℕ → ℤ
   integer i j = signed_digits_value 10 (slice_range text i j)
+
+  -- a tag without its `#`
+  abbrev pub tag_name : ℕ → ℕ → Text
+  tag_name i j = behind_first (characters_between i j)
 
   -- what a literal stands for, by the trees in it: a quote, what is quoted, a quote
   abbrev pub literal_value : Trees → Text
@@ -151,11 +160,12 @@ module _ (text : List ℕ) where
         (joined us (Mark (codes "sequence_operator") tilde_at tilde_to
         (Tree (codes "term") term_at term_to vs None')))
         (both Seq x y)
-    -- a tag says nothing; a predicate takes the rest of its term
+    -- a tag and a predicate take the rest of their term
     tagged : {us : Trees} {x : Spanned} {tag_at tag_to equals_at equals_to : ℕ}
         → Reads ATerm us x
         → Reads ATerm
-        (Mark (codes "tag_id") tag_at tag_to (Mark (codes "assignment_operator") equals_at equals_to us)) x
+        (Mark (codes "tag_id") tag_at tag_to (Mark (codes "assignment_operator") equals_at equals_to us))
+        (One (piece text tag_at (end_of x)) (Tag (tag_name tag_at tag_to)) x)
     pos_pred : {us : Trees} {x : Spanned} {sign_at sign_to : ℕ}
         → Reads ATerm us x
         → Reads ATerm (Mark (codes "positive_predicate_operator") sign_at sign_to us)
@@ -188,6 +198,15 @@ module _ (text : List ℕ) where
         (Mark (codes "closing_paren") close_at close_to us)))
         None')
         (One (piece text from (end_of x)) Push x)
+    -- a literal push stands where its string does
+    literally_pushed : {from to open_at open_to string_at string_to close_at close_to : ℕ} {us : Trees}
+        → Reads ANode
+        (Tree (codes "_push_literal") from to
+        (Mark (codes "opening_paren") open_at open_to
+        (Tree (codes "string") string_at string_to us
+        (Mark (codes "closing_paren") close_at close_to None')))
+        None')
+        (Leaf (piece text string_at string_to) (PushLiteral (literal_value us)))
 
   -- a rule whose name stands from one place to another; a comment that documents one gives none
   pub data ReadsRule : Trees → Option SpannedRule → Type 0 where

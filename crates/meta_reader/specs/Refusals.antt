@@ -8,13 +8,12 @@ use Rattle.meta_base.specs.declared.runtime.errors.Error.{Error}
 use Rattle.meta_base.specs.declared.runtime.faults.Fault as code
 use Rattle.meta_base.specs.declared.runtime.faults.Fault.TheVariants as code_is
 use Rattle.meta_base.specs.declared.runtime.tokens.Pairs.{Pairs}
-use Rattle.meta_reader.specs.Flaws.{Cause, PushLiteralCalled, NoScalarValue, PastI32, PastU32, ZeroTimes, Flaw, first_flaw}
+use Rattle.meta_reader.specs.Flaws.{Cause, NoScalarValue, PastI32, PastU32, ZeroTimes, Flaw, first_flaw}
 use Rattle.meta_reader.specs.Reading.{ReadsRules}
 use Rattle.meta_nodes.specs.Spanned.{SpannedRule}
 
 -- what the error of a flaw says
 abbrev pub cause_message : Cause → List ℕ
-cause_message PushLiteralCalled = codes "PUSH_LITERAL requires feature grammar-extras"
 cause_message NoScalarValue = codes "escape is not a Unicode scalar value"
 cause_message PastI32 = codes "number cannot overflow i32"
 cause_message PastU32 = codes "number cannot overflow u32"

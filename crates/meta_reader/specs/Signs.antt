@@ -1,28 +1,31 @@
--- The signs of predicates in a term, and what they stand before.
-use Rattle.std.specs.Prelude.{◌≡◌, ◌≤◌, ℕ, List, [], ◌∷◌, Bool, true, false, All, codes}
+-- The signs in a term, which are those of predicates and tags, and what they stand before.
+use Rattle.std.specs.Prelude.{◌≡◌, ◌≤◌, ℕ, List, [], ◌∷◌, All, codes, chars}
 use Rattle.std.specs.Str.{IsCharBoundary}
 use Rattle.meta_base.specs.Language.Text.{Text}
 use Rattle.meta_base.specs.Language.State.{Trees, Tree}
 use Rattle.meta_base.specs.Pieces.Saying.{piece}
 use Rattle.meta_syntax.specs.Shape.{Mark, IsExpression, IsNode, ArePostfixes}
-use Rattle.meta_nodes.specs.Spanned.{Spanned, One, Unary, PosPred, NegPred, end_of}
+use Rattle.meta_nodes.specs.Spanned.{Spanned, One, Unary, PosPred, NegPred, Tag, end_of}
 use Rattle.meta_reader.specs.Flaws.{first_flaw}
 use Rattle.meta_reader.specs.Pieces.{NestedInBytes, StandIn}
 use Rattle.meta_reader.specs.Reading.{Reads, ATerm}
 use Rattle.meta_reader.specs.Views.{count_of}
 use Rattle.meta_reader.specs.declared.parser.signs.Sign.{Sign}
+use Rattle.meta_reader.specs.declared.parser.signs.SignKind.{SignKind}
+use Rattle.meta_reader.specs.declared.parser.signs.SignKind.TheVariants as sign_is
 
--- `!` is the negative one
-abbrev pub predicate_of : Bool → Unary
-predicate_of true = NegPred
-predicate_of false = PosPred
+-- what a sign puts round its operand
+abbrev pub sign_of : SignKind → Unary
+sign_of sign_is.Positive = PosPred
+sign_of sign_is.Negative = NegPred
+sign_of (sign_is.Tag tag) = Tag (chars tag.now)
 
--- predicates round an expression, by their signs: each begins with its sign, and ends where the expression
--- does
+-- predicates and tags round an expression, by their signs: each begins with its sign, and ends where the
+-- expression does
 abbrev pub signed : List ℕ → List Sign → Spanned → Spanned
 signed text [] x = x
 signed text (sign ∷ signs) x =
-    One (piece text sign.start (end_of x)) (predicate_of sign.is_negative) (signed text signs x)
+    One (piece text sign.start (end_of x)) (sign_of sign.kind) (signed text signs x)
 
 -- what stands behind all signs: an expression in parentheses or a node, and postfix operators
 pub data IsOperand (text : List ℕ) : Trees → Type 0 where

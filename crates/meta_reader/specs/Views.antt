@@ -37,7 +37,6 @@ use Rattle.meta_reader.specs.declared.parser.reading.Infix.TheVariants as infix_
 use Rattle.meta_reader.specs.declared.parser.operators.Times.TheVariants as times_is
 
 abbrev pub cause_of : code_cause.Cause → flaws.Cause
-cause_of cause_is.PushLiteralCalled = flaws.PushLiteralCalled
 cause_of cause_is.NoScalarValue = flaws.NoScalarValue
 cause_of cause_is.PastI32 = flaws.PastI32
 cause_of cause_is.PastU32 = flaws.PastU32

@@ -3,7 +3,7 @@ use Rattle.std.proofs.Common.{◌≡◌, Bool, true, false, ◌||◌, inl, inr, 
 use Rattle.std.specs.Bool.{Decides}
 use Rattle.meta_base.specs.Language.Text.{Text}
 use Rattle.meta_base.specs.Language.Expression.{Expression, Str, Insens, Range, Ident, PeekSlice, PosPred, NegPred, Seq, Choice, Opt, Rep, RepOnce, RepExact, RepMin, RepMax, RepMinMax, Skip, Push, RestoreOnErr, Grammar, PushLiteral, NodeTag}
-use Rattle.meta_base.specs.Rewritings.Wrapping.{ChangesStack, changes_push, changes_pos_pred, changes_neg_pred, changes_seq_left, changes_seq_right, changes_left, changes_right, changes_opt, changes_rep, changes_rep_once, changes_rep_exact, changes_rep_min, changes_rep_max, changes_rep_min_max, changes_tag}
+use Rattle.meta_base.specs.Rewritings.Wrapping.{ChangesStack, changes_push, changes_push_literal, changes_pos_pred, changes_neg_pred, changes_seq_left, changes_seq_right, changes_left, changes_right, changes_opt, changes_rep, changes_rep_once, changes_rep_exact, changes_rep_min, changes_rep_max, changes_rep_min_max, changes_tag}
 use Rattle.meta_ast.specs.Ast.{text_of}
 use Rattle.meta_restorer.specs.Changing.{changes_by}
 use Rattle.meta_restorer.proofs.Changers.{either}
@@ -46,7 +46,7 @@ module _ (g : Grammar) (p : Text → Bool) where
   changing f (Range t u) s h = cc
   changing f (PeekSlice i j) s h = cc
   changing f (Skip ts) s h = cc
-  changing f (PushLiteral t) s h = cc
+  changing f (PushLiteral t) s h = changes_push_literal
 
   pub changed : ((s : String Global) → ChangesStack g (Ident (text_of s)) → p (text_of s) ≡ true) → (e : Expression) → IsSaid e → ChangesStack g e → changes_by p e ≡ true
   changed f (Ident n) (s, k) d = ap p k ∙ f s (subst (λ m. ChangesStack g (Ident m)) k d)
@@ -71,7 +71,7 @@ module _ (g : Grammar) (p : Text → Bool) where
   changed f (Range t u) s d = elim d [ ]
   changed f (PeekSlice i j) s d = elim d [ ]
   changed f (Skip ts) s d = elim d [ ]
-  changed f (PushLiteral t) s d = elim d [ ]
+  changed f (PushLiteral t) s d = refl
 
   pub decided : ((s : String Global) → Decides (p (text_of s)) (ChangesStack g (Ident (text_of s)))) → (e : Expression) → IsSaid e → Decides (changes_by p e) (ChangesStack g e)
   decided f e s = ((λ h. changing (λ n. (f n).0) e s h), (λ d. changed (λ n. (f n).1) e s d))

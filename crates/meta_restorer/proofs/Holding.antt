@@ -9,7 +9,7 @@ use Rattle.std.proofs.lemmas.Bool.Decides.{same_from_decides}
 use Rattle.std.proofs.lemmas.Slice.Eq.{bytes_eq-Decides}
 use Rattle.std.proofs.lemmas.Str.{IsUtf8-string_bytes}
 use Rattle.meta_base.specs.Language.Expression.{Expression, Rule, Grammar, rule_of, or_else}
-use Rattle.meta_base.specs.Rewritings.Wrapping.{ChangesStack, changes_push, changes_pop, changes_pop_all, changes_drop, changes_rule, changes_pos_pred, changes_neg_pred, changes_seq_left, changes_seq_right, changes_left, changes_right, changes_opt, changes_rep, changes_rep_once, changes_rep_exact, changes_rep_min, changes_rep_max, changes_rep_min_max, changes_tag}
+use Rattle.meta_base.specs.Rewritings.Wrapping.{ChangesStack, changes_push, changes_push_literal, changes_pop, changes_pop_all, changes_drop, changes_rule, changes_pos_pred, changes_neg_pred, changes_seq_left, changes_seq_right, changes_left, changes_right, changes_opt, changes_rep, changes_rep_once, changes_rep_exact, changes_rep_min, changes_rep_max, changes_rep_min_max, changes_tag}
 use Rattle.meta_ast.specs.Ast.{text_of}
 use Rattle.meta_ast.specs.Optimized.{optimized_expression_of, optimized_rule_of, optimized_rules_of}
 use Rattle.meta_ast.specs.declared.optimized.OptimizedExpr as code
@@ -46,6 +46,7 @@ moved_said g h same f n r e =
 
 moved : (g h : Grammar) → SameBodies g h → BodiesAreSaid g → {e : Expression} → ChangesStack g e → IsSaid e → ChangesStack h e
 moved g h same f changes_push s = changes_push
+moved g h same f changes_push_literal s = changes_push_literal
 moved g h same f (changes_tag d) s = changes_tag (moved g h same f d s)
 moved g h same f (changes_pop b) s = changes_pop b
 moved g h same f (changes_pop_all b) s = changes_pop_all b

@@ -64,6 +64,8 @@ module _ (names : Names) (marks : List Bool) where
   split (code.Rep' p x) = split x
   split (code.RepOnce' p x) = split x
   split (code.Push' p x) = refl
+  split (code.PushLiteral s) = refl
+  split (code.NodeTag' p x t) = split x
   split (code.RestoreOnErr' p x) = refl
 
   -- what is noted of an expression shows whether it changes the stack

@@ -1,10 +1,10 @@
--- Rules in which no `PUSH`, `POP`, `POP_ALL` or `DROP` is met change nothing, and are restored as they are.
+-- Rules in which no `PUSH`, `PUSH_LITERAL`, `POP`, `POP_ALL` or `DROP` is met change nothing, and are restored as they are.
 use Rattle.std.proofs.Common.{◌≡◌, List, [], ◌∷◌, Option, Some, None, Bool, true, false, ◌||◌, if◌then◌else◌, bytes_eq, refl, ◌∙◌, ap, ap₂, subst, String, Global}
 use Rattle.std.specs.Bool.{Decides}
 use Rattle.std.proofs.lemmas.List.Elements.{All-head, All-tail}
 use Rattle.meta_base.specs.Language.Text.{Text}
 use Rattle.meta_base.specs.Language.Expression.{Expression, Ident, PosPred, NegPred, Seq, Choice, Opt, Rep, RepOnce, Push, RestoreOnErr, Rule, Grammar, rule_of, or_else, NodeTag}
-use Rattle.meta_base.specs.Rewritings.Wrapping.{ChangesStack, changes_push, changes_pop, changes_pop_all, changes_drop, changes_rule, changes_pos_pred, changes_neg_pred, changes_seq_left, changes_seq_right, changes_left, changes_right, changes_opt, changes_rep, changes_rep_once, changes_rep_exact, changes_rep_min, changes_rep_max, changes_rep_min_max, EachRestored, changes_tag}
+use Rattle.meta_base.specs.Rewritings.Wrapping.{ChangesStack, changes_push, changes_push_literal, changes_pop, changes_pop_all, changes_drop, changes_rule, changes_pos_pred, changes_neg_pred, changes_seq_left, changes_seq_right, changes_left, changes_right, changes_opt, changes_rep, changes_rep_once, changes_rep_exact, changes_rep_min, changes_rep_max, changes_rep_min_max, EachRestored, changes_tag}
 use Rattle.meta_ast.specs.Ast.{text_of}
 use Rattle.meta_ast.specs.Optimized.{optimized_rule_of, optimized_rules_of}
 use Rattle.meta_ast.specs.declared.optimized.OptimizedRule.{OptimizedRule}
@@ -58,6 +58,7 @@ module _ (rs : List OptimizedRule) (quiet : AreQuiet rs) where
 
   shown : {e : Expression} → ChangesStack g e → changes_by is_changer e ≡ true
   shown changes_push = refl
+  shown changes_push_literal = refl
   shown (changes_tag d) = shown d
   shown (changes_pop {n = n} b) = pop_named n b
   shown (changes_pop_all {n = n} b) = pop_all_named n b

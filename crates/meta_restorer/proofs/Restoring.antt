@@ -9,7 +9,7 @@ use Rattle.meta_base.specs.Language.Text.{Text}
 use Rattle.meta_base.specs.Rewritings.Erased.{erased}
 use Rattle.meta_base.specs.Language.Expression.{Expression, Ident, PosPred, NegPred, Seq, Choice, Opt, Rep, RepOnce, Push, RestoreOnErr, Rule, Grammar, whole, of_pos_pred, of_neg_pred, of_seq_left, of_seq_right, of_choice_left, of_choice_right, of_opt, of_rep, of_rep_once, of_push, of_restore, NodeTag, of_tag}
 use Rattle.meta_base.specs.Rewritings.Rewriting.{EachBody, no_rules, also_rule}
-use Rattle.meta_base.specs.Rewritings.Wrapping.{ChangesStack, Wraps, wraps, leaves, RestoresTo, restores_str, restores_insens, restores_range, restores_name, restores_slice, restores_skip, restores_pos_pred, restores_neg_pred, restores_push, restores_seq, restores_choice, restores_opt, restores_rep, restores_rep_once}
+use Rattle.meta_base.specs.Rewritings.Wrapping.{ChangesStack, Wraps, wraps, leaves, RestoresTo, restores_str, restores_insens, restores_range, restores_name, restores_slice, restores_skip, restores_pos_pred, restores_neg_pred, restores_push, restores_push_literal, restores_tag, restores_seq, restores_choice, restores_opt, restores_rep, restores_rep_once}
 use Rattle.meta_base.proofs.SomeRule.{each_rule}
 use Rattle.meta_ast.specs.Ast.{text_of}
 use Rattle.meta_ast.specs.Optimized.{optimized_expression_of, optimized_rule_of, optimized_rules_of}
@@ -83,6 +83,8 @@ module _ (p : Text → Bool) where
     restores (code.PosPred' a x) h = restores_pos_pred (restores x (λ e k. h e (of_pos_pred k)))
     restores (code.NegPred' a x) h = restores_neg_pred (restores x (λ e k. h e (of_neg_pred k)))
     restores (code.Push' a x) h = restores_push (restores x (λ e k. h e (of_push k)))
+    restores (code.PushLiteral s) h = restores_push_literal
+    restores (code.NodeTag' a x t) h = restores_tag (restores x (λ e k. h e (of_tag k)))
     restores (code.Seq' a x b y) h = restores_seq (restores x (λ e k. h e (of_seq_left k))) (restores y (λ e k. h e (of_seq_right k)))
     restores (code.Choice' a x b y) h =
         restores_choice (restores x (λ e k. h e (of_choice_left k))) (wraps_to (restored_by p (optimized_expression_of x)) (restored_said p (optimized_expression_of x) (said x)))

@@ -7,7 +7,7 @@ use Rattle.meta_base.specs.Language.Meaning.{exactly, from_to}
 use Rattle.meta_base.specs.Rewritings.Rewriting.{EachBody, no_rules, also_rule}
 use Rattle.meta_base.specs.Language.WellFormed.{IsSkipped, is_whitespace, is_comment, Reaches, itself, onward}
 use Rattle.meta_base.specs.Language.LooseMeaning.{Pops, pops, pops_all, pops_rule, pops_left, pops_right, pops_push, pops_rep_exact, pops_rep_min_max, Safe, wrapped, keeps, SafeHere, IsSafe, Restored, pops_tag}
-use Rattle.meta_base.specs.Rewritings.Wrapping.{ChangesStack, changes_push, changes_pop, changes_pop_all, changes_rule, changes_pos_pred, changes_neg_pred, changes_seq_left, changes_seq_right, changes_left, changes_right, changes_opt, changes_rep, changes_rep_once, changes_rep_exact, changes_rep_min_max, Wraps, wraps, leaves, RestoresTo, restores_str, restores_insens, restores_range, restores_name, restores_slice, restores_skip, restores_pos_pred, restores_neg_pred, restores_push, restores_seq, restores_choice, restores_opt, restores_rep, restores_rep_once, EachRestored, restores_push_literal, restores_tag, changes_tag}
+use Rattle.meta_base.specs.Rewritings.Wrapping.{ChangesStack, changes_push, changes_push_literal, changes_pop, changes_pop_all, changes_rule, changes_pos_pred, changes_neg_pred, changes_seq_left, changes_seq_right, changes_left, changes_right, changes_opt, changes_rep, changes_rep_once, changes_rep_exact, changes_rep_min_max, Wraps, wraps, leaves, RestoresTo, restores_str, restores_insens, restores_range, restores_name, restores_slice, restores_skip, restores_pos_pred, restores_neg_pred, restores_push, restores_seq, restores_choice, restores_opt, restores_rep, restores_rep_once, EachRestored, restores_push_literal, restores_tag, changes_tag}
 use Rattle.meta_base.proofs.OneOutcome.{same_rule}
 use Rattle.meta_base.proofs.Moving.{each_copy, each_of_both, in_all}
 use Rattle.meta_base.proofs.BothMeaningsAgree.{same_endings}
@@ -54,7 +54,7 @@ module _ (g : Grammar) where
   changed_before (restores_pos_pred d) (changes_pos_pred x) = changes_pos_pred (changed_before d x)
   changed_before (restores_neg_pred d) (changes_neg_pred x) = changes_neg_pred (changed_before d x)
   changed_before (restores_push d) x = changes_push
-  changed_before restores_push_literal x = elim x [ ]
+  changed_before restores_push_literal x = changes_push_literal
   changed_before (restores_tag d) (changes_tag x) = changes_tag (changed_before d x)
   changed_before (restores_seq d f) (changes_seq_left x) = changes_seq_left (changed_before d x)
   changed_before (restores_seq d f) (changes_seq_right x) = changes_seq_right (changed_before f x)

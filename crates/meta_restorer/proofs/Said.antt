@@ -40,6 +40,8 @@ said (code.Opt' p x) = said x
 said (code.Rep' p x) = said x
 said (code.RepOnce' p x) = said x
 said (code.Push' p x) = said x
+said (code.PushLiteral s) = tt
+said (code.NodeTag' p x t) = said x
 said (code.RestoreOnErr' p x) = said x
 
 module _ (p : Text → Bool) where

@@ -1,7 +1,7 @@
 -- What changes the stack and what the restorer makes of it, where it is known which names change the stack.
 use Rattle.std.specs.Prelude.{Bool, true, false, ◌||◌, if◌then◌else◌, bytes_eq, codes}
 use Rattle.meta_base.specs.Language.Text.{Text}
-use Rattle.meta_base.specs.Language.Expression.{Expression, Ident, PosPred, NegPred, Seq, Choice, Opt, Rep, RepOnce, RepExact, RepMin, RepMax, RepMinMax, Push, RestoreOnErr, Part, NodeTag}
+use Rattle.meta_base.specs.Language.Expression.{Expression, Ident, PosPred, NegPred, Seq, Choice, Opt, Rep, RepOnce, RepExact, RepMin, RepMax, RepMinMax, Push, PushLiteral, RestoreOnErr, Part, NodeTag}
 
 -- the builtins that count as changing the stack
 abbrev pub is_changer : Text → Bool
@@ -11,6 +11,7 @@ is_changer n = bytes_eq n (codes "POP") || (bytes_eq n (codes "POP_ALL") || byte
 abbrev pub changes_by : (Text → Bool) → Expression → Bool
 changes_by p (Ident n) = p n
 changes_by p (Push e) = true
+changes_by p (PushLiteral t) = true
 changes_by p (NodeTag e t) = changes_by p e
 changes_by p (PosPred e) = changes_by p e
 changes_by p (NegPred e) = changes_by p e

@@ -19,7 +19,7 @@ pub record IsWithin (qs : Numbers) (s : Share) : Type 0 where
 abbrev pub AreWithin : Noted → Type 0
 AreWithin n = (i : ℕ) (s : Share) → slice_get n.shares.items i ≡ Some s → IsWithin n.numbers.items s
 
--- a `PUSH`, `POP`, `POP_ALL` or `DROP` is met, or a rule that is marked
+-- a `PUSH`, `PUSH_LITERAL`, `POP`, `POP_ALL` or `DROP` is met, or a rule that is marked
 abbrev pub shows : List Bool → Numbers → Share → Bool
 shows marks qs s = s.changes || list_any (number_changes marks) (slice_range qs s.start s.end)
 

@@ -18,7 +18,7 @@ HaveNoWrappers g = (e : Expression) → InSomeRule g (RestoreOnErr e) → ⊥
 abbrev pub AreSameErased : Grammar → Grammar → Type 0
 AreSameErased = EachBody (λ y a b. erased b ≡ erased a)
 
--- no `PUSH`, `POP`, `POP_ALL` or `DROP` is met in the body of a rule, not below a wrapper
+-- no `PUSH`, `PUSH_LITERAL`, `POP`, `POP_ALL` or `DROP` is met in the body of a rule, not below a wrapper
 abbrev pub IsQuiet : OptimizedRule → Type 0
 IsQuiet r = changes_by is_changer (optimized_expression_of r.expr) ≡ false
 

@@ -28,7 +28,7 @@ pub(crate) fn is_marked(marks: &[bool], rule: Option<usize>) -> bool
     }
 }
 
-/// Whether a `PUSH`, `POP`, `POP_ALL` or `DROP` is met in an expression, not below a wrapper.
+/// Whether a `PUSH`, `PUSH_LITERAL`, `POP`, `POP_ALL` or `DROP` is met in an expression, not below a wrapper.
 pub(crate) fn changes_itself(expr: &OptimizedExpr) -> bool
     ensures { result ≡ changes_by is_changer (optimized_expression_of expr.now) }
 {
@@ -37,6 +37,8 @@ pub(crate) fn changes_itself(expr: &OptimizedExpr) -> bool
         match here {
             OptimizedExpr::Ident(name) => return is_changer_name(name),
             OptimizedExpr::Push(_) => return true,
+            OptimizedExpr::PushLiteral(_) => return true,
+            OptimizedExpr::NodeTag(inner, _) => here = inner,
             OptimizedExpr::PosPred(inner) => here = inner,
             OptimizedExpr::NegPred(inner) => here = inner,
             OptimizedExpr::Opt(inner) => here = inner,

@@ -18,7 +18,7 @@ use std::alloc::{AllocError, Global};
 /// What is met in an expression, not below a wrapper.
 #[derive(Clone, Copy)]
 pub struct Share {
-    /// Whether a `PUSH`, `POP`, `POP_ALL` or `DROP` is met.
+    /// Whether a `PUSH`, `PUSH_LITERAL`, `POP`, `POP_ALL` or `DROP` is met.
     pub changes: bool,
     /// Where the numbers of its names stand in the list.
     pub start: usize,
@@ -34,7 +34,7 @@ pub struct Noted {
     pub shares: Vec<Share>,
 }
 
-/// Whether a `PUSH`, `POP`, `POP_ALL` or `DROP` is met in an expression, not below a wrapper. The number of
+/// Whether a `PUSH`, `PUSH_LITERAL`, `POP`, `POP_ALL` or `DROP` is met in an expression, not below a wrapper. The number of
 /// each name that is met goes behind the others.
 fn look(
     names: &Names,
@@ -58,6 +58,8 @@ fn look(
                 is_changing = true;
                 here = inner;
             }
+            OptimizedExpr::PushLiteral(_) => return Ok(true),
+            OptimizedExpr::NodeTag(inner, _) => here = inner,
             OptimizedExpr::PosPred(inner) => here = inner,
             OptimizedExpr::NegPred(inner) => here = inner,
             OptimizedExpr::Opt(inner) => here = inner,
@@ -125,7 +127,7 @@ pub(crate) fn noted_of<'a>(
     Ok(Noted { numbers, shares })
 }
 
-/// Whether a `PUSH`, `POP`, `POP_ALL` or `DROP` is met, or a rule that is marked.
+/// Whether a `PUSH`, `PUSH_LITERAL`, `POP`, `POP_ALL` or `DROP` is met, or a rule that is marked.
 pub(crate) fn is_shown(numbers: &[Option<usize>], share: Share, marks: &[bool]) -> bool
     requires { IsWithin numbers.now share }
     ensures { result ≡ shows marks.now numbers.now share }

@@ -155,6 +155,8 @@ fn restore_one(
             restore(alloc, changes, place, levels, inner)?;
             Ok(true)
         }
+        OptimizedExpr::PushLiteral(_) => Ok(true),
+        OptimizedExpr::NodeTag(inner, _) => Ok(restore(alloc, changes, place, levels, inner)?),
         OptimizedExpr::Opt(inner) => {
             restore_wrapped(alloc, changes, place, levels, inner)?;
             Ok(false)

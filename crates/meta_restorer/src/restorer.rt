@@ -24,7 +24,7 @@ use meta_base::runtime::Fault;
 use std::alloc::{AllocError, Global};
 use std::collections::HashMap;
 
-/// Whether an expression changes the stack: a `PUSH`, `POP`, `POP_ALL` or `DROP` is met in it, not below a
+/// Whether an expression changes the stack: a `PUSH`, `PUSH_LITERAL`, `POP`, `POP_ALL` or `DROP` is met in it, not below a
 /// wrapper, or in the body of a rule that is named there. `rules` holds the body of each rule at its name.
 /// The only fault is a want of memory.
 pub fn child_modifies_state(
@@ -97,7 +97,7 @@ pub fn restore_rules(alloc: Global, rules: Vec<OptimizedRule>) -> Result<Vec<Opt
     }
 }
 
-// Whether a `PUSH`, `POP`, `POP_ALL` or `DROP` is met in any rule; where none is, no rule changes the stack.
+// Whether a `PUSH`, `PUSH_LITERAL`, `POP`, `POP_ALL` or `DROP` is met in any rule; where none is, no rule changes the stack.
 fn is_any_changing(rules: &[OptimizedRule]) -> bool
     ensures { result ≡ false → AreQuiet rules.now }
 {

@@ -72,7 +72,8 @@ fn write_node(node: &ParserNode<'_>, out: &mut String) -> Result<(), AllocError>
         | ParserExpr::RepMin(inner, _)
         | ParserExpr::RepMax(inner, _)
         | ParserExpr::RepMinMax(inner, _, _)
-        | ParserExpr::Push(inner) => write_node(inner, out),
+        | ParserExpr::Push(inner)
+        | ParserExpr::NodeTag(inner, _) => write_node(inner, out),
         _ => Ok(()),
     }
 }
@@ -97,5 +98,7 @@ fn write_sign(expr: &ParserExpr<'_>, out: &mut String) -> Result<(), AllocError>
         ParserExpr::RepMax(_, most) => write!(out, " RepMax {most}"),
         ParserExpr::RepMinMax(_, least, most) => write!(out, " RepMinMax {least} {most}"),
         ParserExpr::Push(_) => out.push_str(" Push"),
+        ParserExpr::PushLiteral(text) => write!(out, " PushLiteral {text:?}"),
+        ParserExpr::NodeTag(_, tag) => write!(out, " NodeTag {tag}"),
     }
 }

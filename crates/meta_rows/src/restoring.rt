@@ -29,6 +29,10 @@ fn optimized(alloc: Global, expr: &Expr) -> Result<OptimizedExpr, AllocError> {
         | Expr::RepOnce(inner)
         | Expr::RepExact(inner, 1)
         | Expr::Push(inner) => Ok(around(expr, boxed(alloc, inner)?)),
+        Expr::NodeTag(inner, tag) => {
+            let tag = tag.clone()?;
+            Ok(OptimizedExpr::NodeTag(boxed(alloc, inner)?, tag))
+        }
         Expr::RepExact(inner, _)
         | Expr::RepMin(inner, _)
         | Expr::RepMax(inner, _)
@@ -66,6 +70,7 @@ fn leaf(alloc: Global, expr: &Expr) -> Result<OptimizedExpr, AllocError> {
         Expr::Range(low, high) => OptimizedExpr::Range(low.clone()?, high.clone()?),
         Expr::Ident(name) => OptimizedExpr::Ident(name.clone()?),
         Expr::PeekSlice(from, to) => OptimizedExpr::PeekSlice(*from, *to),
+        Expr::PushLiteral(text) => OptimizedExpr::PushLiteral(text.clone()?),
         _ => OptimizedExpr::Skip(Vec::new(alloc)),
     })
 }

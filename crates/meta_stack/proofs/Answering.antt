@@ -8,7 +8,7 @@ use Rattle.meta_base.specs.Language.WellFormed.{IsNullable, nullable_str, nullab
 use Rattle.meta_nodes.specs.Erasure.{without_spans, round, between}
 use Rattle.meta_nodes.specs.Nodes.{view}
 use Rattle.meta_nodes.specs.Spanned as spanned
-use Rattle.meta_nodes.specs.Spanned.{Spanned, Leaf, Unary, PosPred, NegPred, Opt, Rep, RepOnce, RepExact, RepMin, RepMax, RepMinMax, Push, Binary, Seq, Choice}
+use Rattle.meta_nodes.specs.Spanned.{Spanned, Leaf, Unary, PosPred, NegPred, Opt, Rep, RepOnce, RepExact, RepMin, RepMax, RepMinMax, Push, Tag, Binary, Seq, Choice}
 use Rattle.meta_nodes.specs.declared.node.ParserRule.{ParserRule}
 use Rattle.meta_stacks.specs.Reported.{KnowsNullable}
 use Rattle.meta_stacks.specs.Reports.{TakesEntries, AltersStack, by_push, by_builtin, by_rule, in_left, in_right, in_first, in_second, in_opt, in_rep, in_rep_once, in_rep_exact, in_rep_min, in_rep_max, in_rep_min_max, in_restore, SkippingAltersStack, by_push_literal, in_tag}
@@ -98,6 +98,7 @@ module _ (rules : List ParserRule) (ns : List Node) (roots : List ℕ) (tabled :
   leaf_null (plain.Ident n) s = ap (λ z. is_end n || z) (name_null n (last_place G n))
   leaf_null (plain.PeekSlice i j) s = slice_null i j
   leaf_null (plain.Range a b) s = refl
+  leaf_null (plain.PushLiteral t) s = refl
   leaf_null _ s = absurd s
 
   unary_null : (f : Unary) (e : Expression) (j : ℕ) → P j ≡ may_stay flag e → (unary_free f || null_kind roots P (wrap_kind (wrap_of f) j)) ≡ may_stay flag (round f e)
@@ -105,6 +106,7 @@ module _ (rules : List ParserRule) (ns : List Node) (roots : List ℕ) (tabled :
   unary_null NegPred e j h = refl
   unary_null Opt e j h = refl
   unary_null Push e j h = h
+  unary_null (Tag t) e j h = h
   unary_null Rep e j h = refl
   unary_null RepOnce e j h = h
   unary_null (RepExact n) e j h = ap (λ z. nat_eq n 0 || z) h
@@ -183,6 +185,7 @@ module _ (rules : List ParserRule) (ns : List Node) (roots : List ℕ) (tabled :
   leaf_changing (plain.Ident n) s = refl
   leaf_changing (plain.PeekSlice i j) s = slice_changing i j
   leaf_changing (plain.Range a b) s = refl
+  leaf_changing (plain.PushLiteral t) s = refl
   leaf_changing _ s = absurd s
 
   unary_changing : (f : Unary) (e : Expression) (j : ℕ) → P j ≡ may_change changes e → changing_kind roots P (wrap_kind (wrap_of f) j) ≡ may_change changes (round f e)
@@ -190,6 +193,7 @@ module _ (rules : List ParserRule) (ns : List Node) (roots : List ℕ) (tabled :
   unary_changing NegPred e j h = refl
   unary_changing Opt e j h = h
   unary_changing Push e j h = refl
+  unary_changing (Tag t) e j h = h
   unary_changing Rep e j h = h
   unary_changing RepOnce e j h = h
   unary_changing (RepExact n) e j h = h

@@ -54,6 +54,7 @@ module _ (roots : List ℕ) (p r : ℕ → Bool) (f : (j : ℕ) → p j ≡ true
   null_more : (k : Kind) → null_kind roots p k ≡ true → null_kind roots r k ≡ true
   null_more (is.Call n) h = place_more p r f (slice_get roots n) h
   null_more (is.Push j) h = f j h
+  null_more (is.Tag j) h = f j h
   null_more (is.Repeat j a b c) h = f j h
   null_more (is.Seq j k) h = and_more (p j) (p k) (r j) (r k) (f j) (f k) h
   null_more (is.Choice j k) h = or_more (p j) (p k) (r j) (r k) (f j) (f k) h
@@ -64,6 +65,7 @@ module _ (roots : List ℕ) (p r : ℕ → Bool) (f : (j : ℕ) → p j ≡ true
   null_more is.Drop h = h
   null_more is.PeekAll h = h
   null_more is.PopAll h = h
+  null_more (is.PushLiteral b) h = h
   null_more (is.PosPred j) h = h
   null_more (is.NegPred j) h = h
   null_more (is.Opt j) h = h
@@ -71,6 +73,8 @@ module _ (roots : List ℕ) (p r : ℕ → Bool) (f : (j : ℕ) → p j ≡ true
   changing_more : (k : Kind) → changing_kind roots p k ≡ true → changing_kind roots r k ≡ true
   changing_more (is.Call n) h = place_more p r f (slice_get roots n) h
   changing_more (is.Push j) h = h
+  changing_more (is.PushLiteral b) h = h
+  changing_more (is.Tag j) h = f j h
   changing_more (is.Repeat j a b c) h = f j h
   changing_more (is.Seq j k) h = or_more (p j) (p k) (r j) (r k) (f j) (f k) h
   changing_more (is.Choice j k) h = or_more (p j) (p k) (r j) (r k) (f j) (f k) h
@@ -88,6 +92,7 @@ module _ (roots : List ℕ) (p r : ℕ → Bool) (f : (j : ℕ) → p j ≡ true
   still_more : (k : Kind) → still_kind roots p k ≡ true → still_kind roots r k ≡ true
   still_more (is.Call n) h = place_more p r f (slice_get roots n) h
   still_more (is.Push j) h = f j h
+  still_more (is.Tag j) h = f j h
   still_more (is.Repeat j a b c) h = or_more (nat_eq a 0) (p j) (nat_eq a 0) (r j) (λ e. e) (f j) h
   still_more (is.Seq j k) h = and_more (p j) (p k) (r j) (r k) (f j) (f k) h
   still_more (is.Choice j k) h = or_more (p j) (p k) (r j) (r k) (f j) (f k) h
@@ -98,6 +103,7 @@ module _ (roots : List ℕ) (p r : ℕ → Bool) (f : (j : ℕ) → p j ≡ true
   still_more is.Drop h = h
   still_more is.PeekAll h = h
   still_more is.PopAll h = h
+  still_more (is.PushLiteral b) h = h
   still_more (is.PosPred j) h = h
   still_more (is.NegPred j) h = h
   still_more (is.Opt j) h = h

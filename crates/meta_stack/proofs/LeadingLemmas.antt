@@ -1,7 +1,7 @@
 -- Flags that tell which nodes lead to a call of a rule.
 use Rattle.std.proofs.Common.{◌≡◌, ◌↔◌, ℕ, ◌⊎◌, inl, inr, List, Option, Some, None, Bool, true, false, ◌||◌, nat_eq, slice_get, refl, sym, ◌∙◌, ap}
 use Rattle.std.specs.Cmp.{unsigned_Decides}
-use Rattle.meta_nodes.specs.Spanned.{Unary, PosPred, NegPred, Opt, Rep, RepOnce, RepExact, RepMin, RepMax, RepMinMax, Push, Binary, Seq, Choice}
+use Rattle.meta_nodes.specs.Spanned.{Unary, PosPred, NegPred, Opt, Rep, RepOnce, RepExact, RepMin, RepMax, RepMinMax, Push, Tag, Binary, Seq, Choice}
 use Rattle.meta_stack.specs.Answers.{answer, at_place, leading, some_part, Holds, holds, AreSound, AreClosed}
 use Rattle.meta_stack.specs.Flags.{is_set_at}
 use Rattle.meta_stack.specs.Leading.{IsOperandOf, LeadsToCall, to_call, by_body, by_operand, LeadsBack}
@@ -35,10 +35,12 @@ call_kind is.Pop r h = cc
 call_kind is.Drop r h = cc
 call_kind is.PeekAll r h = cc
 call_kind is.PopAll r h = cc
+call_kind (is.PushLiteral b) r h = cc
 call_kind (is.PosPred j) r h = cc
 call_kind (is.NegPred j) r h = cc
 call_kind (is.Opt j) r h = cc
 call_kind (is.Push j) r h = cc
+call_kind (is.Tag j) r h = cc
 call_kind (is.Seq j k) r h = cc
 call_kind (is.Choice j k) r h = cc
 call_kind (is.Repeat j required optional endless) r h = cc
@@ -53,10 +55,12 @@ no_call is.Pop j h = refl
 no_call is.Drop j h = refl
 no_call is.PeekAll j h = refl
 no_call is.PopAll j h = refl
+no_call (is.PushLiteral b) j h = refl
 no_call (is.PosPred i) j h = refl
 no_call (is.NegPred i) j h = refl
 no_call (is.Opt i) j h = refl
 no_call (is.Push i) j h = refl
+no_call (is.Tag i) j h = refl
 no_call (is.Seq i k) j h = refl
 no_call (is.Choice i k) j h = refl
 no_call (is.Repeat i required optional endless) j h = refl
@@ -82,6 +86,7 @@ wrap_operand j PosPred = refl
 wrap_operand j NegPred = refl
 wrap_operand j Opt = refl
 wrap_operand j Push = refl
+wrap_operand j (Tag t) = refl
 wrap_operand j Rep = refl
 wrap_operand j RepOnce = refl
 wrap_operand j (RepExact n) = refl

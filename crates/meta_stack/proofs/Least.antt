@@ -10,9 +10,9 @@ use Rattle.meta_base.specs.Language.WellFormed.{IsNullable, nullable_str, nullab
 use Rattle.meta_nodes.specs.Erasure.{without_spans, round, between}
 use Rattle.meta_nodes.specs.Nodes.{view}
 use Rattle.meta_nodes.specs.Spanned as spanned
-use Rattle.meta_nodes.specs.Spanned.{Spanned, Leaf, Unary, PosPred, NegPred, Opt, Rep, RepOnce, RepExact, RepMin, RepMax, RepMinMax, Push, Binary, Seq, Choice}
+use Rattle.meta_nodes.specs.Spanned.{Spanned, Leaf, Unary, PosPred, NegPred, Opt, Rep, RepOnce, RepExact, RepMin, RepMax, RepMinMax, Push, Tag, Binary, Seq, Choice}
 use Rattle.meta_nodes.specs.declared.node.ParserRule.{ParserRule}
-use Rattle.meta_stacks.specs.Reports.{AltersStack, by_push, by_builtin, by_rule, in_left, in_right, in_first, in_second, in_opt, in_rep, in_rep_once, in_rep_exact, in_rep_min, in_rep_max, in_rep_min_max}
+use Rattle.meta_stacks.specs.Reports.{AltersStack, by_push, by_push_literal, in_tag, by_builtin, by_rule, in_left, in_right, in_first, in_second, in_opt, in_rep, in_rep_once, in_rep_exact, in_rep_min, in_rep_max, in_rep_min_max}
 use Rattle.meta_stack.specs.Answers.{answer, at_place, null_kind, changing_kind, Holds, holds, Asked, AreSound}
 use Rattle.meta_stack.specs.Expressions.{body_flag, name_flag, may_stay}
 use Rattle.meta_stack.specs.Flags.{is_set_at}
@@ -102,6 +102,7 @@ module _ (rules : List ParserRule) (ns : List Node) (roots : List ℕ) (tabled :
   ]
   leaf_null p k (plain.PeekSlice i j) s h = absurd (clash (null_kind roots p (slice_kind i j)) h (slice_null p i j))
   leaf_null p k (plain.Range a b) s h = cc
+  leaf_null p k (plain.PushLiteral t) s h = nullable_push_literal
   leaf_null p k _ s h = absurd s
 
   counted : (P : Expression → ℕ → Expression) (e : Expression) (n : ℕ) (b : Bool) → (nat_eq n 0 || b) ≡ true → IsNullable G (P e 0) → (b ≡ true → IsNullable G (P e n)) → IsNullable G (P e n)
@@ -115,6 +116,7 @@ module _ (rules : List ParserRule) (ns : List Node) (roots : List ℕ) (tabled :
   unary_null p NegPred e j k h = nullable_neg_pred
   unary_null p Opt e j k h = nullable_opt
   unary_null p Push e j k h = nullable_push (k h)
+  unary_null p (Tag t) e j k h = nullable_tag (k h)
   unary_null p Rep e j k h = nullable_rep
   unary_null p RepOnce e j k h = nullable_rep_once (k h)
   unary_null p (RepExact n) e j k h = counted (λ d m. plain.RepExact d m) e n (p j) h nullable_exact_zero (λ w. nullable_exact (k w))
@@ -171,6 +173,7 @@ module _ (rules : List ParserRule) (ns : List Node) (roots : List ℕ) (tabled :
   leaf_changes p k (plain.Ident n) s h = name_changes p k n h
   leaf_changes p k (plain.PeekSlice i j) s h = absurd (clash (changing_kind roots p (slice_kind i j)) h (slice_changing p i j))
   leaf_changes p k (plain.Range a b) s h = cc
+  leaf_changes p k (plain.PushLiteral t) s h = by_push_literal
   leaf_changes p k _ s h = absurd s
 
   unary_changes : (p : ℕ → Bool) (f : Unary) (e : Expression) (j : ℕ) → (p j ≡ true → AltersStack G e) → changing_kind roots p (wrap_kind (wrap_of f) j) ≡ true → AltersStack G (round f e)
@@ -178,6 +181,7 @@ module _ (rules : List ParserRule) (ns : List Node) (roots : List ℕ) (tabled :
   unary_changes p NegPred e j k h = cc
   unary_changes p Opt e j k h = in_opt (k h)
   unary_changes p Push e j k h = by_push
+  unary_changes p (Tag t) e j k h = in_tag (k h)
   unary_changes p Rep e j k h = in_rep (k h)
   unary_changes p RepOnce e j k h = in_rep_once (k h)
   unary_changes p (RepExact n) e j k h = in_rep_exact (k h)

@@ -89,6 +89,8 @@ size_anywhere t u (code.RepMin' p e s m) = refl
 size_anywhere t u (code.RepMax' p e s n) = refl
 size_anywhere t u (code.RepMinMax' p e s m n) = refl
 size_anywhere t u (code.Push' p e s) = refl
+size_anywhere t u (code.PushLiteral s) = refl
+size_anywhere t u (code.NodeTag' p e s v) = refl
 
 pub size_unplaced : (b : ParserNode) → size (unplaced b.expr) ≡ size (view b)
 size_unplaced b = size_anywhere _ _ b.expr
@@ -112,6 +114,8 @@ leaf_done kind_of (code.RepMin' p e s m) d t h = cc
 leaf_done kind_of (code.RepMax' p e s n) d t h = cc
 leaf_done kind_of (code.RepMinMax' p e s m n) d t h = cc
 leaf_done kind_of (code.Push' p e s) d t h = cc
+leaf_done kind_of (code.PushLiteral s) d t h = let e : plain.PushLiteral (text_of s) ≡ d = cc in ap (leaf_kind kind_of) e
+leaf_done kind_of (code.NodeTag' p e s u) d t h = cc
 
 -- a node stands where it is viewed
 pub span_at : (t : Span) (e : ParserExpr) → span_of (view_at t e) ≡ t
@@ -132,3 +136,5 @@ span_at t (code.RepMin' p e s m) = refl
 span_at t (code.RepMax' p e s n) = refl
 span_at t (code.RepMinMax' p e s m n) = refl
 span_at t (code.Push' p e s) = refl
+span_at t (code.PushLiteral s) = refl
+span_at t (code.NodeTag' p e s u) = refl

@@ -7,7 +7,7 @@ use Rattle.meta_base.specs.Language.Expression as plain
 use Rattle.meta_base.specs.Language.Expression.{Expression}
 use Rattle.meta_nodes.specs.Nodes.{view}
 use Rattle.meta_nodes.specs.Spanned as spanned
-use Rattle.meta_nodes.specs.Spanned.{Spanned, Leaf, Unary, PosPred, NegPred, Opt, Rep, RepOnce, RepExact, RepMin, RepMax, RepMinMax, Push, Binary, Seq, Choice}
+use Rattle.meta_nodes.specs.Spanned.{Spanned, Leaf, Unary, PosPred, NegPred, Opt, Rep, RepOnce, RepExact, RepMin, RepMax, RepMinMax, Push, Tag, Binary, Seq, Choice}
 use Rattle.meta_nodes.specs.declared.node.ParserRule.{ParserRule}
 use Rattle.meta_stack.specs.Flags.{is_set_at}
 use Rattle.meta_stack.specs.Leading.{AreRanked, IsOperandOf}
@@ -91,6 +91,7 @@ module _ (rules : List ParserRule) (t : Table) (tabled : AreTabled rules (kind_i
   leaf_lies i m at (plain.Ident n) s k = name_lies i n m at (last_place (grammar_of rules) n) k
   leaf_lies i m at (plain.PeekSlice v w) s k = slice_lies i v w
   leaf_lies i m at (plain.Range b c) s k = tt
+  leaf_lies i m at (plain.PushLiteral u) s k = tt
   leaf_lies i m at _ s k = absurd s
 
   wrap_lies : (i j : ℕ) (f : Unary) → Inside t i j → Lies t i (wrap_kind (wrap_of f) j)
@@ -98,6 +99,7 @@ module _ (rules : List ParserRule) (t : Table) (tabled : AreTabled rules (kind_i
   wrap_lies i j NegPred h = h
   wrap_lies i j Opt h = h
   wrap_lies i j Push h = h
+  wrap_lies i j (Tag t) h = h
   wrap_lies i j Rep h = h
   wrap_lies i j RepOnce h = h
   wrap_lies i j (RepExact n) h = h

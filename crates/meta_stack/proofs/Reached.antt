@@ -4,11 +4,11 @@ use Rattle.std.proofs.lemmas.Slice.Eq.{bytes_eq-Decides}
 use Rattle.meta_base.specs.Language.Text.{Text}
 use Rattle.meta_base.specs.Language.Builtins.{Builtin, One, Property, Newline, Soi, Eoi, Peek, Pop, Drop, PeekAll, PopAll, builtin_of}
 use Rattle.meta_base.specs.Language.Expression as plain
-use Rattle.meta_base.specs.Language.Expression.{Expression, Ident, Rule, Grammar, rule_of, Part, whole, of_pos_pred, of_neg_pred, of_seq_left, of_seq_right, of_choice_left, of_choice_right, of_opt, of_rep, of_rep_once, of_rep_exact, of_rep_min, of_rep_max, of_rep_min_max, of_push}
+use Rattle.meta_base.specs.Language.Expression.{Expression, Ident, Rule, Grammar, rule_of, Part, whole, of_pos_pred, of_neg_pred, of_seq_left, of_seq_right, of_choice_left, of_choice_right, of_opt, of_rep, of_rep_once, of_rep_exact, of_rep_min, of_rep_max, of_rep_min_max, of_push, of_tag}
 use Rattle.meta_nodes.specs.Erasure.{without_spans, round, between}
 use Rattle.meta_nodes.specs.Nodes.{view}
 use Rattle.meta_nodes.specs.Spanned as spanned
-use Rattle.meta_nodes.specs.Spanned.{Spanned, Leaf, Unary, PosPred, NegPred, Opt, Rep, RepOnce, RepExact, RepMin, RepMax, RepMinMax, Push, Binary, Seq, Choice}
+use Rattle.meta_nodes.specs.Spanned.{Spanned, Leaf, Unary, PosPred, NegPred, Opt, Rep, RepOnce, RepExact, RepMin, RepMax, RepMinMax, Push, Tag, Binary, Seq, Choice}
 use Rattle.meta_nodes.specs.declared.node.ParserRule.{ParserRule}
 use Rattle.meta_stacks.specs.Recursion.{ReachesByCalls, by_call, by_calls}
 use Rattle.meta_stack.specs.Answers.{at_place}
@@ -87,6 +87,7 @@ wrap_called PosPred j = refl
 wrap_called NegPred j = refl
 wrap_called Opt j = refl
 wrap_called Push j = refl
+wrap_called (Tag t) j = refl
 wrap_called Rep j = refl
 wrap_called RepOnce j = refl
 wrap_called (RepExact n) j = refl
@@ -106,6 +107,7 @@ only_operand PosPred j k h = h
 only_operand NegPred j k h = h
 only_operand Opt j k h = h
 only_operand Push j k h = h
+only_operand (Tag t) j k h = h
 only_operand Rep j k h = h
 only_operand RepOnce j k h = h
 only_operand (RepExact n) j k h = h
@@ -123,6 +125,7 @@ up_one PosPred e c p = of_pos_pred p
 up_one NegPred e c p = of_neg_pred p
 up_one Opt e c p = of_opt p
 up_one Push e c p = of_push p
+up_one (Tag t) e c p = of_tag p
 up_one Rep e c p = of_rep p
 up_one RepOnce e c p = of_rep_once p
 up_one (RepExact n) e c p = of_rep_exact p
@@ -165,6 +168,7 @@ module _ (rules : List ParserRule) (ns : List Node) (roots : List ℕ) (tabled :
   leaf_call (plain.Ident n) r s h = (n, refl, sym (name_called n (last_place G n)) ∙ h)
   leaf_call (plain.PeekSlice i j) r s h = absurd (not_called _ r (slice_called i j) h)
   leaf_call (plain.Range a b) r s h = cc
+  leaf_call (plain.PushLiteral t) r s h = cc
   leaf_call _ r s h = absurd s
 
   -- a node that calls a rule is a name

@@ -8,7 +8,7 @@ use Rattle.meta_base.specs.Language.Expression.{Expression, Rule, Grammar, rule_
 use Rattle.meta_nodes.specs.Erasure.{without_spans, round, between}
 use Rattle.meta_nodes.specs.Nodes.{view}
 use Rattle.meta_nodes.specs.Spanned as spanned
-use Rattle.meta_nodes.specs.Spanned.{Span, Spanned, Leaf, Unary, PosPred, NegPred, Opt, Rep, RepOnce, RepExact, RepMin, RepMax, RepMinMax, Push, Binary, Seq, Choice}
+use Rattle.meta_nodes.specs.Spanned.{Span, Spanned, Leaf, Unary, PosPred, NegPred, Opt, Rep, RepOnce, RepExact, RepMin, RepMax, RepMinMax, Push, Tag, Binary, Seq, Choice}
 use Rattle.meta_nodes.specs.declared.node.ParserRule.{ParserRule}
 use Rattle.meta_stacks.specs.Stack.{AbstractStack, entry, made_intact}
 use Rattle.meta_stacks.specs.Reading as says
@@ -131,6 +131,7 @@ module _ (rules : List ParserRule) (ns : List Node) (roots : List ℕ) (tabled :
     leaf_at (plain.Insens t) s = text_at t
     leaf_at (plain.Ident n) s = refl
     leaf_at (plain.PeekSlice i j) s = slice_at i j
+    leaf_at (plain.PushLiteral t) s = refl
     leaf_at (plain.Range a b) s = refl
     leaf_at _ s = absurd s
 
@@ -139,6 +140,7 @@ module _ (rules : List ParserRule) (ns : List Node) (roots : List ℕ) (tabled :
     unary_at NegPred e j h = refl
     unary_at Opt e j h = refl
     unary_at Push e j h = h
+    unary_at (Tag t) e j h = h
     unary_at Rep e j h = refl
     unary_at RepOnce e j h = h
     unary_at (RepExact n) e j h = ap (λ z. nat_eq n 0 || z) h

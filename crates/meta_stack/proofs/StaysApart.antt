@@ -220,6 +220,8 @@ module _ (t : Table) (meaning : Meaning) (set : ℕ → Bool) where
   shaped_kind i is.PeekAll b h e = cc
   shaped_kind i is.PopAll b h e = cc
   shaped_kind i (is.Push j) b h e = cc
+  shaped_kind i (is.PushLiteral blank) b h e = cc
+  shaped_kind i (is.Tag j) b h e = inside i j b h e
   shaped_kind i (is.Call r) b h e = shaped_call i (followed_at t r) b h e
   shaped_kind i (is.PosPred j) b h e = shaped_ahead (meaning j) (inside i j b h e)
   shaped_kind i (is.NegPred j) b h e = shaped_not_ahead (meaning j) (inside i j b h e)

@@ -5,13 +5,13 @@ use mathlib.Core.Path.{fun_ext}
 use Rattle.meta_base.specs.Language.Text.{Text}
 use Rattle.meta_base.specs.Language.Builtins.{Builtin, One, Property, Newline, Soi, Eoi, Peek, Pop, Drop, PeekAll, PopAll, builtin_of}
 use Rattle.meta_base.specs.Language.Expression as plain
-use Rattle.meta_base.specs.Language.Expression.{Expression, Ident, Rule, Grammar, rule_of, Part, whole, of_pos_pred, of_neg_pred, of_seq_left, of_seq_right, of_choice_left, of_choice_right, of_opt, of_rep, of_rep_once, of_rep_exact, of_rep_min, of_rep_max, of_rep_min_max, of_push}
+use Rattle.meta_base.specs.Language.Expression.{Expression, Ident, Rule, Grammar, rule_of, Part, whole, of_pos_pred, of_neg_pred, of_seq_left, of_seq_right, of_choice_left, of_choice_right, of_opt, of_rep, of_rep_once, of_rep_exact, of_rep_min, of_rep_max, of_rep_min_max, of_push, of_tag}
 use Rattle.meta_nodes.specs.Erasure.{without_spans, round, between}
 use Rattle.meta_nodes.specs.Nodes.{view, rule_views}
-use Rattle.meta_nodes.specs.Spanned.{Span, Spanned, Leaf, Unary, PosPred, NegPred, Opt, Rep, RepOnce, RepExact, RepMin, RepMax, RepMinMax, Push, Binary, Seq, Choice}
+use Rattle.meta_nodes.specs.Spanned.{Span, Spanned, Leaf, Unary, PosPred, NegPred, Opt, Rep, RepOnce, RepExact, RepMin, RepMax, RepMinMax, Push, Tag, Binary, Seq, Choice}
 use Rattle.meta_nodes.specs.Spanned as spanned
 use Rattle.meta_nodes.specs.declared.node.ParserRule.{ParserRule}
-use Rattle.meta_stacks.specs.Stack.{AbstractStack, failed}
+use Rattle.meta_stacks.specs.Stack.{AbstractStack, failed, push_mark}
 use Rattle.meta_stacks.specs.Reading as says
 use Rattle.meta_stacks.specs.Reading.{reading, name_reading, rule_reading, builtin_reading, anything, impossible, Copy, Required, Optional, Endless, walked, from}
 use Rattle.meta_stacks.specs.Reported.{copies_of, is_endless, is_choice}
@@ -20,7 +20,7 @@ use Rattle.meta_stack.specs.Answers.{at_place}
 use Rattle.meta_stack.specs.Flags.{is_set_at}
 use Rattle.meta_stack.specs.Memory.{Meaning}
 use Rattle.meta_stack.specs.Names.{grammar_of, rule_said, last_place, kind_in, name_kind}
-use Rattle.meta_stack.specs.Numbering.{AreTabled, IsNode, Fits, IsSimple, all_nodes, leaf_kind, text_kind, slice_kind, wrap_of, wrap_kind, both_kind, choice_of}
+use Rattle.meta_stack.specs.Numbering.{AreTabled, IsNode, is_empty_text, Fits, IsSimple, all_nodes, leaf_kind, text_kind, slice_kind, wrap_of, wrap_kind, both_kind, choice_of}
 use Rattle.meta_stack.specs.Table.{IsMeaning, IsOrdered, Lies, LeadsTo, Called, Inside, node_reading, call_reading, followed_at, nodes_of, parts_of, copies, rank_at}
 use Rattle.meta_stack.specs.Told.{is_flagged}
 use Rattle.meta_stack.specs.Visiting.{StandsFor, DoesTheSame}
@@ -52,7 +52,7 @@ simple_part (plain.RepMax e n) c s p = absurd s
 simple_part (plain.RepMinMax e m n) c s p = absurd s
 simple_part (plain.Skip ts) c s p = absurd s
 simple_part (plain.Push e) c s p = absurd s
-simple_part (plain.PushLiteral u) c s p = absurd s
+simple_part (plain.PushLiteral u) c s p = elim p [ ]
 simple_part (plain.NodeTag e u) c s p = absurd s
 simple_part (plain.RestoreOnErr e) c s p = absurd s
 
@@ -67,6 +67,7 @@ inner_part (RepMin n) e c (of_rep_min p) = p
 inner_part (RepMax n) e c (of_rep_max p) = p
 inner_part (RepMinMax m n) e c (of_rep_min_max p) = p
 inner_part Push e c (of_push p) = p
+inner_part (Tag t) e c (of_tag p) = p
 
 pub side_part : (f : Binary) (d e : Expression) (c : Text) → Part (between f d e) (Ident c) → Part d (Ident c) ⊎ Part e (Ident c)
 side_part Seq d e c (of_seq_left p) = inl p
@@ -80,6 +81,7 @@ required_of PosPred = 1
 required_of NegPred = 1
 required_of Opt = 1
 required_of Push = 1
+required_of (Tag t) = 1
 required_of Rep = 0
 required_of RepOnce = 1
 required_of (RepExact n) = n
@@ -94,6 +96,7 @@ optional_of PosPred = 0
 optional_of NegPred = 0
 optional_of Opt = 0
 optional_of Push = 0
+optional_of (Tag t) = 0
 optional_of Rep = 0
 optional_of RepOnce = 0
 optional_of (RepExact n) = 0
@@ -104,6 +107,7 @@ unary_parts PosPred j = refl
 unary_parts NegPred j = refl
 unary_parts Opt j = refl
 unary_parts Push j = refl
+unary_parts (Tag t) j = refl
 unary_parts Rep j = refl
 unary_parts RepOnce j = refl
 unary_parts (RepExact n) j = refl
@@ -116,6 +120,7 @@ same_copies PosPred = refl
 same_copies NegPred = refl
 same_copies Opt = refl
 same_copies Push = refl
+same_copies (Tag t) = refl
 same_copies Rep = refl
 same_copies RepOnce = refl
 same_copies (RepExact n) = append-nil (replicate n Required)
@@ -162,6 +167,7 @@ leaf_parts g (plain.Insens t) s = text_parts t
 leaf_parts g (plain.Ident n) s = name_parts n (last_place g n)
 leaf_parts g (plain.PeekSlice i j) s = slice_parts i j
 leaf_parts g (plain.Range a b) s = refl
+leaf_parts g (plain.PushLiteral t) s = refl
 leaf_parts g _ s = absurd s
 
 text_reads : (t : Table) (meaning : Meaning) (u : Text) (a : AbstractStack) → node_reading t meaning (text_kind u) a ≡ says.text_reading u a
@@ -189,11 +195,16 @@ by_reads t meaning (Some Soi) a = refl
 by_reads t meaning (Some Eoi) a = refl
 by_reads t meaning None a = refl
 
+literal_reads : (t : Text) (a : AbstractStack) → says.surely (push_mark (is_empty_text t) a) ≡ says.literal_reading t a
+literal_reads [] a = refl
+literal_reads (c ∷ t) a = refl
+
 lies_wrap : (t : Table) (i j : ℕ) (f : Unary) → Lies t i (wrap_kind (wrap_of f) j) → Inside t i j
 lies_wrap t i j PosPred h = h
 lies_wrap t i j NegPred h = h
 lies_wrap t i j Opt h = h
 lies_wrap t i j Push h = h
+lies_wrap t i j (Tag u) h = h
 lies_wrap t i j Rep h = h
 lies_wrap t i j RepOnce h = h
 lies_wrap t i j (RepExact n) h = h
@@ -358,6 +369,7 @@ module _ (rules : List ParserRule) (t : Table) (tabled : AreTabled rules (kind_i
   leaf_means (plain.Insens u) s i w h a = text_reads t meaning u a
   leaf_means (plain.Ident n) s i w h a = name_means n i h a
   leaf_means (plain.PeekSlice m n) s i w h a = slice_reads t meaning m n a
+  leaf_means (plain.PushLiteral u) s i w h a = literal_reads u a
   leaf_means (plain.Range b c) s i w h a = refl
   leaf_means _ s i w h a = absurd w
 
@@ -366,6 +378,7 @@ module _ (rules : List ParserRule) (t : Table) (tabled : AreTabled rules (kind_i
   unary_means NegPred s x j e a = ap (λ z. says.not_ahead_reading a (z a)) e
   unary_means Opt s x j e a = ap (λ z. says.opt_reading a (z a)) e
   unary_means Push s x j e a = ap (λ z. says.pushed_reading (z a)) e
+  unary_means (Tag u) s x j e a = ap (λ z. z a) e
   unary_means Rep s x j e a = ap (λ z. walked t.limit z t.skips a (Endless ∷ [])) e
   unary_means RepOnce s x j e a = ap (λ z. walked t.limit z t.skips a (Required ∷ Endless ∷ [])) e
   unary_means (RepExact n) s x j e a = ap₂ (λ z cs. walked t.limit z t.skips a cs) e (same_copies (RepExact n))

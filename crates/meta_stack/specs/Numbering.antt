@@ -4,7 +4,7 @@ use Rattle.meta_base.specs.Language.Text.{Text}
 use Rattle.meta_base.specs.Language.Expression as plain
 use Rattle.meta_base.specs.Language.Expression.{Expression}
 use Rattle.meta_nodes.specs.Nodes.{view, view_at, rule_views, piece_of}
-use Rattle.meta_nodes.specs.Spanned.{Span, Spanned, Leaf, One, Two, Unary, PosPred, NegPred, Opt, Rep, RepOnce, RepExact, RepMin, RepMax, RepMinMax, Push, Binary, Seq, Choice, SpannedRule, span_of}
+use Rattle.meta_nodes.specs.Spanned.{Span, Spanned, Leaf, One, Two, Unary, PosPred, NegPred, Opt, Rep, RepOnce, RepExact, RepMin, RepMax, RepMinMax, Push, Tag, Binary, Seq, Choice, SpannedRule, span_of}
 use Rattle.meta_nodes.specs.declared.node.ParserExpr.{ParserExpr}
 use Rattle.meta_nodes.specs.declared.node.ParserExpr.TheVariants as code
 use Rattle.meta_nodes.specs.declared.node.ParserRule.{ParserRule}
@@ -31,6 +31,10 @@ every_node rules = flat_map (λ r. postorder r.body) rules
 abbrev pub all_nodes : List ParserRule → List Spanned
 all_nodes rules = every_node (rule_views rules)
 
+abbrev pub is_empty_text : Text → Bool
+is_empty_text [] = true
+is_empty_text (c ∷ t) = false
+
 abbrev pub text_kind : Text → Kind
 text_kind [] = is.Still
 text_kind (c ∷ t) = is.Leaf
@@ -46,6 +50,7 @@ leaf_kind kind_of (plain.Str t) = text_kind t
 leaf_kind kind_of (plain.Insens t) = text_kind t
 leaf_kind kind_of (plain.Ident n) = kind_of n
 leaf_kind kind_of (plain.PeekSlice i j) = slice_kind i j
+leaf_kind kind_of (plain.PushLiteral t) = is.PushLiteral (is_empty_text t)
 leaf_kind kind_of _ = is.Leaf
 
 -- what an expression of code without operands does
@@ -54,6 +59,7 @@ kind_of_code kind_of (code.Str s) = text_kind (text_of s)
 kind_of_code kind_of (code.Insens s) = text_kind (text_of s)
 kind_of_code kind_of (code.Ident s) = kind_of (text_of s)
 kind_of_code kind_of (code.PeekSlice i j) = slice_kind i j
+kind_of_code kind_of (code.PushLiteral s) = is.PushLiteral (is_empty_text (text_of s))
 kind_of_code kind_of _ = is.Leaf
 
 abbrev pub wrap_of : Unary → Wrap
@@ -61,6 +67,7 @@ wrap_of PosPred = wraps.Ahead
 wrap_of NegPred = wraps.NotAhead
 wrap_of Opt = wraps.Maybe
 wrap_of Push = wraps.Pushed
+wrap_of (Tag t) = wraps.Tagged
 wrap_of Rep = wraps.Repeated 0 0 true
 wrap_of RepOnce = wraps.Repeated 1 0 true
 wrap_of (RepExact n) = wraps.Repeated n 0 false
@@ -73,6 +80,7 @@ wrap_kind wraps.Ahead j = is.PosPred j
 wrap_kind wraps.NotAhead j = is.NegPred j
 wrap_kind wraps.Maybe j = is.Opt j
 wrap_kind wraps.Pushed j = is.Push j
+wrap_kind wraps.Tagged j = is.Tag j
 wrap_kind (wraps.Repeated required optional endless) j = is.Repeat j required optional endless
 
 abbrev pub both_kind : Bool → ℕ → ℕ → Kind
@@ -84,10 +92,6 @@ choice_of Seq = false
 choice_of Choice = true
 
 -- what may take nothing, whatever its operands do
-abbrev pub is_empty_text : Text → Bool
-is_empty_text [] = true
-is_empty_text (c ∷ t) = false
-
 abbrev pub leaf_free : Expression → Bool
 leaf_free (plain.Str t) = is_empty_text t
 leaf_free (plain.Insens t) = is_empty_text t
@@ -100,6 +104,7 @@ unary_free PosPred = true
 unary_free NegPred = true
 unary_free Opt = true
 unary_free Push = false
+unary_free (Tag t) = false
 unary_free Rep = true
 unary_free RepOnce = false
 unary_free (RepExact n) = nat_eq n 0
@@ -132,6 +137,7 @@ IsSimple (plain.Insens t) = ⊤
 IsSimple (plain.Range t u) = ⊤
 IsSimple (plain.Ident n) = ⊤
 IsSimple (plain.PeekSlice i j) = ⊤
+IsSimple (plain.PushLiteral t) = ⊤
 IsSimple _ = ⊥
 
 -- an expression is made of these, wherever it stands

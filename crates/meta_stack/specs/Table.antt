@@ -1,6 +1,6 @@
 -- The nodes of all rules, by number, and what they mean.
 use Rattle.std.specs.Prelude.{◌≡◌, ℕ, suc, ◌+◌, ◌*◌, ◌<◌, ◌≤◌, List, [], ◌∷◌, ◌++◌, replicate, length, Option, Some, None, Bool, true, false, if◌then◌else◌, slice_get, unwrap_or, ⊤}
-use Rattle.meta_stacks.specs.Stack.{AbstractStack, pop_one, failed}
+use Rattle.meta_stacks.specs.Stack.{AbstractStack, pop_one, push_mark, failed}
 use Rattle.meta_stacks.specs.Reading.{Reading, surely, maybe, anything, from, peek_all_reading, pop_all_reading, top_reading, drop_reading, pushed_reading, ahead_reading, not_ahead_reading, seq_reading, choice_reading, opt_reading, Copy, Required, Optional, Endless, walked}
 use Rattle.meta_stack.specs.Flags.{is_set_at}
 use Rattle.meta_stack.specs.declared.table.Kind.{Kind}
@@ -36,11 +36,13 @@ node_reading t f is.Pop a = top_reading a.marks a.base (pop_one a)
 node_reading t f is.Drop a = drop_reading a.marks a.base a
 node_reading t f is.PeekAll a = peek_all_reading a
 node_reading t f is.PopAll a = pop_all_reading a
+node_reading t f (is.PushLiteral blank) a = surely (push_mark blank a)
 node_reading t f (is.Call r) a = call_reading f (followed_at t r) a
 node_reading t f (is.PosPred j) a = ahead_reading a (f j a)
 node_reading t f (is.NegPred j) a = not_ahead_reading a (f j a)
 node_reading t f (is.Opt j) a = opt_reading a (f j a)
 node_reading t f (is.Push j) a = pushed_reading (f j a)
+node_reading t f (is.Tag j) a = f j a
 node_reading t f (is.Seq j k) a = seq_reading t.skips a (f j a) (from (f j a).ok (f k))
 node_reading t f (is.Choice j k) a = choice_reading a (f j a) (from (failed (f j a).err a) (f k))
 node_reading t f (is.Repeat j required optional endless) a = walked t.limit (f j) t.skips a
@@ -52,6 +54,7 @@ parts_of (is.PosPred j) = parts.Inside j 1 0 false
 parts_of (is.NegPred j) = parts.Inside j 1 0 false
 parts_of (is.Opt j) = parts.Inside j 1 0 false
 parts_of (is.Push j) = parts.Inside j 1 0 false
+parts_of (is.Tag j) = parts.Inside j 1 0 false
 parts_of (is.Repeat j required optional endless) = parts.Inside j required optional endless
 parts_of (is.Seq j k) = parts.Both j k false
 parts_of (is.Choice j k) = parts.Both j k true
@@ -62,6 +65,7 @@ parts_of is.Pop = parts.Nothing
 parts_of is.Drop = parts.Nothing
 parts_of is.PeekAll = parts.Nothing
 parts_of is.PopAll = parts.Nothing
+parts_of (is.PushLiteral blank) = parts.Nothing
 parts_of (is.Call r) = parts.Nothing
 
 -- readings of the nodes that fit together
@@ -79,10 +83,12 @@ called_by is.Pop = None
 called_by is.Drop = None
 called_by is.PeekAll = None
 called_by is.PopAll = None
+called_by (is.PushLiteral blank) = None
 called_by (is.PosPred j) = None
 called_by (is.NegPred j) = None
 called_by (is.Opt j) = None
 called_by (is.Push j) = None
+called_by (is.Tag j) = None
 called_by (is.Seq j k) = None
 called_by (is.Choice j k) = None
 called_by (is.Repeat j required optional endless) = None
@@ -113,6 +119,7 @@ Lies t i (is.PosPred j) = Inside t i j
 Lies t i (is.NegPred j) = Inside t i j
 Lies t i (is.Opt j) = Inside t i j
 Lies t i (is.Push j) = Inside t i j
+Lies t i (is.Tag j) = Inside t i j
 Lies t i (is.Seq j k) = Inside t i j × Inside t i k
 Lies t i (is.Choice j k) = Inside t i j × Inside t i k
 Lies t i (is.Repeat j required optional endless) = Inside t i j

@@ -33,6 +33,8 @@ fn is_apart<'i>(table: &Table<'i>, flags: &[bool], kind: Kind) -> bool
         Kind::PeekAll => false,
         Kind::PopAll => false,
         Kind::Push(_) => false,
+        Kind::PushLiteral(_) => false,
+        Kind::Tag(body) => is_set(flags, body),
         Kind::Call(rule) => is_call_set(flags, table.followed(rule)),
         Kind::PosPred(body) => is_set(flags, body),
         Kind::NegPred(body) => is_set(flags, body),

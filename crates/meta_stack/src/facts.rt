@@ -42,6 +42,7 @@ fn takes_nothing(roots: &[usize], flags: &[bool], kind: Kind) -> bool
     match kind {
         Kind::Call(rule) => is_root_set(roots, flags, rule),
         Kind::Push(body) => is_set(flags, body),
+        Kind::Tag(body) => is_set(flags, body),
         Kind::Repeat(body, _, _, _) => is_set(flags, body),
         Kind::Seq(first, second) => is_set(flags, first) && is_set(flags, second),
         Kind::Choice(first, second) => is_set(flags, first) || is_set(flags, second),
@@ -52,6 +53,7 @@ fn takes_nothing(roots: &[usize], flags: &[bool], kind: Kind) -> bool
         Kind::Drop => false,
         Kind::PeekAll => false,
         Kind::PopAll => false,
+        Kind::PushLiteral(_) => false,
         Kind::PosPred(_) => false,
         Kind::NegPred(_) => false,
         Kind::Opt(_) => false,
@@ -65,6 +67,8 @@ fn changes_stack(roots: &[usize], flags: &[bool], kind: Kind) -> bool
     match kind {
         Kind::Call(rule) => is_root_set(roots, flags, rule),
         Kind::Push(_) => true,
+        Kind::PushLiteral(_) => true,
+        Kind::Tag(body) => is_set(flags, body),
         Kind::Repeat(body, _, _, _) => is_set(flags, body),
         Kind::Seq(first, second) => is_set(flags, first) || is_set(flags, second),
         Kind::Choice(first, second) => is_set(flags, first) || is_set(flags, second),
@@ -87,6 +91,7 @@ fn may_be_still(roots: &[usize], flags: &[bool], kind: Kind) -> bool
     match kind {
         Kind::Call(rule) => is_root_set(roots, flags, rule),
         Kind::Push(body) => is_set(flags, body),
+        Kind::Tag(body) => is_set(flags, body),
         Kind::Repeat(body, required, _, _) => required == 0 || is_set(flags, body),
         Kind::Seq(first, second) => is_set(flags, first) && is_set(flags, second),
         Kind::Choice(first, second) => is_set(flags, first) || is_set(flags, second),
@@ -97,6 +102,7 @@ fn may_be_still(roots: &[usize], flags: &[bool], kind: Kind) -> bool
         Kind::Drop => true,
         Kind::PeekAll => true,
         Kind::PopAll => true,
+        Kind::PushLiteral(_) => true,
         Kind::PosPred(_) => true,
         Kind::NegPred(_) => true,
         Kind::Opt(_) => true,

@@ -22,6 +22,7 @@ pub enum Wrap {
     NotAhead,
     Maybe,
     Pushed,
+    Tagged,
     /// How often it has to succeed, how often more it may be tried, and whether it then goes on
     /// without end.
     Repeated(u32, u32, bool),
@@ -48,10 +49,12 @@ fn taken_apart<'a, 'i>(expr: &'a ParserExpr<'i>) -> Operands<'a, 'i>
         ParserExpr::Range(_, _) => Operands::Nothing,
         ParserExpr::Ident(_) => Operands::Nothing,
         ParserExpr::PeekSlice(_, _) => Operands::Nothing,
+        ParserExpr::PushLiteral(_) => Operands::Nothing,
         ParserExpr::PosPred(body) => Operands::Inside(Wrap::Ahead, body),
         ParserExpr::NegPred(body) => Operands::Inside(Wrap::NotAhead, body),
         ParserExpr::Opt(body) => Operands::Inside(Wrap::Maybe, body),
         ParserExpr::Push(body) => Operands::Inside(Wrap::Pushed, body),
+        ParserExpr::NodeTag(body, _) => Operands::Inside(Wrap::Tagged, body),
         ParserExpr::Seq(first, second) => Operands::Both(false, first, second),
         ParserExpr::Choice(first, second) => Operands::Both(true, first, second),
         ParserExpr::Rep(body) => Operands::Inside(Wrap::Repeated(0, 0, true), body),
@@ -80,11 +83,13 @@ fn kind_of_leaf<'i>(rules: &[ParserRule<'i>], names: &Names, expr: &ParserExpr<'
         ParserExpr::Insens(text) => kind_of_text(text),
         ParserExpr::Ident(name) => kind_of_name(rules, names, name),
         ParserExpr::PeekSlice(start, end) => kind_of_slice(*start, *end),
+        ParserExpr::PushLiteral(text) => Kind::PushLiteral(is_empty_text(text)),
         ParserExpr::Range(_, _) => Kind::Leaf,
         ParserExpr::PosPred(_) => Kind::Leaf,
         ParserExpr::NegPred(_) => Kind::Leaf,
         ParserExpr::Opt(_) => Kind::Leaf,
         ParserExpr::Push(_) => Kind::Leaf,
+        ParserExpr::NodeTag(_, _) => Kind::Leaf,
         ParserExpr::Seq(_, _) => Kind::Leaf,
         ParserExpr::Choice(_, _) => Kind::Leaf,
         ParserExpr::Rep(_) => Kind::Leaf,
@@ -145,6 +150,8 @@ fn is_free<'i>(expr: &ParserExpr<'i>) -> bool
         ParserExpr::NegPred(_) => true,
         ParserExpr::Opt(_) => true,
         ParserExpr::Push(_) => false,
+        ParserExpr::PushLiteral(_) => true,
+        ParserExpr::NodeTag(_, _) => false,
         ParserExpr::Seq(_, _) => false,
         ParserExpr::Choice(_, _) => false,
         ParserExpr::Rep(_) => true,
@@ -164,6 +171,7 @@ fn kind_of_wrap(wrap: Wrap, body: usize) -> Kind
         Wrap::NotAhead => Kind::NegPred(body),
         Wrap::Maybe => Kind::Opt(body),
         Wrap::Pushed => Kind::Push(body),
+        Wrap::Tagged => Kind::Tag(body),
         Wrap::Repeated(required, optional, endless) => {
             Kind::Repeat(body, required, optional, endless)
         }

@@ -100,6 +100,7 @@ fn begin(
         Kind::Drop => Ok(Next::Done(Reading::dropped(stack))),
         Kind::PeekAll => Ok(Next::Done(Reading::peek_all(stack))),
         Kind::PopAll => Ok(Next::Done(Reading::pop_all(stack))),
+        Kind::PushLiteral(blank) => Ok(Next::Done(Reading::surely(stack.pushed(blank)))),
         Kind::Call(rule) => match table.followed(rule) {
             None => Ok(Next::Done(Reading::anything())),
             Some(body) => wait(waiting, node, stack, Awaited::Last(How::Same), body),
@@ -108,6 +109,7 @@ fn begin(
         Kind::NegPred(body) => wait(waiting, node, stack, Awaited::Last(How::NotAhead), body),
         Kind::Opt(body) => wait(waiting, node, stack, Awaited::Last(How::Optional), body),
         Kind::Push(body) => wait(waiting, node, stack, Awaited::Last(How::Pushed), body),
+        Kind::Tag(body) => wait(waiting, node, stack, Awaited::Last(How::Same), body),
         Kind::Seq(first, second) => {
             wait(waiting, node, stack, Awaited::First(second, false), first)
         }

@@ -18,12 +18,16 @@ pub enum Kind {
     Drop,
     PeekAll,
     PopAll,
+    /// It pushes a text, which is empty or not.
+    PushLiteral(bool),
     /// A call, by the number of the rule.
     Call(usize),
     PosPred(usize),
     NegPred(usize),
     Opt(usize),
     Push(usize),
+    /// What is tagged, which does the same.
+    Tag(usize),
     Seq(usize, usize),
     Choice(usize, usize),
     /// What is repeated, how often it has to succeed, how often more it may be tried, and whether
@@ -54,6 +58,7 @@ impl Kind {
             Kind::NegPred(_) => None,
             Kind::Opt(_) => None,
             Kind::Push(_) => None,
+            Kind::Tag(_) => None,
             Kind::Repeat(_, _, _, _) => None,
             Kind::Seq(_, _) => None,
             Kind::Choice(_, _) => None,
@@ -64,6 +69,7 @@ impl Kind {
             Kind::Drop => None,
             Kind::PeekAll => None,
             Kind::PopAll => None,
+            Kind::PushLiteral(_) => None,
         }
     }
 
@@ -76,6 +82,7 @@ impl Kind {
             Kind::NegPred(body) => Parts::Inside(body, 1, 0, false),
             Kind::Opt(body) => Parts::Inside(body, 1, 0, false),
             Kind::Push(body) => Parts::Inside(body, 1, 0, false),
+            Kind::Tag(body) => Parts::Inside(body, 1, 0, false),
             Kind::Repeat(body, required, optional, endless) => {
                 Parts::Inside(body, required, optional, endless)
             }
@@ -88,6 +95,7 @@ impl Kind {
             Kind::Drop => Parts::Nothing,
             Kind::PeekAll => Parts::Nothing,
             Kind::PopAll => Parts::Nothing,
+            Kind::PushLiteral(_) => Parts::Nothing,
             Kind::Call(_) => Parts::Nothing,
         }
     }

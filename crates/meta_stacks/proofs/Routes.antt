@@ -4,10 +4,10 @@ use Rattle.meta_base.specs.Language.Text.{Text}
 use Rattle.meta_base.specs.Language.Expression.{Grammar, Expression}
 use Rattle.meta_base.proofs.CannotFailIsNullable.{nullable_of}
 use Rattle.meta_nodes.specs.Erasure.{without_spans}
-use Rattle.meta_nodes.specs.Spanned.{span_of, Span, Spanned, Leaf, One, Two, Unary, PosPred, NegPred, Opt, Rep, RepOnce, RepExact, RepMin, RepMax, RepMinMax, Push, Binary, Seq, Choice}
+use Rattle.meta_nodes.specs.Spanned.{span_of, Span, Spanned, Leaf, One, Two, Unary, PosPred, NegPred, Opt, Rep, RepOnce, RepExact, RepMin, RepMax, RepMinMax, Push, Tag, Binary, Seq, Choice}
 use Rattle.meta_stacks.specs.Stack.{AbstractStack, In, entry, is_among}
 use Rattle.meta_stacks.specs.Reading.{Reading, loops, tried, Copy, Required, Optional, Endless}
-use Rattle.meta_stacks.specs.Reports.{Route, Here, First, Second, Inner, Turn, StandsAt, to_itself, to_seq_first, to_seq_second, to_choice_first, to_choice_second, to_opt, to_push, to_pos_pred, to_neg_pred, to_turn, HasTurn, repetition, Repeats, any_times, once_or_more, at_least, next, turn_start, Visits, visit, visit_seq_first, visit_seq_second, visit_choice_first, visit_choice_second, visit_opt, visit_push, visit_pos_pred, visit_neg_pred, visit_turn, IsReport, SkippingAltersStack, reading_in}
+use Rattle.meta_stacks.specs.Reports.{Route, Here, First, Second, Inner, Turn, StandsAt, to_itself, to_seq_first, to_seq_second, to_choice_first, to_choice_second, to_opt, to_push, to_tag, to_pos_pred, to_neg_pred, to_turn, HasTurn, repetition, Repeats, any_times, once_or_more, at_least, next, turn_start, Visits, visit, visit_seq_first, visit_seq_second, visit_choice_first, visit_choice_second, visit_opt, visit_push, visit_tag, visit_pos_pred, visit_neg_pred, visit_turn, IsReport, SkippingAltersStack, reading_in}
 use Rattle.meta_stacks.specs.Reported.{turn_starts, starts, copies_of, is_endless, is_choice, SomeLoop, Own, ReportedIn, ReportedFrom, node_at, KnowsNullable, IsCertainAt}
 use Rattle.meta_stacks.specs.Walks.{next_after}
 use Rattle.meta_stacks.proofs.Certain.{certain}
@@ -109,6 +109,7 @@ module _ (limit turns : ℕ) (step : Expression → AbstractStack → Reading) (
   repeats_own s (RepMax n) x h = cc
   repeats_own s (RepMinMax m n) x h = cc
   repeats_own s Push x h = cc
+  repeats_own s (Tag t) x h = cc
 
   own : (s : Span) (f : Unary) (x : Spanned) (a : AbstractStack) → is_endless f ≡ true → nullable x ≡ false → loops turns (read x) a ≡ true → Found (One s f x) s a
   own s f x a e n l = record {
@@ -170,6 +171,7 @@ module _ (limit turns : ℕ) (step : Expression → AbstractStack → Reading) (
   inside s NegPred x t a b i h d = inner s NegPred x t a b (one_start x a b i h) (λ r p l. to_neg_pred l) (λ r c v. visit_neg_pred v) d
   inside s Opt x t a b i h d = inner s Opt x t a b (one_start x a b i h) (λ r p l. to_opt l) (λ r c v. visit_opt v) d
   inside s Push x t a b i h d = inner s Push x t a b (one_start x a b i h) (λ r p l. to_push l) (λ r c v. visit_push v) d
+  inside s (Tag u) x t a b i h d = inner s (Tag u) x t a b (one_start x a b i h) (λ r p l. to_tag l) (λ r c v. visit_tag v) d
   inside s Rep x t a b i h d = in_turn s Rep x t a b i refl h d
   inside s RepOnce x t a b i h d = in_turn s RepOnce x t a b i refl h d
   inside s (RepExact n) x t a b i h d = in_turn s (RepExact n) x t a b i refl h d

@@ -4,7 +4,7 @@ use Rattle.meta_base.specs.Language.Text.{Text}
 use Rattle.meta_base.specs.Language.Expression.{Grammar}
 use Rattle.meta_base.specs.Language.WellFormed.{IsNullable}
 use Rattle.meta_nodes.specs.Erasure.{without_spans}
-use Rattle.meta_nodes.specs.Spanned.{span_of, Span, Spanned, Leaf, One, Two, Unary, PosPred, NegPred, Opt, Rep, RepOnce, RepExact, RepMin, RepMax, RepMinMax, Push, Binary, Seq, Choice}
+use Rattle.meta_nodes.specs.Spanned.{span_of, Span, Spanned, Leaf, One, Two, Unary, PosPred, NegPred, Opt, Rep, RepOnce, RepExact, RepMin, RepMax, RepMinMax, Push, Tag, Binary, Seq, Choice}
 use Rattle.meta_stacks.specs.Stack.{AbstractStack, In, entry, is_among}
 use Rattle.meta_stacks.specs.Reading as says
 use Rattle.meta_stacks.specs.Reading.{loops, tried, Copy, Required, Optional, Endless, at_least_copies, from_to_copies}
@@ -17,6 +17,7 @@ copies_of PosPred = Required ∷ []
 copies_of NegPred = Required ∷ []
 copies_of Opt = Required ∷ []
 copies_of Push = Required ∷ []
+copies_of (Tag t) = Required ∷ []
 copies_of Rep = Endless ∷ []
 copies_of RepOnce = Required ∷ Endless ∷ []
 copies_of (RepExact n) = replicate n Required

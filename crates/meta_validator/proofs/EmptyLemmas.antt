@@ -7,7 +7,7 @@ use Rattle.meta_base.specs.Language.Expression.{Expression, Rule, Grammar, rule_
 use Rattle.meta_base.specs.Language.WellFormed.{IsNullable, Leads, at_once, by_way, IsWellFormed}
 use Rattle.meta_nodes.specs.Erasure.{without_spans}
 use Rattle.meta_nodes.specs.Nodes.{view, rule_view, rule_views}
-use Rattle.meta_nodes.specs.Spanned.{Span, Spanned, Leaf, One, Two, Unary, PosPred, NegPred, Opt, Rep, RepOnce, RepExact, RepMin, RepMax, RepMinMax, Push, Seq, Choice, SpannedRule}
+use Rattle.meta_nodes.specs.Spanned.{Span, Spanned, Leaf, One, Two, Unary, PosPred, NegPred, Opt, Rep, RepOnce, RepExact, RepMin, RepMax, RepMinMax, Push, Tag, Seq, Choice, SpannedRule}
 use Rattle.meta_nodes.specs.declared.node.ParserRule.{ParserRule}
 use Rattle.meta_validator.specs.Taking.{RepeatedTakes, AllRepeatedTake, SkippedTake}
 use Rattle.meta_validator.specs.Facts.{AreFacts}
@@ -69,6 +69,7 @@ module _ (rules : List ParserRule) (facts : Facts) (right : AreFacts rules facts
   wrap_takes s NegPred y j e d = tt
   wrap_takes s Opt y j e d = tt
   wrap_takes s Push y j e d = tt
+  wrap_takes s (Tag t) y j e d = tt
   wrap_takes s (RepMax n) y j e d = tt
   wrap_takes s Rep y j e d = not_null j (without_spans y) (says_at rules facts right j y e) (none_repetition G d refl s Rep y refl refl)
   wrap_takes s RepOnce y j e d = not_null j (without_spans y) (says_at rules facts right j y e) (none_repetition G d refl s RepOnce y refl refl)

@@ -13,7 +13,7 @@ use Rattle.meta_nodes.specs.Spanned.{Spanned, Leaf, One, Two, Unary, Seq, Choice
 use Rattle.meta_validator.specs.LeftRecursion.{IsNoName, said, Means, Walks, walks_over, walks_outside, walks_again, walks_into, walks_inside, walks_neither, walks_other}
 use Rattle.meta_validator.specs.Names.{last_place}
 use Rattle.meta_validator.specs.Table.{is_set_at}
-use Rattle.meta_validator.specs.Walk.{Walked, w_name, w_first, w_second, w_pos_pred, w_neg_pred, w_left, w_right, w_opt, w_rep, w_rep_once, w_rep_exact, w_rep_min, w_rep_max, w_rep_min_max, w_push}
+use Rattle.meta_validator.specs.Walk.{Walked, w_name, w_first, w_second, w_pos_pred, w_neg_pred, w_left, w_right, w_opt, w_rep, w_rep_once, w_rep_exact, w_rep_min, w_rep_max, w_rep_min_max, w_push, w_tag}
 use Rattle.meta_validator.specs.Marks.{unset}
 use Rattle.meta_validator.proofs.MarkLemmas.{unset_less, set_or_one}
 
@@ -108,6 +108,7 @@ module _ (rules : List SpannedRule) where
   walked_round v (spanned.RepMax n) w = w_rep_max w
   walked_round v (spanned.RepMinMax m n) w = w_rep_min_max w
   walked_round v spanned.Push w = w_push w
+  walked_round v (spanned.Tag t) w = w_tag w
 
   -- the walk over a part of the body of v comes to a call of the rule at this place
   abbrev pub Calls : Text → Expression → ℕ → Type 0

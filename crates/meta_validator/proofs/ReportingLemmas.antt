@@ -10,7 +10,7 @@ use Rattle.meta_base.specs.Language.Expression.{Expression, Grammar}
 use Rattle.meta_base.specs.declared.runtime.places.Span as code_span
 use Rattle.meta_nodes.specs.Erasure.{without_spans}
 use Rattle.meta_nodes.specs.Nodes.{view, piece_of, rule_view, rule_views}
-use Rattle.meta_nodes.specs.Spanned.{Span, span_of, Spanned, Leaf, One, Two, Unary, PosPred, NegPred, Opt, Rep, RepOnce, RepExact, RepMin, RepMax, RepMinMax, Push, Seq, Choice}
+use Rattle.meta_nodes.specs.Spanned.{Span, span_of, Spanned, Leaf, One, Two, Unary, PosPred, NegPred, Opt, Rep, RepOnce, RepExact, RepMin, RepMax, RepMinMax, Push, Tag, Seq, Choice}
 use Rattle.meta_nodes.specs.declared.node.ParserRule.{ParserRule}
 use Rattle.meta_validator.specs.Facts.{AreFacts}
 use Rattle.meta_validator.specs.Findings.{Finding, found_at, is_skipped_name, last_alternative, Reports, reports_none, reports_at, OfRepeated, never_fails, takes_nothing, goes_on, OfRepetition, repetition, no_repetition, OfChoice, unreachable, reachable, no_choice, OfSkipped, skipped, not_skipped}
@@ -115,6 +115,7 @@ module _ (rules : List ParserRule) (facts : Facts) (right : AreFacts rules facts
   wrap_repetition s NegPred x j e = no_repetition refl
   wrap_repetition s Opt x j e = no_repetition refl
   wrap_repetition s Push x j e = no_repetition refl
+  wrap_repetition s (Tag t) x j e = no_repetition refl
   wrap_repetition s (RepMax n) x j e = no_repetition refl
   wrap_repetition s Rep x j e = repetition refl (repeated_right (codes "expression inside repetition") s j (without_spans x) (says_at j x e))
   wrap_repetition s RepOnce x j e = repetition refl (repeated_right (codes "expression inside repetition") s j (without_spans x) (says_at j x e))

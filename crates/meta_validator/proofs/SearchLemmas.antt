@@ -15,7 +15,7 @@ use Rattle.meta_validator.specs.Numbering.{nodes_of}
 use Rattle.meta_validator.specs.Regions.{IsNodeOf}
 use Rattle.meta_validator.specs.Searching.{ordered, rest, after, views, Calls, name_of, last_name, Comes, Goes, Owes, ArePlaced, IsKnown, AreCovered, IsSearch}
 use Rattle.meta_validator.specs.Table.{is_set_at}
-use Rattle.meta_validator.specs.Walk.{Walked, w_first, w_second, w_pos_pred, w_neg_pred, w_left, w_right, w_opt, w_rep, w_rep_once, w_rep_exact, w_rep_min, w_rep_max, w_rep_min_max, w_push}
+use Rattle.meta_validator.specs.Walk.{Walked, w_first, w_second, w_pos_pred, w_neg_pred, w_left, w_right, w_opt, w_rep, w_rep_once, w_rep_exact, w_rep_min, w_rep_max, w_rep_min_max, w_push, w_tag}
 use Rattle.meta_validator.specs.declared.recursions.Task.{Task}
 use Rattle.meta_validator.specs.declared.recursions.Task.TheVariants.{Visit, Leave}
 
@@ -49,6 +49,7 @@ in_round rules v (spanned.RepMin i) e n (w_rep_min w) = w
 in_round rules v (spanned.RepMax i) e n (w_rep_max w) = w
 in_round rules v (spanned.RepMinMax i j) e n (w_rep_min_max w) = w
 in_round rules v spanned.Push e n (w_push w) = w
+in_round rules v (spanned.Tag t) e n (w_tag w) = w
 
 module _ (rules : List ParserRule) (roots : List ℕ) (start : ℕ) (entered : List Bool) where
   abbrev V : List SpannedRule

@@ -4,7 +4,7 @@ use Rattle.std.specs.Bool.{Decides}
 use Rattle.std.specs.Cmp.{unsigned_Decides}
 use Rattle.std.proofs.lemmas.List.{length_push}
 use Rattle.meta_base.specs.Language.Text.{Text}
-use Rattle.meta_base.specs.Language.Expression.{Expression, Str, Insens, Range, Ident, PeekSlice, Seq, Choice, RepOnce, RepExact, RepMin, RepMinMax, Push, Rule, Grammar, rule_of, PushLiteral}
+use Rattle.meta_base.specs.Language.Expression.{Expression, Str, Insens, Range, Ident, PeekSlice, Seq, Choice, RepOnce, RepExact, RepMin, RepMinMax, Push, Rule, Grammar, rule_of, PushLiteral, NodeTag}
 use Rattle.meta_base.specs.Language.WellFormed.{IsNullable, nullable_str, nullable_insens, nullable_soi, nullable_eoi, nullable_call, nullable_pos_pred, nullable_neg_pred, nullable_opt, nullable_rep, nullable_rep_max, nullable_seq, nullable_left, nullable_right, nullable_rep_once, nullable_push, nullable_exact_zero, nullable_exact, nullable_min_zero, nullable_min, nullable_min_max_zero, nullable_min_max, nullable_skip, nullable_restore, nullable_push_literal, nullable_tag}
 use Rattle.meta_nodes.specs.Erasure.{without_spans}
 use Rattle.meta_nodes.specs.Nodes.{rule_views}
@@ -37,6 +37,9 @@ once_null (nullable_rep_once d) = d
 
 push_null : {g : Grammar} {e : Expression} → IsNullable g (Push e) → IsNullable g e
 push_null (nullable_push d) = d
+
+tag_null : {g : Grammar} {e : Expression} {t : Text} → IsNullable g (NodeTag e t) → IsNullable g e
+tag_null (nullable_tag d) = d
 
 exact_null : {g : Grammar} {e : Expression} {n : ℕ} → IsNullable g (RepExact e n) → (n ≡ 0) ⊎ IsNullable g e
 exact_null nullable_exact_zero = inl refl
@@ -239,6 +242,7 @@ module _ (rules : List ParserRule) (facts : Facts) (right : AreFacts rules facts
     of_one (spanned.RepMax n) s x j d = ((λ z. nullable_rep_max), (λ a. refl))
     of_one spanned.RepOnce s x j d = ((λ z. nullable_rep_once (d.0 z)), (λ a. d.1 (once_null a)))
     of_one spanned.Push s x j d = ((λ z. nullable_push (d.0 z)), (λ a. d.1 (push_null a)))
+    of_one (spanned.Tag t) s x j d = ((λ z. nullable_tag (d.0 z)), (λ a. d.1 (tag_null a)))
     of_one (spanned.RepExact n) s x j d = of_counted n j (IsNullable other (RepExact (without_spans x) n)) (IsNullable other (without_spans x)) d
         (λ h. none_or n (λ m. IsNullable other (RepExact (without_spans x) m)) nullable_exact_zero (inl h)) (λ b. nullable_exact b) (λ a. exact_null a)
     of_one (spanned.RepMin n) s x j d = of_repeated n j (IsNullable other (RepMin (without_spans x) n)) (IsNullable other (without_spans x)) d

@@ -7,7 +7,7 @@ use Rattle.meta_nodes.specs.declared.node.ParserExpr.{ParserExpr}
 use Rattle.meta_nodes.specs.declared.node.ParserExpr.TheVariants as code
 use Rattle.meta_ast.specs.Ast.{text_of}
 use Rattle.meta_base.specs.Language.Text.{Text}
-use Rattle.meta_nodes.specs.Spanned.{Span, span_of, Spanned, Leaf, One, Two, PosPred, NegPred, Opt, Rep, RepOnce, RepExact, RepMin, RepMax, RepMinMax, Push, Seq, Choice}
+use Rattle.meta_nodes.specs.Spanned.{Span, span_of, Spanned, Leaf, One, Two, PosPred, NegPred, Opt, Rep, RepOnce, RepExact, RepMin, RepMax, RepMinMax, Push, Tag, Seq, Choice}
 use Rattle.meta_base.specs.Language.Expression as plain
 use Rattle.meta_base.specs.Language.Expression.{Expression}
 use Rattle.meta_nodes.specs.Erasure.{without_spans}
@@ -87,6 +87,7 @@ says kind_of ks i (One s Opt x) h = (h.0, h.1, h.2, says kind_of ks h.0 x h.3)
 says kind_of ks i (One s Rep x) h = (h.0, h.1, h.2, says kind_of ks h.0 x h.3)
 says kind_of ks i (One s RepOnce x) h = (h.0, h.1, h.2, says kind_of ks h.0 x h.3)
 says kind_of ks i (One s Push x) h = (h.0, h.1, h.2, says kind_of ks h.0 x h.3)
+says kind_of ks i (One s (Tag t) x) h = (h.0, h.1, h.2, says kind_of ks h.0 x h.3)
 says kind_of ks i (One s (RepExact n) x) h = (h.0, h.1, h.2, says kind_of ks h.0 x h.3)
 says kind_of ks i (One s (RepMin n) x) h = (h.0, h.1, h.2, says kind_of ks h.0 x h.3)
 says kind_of ks i (One s (RepMax n) x) h = (h.0, h.1, h.2, says kind_of ks h.0 x h.3)
@@ -113,6 +114,8 @@ leaf_done kind_of (code.RepMin' p e s m) d t h = cc
 leaf_done kind_of (code.RepMax' p e s n) d t h = cc
 leaf_done kind_of (code.RepMinMax' p e s m n) d t h = cc
 leaf_done kind_of (code.Push' p e s) d t h = cc
+leaf_done kind_of (code.PushLiteral s) d t h = let e : plain.PushLiteral (text_of s) ≡ d = cc in ap (leaf_kind kind_of) e
+leaf_done kind_of (code.NodeTag' p e s u) d t h = cc
 
 -- a node stands where it is viewed
 pub span_at : (t : Span) (e : ParserExpr) → span_of (view_at t e) ≡ t
@@ -133,6 +136,8 @@ span_at t (code.RepMin' p e s m) = refl
 span_at t (code.RepMax' p e s n) = refl
 span_at t (code.RepMinMax' p e s m n) = refl
 span_at t (code.Push' p e s) = refl
+span_at t (code.PushLiteral s) = refl
+span_at t (code.NodeTag' p e s u) = refl
 
 -- the spans of nodes, pushed one after another
 pub spans_pushed : (mid new : List code_span.Span) (s : code_span.Span) → new ≡ mid ++ s ∷ [] → map piece_of new ≡ map piece_of mid ++ piece_of s ∷ []

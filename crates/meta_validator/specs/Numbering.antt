@@ -4,7 +4,7 @@ use Rattle.meta_base.specs.Language.Text.{Text}
 use Rattle.meta_base.specs.Language.Expression as plain
 use Rattle.meta_base.specs.Language.Expression.{Expression}
 use Rattle.meta_nodes.specs.Nodes.{view, view_at, rule_views}
-use Rattle.meta_nodes.specs.Spanned.{Span, Spanned, Leaf, One, Two, Unary, PosPred, NegPred, Opt, Rep, RepOnce, RepExact, RepMin, RepMax, RepMinMax, Push, Binary, Seq, Choice}
+use Rattle.meta_nodes.specs.Spanned.{Span, Spanned, Leaf, One, Two, Unary, PosPred, NegPred, Opt, Rep, RepOnce, RepExact, RepMin, RepMax, RepMinMax, Push, Tag, Binary, Seq, Choice}
 use Rattle.meta_nodes.specs.declared.node.ParserExpr.{ParserExpr}
 use Rattle.meta_nodes.specs.declared.node.ParserExpr.TheVariants as code
 use Rattle.meta_ast.specs.Ast.{text_of}
@@ -34,6 +34,7 @@ abbrev pub kind_of_code : (Text → Kind) → ParserExpr → Kind
 kind_of_code kind_of (code.Str s) = text_kind (text_of s)
 kind_of_code kind_of (code.Insens s) = text_kind (text_of s)
 kind_of_code kind_of (code.Ident s) = kind_of (text_of s)
+kind_of_code kind_of (code.PushLiteral s) = is.Still
 kind_of_code kind_of _ = is.Taking
 
 abbrev pub counted : ℕ → Wrap
@@ -47,6 +48,7 @@ wrap_of PosPred = wraps.Ahead
 wrap_of NegPred = wraps.NotAhead
 wrap_of Opt = wraps.Free
 wrap_of Push = wraps.Inside
+wrap_of (Tag t) = wraps.Inside
 wrap_of Rep = wraps.Again
 wrap_of RepOnce = wraps.OnceAgain
 wrap_of (RepExact n) = counted n

@@ -24,6 +24,8 @@ pub(crate) fn operands_of<'n, 'i>(node: &'n ParserNode<'i>) -> Operands<'n, 'i>
     match &node.expr {
         E::Str(_) | E::Insens(_) | E::Ident(_) => Operands::None,
         E::Range(_, _) | E::PeekSlice(_, _) => Operands::None,
+        E::PushLiteral(_) => Operands::None,
+        E::NodeTag(inner, _) => Operands::One(inner),
         E::PosPred(inner) | E::NegPred(inner) | E::Opt(inner) => Operands::One(inner),
         E::Rep(inner) | E::RepOnce(inner) | E::Push(inner) => Operands::One(inner),
         E::RepExact(inner, _) | E::RepMin(inner, _) => Operands::One(inner),

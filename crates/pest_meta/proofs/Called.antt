@@ -111,6 +111,8 @@ module _ (text : List ℕ) (whole : List Span) where
     positive = λ e. tt;
     negative = λ e. tt;
     push = λ e. tt;
+    literal_push = λ vs h. tt;
+    tag = λ us h e. tt;
     between_two = between_within;
   }
 

@@ -1,7 +1,7 @@
 -- What is read without a flaw fits its types: texts are texts, and numbers lie within their types.
 use Rattle.std.proofs.Common.{◌≡◌, ℕ, ℤ, pos, negsuc, ◌<◌, ◌≤◌, ◌^◌, ◌⊎◌, inl, inr, List, [], ◌∷◌, None, Bool, true, false, not, ◌&&◌, if◌then◌else◌, refl, chars, codes, arith}
 use Rattle.std.proofs.lemmas.Bool.{ltb-true}
-use Rattle.std.proofs.lemmas.List.Elements.{All-nil, All-cons}
+use Rattle.std.proofs.lemmas.List.Elements.{All-nil, All-cons, All-tail}
 use Rattle.std.proofs.lemmas.Str.{scalars-chars}
 use Rattle.std.proofs.Math.Utf8.{scalar_cases}
 use Rattle.std.specs.Char.{IsScalar}
@@ -16,7 +16,7 @@ use Rattle.meta_nodes.specs.Erasure.{round, between}
 use Rattle.meta_nodes.specs.Spanned.{Unary, Binary, Seq, Choice}
 use Rattle.meta_reader.specs.Flaws.{Cause, own_flaw, closes, flaw_if, fits_i32, past_u32, past_i32, wrong_literal, zero_times, first_flaw}
 use Rattle.meta_reader.specs.Reading as reading
-use Rattle.meta_reader.specs.Reading.{Postfix, Terminal, number, integer, literal_value}
+use Rattle.meta_reader.specs.Reading.{Postfix, Terminal, behind_first, number, integer, literal_value}
 use Rattle.meta_reader.proofs.Flawless.{none_left, own_none, inner_none, behind_none, front_none}
 use Rattle.meta_reader.proofs.ReadParts.{IsHandedDown, IsGiven}
 use Rattle.pest_meta.proofs.WholeCharacters.{OnCharacters}
@@ -44,6 +44,10 @@ is_text (c ∷ t) h =
 
 pub characters_are_text : (b : List ℕ) → IsUtf8 b → IsText (chars b)
 characters_are_text b u = is_text (chars b) (scalars-chars b u)
+
+behind_is_text : (t : List ℕ) → IsText t → IsText (behind_first t)
+behind_is_text [] h = h
+behind_is_text (c ∷ t) h = All-tail IsScalarValue c t h
 
 module _ (text : List ℕ) where
   -- trees without a flaw, on characters
@@ -148,5 +152,7 @@ module _ (text : List ℕ) where
     positive = λ e. tt;
     negative = λ e. tt;
     push = λ e. tt;
+    literal_push = λ vs h. string_fits _ _ _ vs (own_none text _ _ _ _ vs h.0);
+    tag = λ us h e. behind_is_text _ (characters_are_text _ h.1.0);
     between_two = between_fits;
   }

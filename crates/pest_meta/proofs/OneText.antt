@@ -4,7 +4,7 @@ use Rattle.std.proofs.lemmas.List.Elements.{All-nil, All-cons, All-head, All-tai
 use Rattle.std.specs.List.{All}
 use Rattle.meta_base.specs.Language.State.{Trees}
 use Rattle.meta_nodes.specs.Spanned.{Span, span_of, Spanned, Leaf, One, Two, Unary, placed, SpannedRule}
-use Rattle.meta_reader.specs.Reading.{Category, Postfixed, done, more, Reads, barred, unbarred, one_alternative, choice, one_term, sequence, tagged, pos_pred, neg_pred, bare, grouped, leaf, pushed, ReadsRule, line_doc, normal, modified, ReadsRules, end_of_input, grammar_doc, documented, defined}
+use Rattle.meta_reader.specs.Reading.{Category, Postfixed, done, more, Reads, barred, unbarred, one_alternative, choice, one_term, sequence, tagged, pos_pred, neg_pred, bare, grouped, leaf, pushed, literally_pushed, ReadsRule, line_doc, normal, modified, ReadsRules, end_of_input, grammar_doc, documented, defined}
 use Rattle.meta_stack.specs.Visiting.{AllReported}
 use Rattle.meta_stacks.specs.Reading as says
 use Rattle.meta_stacks.specs.Reported.{Own, ReportedIn}
@@ -43,7 +43,7 @@ module _ (text : List ℕ) where
   read_stands (choice a b d e) = (refl, read_stands d, read_stands e)
   read_stands (one_term d) = read_stands d
   read_stands (sequence a b k l d e) = (refl, read_stands d, read_stands e)
-  read_stands (tagged d) = read_stands d
+  read_stands (tagged d) = (refl, read_stands d)
   read_stands (pos_pred d) = (refl, read_stands d)
   read_stands (neg_pred d) = (refl, read_stands d)
   read_stands (bare d p) = postfixed_stands p (read_stands d)
@@ -54,6 +54,7 @@ module _ (text : List ℕ) where
       stands_placed (record (span_of y) { start = a }) y (stands_there y whole) whole
   read_stands (leaf t) = refl
   read_stands (pushed d) = (refl, read_stands d)
+  read_stands literally_pushed = refl
 
   rule_stands : {us : Trees} {r : SpannedRule} → ReadsRule text us (Some r) → StandsIn r.body
   rule_stands (normal d) = read_stands d

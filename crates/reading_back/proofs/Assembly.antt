@@ -1,7 +1,7 @@
 -- How terms, chains and expressions are put together.
 use Rattle.std.proofs.Common.{◌≡◌, refl, ◌∙◌, ap, ap₂, subst, ℕ, ◌+◌, List, ◌∷◌, true, codes}
 use Rattle.meta_base.specs.Language.Text.{Text}
-use Rattle.meta_base.specs.Language.Expression.{Expression, Seq, Choice, PosPred, NegPred, whitespace, comment}
+use Rattle.meta_base.specs.Language.Expression.{Expression, Seq, Choice, PosPred, NegPred, NodeTag, whitespace, comment}
 use Rattle.meta_base.specs.Language.State.{Trees, None', Tree, Success, Failure, joined}
 use Rattle.meta_base.specs.declared.grammar.Rule.TheVariants as is
 use Rattle.meta_base.proofs.Steps.{joined_assoc}
@@ -9,12 +9,12 @@ use Rattle.meta_base.specs.Pieces.Saying.{piece}
 use Rattle.meta_syntax.specs.Shape.{Mark}
 use Rattle.meta_nodes.specs.Spanned as spanned
 use Rattle.meta_nodes.specs.Spanned.{Spanned, Leaf, One, Two, Span, Unary, starting, ending, end_of}
-use Rattle.meta_reader.specs.Reading.{AnExpression, ATerm, Reads, Postfixed, done, more, Postfix, pos_pred, neg_pred, one_term, one_alternative, sequence, choice, unbarred, grouped, around, both}
+use Rattle.meta_reader.specs.Reading.{AnExpression, ATerm, Reads, Postfixed, done, more, Postfix, pos_pred, neg_pred, tagged, tag_name, one_term, one_alternative, sequence, choice, unbarred, grouped, around, both}
 use Rattle.meta_reader.specs.Flaws.{own_flaw}
 use Rattle.meta_nodes.specs.Erasure.{round, between}
 use Rattle.reading_back.specs.Nesting.{nested_right, sequence_of, choice_of}
-use Rattle.reading_back.proofs.Deriving.{at, is_solid, Calls, Skips, str, call, seq, seq_first, left, right, opt_none, rep, rep_none, turn, turn_none, stays, one_blank, fails}
-use Rattle.reading_back.proofs.Parts.{Link, Tilde, Bar, sign, joined_by, category, MayFollowTerm, tilde, bar, brace, paren, MayFollowExpression, by_brace, by_paren, TermStart, term_start, NodeStart, node_start, term_begins, Denotes, one_says, starting_says, ending_says, IsLeftAt, IsFlawless, flawless_none, flawless_both, flawless_tree, still_left, OperatorsAt, NodeAt, TermAt, TermCall, ChainAt, ExpressionAt}
+use Rattle.reading_back.proofs.Deriving.{at, is_solid, Calls, Skips, str, call, seq, seq_first, left, right, opt, opt_none, rep, rep_none, turn, turn_none, stays, one_blank, fails}
+use Rattle.reading_back.proofs.Parts.{Link, Tilde, Bar, sign, joined_by, category, MayFollowTerm, tilde, bar, brace, paren, MayFollowExpression, by_brace, by_paren, TermStart, term_start, ExpressionStart, expression_start, expression_begins, NodeStart, node_start, term_begins, Denotes, one_says, starting_says, ending_says, IsLeftAt, IsFlawless, flawless_none, flawless_both, flawless_tree, still_left, OperatorsAt, NodeAt, TermAt, TermCall, ChainAt, ExpressionAt}
 
 -- nesting to the right is the same whichever side is nested_right first
 before_seq-assoc : (a b c : Expression) → sequence_of (sequence_of a b) c ≡ sequence_of a (sequence_of b c)
@@ -50,6 +50,12 @@ module _ (text : List ℕ) where
 
   pub blank_at : {t : Text} → TermStart t → (p : ℕ) → Skips (at p (32 ∷ t)) (p + 1) t
   blank_at (term_start c K h i j) p = one_blank c K p h
+
+  pub expression_stays : {t : Text} → ExpressionStart t → (p : ℕ) → Skips (at p t) p t
+  expression_stays (expression_start c K h) p = stays c K p h
+
+  pub blank_before : {t : Text} → ExpressionStart t → (p : ℕ) → Skips (at p (32 ∷ t)) (p + 1) t
+  blank_before (expression_start c K h) p = one_blank c K p h
 
   no_tag : {t : Text} → TermStart t → (p : ℕ) → Calls is.node_tag (at p t) Failure
   no_tag (term_start c K h i j) p = fails is.node_tag c K p i
@@ -276,7 +282,7 @@ module _ (text : List ℕ) where
   unfolding whitespace comment own_flaw
   lone p t e K₀ K c n =
       record {
-        starts = n.starts;
+        starts = expression_begins n.starts;
         end = at n.place K;
         inner = Tree (codes "term") p n.end.position n.inner None';
         does = call is.expression refl (seq (seq (opt_none (no_bar n.starts p)) (stays_at n.starts p) n.does) n.after (rep_none (seq_first (ends_chain c n.place))));
@@ -294,7 +300,7 @@ module _ (text : List ℕ) where
       let first : Trees = Tree (codes "term") p n.end.position n.inner None' in
       let (y, r, h) = c.reads a first n.said (read_first l p n.end.position n.inner n.said n.reads) n.says in
       record {
-        starts = n.starts;
+        starts = expression_begins n.starts;
         end = c.end;
         inner = joined first (joined c.first_trees c.trees);
         does = call is.expression refl (seq (seq (opt_none (no_bar n.starts p)) (stays_at n.starts p) n.does) n.after (rep c.first c.others));
@@ -304,6 +310,36 @@ module _ (text : List ℕ) where
         reads = read_all l _ y r;
         says = h;
         flawless = flawless_tree text (λ vs. refl) (flawless_both text n.flawless c.flawless) (flawless_none text);
+      }
+
+  -- a tag and what it is on
+  pub assigns : (t : Text) (p : ℕ) → Calls is.assignment_operator (at p (61 ∷ t)) (Success (at (p + 1) t) (Tree (codes "assignment_operator") p (p + 1) None' None'))
+  unfolding whitespace comment
+  assigns t p = call is.assignment_operator refl str
+
+  pub tagged_term : (p q : ℕ) (tag t u : Text) (e : Expression) (K₀ K : Text) → MayFollowExpression K₀ K
+      → Calls is.tag_id (at p (35 ∷ u)) (Success (at q (32 ∷ 61 ∷ 32 ∷ t)) (Tree (codes "tag_id") p q None' None')) → tag_name text p q ≡ tag
+      → TermAt text (q + 1 + 1 + 1) t e K → ExpressionAt text p (35 ∷ u) (NodeTag e tag) K
+  unfolding whitespace comment own_flaw
+  tagged_term p q tag t u e K₀ K c d is_named n =
+      let inner : Trees = Mark (codes "tag_id") p q (Mark (codes "assignment_operator") (q + 1) (q + 1 + 1) (joined (joined n.signs n.node_trees) n.trees)) in
+      let begins : Calls is.node_tag (at p (35 ∷ u)) (Success (at (q + 1 + 1) (32 ∷ t)) (Mark (codes "tag_id") p q (Mark (codes "assignment_operator") (q + 1) (q + 1 + 1) None'))) =
+      call is.node_tag refl (seq d (one_blank 61 (32 ∷ t) q refl) (assigns (32 ∷ t) (q + 1))) in
+      let does : Calls is.term (at p (35 ∷ u)) (Success n.end (Tree (codes "term") p n.end.position inner None')) =
+      call is.term refl (seq (seq (seq (opt begins) (blank_at n.starts (q + 1 + 1)) n.from_start) n.solid n.node) n.skip n.loop) in
+      record {
+        starts = expression_start 35 u refl;
+        end = at n.place K;
+        inner = Tree (codes "term") p n.end.position inner None';
+        does = call is.expression refl (seq (seq (opt_none (fails is.choice_operator 35 u p refl)) (stays 35 u p refl) does) n.after (rep_none (seq_first (ends_chain c n.place))));
+        place = n.place;
+        after = closed_stays c n.place;
+        said = One (piece text p (end_of n.said)) (spanned.Tag (tag_name text p q)) n.said;
+        reads = unbarred (one_alternative (one_term (tagged n.reads)));
+        says = subst (λ name. Denotes (One (piece text p (end_of n.said)) (spanned.Tag (tag_name text p q)) n.said) (NodeTag e name)) is_named (one_says _ (spanned.Tag (tag_name text p q)) n.says);
+        flawless = flawless_tree text (λ vs. refl)
+            (flawless_tree text (λ vs. refl) (flawless_tree text (λ vs. refl) (flawless_none text) (flawless_tree text (λ vs. refl) (flawless_none text) n.flawless)) (flawless_none text))
+            (flawless_none text);
       }
 
   -- an expression in parentheses
@@ -320,7 +356,7 @@ module _ (text : List ℕ) where
   unfolding whitespace comment own_flaw
   in_parentheses p t e b K₀ K h x loop =
       let d : Calls is.node (at p (40 ∷ t)) (Success (at (x.place + 1) K₀) (Mark (codes "opening_paren") p (p + 1) (Tree (codes "expression") (p + 1) x.end.position x.inner (Mark (codes "closing_paren") x.place (x.place + 1) None')))) =
-      call is.node refl (left (seq (seq (opening t p) (stays_at x.starts (p + 1)) x.does) x.after (closing K₀ x.place))) in
+      call is.node refl (left (seq (seq (opening t p) (expression_stays x.starts (p + 1)) x.does) x.after (closing K₀ x.place))) in
       let l = loop (x.place + 1) (still_left text d h) in
       let o = l.from_start in
       let (y, r, s) = o.reads (ending (x.place + 1) x.said) (ending_says (x.place + 1) x.says) in

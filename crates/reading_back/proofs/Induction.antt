@@ -1,5 +1,5 @@
 -- Every writable expression's text is matched and read back, whatever stands behind it.
-use Rattle.std.proofs.Common.{ℕ, ◌+◌, List, [], ◌∷◌, ◌++◌, false, codes}
+use Rattle.std.proofs.Common.{◌≡◌, refl, ap, true, ℕ, ◌+◌, List, [], ◌∷◌, ◌++◌, false, codes}
 use Rattle.std.specs.Str.{chars, IsUtf8}
 use Rattle.meta_base.specs.Language.Text.{Text}
 use Rattle.meta_base.specs.Language.Expression.{Expression, Str, Insens, Range, Ident, PeekSlice, PosPred, NegPred, Seq, Choice, Opt, Rep, RepOnce, RepExact, RepMin, RepMax, RepMinMax, Skip, Push, RestoreOnErr, PushLiteral, NodeTag}
@@ -8,16 +8,19 @@ use Rattle.meta_base.specs.Language.Meaning.{Run}
 use Rattle.meta_base.specs.Language.Expression as plain
 use Rattle.meta_base.proofs.TreesAreNested.{fits}
 use Rattle.meta_ast.specs.Printing.{Place, Alone, AfterTilde, AfterBar, BeforePostfix}
-use Rattle.reading_back.specs.ReadsBack.{IsWritable}
-use Rattle.reading_back.proofs.PrintedBefore.{printed_before}
+use Rattle.reading_back.specs.ReadsBack.{IsWritable, is_tag}
+use Rattle.reading_back.proofs.PrintedBefore.{printed_before, tagged_before}
 use Rattle.reading_back.proofs.Deriving.{str}
 use Rattle.reading_back.proofs.Parts.{Link, Tilde, Bar, sign, joined_by, MayFollowTerm, tilde, bar, by_paren, behind, no_operator, IsLeftAt, still_left, TermCall, IsNodeText, IsTermText, IsChainText, IsExpressionText}
-use Rattle.reading_back.proofs.Assembly.{no_signs, no_operators, as_term, last_term, more_terms, lone, chained, in_parentheses, positive, negative}
+use Rattle.reading_back.proofs.Assembly.{no_signs, no_operators, as_term, last_term, more_terms, lone, chained, in_parentheses, tagged_term, positive, negative}
 use Rattle.reading_back.proofs.Nodes.{push_node}
 use Rattle.reading_back.proofs.Operators.{opt_text, rep_text, rep_once_text, exact_text, min_text, max_text, min_max_text}
-use Rattle.reading_back.proofs.Names.{name_text}
+use Rattle.reading_back.proofs.Names.{name_text, following}
 use Rattle.reading_back.proofs.Slices.{slice_text}
-use Rattle.reading_back.proofs.Literals.{string_text, insensitive_text, range_text}
+use Rattle.reading_back.proofs.Literals.{string_text, insensitive_text, push_literal_text, range_text}
+use Rattle.reading_back.proofs.Tags.{tag_does}
+use Rattle.reading_back.proofs.WrittenBetween.{written_is}
+use Rattle.meta_reader.specs.Reading.{behind_first, tag_name}
 
 abbrev after : Link → Place
 after Tilde = AfterTilde
@@ -80,6 +83,18 @@ module _ (text : List ℕ) (utf8 : IsUtf8 text) where
   push_text F e expression p b K₀ K h f loop =
       push_node text p (F (41 ∷ K₀)) e b K₀ K h (expression (p + 4 + 1) (41 ∷ K₀) (41 ∷ K₀) (here_push (F (41 ∷ K₀)) p h) (by_paren K₀)) loop
 
+  tagged_text : (t : Text) (F : Text → Text) (e : Expression) → is_tag t ≡ true → IsTermText text F e → IsExpressionText text (λ K. tagged_before t F K) (NodeTag e t)
+  tagged_text [] F e h term p K₀ K here k = cc
+  tagged_text (c ∷ w) F e h term p K₀ K here k =
+      let M : Text = 32 ∷ 61 ∷ 32 ∷ F K₀ in
+      let (q, d) = tag_does c w M h (following 32 (61 ∷ 32 ∷ F K₀) refl) p in
+      let left : IsLeftAt text q M = still_left text d here in
+      let named : tag_name text p q ≡ c ∷ w = ap behind_first (written_is text utf8 p q (35 ∷ c ∷ w) M here left) in
+      let equals : IsLeftAt text (q + 1) (61 ∷ 32 ∷ F K₀) = still_left text {k = Run NonAtomicMode (plain.Str (32 ∷ []))} str left in
+      let blank : IsLeftAt text (q + 1 + 1) (32 ∷ F K₀) = still_left text {k = Run NonAtomicMode (plain.Str (61 ∷ []))} str equals in
+      let there : IsLeftAt text (q + 1 + 1 + 1) (F K₀) = still_left text {k = Run NonAtomicMode (plain.Str (32 ∷ []))} str blank in
+      tagged_term text p q (c ∷ w) (F K₀) (c ∷ (w ++ M)) e K₀ K k d named (term (q + 1 + 1 + 1) K₀ K there (behind k))
+
   positive_text : (F : Text → Text) (e : Expression) → IsTermText text F e → IsTermText text (λ K. 38 ∷ F K) (PosPred e)
   positive_text F e term p K₀ K h b = positive text (term (p + 1) K₀ K (here_and (F K₀) p h) b)
 
@@ -140,8 +155,8 @@ module _ (text : List ℕ) (utf8 : IsUtf8 text) where
   is_read (RepMinMax e i j) h = everywhere _ _ (min_max_text text utf8 _ e i j h.1 h.2 h.3 (is_read e h.0).node)
   is_read (Skip ts) h = absurd h
   is_read (Push e) h = everywhere _ _ (push_text _ e (one_text _ e (is_read e h).term))
-  is_read (PushLiteral t) h = absurd h
-  is_read (NodeTag e t) h = absurd h
+  is_read (PushLiteral t) h = everywhere _ _ (push_literal_text text utf8 t h)
+  is_read (NodeTag e t) h = everywhere _ _ (grouped_text _ _ (tagged_text t _ e h.0 (is_read e h.1).term))
   is_read (RestoreOnErr e) h = absurd h
 
   pub whole_text : (e : Expression) → IsWritable e → IsExpressionText text (λ K. printed_before Alone e K) e

@@ -6,7 +6,7 @@ use Rattle.std.proofs.Math.Utf8.{scalar, low_scalar}
 use Rattle.std.proofs.lemmas.List.Elements.{All-head, All-tail}
 use Rattle.meta_base.specs.Language.Text.{Text, IsText, IsScalarValue}
 use Rattle.meta_base.specs.Language.Expression as plain
-use Rattle.meta_base.specs.Language.Expression.{Expression, Str, Insens, Range, Rep, Opt, NegPred, whitespace, comment}
+use Rattle.meta_base.specs.Language.Expression.{Expression, Str, Insens, Range, Rep, Opt, NegPred, PushLiteral, whitespace, comment}
 use Rattle.meta_base.specs.Language.State.{State, NonAtomicMode, AtomicMode, CompoundAtomicMode, None', Tree, Trees, Success, Failure}
 use Rattle.meta_ast.specs.Printing.{escaped}
 use Rattle.meta_base.specs.Language.Meaning.{Run, Turns}
@@ -17,7 +17,7 @@ use Rattle.meta_syntax.specs.Shape.{Mark}
 use Rattle.meta_syntax.specs.Firsts.{may_begin}
 use Rattle.reading_back.specs.ReadsBack.{is_name_start}
 use Rattle.meta_syntax.proofs.Steps.{ran_any}
-use Rattle.meta_reader.specs.Reading.{leaf, string, insensitive, range, literal_value}
+use Rattle.meta_reader.specs.Reading.{leaf, literally_pushed, string, insensitive, range, literal_value}
 use Rattle.meta_reader.specs.Flaws.{own_flaw, wrong_literal, flaw_if, NoScalarValue}
 use Rattle.meta_reader.specs.Literal.{unescaped}
 use Rattle.meta_reader.proofs.Literals.{unescaped_plain}
@@ -28,6 +28,7 @@ use Rattle.reading_back.proofs.Characters.{past, sign_misses, start_misses}
 use Rattle.reading_back.proofs.Escapes.{CharacterForm, as_itself, by_escape, form_in_double, form_in_single}
 use Rattle.reading_back.proofs.WrittenBetween.{written_is}
 use Rattle.reading_back.proofs.Nodes.{node_with, as_node}
+use Rattle.reading_back.proofs.Assembly.{opening, closing}
 
 -- what is escaped is unescaped
 unescaped_form : (q c : ℕ) (w T : Text) → CharacterForm q c w → unescaped (w ++ T) ≡ c ∷ unescaped T
@@ -161,6 +162,33 @@ module _ (text : List ℕ) (utf8 : IsUtf8 text) where
       let node = as_node text 94 L p refl (call is.terminal refl (left (right (right (no_word 94 L p refl refl refl) (fails is.string 94 L p refl)) does))) in
       node_with text p (s.close + 1) (94 ∷ L) K₀ K _ _ _ (Insens t) b (node_start 94 L refl refl refl refl) node (leaf insensitive) (record { same = ap Insens value })
       (insensitive_flawless p (s.close + 1) (p + 1) (s.close + 1) (string_trees (p + 1) s.close) t value h (string_trees_flawless (p + 1) s.close)) here loop
+
+-- a literal push
+module _ (text : List ℕ) (utf8 : IsUtf8 text) where
+  string_before_flawless : (p q : ℕ) (us vs : Trees) (t : Text) → literal_value text us ≡ t → IsText t → IsFlawless text us → IsFlawless text vs → IsFlawless text (Tree (codes "string") p q us vs)
+  unfolding own_flaw
+  string_before_flawless p q us vs t e h c d = flawless_tree text (λ ws. right_literal text utf8 p q us t e h) c d
+
+  pub push_literal_text : (t : Text) → IsText t → IsNodeText text (λ K. codes "PUSH_LITERAL(" ++ literal_before t (41 ∷ K)) (PushLiteral t)
+  unfolding whitespace comment own_flaw
+  push_literal_text t h p b K₀ K here f loop =
+      let L : Text = literal_before t (41 ∷ K₀) in
+      let M : Text = escapes_before 34 t (34 ∷ 41 ∷ K₀) in
+      let W : Text = codes "USH_LITERAL(" ++ L in
+      let i = p + 12 + 1 in
+      let s = string_at t (41 ∷ K₀) i in
+      let j = s.close + 1 in
+      let behind_word : IsLeftAt text (p + 12) (40 ∷ L) = still_left text {k = Run NonAtomicMode (plain.Str (codes "PUSH_LITERAL"))} str here in
+      let inside_at : IsLeftAt text i L = still_left text {k = Run NonAtomicMode (plain.Str (40 ∷ []))} str behind_word in
+      let value = string_value text utf8 i t (41 ∷ K₀) s inside_at in
+      let inner : Trees = Mark (codes "opening_paren") (p + 12) i (Tree (codes "string") i j (string_trees i s.close) (Mark (codes "closing_paren") j (j + 1) None')) in
+      let does : Calls is._push_literal (at p (80 ∷ W)) (Success (at (j + 1) K₀) (Tree (codes "_push_literal") p (j + 1) inner None')) =
+      call is._push_literal refl (seq (seq (seq str (stays 40 L (p + 12) refl) (opening text L (p + 12))) (stays 34 M i refl) s.does) (stays 41 K₀ j refl) (closing text K₀ j)) in
+      let node = as_node text 80 W p refl (call is.terminal refl (left (left (left (left (left (left does))))))) in
+      node_with text p (j + 1) (80 ∷ W) K₀ K _ _ _ (PushLiteral t) b (node_start 80 W refl refl refl refl) node literally_pushed (record { same = ap PushLiteral value })
+      (flawless_tree text (λ vs. refl) (flawless_tree text (λ vs. refl) (flawless_none text)
+      (string_before_flawless i j (string_trees i s.close) (Mark (codes "closing_paren") j (j + 1) None') t value h (string_trees_flawless text utf8 i s.close)
+      (flawless_tree text (λ vs. refl) (flawless_none text) (flawless_none text)))) (flawless_none text)) here loop
 
 -- a bound of a range
 abbrev character_trees : ℕ → ℕ → Trees

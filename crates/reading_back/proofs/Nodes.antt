@@ -11,7 +11,7 @@ use Rattle.meta_reader.specs.Reading.{ANode, Reads, bare, pushed}
 use Rattle.meta_reader.specs.Flaws.{own_flaw}
 use Rattle.reading_back.proofs.Deriving.{at, Calls, str, call, seq, seq_first, left, right, stays}
 use Rattle.reading_back.proofs.Parts.{NodeStart, node_start, Denotes, one_says, IsLeftAt, IsFlawless, flawless_none, flawless_both, flawless_tree, still_left, OperatorsAt, NodeAt, ExpressionAt}
-use Rattle.reading_back.proofs.Assembly.{opening, closing, stays_at}
+use Rattle.reading_back.proofs.Assembly.{opening, closing, expression_stays}
 use Rattle.reading_back.proofs.Characters.{sign_misses}
 
 module _ (text : List ℕ) where
@@ -52,7 +52,7 @@ module _ (text : List ℕ) where
   push_node p t e b K₀ K h x loop =
       let u : Text = 85 ∷ 83 ∷ 72 ∷ 40 ∷ t in
       let pushes : Calls is._push (at p (80 ∷ u)) (Success (at (x.place + 1) K₀) (Tree (codes "_push") p (x.place + 1) (Mark (codes "opening_paren") (p + 4) (p + 4 + 1) (Tree (codes "expression") (p + 4 + 1) x.end.position x.inner (Mark (codes "closing_paren") x.place (x.place + 1) None'))) None')) =
-      call is._push refl (seq (seq (seq str (stays 40 t (p + 4) refl) (opening text t (p + 4))) (stays_at text x.starts (p + 4 + 1)) x.does) x.after (closing text K₀ x.place)) in
+      call is._push refl (seq (seq (seq str (stays 40 t (p + 4) refl) (opening text t (p + 4))) (expression_stays text x.starts (p + 4 + 1)) x.does) x.after (closing text K₀ x.place)) in
       let d = as_node 80 u p refl (call is.terminal refl (left (left (left (left (left (right (call is._push_literal refl (seq_first (seq_first (seq_first str)))) pushes))))))) in
       node_with p (x.place + 1) (80 ∷ u) K₀ K _ _ _ (Push e) b (node_start 80 u refl refl refl refl) d (pushed x.reads) (one_says _ spanned.Push x.says)
       (flawless_tree text (λ vs. refl) (flawless_tree text (λ vs. refl) (flawless_none text) (flawless_both text x.flawless (flawless_tree text (λ vs. refl) (flawless_none text) (flawless_none text)))) (flawless_none text))

@@ -75,6 +75,13 @@ pub data NodeStart : Text → Type 0 where
 pub term_begins : {t : Text} → NodeStart t → TermStart t
 term_begins (node_start c K h i j k) = term_start c K h i j
 
+-- how an expression begins, which may begin with a tag
+pub data ExpressionStart : Text → Type 0 where
+  expression_start : (c : ℕ) (K : Text) → is_solid c ≡ true → ExpressionStart (c ∷ K)
+
+pub expression_begins : {t : Text} → TermStart t → ExpressionStart t
+expression_begins (term_start c K h i j) = expression_start c K h
+
 -- a node says an expression, up to how sequences and choices are nested_right
 pub record Denotes (x : Spanned) (e : Expression) : Type 0 where
   pub same : nested_right (without_spans x) ≡ nested_right e
@@ -90,6 +97,7 @@ one_same (spanned.RepMin i) a b h = ap (λ x. plain.RepMin x i) h
 one_same (spanned.RepMax i) a b h = ap (λ x. plain.RepMax x i) h
 one_same (spanned.RepMinMax i j) a b h = ap (λ x. plain.RepMinMax x i j) h
 one_same spanned.Push a b h = ap plain.Push h
+one_same (spanned.Tag t) a b h = ap (λ x. plain.NodeTag x t) h
 
 pub one_says : {x : Spanned} {e : Expression} (s : Span) (f : Unary) → Denotes x e → Denotes (One s f x) (round f e)
 one_says s f h = record { same = one_same f _ _ h.same }
@@ -217,7 +225,7 @@ module _ (text : List ℕ) where
 
   -- a call of `expression`
   pub record ExpressionAt (p : ℕ) (t : Text) (e : Expression) (K : Text) : Type 0 where
-    pub starts : TermStart t
+    pub starts : ExpressionStart t
     pub end : State
     pub inner : Trees
     pub does : Calls is.expression (at p t) (Success end (Tree (codes "expression") p end.position inner None'))

@@ -30,6 +30,10 @@ abbrev pub predicate_before : Place → (Text → Text) → Text → Text
 predicate_before BeforePostfix F K = 40 ∷ F (41 ∷ K)
 predicate_before _ F K = F K
 
+-- a tag before what it is on
+abbrev pub tagged_before : Text → (Text → Text) → Text → Text
+tagged_before t F K = 35 ∷ (t ++ (32 ∷ 61 ∷ 32 ∷ F K))
+
 abbrev pub printed_before : Place → Expression → Text → Text
 printed_before k (Str t) K = literal_before t K
 printed_before k (Insens t) K = 94 ∷ literal_before t K
@@ -51,8 +55,8 @@ printed_before k (RepMax e i) K = printed_before BeforePostfix e (123 ∷ 44 ∷
 printed_before k (RepMinMax e i j) K = printed_before BeforePostfix e (123 ∷ (decimal i ++ (44 ∷ 32 ∷ (decimal j ++ (125 ∷ K)))))
 printed_before k (Skip ts) K = printed_at k (Skip ts) ++ K
 printed_before k (Push e) K = codes "PUSH(" ++ printed_before Alone e (41 ∷ K)
-printed_before k (PushLiteral t) K = printed_at k (PushLiteral t) ++ K
-printed_before k (NodeTag e t) K = printed_at k (NodeTag e t) ++ K
+printed_before k (PushLiteral t) K = codes "PUSH_LITERAL(" ++ literal_before t (41 ∷ K)
+printed_before k (NodeTag e t) K = 40 ∷ tagged_before t (λ L. printed_before Alone e L) (41 ∷ K)
 printed_before k (RestoreOnErr e) K = printed_before (inside_wrapper k) e K
 
 pub append-escapes : (q : ℕ) (t K : Text) → flat_map (escaped q) t ++ K ≡ escapes_before q t K
@@ -90,6 +94,10 @@ append-predicate_at Alone c A F h K = ap (λ x. c ∷ x) (h K)
 append-predicate_at AfterTilde c A F h K = ap (λ x. c ∷ x) (h K)
 append-predicate_at AfterBar c A F h K = ap (λ x. c ∷ x) (h K)
 
+append-tagged : (t A : Text) (F : Text → Text) → ((K : Text) → A ++ K ≡ F K) → (K : Text) → (codes "#" ++ t ++ codes " = " ++ A) ++ K ≡ tagged_before t F K
+append-tagged t A F h K =
+    both (codes "#" ++ t ++ codes " = ") A (λ L. 35 ∷ (t ++ (32 ∷ 61 ∷ 32 ∷ L))) F (more (codes "#" ++ t) (codes " = ") (λ L. 35 ∷ (t ++ L)) (λ L. refl)) h K
+
 pub append-printed_at : (k : Place) (e : Expression) (K : Text) → printed_at k e ++ K ≡ printed_before k e K
 append-printed_at k (Str t) K = append-literal t K
 append-printed_at k (Insens t) K = ap (λ x. 94 ∷ x) (append-literal t K)
@@ -116,6 +124,6 @@ append-printed_at k (RepMinMax e i j) K =
     (more (P ++ codes "{" ++ decimal i ++ codes ", ") (decimal j) (λ L. printed_before BeforePostfix e (123 ∷ (decimal i ++ (44 ∷ 32 ∷ L)))) (counted P (codes "{") (decimal i) (codes ", ") (λ L. printed_before BeforePostfix e L) (append-printed_at BeforePostfix e))) K
 append-printed_at k (Skip ts) K = refl
 append-printed_at k (Push e) K = ap (λ x. codes "PUSH(" ++ x) (append_assoc (printed_at Alone e) (41 ∷ []) K ∙ append-printed_at Alone e (41 ∷ K))
-append-printed_at k (PushLiteral t) K = refl
-append-printed_at k (NodeTag e t) K = refl
+append-printed_at k (PushLiteral t) K = ap (λ x. codes "PUSH_LITERAL(" ++ x) (append_assoc (literal 34 t) (41 ∷ []) K ∙ append-literal t (41 ∷ K))
+append-printed_at k (NodeTag e t) K = enclosed (codes "#" ++ t ++ codes " = " ++ printed_at Alone e) (λ L. tagged_before t (λ M. printed_before Alone e M) L) (append-tagged t (printed_at Alone e) (λ M. printed_before Alone e M) (append-printed_at Alone e)) K
 append-printed_at k (RestoreOnErr e) K = append-printed_at (inside_wrapper k) e K

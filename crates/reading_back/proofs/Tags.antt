@@ -14,29 +14,29 @@ use Rattle.reading_back.proofs.Characters.{past, sign_takes, start_takes, start_
 use Rattle.reading_back.proofs.Names.{MayFollowName, following, at_end, and_left, and_right, words_rep, range_at_end}
 use Rattle.reading_back.proofs.Identifiers.{not_empty, no_success, split_words}
 
-hash_takes : (t : Text) → Gives (Run AtomicMode (Str (codes "#"))) (at 0 (35 ∷ t)) (Success (at (past 0 35) t) None')
-hash_takes t = sign_takes 35 35 t 0 refl
+hash_takes : (t : Text) (p : ℕ) → Gives (Run AtomicMode (Str (codes "#"))) (at p (35 ∷ t)) (Success (at (past p 35) t) None')
+hash_takes t p = sign_takes 35 35 t p refl
 
--- the tag at the start of a text, before what follows it
-tag_does : (c : ℕ) (w K : Text) → is_tag (c ∷ w) ≡ true → MayFollowName K → (q : ℕ) × Calls is.tag_id (at 0 (35 ∷ (c ∷ (w ++ K)))) (Success (at q K) (Tree (codes "tag_id") 0 q None' None'))
+-- the tag at a place, before what follows it
+pub tag_does : (c : ℕ) (w K : Text) → is_tag (c ∷ w) ≡ true → MayFollowName K → (p : ℕ) → (q : ℕ) × Calls is.tag_id (at p (35 ∷ (c ∷ (w ++ K)))) (Success (at q K) (Tree (codes "tag_id") p q None' None'))
 unfolding whitespace comment
-tag_does c w K h f =
-    let (q, d) = words_rep w K (and_right _ _ h) f (past (past 0 35) c) in
-    (q, call is.tag_id refl (seq (seq (hash_takes (c ∷ (w ++ K))) atomic (start_takes c (w ++ K) (past 0 35) (and_left _ _ h))) atomic d))
+tag_does c w K h f p =
+    let (q, d) = words_rep w K (and_right _ _ h) f (past (past p 35) c) in
+    (q, call is.tag_id refl (seq (seq (hash_takes (c ∷ (w ++ K)) p) atomic (start_takes c (w ++ K) (past p 35) (and_left _ _ h))) atomic d))
 
 end_fails : Calls is.tag_id (at 0 (35 ∷ [])) Failure
 unfolding whitespace comment
-end_fails = call is.tag_id refl (seq_first (seq_second (hash_takes []) atomic (right str (call is.alpha refl (right (range_at_end (past 0 35)) (range_at_end (past 0 35)))))))
+end_fails = call is.tag_id refl (seq_first (seq_second (hash_takes [] 0) atomic (right str (call is.alpha refl (right (range_at_end (past 0 35)) (range_at_end (past 0 35)))))))
 
 start_fails : (c : ℕ) (m : Text) → is_name_start c ≡ false → Calls is.tag_id (at 0 (35 ∷ (c ∷ m))) Failure
 unfolding whitespace comment
-start_fails c m h = call is.tag_id refl (seq_first (seq_second (hash_takes (c ∷ m)) atomic (start_misses c m (past 0 35) h)))
+start_fails c m h = call is.tag_id refl (seq_first (seq_second (hash_takes (c ∷ m) 0) atomic (start_misses c m (past 0 35) h)))
 
 module _ (classes : Classes) where
   accepted : (t : Text) → is_tag t ≡ true → TakesAll is.tag_id classes (35 ∷ t)
   accepted [] h = cc
   accepted (c ∷ m) h =
-      let (q, d) = tag_does c m [] h at_end in
+      let (q, d) = tag_does c m [] h at_end 0 in
       record {
         end = at q [];
         trees = _;
@@ -47,7 +47,7 @@ module _ (classes : Classes) where
   partly : (c : ℕ) (m : Text) → is_name_start c ≡ true → are_name_characters m ≡ false → TakesAll is.tag_id classes (35 ∷ (c ∷ m)) → ⊥
   partly c m i j a =
       let (w, x, R, e, k, l) = split_words m j in
-      let (q, d) = tag_does c w (x ∷ R) (rw (i, k) refl) (following x R l) in
+      let (q, d) = tag_does c w (x ∷ R) (rw (i, k) refl) (following x R l) 0 in
       let f = subst (λ z. Does meta_grammar classes (Run NonAtomicMode (Ident (name_of is.tag_id))) (at 0 (35 ∷ (c ∷ z))) (Success (at q (x ∷ R)) (Tree (codes "tag_id") 0 q None' None'))) (sym e) (d classes) in
       not_empty (same meta_grammar classes f a.matched) refl a.all
 

@@ -15,7 +15,7 @@ use Rattle.meta_ast.specs.Printing.{escaped, is_control, numbered, hex_digit}
 use Rattle.meta_reader.specs.Flaws.{fits_i32}
 use Rattle.meta_ast.specs.Printing.{Place, Alone, AfterTilde, AfterBar, BeforePostfix, slice_end}
 use Rattle.reading_back.proofs.WholeGrammar.{rule_before, lines_before, all_lines}
-use Rattle.reading_back.specs.ReadsBack.{IsWritable, IsWritableRule, FitsI32, TextsExist, GrammarTextsExist, grammar_text, modifier, rule_text, is_name, is_name_start, is_name_character, are_name_characters}
+use Rattle.reading_back.specs.ReadsBack.{IsWritable, IsWritableRule, FitsI32, TextsExist, GrammarTextsExist, grammar_text, modifier, rule_text, is_name, is_tag, is_name_start, is_name_character, are_name_characters}
 use Rattle.reading_back.proofs.PrintedBefore.{printed_before, append-printed_at, escapes_before, literal_before, bound_before, predicate_before}
 use Rattle.reading_back.proofs.Names.{and_left, and_right, start_is_word}
 use Rattle.reading_back.proofs.Literals.{is_scalar}
@@ -65,11 +65,12 @@ words : (n : Text) → are_name_characters n ≡ true → IsTextOf n
 words [] h = record { all = refl }
 words (c ∷ n) h = one (word_scalar c (and_left (is_name_character c) (are_name_characters n) h)) (words n (and_right (is_name_character c) (are_name_characters n) h))
 
+tag : (t : Text) → is_tag t ≡ true → IsTextOf t
+tag [] h = record { all = refl }
+tag (c ∷ t) h = one (word_scalar c (start_is_word c (and_left (is_name_start c) (are_name_characters t) h))) (words t (and_right (is_name_start c) (are_name_characters t) h))
+
 name : (n : Text) → is_name n ≡ true → IsTextOf n
-name [] h = record { all = refl }
-name (c ∷ n) h =
-    let i = and_right (not (Rattle.meta_base.specs.Language.Matching.begins nat_eq (codes "PUSH") (c ∷ n))) (is_name_start c && are_name_characters n) h in
-    one (word_scalar c (start_is_word c (and_left (is_name_start c) (are_name_characters n) i))) (words n (and_right (is_name_start c) (are_name_characters n) i))
+name n h = tag n (and_right (not (Rattle.meta_base.specs.Language.Matching.begins nat_eq (codes "PUSH") n)) (is_tag n) h)
 
 -- literals
 hex : (d : ℕ) → d < 16 → scalar (hex_digit d) ≡ true
@@ -148,8 +149,8 @@ printed_is k (RepMax e m) h K i = printed_is BeforePostfix e h.0 _ (one refl (on
 printed_is k (RepMinMax e m n) h K i = printed_is BeforePostfix e h.0 _ (one refl (joined (number m h.1) (one refl (one refl (joined (number n h.3) (one refl i))))))
 printed_is k (Skip ts) h K i = absurd h
 printed_is k (Push e) h K i = one refl (one refl (one refl (one refl (one refl (printed_is Alone e h _ (one refl i))))))
-printed_is k (PushLiteral t) h K i = absurd h
-printed_is k (NodeTag e t) h K i = absurd h
+printed_is k (PushLiteral t) h K i = joined {a = codes "PUSH_LITERAL("} (record { all = refl }) (string t (41 ∷ K) h (one refl i))
+printed_is k (NodeTag e t) h K i = one refl (one refl (joined (tag t h.0) (one refl (one refl (one refl (printed_is Alone e h.1 (41 ∷ K) (one refl i)))))))
 printed_is k (RestoreOnErr e) h K i = absurd h
 
 pub texts_exist : TextsExist

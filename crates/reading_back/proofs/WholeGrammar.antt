@@ -27,7 +27,7 @@ use Rattle.reading_back.proofs.PrintedBefore.{printed_before, append-printed_at,
 use Rattle.reading_back.proofs.Characters.{excluded, solid_when}
 use Rattle.reading_back.proofs.Deriving.{at, Gives, Calls, Skips, str, range, call, neg_pred, seq, seq_first, seq_second, left, right, opt, opt_none, rep, rep_none, turn, turn_none, skips, between, atomic, stays, one_blank, a_line_feed, one_line_feed, fails}
 use Rattle.reading_back.proofs.Parts.{by_brace, IsLeftAt, IsFlawless, flawless_none, flawless_both, flawless_tree, no_flaw, still_left}
-use Rattle.reading_back.proofs.Assembly.{blank_at}
+use Rattle.reading_back.proofs.Assembly.{blank_before}
 use Rattle.reading_back.proofs.WrittenBetween.{written_is}
 use Rattle.reading_back.proofs.Names.{and_left, and_right, name_does, following}
 use Rattle.reading_back.proofs.Induction.{whole_text}
@@ -200,7 +200,7 @@ module _ (text : List ℕ) (utf8 : IsUtf8 text) where
             (one_blank 61 (32 ∷ T) q refl) (call is.assignment_operator refl str))
             (m.blank (q + 1 + 1)) m.does)
             (stays 123 (32 ∷ E) m.place refl) (call is.opening_brace refl str))
-            (blank_at text b.starts (m.place + 1)) b.does)
+            (blank_before text b.starts (m.place + 1)) b.does)
             b.after (call is.closing_brace refl str)));
         stay = stays c _ p (solid_when is_name_start c refl refl i);
         no_doc = fails is.grammar_doc c _ p (excluded is_name_start (codes "/") c refl i);

@@ -45,8 +45,7 @@ FitsI32 None = Unit {0}
 FitsI32 (Some i) = fits_i32 i ≡ true
 
 -- what the text of a grammar can say: strings of scalar values, bounds of one character, names, numbers
--- within their types, and no count of at most 0; forward searches and wrappers are the optimizer's alone, and
--- no text gives literal pushes and tags yet
+-- within their types, and no count of at most 0; forward searches and wrappers are the optimizer's alone
 abbrev pub IsWritable : Expression → Type 0
 IsWritable (Str t) = IsText t
 IsWritable (Insens t) = IsText t
@@ -66,8 +65,8 @@ IsWritable (RepMax e n) = IsWritable e × (1 ≤ n) × (n < 2 ^ 32)
 IsWritable (RepMinMax e m n) = IsWritable e × (m < 2 ^ 32) × (1 ≤ n) × (n < 2 ^ 32)
 IsWritable (Skip ts) = ⊥
 IsWritable (Push e) = IsWritable e
-IsWritable (PushLiteral t) = ⊥
-IsWritable (NodeTag e t) = ⊥
+IsWritable (PushLiteral t) = IsText t
+IsWritable (NodeTag e t) = (is_tag t ≡ true) × IsWritable e
 IsWritable (RestoreOnErr e) = ⊥
 
 -- a rule of the meta-grammar takes the whole text

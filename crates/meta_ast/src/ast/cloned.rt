@@ -61,6 +61,7 @@ enum Sign<'a> {
     RepMax(u32),
     RepMinMax(u32, u32),
     Push,
+    NodeTag(String),
     // A `~` or a `|` whose left side is copied, with the right one; and with the copy of the left one.
     FirstOfSeq(&'a Box<Expr>),
     FirstOfChoice(&'a Box<Expr>),
@@ -98,6 +99,7 @@ impl<'a> Rebuild for Around<'a> {
                 return Ok(Step::Made(E::Range(first.clone()?, last.clone()?)));
             }
             E::Ident(name) => return Ok(Step::Made(E::Ident(name.clone()?))),
+            E::PushLiteral(text) => return Ok(Step::Made(E::PushLiteral(text.clone()?))),
             E::PeekSlice(start, end) => return Ok(Step::Made(E::PeekSlice(*start, *end))),
             E::Skip(texts) => return Ok(Step::Made(E::Skip(copy_texts(texts)?))),
             E::PosPred(inner) => (Sign::PosPred, inner),
@@ -110,6 +112,7 @@ impl<'a> Rebuild for Around<'a> {
             E::RepMax(inner, greatest) => (Sign::RepMax(*greatest), inner),
             E::RepMinMax(inner, least, greatest) => (Sign::RepMinMax(*least, *greatest), inner),
             E::Push(inner) => (Sign::Push, inner),
+            E::NodeTag(inner, tag) => (Sign::NodeTag(tag.clone()?), inner),
             E::Seq(left, right) => (Sign::FirstOfSeq(right), left),
             E::Choice(left, right) => (Sign::FirstOfChoice(right), left),
         };
@@ -141,6 +144,7 @@ impl<'a> Rebuild for Around<'a> {
             Sign::RepMax(greatest) => Expr::RepMax(copy, greatest),
             Sign::RepMinMax(least, greatest) => Expr::RepMinMax(copy, least, greatest),
             Sign::Push => Expr::Push(copy),
+            Sign::NodeTag(tag) => Expr::NodeTag(copy, tag),
             Sign::SecondOfSeq(left) => Expr::Seq(left.into_inner(), copy),
             Sign::SecondOfChoice(left) => Expr::Choice(left.into_inner(), copy),
         };

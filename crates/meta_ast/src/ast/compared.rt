@@ -67,6 +67,7 @@ fn allocator_of(expr: &Expr) -> Option<Global> {
         | Expr::Rep(inner)
         | Expr::RepOnce(inner)
         | Expr::Push(inner) => { Some(*Box::allocator(inner)) }
+        Expr::NodeTag(inner, _) => Some(*Box::allocator(inner)),
         Expr::RepExact(inner, _)
         | Expr::RepMin(inner, _)
         | Expr::RepMax(inner, _)
@@ -159,9 +160,10 @@ fn compared<'a>(a: &'a Expr, b: &'a Expr) -> Left<'a>
 {
     use Expr as E;
     match (a, b) {
-        (E::Str(s), E::Str(t)) | (E::Insens(s), E::Insens(t)) | (E::Ident(s), E::Ident(t)) => {
-            Left::Nothing(same_text(s, t))
-        }
+        (E::Str(s), E::Str(t))
+        | (E::Insens(s), E::Insens(t))
+        | (E::Ident(s), E::Ident(t))
+        | (E::PushLiteral(s), E::PushLiteral(t)) => Left::Nothing(same_text(s, t)),
         (E::Range(s, u), E::Range(t, v)) => Left::Nothing(same_text(s, t) && same_text(u, v)),
         (E::PeekSlice(i, j), E::PeekSlice(k, l)) => Left::Nothing(i == k && j == l),
         (E::PosPred(first), E::PosPred(second))
@@ -170,6 +172,9 @@ fn compared<'a>(a: &'a Expr, b: &'a Expr) -> Left<'a>
         | (E::Rep(first), E::Rep(second))
         | (E::RepOnce(first), E::RepOnce(second))
         | (E::Push(first), E::Push(second)) => Left::One(Both { first, second }, true),
+        (E::NodeTag(first, s), E::NodeTag(second, t)) => {
+            Left::One(Both { first, second }, same_text(s, t))
+        }
         (E::Seq(first, x), E::Seq(second, y)) | (E::Choice(first, x), E::Choice(second, y)) => {
             let right = Both {
                 first: x,

@@ -15,7 +15,8 @@ use std::fmt;
 /// Literals stand between quotes, with escapes. A sequence and a choice stand in parentheses, and
 /// what is nested to their right has none of its own: `(a ~ b ~ c)`, `(a | b | c)`. A predicate has
 /// parentheses before a postfix operator alone: `(!e)?`. Of a range's bounds the first characters
-/// are printed, and of an empty bound nothing: `('a'..'z')`.
+/// are printed, and of an empty bound nothing: `('a'..'z')`. What is tagged stands in parentheses
+/// with its tag: `(#tag = e)`.
 ///
 /// What is still to be written is kept on a list. Where memory for it is refused, that is an error.
 impl fmt::Display for Expr {
@@ -53,6 +54,8 @@ impl Printed for Expr {
             }
             Expr::Skip(texts) => Parts::Leaf(Leaf::Skip(texts.as_slice())),
             Expr::Push(inner) => Parts::Push(inner),
+            Expr::PushLiteral(text) => Parts::Leaf(Leaf::PushLiteral(text.as_str())),
+            Expr::NodeTag(inner, tag) => Parts::Tag(tag.as_str(), inner),
         }
     }
 }

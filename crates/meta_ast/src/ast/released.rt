@@ -34,6 +34,7 @@ impl Expr {
             match rest {
                 Expr::Str(_) | Expr::Insens(_) | Expr::Ident(_) => return,
                 Expr::Range(_, _) | Expr::PeekSlice(_, _) | Expr::Skip(_) => return,
+                Expr::PushLiteral(_) => return,
                 Expr::PosPred(inner) | Expr::NegPred(inner) | Expr::Opt(inner) => {
                     rest = Box::into_inner(inner);
                 }
@@ -44,6 +45,7 @@ impl Expr {
                     rest = Box::into_inner(inner);
                 }
                 Expr::RepMinMax(inner, _, _) => rest = Box::into_inner(inner),
+                Expr::NodeTag(inner, _tag) => rest = Box::into_inner(inner),
                 Expr::Seq(left, right) | Expr::Choice(left, right) => rest = leaned(left, right),
             }
         }
@@ -70,6 +72,7 @@ fn leaned(mut left: Box<Expr>, right: Box<Expr>) -> Expr
         | Expr::RepMax(inner, _)
         | Expr::RepMinMax(inner, _, _)
         | Expr::Push(inner) => Expr::Seq(inner, right),
+        Expr::NodeTag(inner, _tag) => Expr::Seq(inner, right),
         _ => Box::into_inner(right),
     }
 }

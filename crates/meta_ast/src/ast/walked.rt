@@ -111,6 +111,7 @@ pub(crate) enum Sign {
     RepMax(u32),
     RepMinMax(u32, u32),
     Push,
+    NodeTag(String),
 }
 
 impl Tree for Expr {
@@ -133,6 +134,7 @@ impl Tree for Expr {
             E::RepMax(inner, max) => (Sign::RepMax(max), inner),
             E::RepMinMax(inner, min, max) => (Sign::RepMinMax(min, max), inner),
             E::Push(inner) => (Sign::Push, inner),
+            E::NodeTag(inner, tag) => (Sign::NodeTag(tag), inner),
             E::Seq(left, right) => return two(Joint::Sequence, left, right),
             E::Choice(left, right) => return two(Joint::Choice, left, right),
             leaf => return Node::Leaf(leaf),
@@ -153,6 +155,7 @@ impl Tree for Expr {
             Sign::RepMax(max) => Expr::RepMax(inner, max),
             Sign::RepMinMax(min, max) => Expr::RepMinMax(inner, min, max),
             Sign::Push => Expr::Push(inner),
+            Sign::NodeTag(tag) => Expr::NodeTag(inner, tag),
         };
         Ok(whole)
     }

@@ -57,6 +57,7 @@ enum Sign<'a> {
     Rep,
     RepOnce,
     Push,
+    NodeTag(String),
     RestoreOnErr,
     // A `~` or a `|` whose left side is copied, with the right one; and with the copy of the left one.
     FirstOfSeq(&'a Box<OptimizedExpr>),
@@ -97,6 +98,7 @@ impl<'a> Rebuild for Around<'a> {
                 return Ok(Step::Made(E::Range(first.clone()?, last.clone()?)));
             }
             E::Ident(name) => return Ok(Step::Made(E::Ident(name.clone()?))),
+            E::PushLiteral(text) => return Ok(Step::Made(E::PushLiteral(text.clone()?))),
             E::PeekSlice(start, end) => return Ok(Step::Made(E::PeekSlice(*start, *end))),
             E::Skip(texts) => return Ok(Step::Made(E::Skip(copy_texts(texts)?))),
             E::PosPred(inner) => (Sign::PosPred, inner),
@@ -105,6 +107,7 @@ impl<'a> Rebuild for Around<'a> {
             E::Rep(inner) => (Sign::Rep, inner),
             E::RepOnce(inner) => (Sign::RepOnce, inner),
             E::Push(inner) => (Sign::Push, inner),
+            E::NodeTag(inner, tag) => (Sign::NodeTag(tag.clone()?), inner),
             E::RestoreOnErr(inner) => (Sign::RestoreOnErr, inner),
             E::Seq(left, right) => (Sign::FirstOfSeq(right), left),
             E::Choice(left, right) => (Sign::FirstOfChoice(right), left),
@@ -134,6 +137,7 @@ impl<'a> Rebuild for Around<'a> {
             Sign::Rep => E::Rep(copy),
             Sign::RepOnce => E::RepOnce(copy),
             Sign::Push => E::Push(copy),
+            Sign::NodeTag(tag) => E::NodeTag(copy, tag),
             Sign::RestoreOnErr => E::RestoreOnErr(copy),
             Sign::SecondOfSeq(left) => E::Seq(left.into_inner(), copy),
             Sign::SecondOfChoice(left) => E::Choice(left.into_inner(), copy),

@@ -70,6 +70,7 @@ fn allocator_of(expr: &OptimizedExpr) -> Option<Global> {
         | OptimizedExpr::RepOnce(inner)
         | OptimizedExpr::Push(inner)
         | OptimizedExpr::RestoreOnErr(inner) => { Some(*Box::allocator(inner)) }
+        OptimizedExpr::NodeTag(inner, _) => Some(*Box::allocator(inner)),
         OptimizedExpr::Seq(left, _) | OptimizedExpr::Choice(left, _) => Some(*Box::allocator(left)),
         _ => None,
     }
@@ -160,9 +161,10 @@ fn compared<'a>(a: &'a OptimizedExpr, b: &'a OptimizedExpr) -> Left<'a>
 {
     use OptimizedExpr as E;
     match (a, b) {
-        (E::Str(s), E::Str(t)) | (E::Insens(s), E::Insens(t)) | (E::Ident(s), E::Ident(t)) => {
-            Left::Nothing(same_text(s, t))
-        }
+        (E::Str(s), E::Str(t))
+        | (E::Insens(s), E::Insens(t))
+        | (E::Ident(s), E::Ident(t))
+        | (E::PushLiteral(s), E::PushLiteral(t)) => Left::Nothing(same_text(s, t)),
         (E::Range(s, u), E::Range(t, v)) => Left::Nothing(same_text(s, t) && same_text(u, v)),
         (E::PeekSlice(i, j), E::PeekSlice(k, l)) => Left::Nothing(i == k && j == l),
         (E::PosPred(first), E::PosPred(second))
@@ -172,6 +174,9 @@ fn compared<'a>(a: &'a OptimizedExpr, b: &'a OptimizedExpr) -> Left<'a>
         | (E::RepOnce(first), E::RepOnce(second))
         | (E::RestoreOnErr(first), E::RestoreOnErr(second))
         | (E::Push(first), E::Push(second)) => Left::One(Both { first, second }, true),
+        (E::NodeTag(first, s), E::NodeTag(second, t)) => {
+            Left::One(Both { first, second }, same_text(s, t))
+        }
         (E::Seq(first, x), E::Seq(second, y)) | (E::Choice(first, x), E::Choice(second, y)) => {
             let right = Both {
                 first: x,

@@ -45,6 +45,8 @@ impl Printed for OptimizedExpr {
             OptimizedExpr::RepOnce(inner) => Parts::Postfix(inner, "+"),
             OptimizedExpr::Skip(texts) => Parts::Leaf(Leaf::Skip(texts.as_slice())),
             OptimizedExpr::Push(inner) => Parts::Push(inner),
+            OptimizedExpr::PushLiteral(text) => Parts::Leaf(Leaf::PushLiteral(text.as_str())),
+            OptimizedExpr::NodeTag(inner, tag) => Parts::Tag(tag.as_str(), inner),
             OptimizedExpr::RestoreOnErr(inner) => Parts::Wrapper(inner),
         }
     }

@@ -32,13 +32,14 @@ impl OptimizedExpr {
         'parts: loop {
             match rest {
                 E::Str(_) | E::Insens(_) | E::Ident(_) => return,
-                E::Range(_, _) | E::PeekSlice(_, _) | E::Skip(_) => return,
+                E::Range(_, _) | E::PeekSlice(_, _) | E::Skip(_) | E::PushLiteral(_) => return,
                 E::PosPred(inner) | E::NegPred(inner) | E::Opt(inner) => {
                     rest = Box::into_inner(inner);
                 }
                 E::Rep(inner) | E::RepOnce(inner) | E::Push(inner) | E::RestoreOnErr(inner) => {
                     rest = Box::into_inner(inner);
                 }
+                E::NodeTag(inner, _tag) => rest = Box::into_inner(inner),
                 E::Seq(left, right) | E::Choice(left, right) => rest = leaned(left, right),
             }
         }
@@ -63,6 +64,7 @@ fn leaned(mut left: Box<OptimizedExpr>, right: Box<OptimizedExpr>) -> OptimizedE
         | E::RepOnce(inner)
         | E::Push(inner)
         | E::RestoreOnErr(inner) => E::Seq(inner, right),
+        E::NodeTag(inner, _tag) => E::Seq(inner, right),
         _ => Box::into_inner(right),
     }
 }

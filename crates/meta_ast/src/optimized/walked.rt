@@ -110,6 +110,7 @@ pub(crate) enum Sign {
     Rep,
     RepOnce,
     Push,
+    NodeTag(String),
 }
 
 impl Tree for OptimizedExpr {
@@ -128,6 +129,7 @@ impl Tree for OptimizedExpr {
             E::Rep(inner) => (Sign::Rep, inner),
             E::RepOnce(inner) => (Sign::RepOnce, inner),
             E::Push(inner) => (Sign::Push, inner),
+            E::NodeTag(inner, tag) => (Sign::NodeTag(tag), inner),
             E::Seq(left, right) => return two(Joint::Sequence, left, right),
             E::Choice(left, right) => return two(Joint::Choice, left, right),
             leaf => return Node::Leaf(leaf),
@@ -145,6 +147,7 @@ impl Tree for OptimizedExpr {
             Sign::Rep => E::Rep(inner),
             Sign::RepOnce => E::RepOnce(inner),
             Sign::Push => E::Push(inner),
+            Sign::NodeTag(tag) => E::NodeTag(inner, tag),
         };
         Ok(whole)
     }

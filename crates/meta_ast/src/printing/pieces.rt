@@ -2,9 +2,9 @@
 ghost use Rattle.std.specs.Prelude.{◌≡◌, ◌<◌, ◌+◌, ◌*◌, ◌++◌, ℕ, OnOk, codes};
 ghost use Rattle.std.specs.Fmt.{WritesOnOk};
 ghost use Rattle.meta_ast.specs.Pieces.{leaf_bytes, bytes_of_parts, heft_of_parts, bytes_at, inside, piece_bytes, piece_load, Puts};
-ghost use Rattle.meta_ast.specs.PrintedBytes.{ByPlace, predicate_bytes, sequence_bytes, choice_bytes};
+ghost use Rattle.meta_ast.specs.PrintedBytes.{ByPlace, enclosed, predicate_bytes, sequence_bytes, choice_bytes};
 
-use super::{Counts, fmt_counts, fmt_insensitive, fmt_literal, fmt_range, fmt_skip, fmt_slice};
+use super::{Counts, fmt_counts, fmt_insensitive, fmt_literal, fmt_push_literal, fmt_range, fmt_skip, fmt_slice};
 use std::alloc::Global;
 use std::fmt;
 
@@ -26,6 +26,7 @@ pub(crate) enum Leaf<'a> {
     Ident(&'a str),
     PeekSlice(i32, Option<i32>),
     Skip(&'a [String]),
+    PushLiteral(&'a str),
 }
 
 /// What an expression is made of.
@@ -40,6 +41,8 @@ pub(crate) enum Parts<'a, E> {
     Postfix(&'a Box<E>, &'static str),
     Counted(&'a Box<E>, Counts),
     Push(&'a Box<E>),
+    /// A tag, and what it is on.
+    Tag(&'a str, &'a Box<E>),
     /// What prints as its operand.
     Wrapper(&'a Box<E>),
 }
@@ -83,6 +86,7 @@ pub(crate) fn fmt_printed<W: fmt::Write, E: Printed>(
         | Parts::Postfix(inner, _)
         | Parts::Counted(inner, _)
         | Parts::Push(inner)
+        | Parts::Tag(_, inner)
         | Parts::Wrapper(inner) => fmt_by_list(f, *Box::allocator(inner), expr),
     }
 }
@@ -98,6 +102,7 @@ fn fmt_leaf<W: fmt::Write>(f: &mut fmt::Formatter<W>, leaf: Leaf<'_>) -> fmt::Re
         Leaf::Ident(name) => f.write_str(name),
         Leaf::PeekSlice(start, end) => fmt_slice(f, start, end),
         Leaf::Skip(texts) => fmt_skip(f, texts),
+        Leaf::PushLiteral(text) => fmt_push_literal(f, text),
     }
 }
 
@@ -150,6 +155,7 @@ fn put_parts<'a, E: Printed>(
         Parts::Postfix(inner, sign) => put_before(pieces, inner, Piece::Sign(sign)),
         Parts::Counted(inner, counts) => put_before(pieces, inner, Piece::Counts(counts)),
         Parts::Push(inner) => put_within(pieces, "PUSH(", inner),
+        Parts::Tag(tag, inner) => put_tagged(pieces, tag, inner),
         Parts::Wrapper(inner) => put(pieces, Piece::Part(inside_wrapper(place), inner)),
     }
 }
@@ -223,6 +229,23 @@ fn put_within<'a, E: Printed>(
     put(pieces, Piece::Sign(")"))?;
     put(pieces, Piece::Part(Place::Alone, inner))?;
     put(pieces, Piece::Sign(opening))
+}
+
+/// Puts an expression with its tag on the list, in parentheses.
+fn put_tagged<'a, E: Printed>(
+    pieces: &mut Vec<Piece<'a, E>>,
+    tag: &'a str,
+    inner: &'a E,
+) -> fmt::Result
+    ensures { OnOk result (Puts E.bytes E.heft pieces.old.items pieces.new.items
+        (enclosed (codes "#" ++ tag.entry.now ++ codes " = " ++ (E.bytes inner.now).alone))
+        (6 * E.heft inner.now + 5)) }
+{
+    put(pieces, Piece::Sign(")"))?;
+    put(pieces, Piece::Part(Place::Alone, inner))?;
+    put(pieces, Piece::Sign(" = "))?;
+    put(pieces, Piece::Leaf(Leaf::Ident(tag)))?;
+    put(pieces, Piece::Sign("(#"))
 }
 
 /// Puts a sequence on the list: in parentheses, but not on the right of a `~`.

@@ -6,10 +6,11 @@ use Rattle.meta_base.specs.Language.Builtins.{builtin_of, Pop, PopAll, Drop}
 use Rattle.meta_base.specs.Rewritings.Rewriting.{EachBody}
 
 module _ (g : Grammar) where
-  -- a `PUSH`, `POP`, `POP_ALL` or `DROP` is met, not below a wrapper, or in the body of a rule that is named
-  -- there
+  -- a `PUSH`, `PUSH_LITERAL`, `POP`, `POP_ALL` or `DROP` is met, not below a wrapper, or in the body of a rule
+  -- that is named there
   pub data ChangesStack : Expression → Type 0 where
     changes_push : {e : Expression} → ChangesStack (Push e)
+    changes_push_literal : {t : Text} → ChangesStack (PushLiteral t)
     changes_tag : {e : Expression} {t : Text} → ChangesStack e → ChangesStack (NodeTag e t)
     changes_pop : {n : Text} → builtin_of n ≡ Some Pop → ChangesStack (Ident n)
     changes_pop_all : {n : Text} → builtin_of n ≡ Some PopAll → ChangesStack (Ident n)

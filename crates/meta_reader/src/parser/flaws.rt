@@ -12,8 +12,6 @@ use std::alloc::{AllocError, AllocFailed, Global};
 /// What may be wrong with a piece of a grammar's text.
 #[derive(Clone, Copy)]
 pub enum Cause {
-    /// `PUSH_LITERAL` is called.
-    PushLiteralCalled,
     /// An escape in a literal is no Unicode scalar value.
     NoScalarValue,
     /// A number of a slice fits no `i32`.
@@ -59,7 +57,6 @@ fn message(cause: Cause) -> &'static str
     ensures { result.now ≡ cause_message (cause_of cause) }
 {
     match cause {
-        Cause::PushLiteralCalled => "PUSH_LITERAL requires feature grammar-extras",
         Cause::NoScalarValue => "escape is not a Unicode scalar value",
         Cause::PastI32 => "number cannot overflow i32",
         Cause::PastU32 => "number cannot overflow u32",

@@ -155,7 +155,7 @@ fn term<'i>(
     requires nested { StandIn text.now (named_trees_of trees.now) }
     ensures { ReadsAs text.entry.now ATerm (named_trees_of trees.now) result }
 {
-    let (signs, rest) = behind_signs(alloc, trees)?;
+    let (signs, rest) = behind_signs(alloc, text, trees)?;
     let operand = operand(alloc, text, rest)?;
     let node = with_signs(alloc, operand, signs)?;
     Ok(node)

@@ -7,9 +7,9 @@ ghost use Rattle.meta_base.specs.Pieces.MetaRules.{name_of};
 ghost use Rattle.meta_syntax.specs.Shape.{IsSlice, IsTerminal, MayBeNumber};
 ghost use Rattle.meta_reader.specs.Views.{AnswersBound, ReadsAs, alone, alone_as};
 
-use crate::parser::flaws::{Cause, ReadError};
+use crate::parser::flaws::ReadError;
 use crate::parser::literal::literal;
-use crate::parser::pieces::{error_of, slice_number, span_of, text_of};
+use crate::parser::pieces::{slice_number, span_of, text_of};
 use meta_base::grammar::Rule;
 use meta_base::runtime::{FirstTree, TokenTree};
 use meta_nodes::{ParserExpr, ParserNode};
@@ -72,6 +72,25 @@ fn slice<'i>(text: &'i str, tree: FirstTree<'_, Rule>) -> Result<ParserNode<'i>,
     })
 }
 
+/// A literal push, which stands where its string does. A flaw is its string's.
+fn push_literal<'i>(
+    alloc: Global,
+    text: &'i str,
+    tree: FirstTree<'_, Rule>,
+) -> Result<ParserNode<'i>, ReadError<'i>>
+    requires shape { IsTerminal text.now (codes "_push_literal") (named_trees_of tree.inner.now) }
+    requires nested { StandIn text.now (alone_as (codes "_push_literal") tree) }
+    ensures { ReadsAs text.entry.now ANode (alone_as (codes "_push_literal") tree.entry) result }
+{
+    let paren = leading_tree(tree.inner);
+    let string = leading_tree(paren.others);
+    let read = literal(alloc, text, string, string.inner)?;
+    Ok(ParserNode {
+        expr: ParserExpr::PushLiteral(read),
+        span: span_of(text, string),
+    })
+}
+
 /// The node of a rule that holds no expression, or its first flaw.
 pub fn terminal<'i>(
     alloc: Global,
@@ -108,7 +127,7 @@ pub fn terminal<'i>(
         }
         Rule::range => range(alloc, text, tree),
         Rule::peek_slice => slice(text, tree),
-        Rule::_push_literal => Err(error_of(Cause::PushLiteralCalled, span)),
+        Rule::_push_literal => push_literal(alloc, text, tree),
         _ => unreachable!(),
     }
 }

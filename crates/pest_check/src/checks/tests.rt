@@ -14,7 +14,7 @@ fn is_answer(alloc: Global, input: Option<&[u8]>, status: u8, printed: &str, tol
 }
 
 /// Texts with what is printed for them.
-static PRINTED: [(&str, &str); 29] = [
+static PRINTED: [(&str, &str); 30] = [
     ("", ""),
     (
         "a = { \"x\" ~ b } b = { \"y\" }",
@@ -92,11 +92,15 @@ static PRINTED: [(&str, &str); 29] = [
         "WHITESPACE = _{ b }\nb = !{ (\"x\"? ~ \"y\") }\n",
     ),
     ("a = { (| \"x\") }", "a = { \"x\" }\n"),
-    ("a = { #t = \"x\" }", "a = { \"x\" }\n"),
+    ("a = { #t = \"x\" }", "a = { (#t = \"x\") }\n"),
     ("a = { POP | PEEK }", "a = { (POP | PEEK) }\n"),
     (
         "a = { (PUSH(\"\") ~ PEEK)* }",
         "a = { (PUSH(\"\") ~ PEEK)* }\n",
+    ),
+    (
+        "a = { #t = PUSH_LITERAL(\"x\")? ~ POP }",
+        "a = { ((#t = PUSH_LITERAL(\"x\")?) ~ POP) }\n",
     ),
 ];
 
@@ -214,13 +218,13 @@ static REFUSED: [(&str, &[Told]); 18] = [
         ]],
     ),
     (
-        "a = { PUSH_LITERAL(\"x\") }",
+        "a = { PUSH_LITERAL(\"\\u{d800}\") }",
         &[[
-            "1:7",
+            "1:20",
             "1",
-            "a = { PUSH_LITERAL(\"x\") }",
-            "      ^---------------^",
-            "PUSH_LITERAL requires feature grammar-extras",
+            "a = { PUSH_LITERAL(\"\\u{d800}\") }",
+            "                   ^--------^",
+            "escape is not a Unicode scalar value",
         ]],
     ),
     (

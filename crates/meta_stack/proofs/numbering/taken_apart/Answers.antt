@@ -50,3 +50,9 @@ returns-in-RepMax-clause-made c = ((spanned.RepMax c.in-RepMax.count), (λ t. rw
 
 pub returns-in-RepMinMax-clause-made : goal.returns-in-RepMinMax-clause-made
 returns-in-RepMinMax-clause-made c = ((spanned.RepMinMax c.in-RepMinMax.low c.in-RepMinMax.high), (λ t. rw c.deref-in-RepMinMax.ensures (ap (view_at t) c.in-RepMinMax.is)), ap₂ (λ m n. wraps.Repeated m n false) c.min.ensures c.saturating_sub.ensures)
+
+pub returns-in-PushLiteral-clause-made : goal.returns-in-PushLiteral-clause-made
+returns-in-PushLiteral-clause-made c = (plain.PushLiteral (text_of c.in-PushLiteral.field-0), tt, (λ t. ap (view_at t) c.in-PushLiteral.is))
+
+pub returns-in-NodeTag-clause-made : goal.returns-in-NodeTag-clause-made
+returns-in-NodeTag-clause-made c = (spanned.Tag (text_of c.in-NodeTag.field-1), (λ t. rw c.deref-in-NodeTag.ensures (ap (view_at t) c.in-NodeTag.is)), refl)

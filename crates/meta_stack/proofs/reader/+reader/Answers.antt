@@ -3,7 +3,7 @@ use Rattle.std.proofs.lemmas.Option.{slice_get_within, slice_get_read}
 use Rattle.std.proofs.lemmas.List.{length_push, map_push}
 use Rattle.meta_stacks.specs.Stack.{is_among}
 use Rattle.meta_stacks.specs.Reading as says
-use Rattle.meta_stacks.specs.Reading.{top_reading, onward, turns, Endless}
+use Rattle.meta_stacks.specs.Reading.{surely, top_reading, onward, turns, Endless}
 use Rattle.meta_stack.specs.Table.{IsMeaning, Called, LeadsTo, Lies, call_reading, copies, followed_at, node_reading, nodes_of}
 use Rattle.meta_stack.specs.Memory.{Meaning, IsRight}
 use Rattle.meta_stack.specs.Following.{times, copy_step, seen_stacks, Comes}
@@ -60,6 +60,12 @@ begin-returns-in-PeekAll t c = leaf_done c.args.table.now _ c.args.node c.args.s
 
 pub begin-returns-in-PopAll : goal.begin-returns-in-PopAll
 begin-returns-in-PopAll t c = leaf_done c.args.table.now _ c.args.node c.args.stack _ _ _ c.kind_at.ensures.means c.in-PopAll.is _ (λ meaning. c.pop_all.ensures)
+
+pub begin-returns-in-PushLiteral : goal.begin-returns-in-PushLiteral
+begin-returns-in-PushLiteral t c = leaf_done c.args.table.now _ c.args.node c.args.stack _ _ _ c.kind_at.ensures.means c.in-PushLiteral.is _ (λ meaning. c.surely-in-PushLiteral.ensures ∙ ap surely c.pushed.ensures)
+
+pub begin-returns-in-Tag : goal.begin-returns-in-Tag
+begin-returns-in-Tag t c = wait_inside c.args.table.now _ c.args.node c.args.stack _ _ c.kind_at.ensures.means c.in-Tag.is (c.kind_at.ensures.ordered c.requires.ordered) how.Same c.in-Tag.body (λ lies. lies) (λ meaning. refl) _ _ c.wait-in-Tag.result c.wait-in-Tag.ensures
 
 pub begin-returns-in-Some : goal.begin-returns-in-Some
 begin-returns-in-Some t c = done_at_once c.args.table.now _ _ c.args.node c.args.stack _ _ (λ meaning h i. (i, c.in-Some.ensures meaning i))

@@ -49,3 +49,9 @@ returns-in-RepMax c = ((spanned.RepMax c.in-RepMax.field-1), (λ t. rw c.deref-i
 
 pub returns-in-RepMinMax : goal.returns-in-RepMinMax
 returns-in-RepMinMax c = ((spanned.RepMinMax c.in-RepMinMax.low c.in-RepMinMax.field-2), (λ t. rw c.deref-in-RepMinMax.ensures (ap (view_at t) c.in-RepMinMax.is)), c.counted_wrap-in-RepMinMax.ensures)
+
+pub returns-in-PushLiteral : goal.returns-in-PushLiteral
+returns-in-PushLiteral c = (plain.PushLiteral (text_of c.in-PushLiteral.field-0), tt, (λ t. ap (view_at t) c.in-PushLiteral.is))
+
+pub returns-in-NodeTag : goal.returns-in-NodeTag
+returns-in-NodeTag c = (spanned.Tag (text_of c.in-NodeTag.field-1), (λ t. rw c.deref-in-NodeTag.ensures (ap (view_at t) c.in-NodeTag.is)), refl)

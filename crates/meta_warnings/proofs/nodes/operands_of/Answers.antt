@@ -6,7 +6,7 @@ use Rattle.meta_nodes.specs.Spanned as spanned
 use Rattle.meta_warnings.proofs.nodes.operands_of.Goals as goal
 
 pub returns-in-Seq : goal.returns-in-Seq
-returns-in-Seq c = let place = piece_of c.args.node.now.span in (place, rw (c.deref.ensures, c.deref-in-Seq.ensures) (ap (view_at place) c.in-Seq.is))
+returns-in-Seq c = let place = piece_of c.args.node.now.span in (place, rw (c.deref-in-Seq.ensures, c.deref-in-Seq-2.ensures) (ap (view_at place) c.in-Seq.is))
 
 pub returns-in-Choice : goal.returns-in-Choice
 returns-in-Choice c = let place = piece_of c.args.node.now.span in (place, rw (c.deref-in-Choice.ensures, c.deref-in-Choice-2.ensures) (ap (view_at place) c.in-Choice.is))
@@ -67,3 +67,13 @@ returns-in-PosPred c =
         | inr h ↦ (place, spanned.Opt, ap (view_at place) h)
       ]
     ])
+
+pub returns-in-PushLiteral : goal.returns-in-PushLiteral
+returns-in-PushLiteral c =
+    let place = piece_of c.args.node.now.span in
+    (place, plain.PushLiteral (text_of c.in-PushLiteral.field-0), ap (view_at place) c.in-PushLiteral.is)
+
+pub returns-in-NodeTag : goal.returns-in-NodeTag
+returns-in-NodeTag c =
+    let place = piece_of c.args.node.now.span in
+    rw c.deref.ensures (place, spanned.Tag (text_of c.in-NodeTag.field-1), ap (view_at place) c.in-NodeTag.is)

@@ -6,7 +6,7 @@ use Rattle.meta_base.proofs.Steps.{ran_str, ran_range}
 use Rattle.meta_matcher.specs.Programs.{IsBound, IsRow, IsKnown, IsSound, grammar_of, names_of, rule_of_row}
 use Rattle.meta_matcher.specs.Runs.{IsLeft}
 use Rattle.meta_matcher.specs.Machines.{is_whitespace, is_comment, now_of, setting_of}
-use Rattle.meta_matcher.proofs.Steps.{failed_row, fails_ahead, fails_first, fails_not, fails_rep_once, fails_restored, fails_second, fails_start, fails_undefined, finds_ahead, finds_blanks, finds_comments, finds_left, finds_no_opt, finds_no_rep, finds_no_skipping, finds_not, finds_opt, finds_rep, finds_rep_once, finds_restored, finds_seq, finds_skipped, finds_start, finds_turns, found_row, gives_leaving, named_if_ok, ran_one, right_if_ok, row_known, row_meant, row_mode, row_within, skipped_if_ok, so_far_blank, so_far_comment, so_far_nothing, so_far_turn}
+use Rattle.meta_matcher.proofs.Steps.{failed_row, fails_ahead, fails_first, fails_not, fails_rep_once, fails_restored, fails_second, fails_start, fails_tagged, fails_undefined, finds_ahead, finds_blanks, finds_comments, finds_left, finds_no_opt, finds_no_rep, finds_no_skipping, finds_not, finds_opt, finds_rep, finds_rep_once, finds_restored, finds_seq, finds_skipped, finds_start, finds_tagged, finds_turns, found_row, gives_leaving, named_if_ok, ran_one, right_if_ok, row_known, row_meant, row_mode, row_within, skipped_if_ok, so_far_blank, so_far_comment, so_far_nothing, so_far_turn}
 use Rattle.meta_matcher.proofs.Stacking.{fails_push, finds_push, finds_skip, gives_class, gives_insens, gives_newline}
 use Rattle.meta_matcher.proofs.machine.Machine.+machine.Goals as goal
 
@@ -23,6 +23,12 @@ option-returns-in-Some-clause-means t c = let x = rw c.in-Some.is at c.in_ok-aft
 
 pub option-returns-in-None-clause-means : goal.option-returns-in-None-clause-means
 option-returns-in-None-clause-means t c = let x = rw c.in-None.is at c.in_ok-after.ensures.means in finds_no_opt x
+
+pub tagged-returns-in-Some-clause-means : goal.tagged-returns-in-Some-clause-means
+tagged-returns-in-Some-clause-means t c = let x = rw c.in-Some.is at c.in_ok-after.ensures.means in finds_tagged x
+
+pub tagged-returns-in-None-clause-means : goal.tagged-returns-in-None-clause-means
+tagged-returns-in-None-clause-means t c = let x = rw c.in-None.is at c.in_ok-after.ensures.means in fails_tagged x
 
 pub restored-returns-in-Some-clause-means : goal.restored-returns-in-Some-clause-means
 restored-returns-in-Some-clause-means t c = let x = rw c.in-Some.is at c.in_ok-after.ensures.means in finds_restored x

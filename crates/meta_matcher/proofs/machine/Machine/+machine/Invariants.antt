@@ -26,6 +26,9 @@ decreases-negation l = 16 * l.depth + 1
 abbrev pub decreases-lookahead : goal.decreases-lookahead
 decreases-lookahead l = 16 * l.depth + 1
 
+abbrev pub decreases-tagged : goal.decreases-tagged
+decreases-tagged l = 16 * l.depth + 1
+
 abbrev pub decreases-restored : goal.decreases-restored
 decreases-restored l = 16 * l.depth + 1
 

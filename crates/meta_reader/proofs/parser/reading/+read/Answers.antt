@@ -139,18 +139,24 @@ sequence-loop-inner-preserved t c =
 
 -- a term
 
+pub term-behind_signs-requires : goal.term-behind_signs-requires
+term-behind_signs-requires t c =
+    let h : IsTerm c.args.text.now (named_trees_of c.args.trees.now) = assumption in
+    let s : StandIn c.args.text.now (named_trees_of c.args.trees.now) = assumption in
+    record { shape = h; nested = s }
+
 pub term-operand-requires : goal.term-operand-requires
 term-operand-requires t c =
     let h : IsTerm c.args.text.now (named_trees_of c.args.trees.now) = assumption in
     let s : StandIn c.args.text.now (named_trees_of c.args.trees.now) = assumption in
-    let b = c.in_ok-signs.ensures c.args.text.now h in
+    let b = c.in_ok-signs.ensures in
     let g = b.stand s in
     (omega (arith, b.shorter), (b.shape, record { from = g.from; to = g.to; nested = g.nested }))
 
 pub term-returns-in_err-operand : goal.term-returns-in_err-operand
 term-returns-in_err-operand t c =
     let h : IsTerm c.args.text.now (named_trees_of c.args.trees.now) = assumption in
-    let b = c.in_ok-signs.ensures c.args.text.now h in
+    let b = c.in_ok-signs.ensures in
     let p = err_from_is_err_and c.from_residual-in_err-operand.result c.from_residual-in_err-operand.ensures.1 in
     rw (p.1, p.2, b.flaws) (c.in_err-operand.ensures)
 
@@ -158,14 +164,14 @@ pub term-with_signs-requires : goal.term-with_signs-requires
 term-with_signs-requires t c =
     let h : IsTerm c.args.text.now (named_trees_of c.args.trees.now) = assumption in
     let s : StandIn c.args.text.now (named_trees_of c.args.trees.now) = assumption in
-    let b = c.in_ok-signs.ensures c.args.text.now h in
+    let b = c.in_ok-signs.ensures in
     signs_place c.in_ok-operand.operand (b.stand s) c.in_ok-operand.ensures.1
 
 pub term-returns : goal.term-returns
 term-returns t c =
     let h : IsTerm c.args.text.now (named_trees_of c.args.trees.now) = assumption in
     let s : StandIn c.args.text.now (named_trees_of c.args.trees.now) = assumption in
-    let b = c.in_ok-signs.ensures c.args.text.now h in
+    let b = c.in_ok-signs.ensures in
     let e = c.in_ok-operand.ensures in
     let g = b.stand s in
     let k = same_text c.in_ok-operand.operand g.from g.to e.1 g.nested in

@@ -23,10 +23,10 @@ loop-sign-preserved c =
     let t : span_text c.span_at-span.result ≡ span_text n.span = ap (λ (v : Span). v.text) f in
     let e : span_end c.span_at-span.result ≡ span_end n.span = ap (λ (v : Span). v.end) f in
     let k = f ∙ ap (λ u. piece u c.in-Some.sign.start (span_end n.span)) c.loop-sign.invariant.same_text in
-    let g = rw (c.into_inner-inner.ensures, c.in_ok-boxed.ensures) at c.predicate-expr.ensures (piece_of c.span_at-span.result) in
+    let g = c.in_ok-expr.ensures (piece_of c.span_at-span.result) in
     record {
       place = rw (t, e) p.1;
       same_text = t ∙ c.loop-sign.invariant.same_text;
-      reads = sym (last_sign n (record { expr = c.predicate-expr.result; span = c.span_at-span.result }) _ _ c.in-Some.sign c.in-Some.ensures.items k g)
+      reads = sym (last_sign n (record { expr = c.in_ok-expr.expr; span = c.span_at-span.result }) _ _ c.in-Some.sign c.in-Some.ensures.items k g)
           ∙ c.loop-sign.invariant.reads;
     }

@@ -3,7 +3,7 @@ use Rattle.std.proofs.lemmas.Result.{err_from_is_err_and}
 use Rattle.meta_base.specs.Pieces.NamedTrees.{named_trees_of}
 use Rattle.meta_reader.specs.Reading.{leaf, identifier}
 use Rattle.meta_reader.proofs.TreesStandInText.{first_piece}
-use Rattle.meta_reader.proofs.Terminals.{string_trees, insensitive_trees, identifier_trees, push_literal_flaw, terminal_rule}
+use Rattle.meta_reader.proofs.Terminals.{string_trees, insensitive_trees, identifier_trees, terminal_rule}
 use Rattle.meta_reader.proofs.parser.terminals.terminal.Goals as goal
 
 pub span_of-span-requires : goal.span_of-span-requires
@@ -42,6 +42,3 @@ returns-in_ok-read-in-insensitive_string c =
     let h = insensitive_trees (rw (c.in-insensitive_string.is, c.leading_tree-string.ensures) at c.requires.shape) in
     let e = c.in_ok-read-in-insensitive_string.ensures in
     rw (c.in-insensitive_string.is, c.leading_tree-string.ensures) (rw (h.flaw c.args.tree.start c.args.tree.end) e.0, rw (c.span_of-span.ensures, e.1) (leaf (h.reads c.args.tree.start c.args.tree.end)))
-
-pub returns-in-_push_literal : goal.returns-in-_push_literal
-returns-in-_push_literal c = rw (c.error_of.ensures, c.in-_push_literal.is, c.span_of-span.ensures) (push_literal_flaw c.args.text.now (named_trees_of c.args.tree.inner.now) c.args.tree.start c.args.tree.end)
