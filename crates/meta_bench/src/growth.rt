@@ -19,7 +19,7 @@ static ALL: [Growth; 13] = [
     },
     Growth {
         shape: "itself",
-        stage: "validate_rules",
+        stage: "consume_rules",
         size: 2500,
     },
     Growth {

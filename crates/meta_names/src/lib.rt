@@ -10,6 +10,6 @@ mod undefined;
 mod validate;
 
 pub use keywords::{validate_already_defined, validate_pest_keywords, validate_rust_keywords};
-pub use tables::unicode_property_names;
+pub use tables::{is_builtin, unicode_property_names};
 pub use undefined::validate_undefined;
 pub use validate::validate_pairs;

@@ -1,5 +1,5 @@
 //! The tables of names.
-ghost use Rattle.std.specs.Prelude.{◌≡◌, map};
+ghost use Rattle.std.specs.Prelude.{◌≡◌, chars, map};
 ghost use Rattle.meta_base.specs.Language.Builtins.{builtins, is_one_of, property_names};
 ghost use Rattle.meta_base.specs.Language.Grammar.{keywords};
 ghost use Rattle.meta_names.specs.Names as spec;
@@ -196,8 +196,16 @@ pub(crate) fn is_among(names: &[&str], name: &str) -> bool
     names.contains(&name)
 }
 
-/// Whether a grammar need not define `name`.
-pub(crate) fn is_builtin(name: &str) -> bool
+/// Whether a grammar need not define `name`: it is the name of a builtin or of a property of Unicode.
+pub fn is_builtin(name: &str) -> bool
+    ensures written { result ≡ spec.is_builtin name.now }
+    ensures named { result ≡ spec.is_builtin (chars name.now) }
+{
+    is_known(name)
+}
+
+/// The same, by the bytes of the names.
+fn is_known(name: &str) -> bool
     ensures { result ≡ spec.is_builtin name.now }
 {
     is_among(other_builtins(), name) || is_among(unicode_property_names(), name)

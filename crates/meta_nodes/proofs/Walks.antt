@@ -1,11 +1,15 @@
 -- Walks over nodes: what waits on a stack, and the answers of one more call.
-use Rattle.std.proofs.Common.{◌≡◌, suc, ◌≤◌, List, [], ◌∷◌, ◌++◌, Option, Some, None, map, option_to_list, Bor, length, refl, sym, ap, ◌∙◌, append_assoc, append-nil, arith, subst, cond, Result, Ok, Err, is_ok, OnOk}
+use Rattle.std.proofs.Common.{◌≡◌, ℕ, ◌+◌, ◌<◌, take, get_or, suc, ◌≤◌, List, [], ◌∷◌, ◌++◌, Option, Some, None, map, option_to_list, Bor, length, refl, sym, ap, ◌∙◌, append_assoc, append-nil, arith, subst, cond, Result, Ok, Err, is_ok, OnOk}
 use Rattle.std.specs.List.{filter_map, cons_option}
 use Rattle.std.specs.Option.{option_map}
-use Rattle.meta_nodes.specs.Nodes.{view}
-use Rattle.meta_nodes.specs.Spanned.{Spanned, Span, Binary, Two}
+use Rattle.meta_nodes.specs.Nodes.{view, rule_view, rule_views}
+use Rattle.meta_nodes.specs.Spanned.{Spanned, SpannedRule, Span, Binary, Two}
 use Rattle.meta_nodes.specs.Walk.{preorder, waiting, Answered, Appended}
 use Rattle.meta_nodes.specs.declared.node.ParserNode.{ParserNode}
+use Rattle.meta_nodes.specs.declared.node.ParserRule.{ParserRule}
+use Rattle.std.specs.Prelude.{flat_map}
+use Rattle.std.proofs.lemmas.Grind.{flat_map-append}
+use Rattle.std.proofs.lemmas.List.{map-append, take_more, take_all}
 
 -- a node on top of a stack comes first
 pub waiting_push : (ns : List (Bor ParserNode)) (n : Bor ParserNode) → waiting (ns ++ (n ∷ [])) ≡ preorder (view n.now) ++ waiting ns
@@ -54,3 +58,22 @@ module _ {F T : Type 0} (step : F → ParserNode → Option T → F → Type 0) 
   answered_as see read each [] f last answers h = ap (map see) h.1
   answered_as see read each (x ∷ xs) f last answers (r, g, others, at, rest, e) =
       rw e (seen see r others (read x) (filter_map read xs) (each f g at.node r at.called ∙ ap read at.reads) (answered_as see read each xs g last others rest))
+
+-- a node was looked at, and what was found at it
+pub walk_step : {A : Type 0} (f : Spanned → List A) (old new all : List A) (w v : List Spanned) (x : Spanned) → new ≡ old ++ f x → w ≡ x ∷ v → old ++ flat_map f w ≡ all → new ++ flat_map f v ≡ all
+walk_step f old new all w v x e h i =
+    ap (λ l. l ++ flat_map f v) e ∙ append_assoc old (f x) (flat_map f v) ∙ sym (ap (λ l. old ++ flat_map f l) h) ∙ i
+
+-- a rule was looked at, and what was found in it
+pub rule_step : {A : Type 0} (f : SpannedRule → List A) (rules : List ParserRule) (i : ℕ) (x : ParserRule) (old new : List A) → i < length rules → x ≡ get_or rules i x
+    → new ≡ old ++ f (rule_view x) → old ≡ flat_map f (rule_views (take i rules)) → new ≡ flat_map f (rule_views (take (i + 1) rules))
+rule_step f rules i x old new h at e o =
+    let more : take (i + 1) rules ≡ take i rules ++ x ∷ [] = take_more rules i x h ∙ ap (λ r. take i rules ++ r ∷ []) (sym at) in
+    e ∙ (ap (λ l. l ++ f (rule_view x)) o
+    ∙ sym (ap (λ l. flat_map f (rule_views l)) more
+    ∙ (ap (flat_map f) (map-append rule_view (take i rules) (x ∷ []))
+    ∙ (flat_map-append f (rule_views (take i rules)) (rule_view x ∷ [])
+    ∙ ap (λ l. flat_map f (rule_views (take i rules)) ++ l) (append-nil (f (rule_view x)))))))
+
+pub all_rules : {A : Type 0} (f : SpannedRule → List A) (rules : List ParserRule) (i : ℕ) (found : List A) → length rules ≤ i → found ≡ flat_map f (rule_views (take i rules)) → found ≡ flat_map f (rule_views rules)
+all_rules f rules i found h e = e ∙ ap (λ l. flat_map f (rule_views l)) (take_all i rules h)

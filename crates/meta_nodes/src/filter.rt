@@ -85,9 +85,10 @@ fn walk<'i, T: Drop, F: FnMut(ParserNode<'i>) -> Option<T>>(
     Ok(())
 }
 
-/// Puts the operands of a node on a stack, the left one on top. The only fault is a want of memory.
+/// Puts the operands of a node on a stack, the left one on top: so a loop over the stack meets each node before
+/// what stands in it. The only fault is a want of memory.
 #[tactic(auto, using(crate::proofs::Walks::waiting_push))]
-fn push_operands<'n, 'i>(
+pub fn push_operands<'n, 'i>(
     node: &'n ParserNode<'i>,
     stack: &mut Vec<&'n ParserNode<'i>>,
 ) -> Result<(), AllocError>

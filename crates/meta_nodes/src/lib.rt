@@ -9,6 +9,6 @@ mod node;
 mod released;
 
 pub use crate::erasure::erase_spans;
-pub use crate::filter::filter_internal;
+pub use crate::filter::{filter_internal, push_operands};
 pub use crate::node::{ParserExpr, ParserNode, ParserRule};
 pub use crate::released::release;

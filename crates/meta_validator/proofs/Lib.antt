@@ -1,4 +1,5 @@
 pub mod MarkLemmas
+pub mod FlagLemmas
 pub mod Certain
 pub mod Walk
 pub mod Reports
@@ -28,3 +29,5 @@ pub mod RecursionLemmas
 pub mod OneRecursionList
 pub mod OneOrder
 pub mod OneFindingList
+pub mod TagLemmas
+pub mod PlacedLemmas

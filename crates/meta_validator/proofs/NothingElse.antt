@@ -9,6 +9,7 @@ use Rattle.meta_nodes.specs.Erasure.{without_spans, rules_without_spans}
 use Rattle.meta_nodes.specs.Spanned.{Span, Spanned, Two, Choice, SpannedRule}
 use Rattle.meta_validator.specs.Findings.{Finding, AreFound, endless_at, Reports, reports_none, reports_at, OfRepeated, never_fails, takes_nothing, goes_on, OfRepetition, repetition, no_repetition, OfChoice, unreachable, reachable, no_choice, OfSkipped, skipped, not_skipped, is_choice, last_alternative}
 use Rattle.meta_validator.specs.Reported.{AreReported}
+use Rattle.meta_validator.specs.Tags.{of_tags}
 use Rattle.meta_validator.proofs.EmptyLemmas.{clash, empty_first, empty_second, reports_empty, none_repetition, none_skipped}
 use Rattle.meta_validator.proofs.SortedLemmas.{told_empty, nothing_told, none_found, none_sorted}
 
@@ -57,18 +58,22 @@ stable (k ∷ ks) f = absurd (f (λ e. cc))
 found_once : (rules : List SpannedRule) (endless : List Span) (found others : List Finding) → AreFound rules endless found → found ≡ [] → AreFound rules [] others → others ≡ []
 found_once rules endless found others a e b =
     let known = map endless_at endless in
+    let tags = of_tags rules in
+    let last = a.recursions ++ tags in
     let whole = sym a.all ∙ e in
-    let w = empty_second a.repetitions (known ++ (a.choices ++ (a.skips ++ a.recursions))) whole in
-    let u = empty_second known (a.choices ++ (a.skips ++ a.recursions)) w in
-    let v = empty_second a.choices (a.skips ++ a.recursions) u in
+    let w = empty_second a.repetitions (known ++ (a.choices ++ (a.skips ++ last))) whole in
+    let u = empty_second known (a.choices ++ (a.skips ++ last)) w in
+    let v = empty_second a.choices (a.skips ++ last) u in
+    let t = empty_second a.skips last v in
     let G = rules_without_spans rules in
-    let reps = reports_once (OfRepetition G) (repetition_once G) a.of_repetitions (empty_first a.repetitions (known ++ (a.choices ++ (a.skips ++ a.recursions))) whole) b.of_repetitions in
-    let choices = reports_once (OfChoice G) (choice_once G) a.of_choices (empty_first a.choices (a.skips ++ a.recursions) u) b.of_choices in
-    let skips = reports_once (OfSkipped G) (skipped_once G) a.of_skips (empty_first a.skips a.recursions v) b.of_skips in
-    let ends = a.of_cycles (empty_second a.skips a.recursions v) in
+    let reps = reports_once (OfRepetition G) (repetition_once G) a.of_repetitions (empty_first a.repetitions (known ++ (a.choices ++ (a.skips ++ last))) whole) b.of_repetitions in
+    let choices = reports_once (OfChoice G) (choice_once G) a.of_choices (empty_first a.choices (a.skips ++ last) u) b.of_choices in
+    let skips = reports_once (OfSkipped G) (skipped_once G) a.of_skips (empty_first a.skips last v) b.of_skips in
+    let ends = a.of_cycles (empty_first a.recursions tags t) in
     let recursions = stable b.recursions (λ f. let (n, l) = b.only_of_cycles f in ends n l) in
-    b.all ∙ both_empty b.repetitions (b.choices ++ (b.skips ++ b.recursions)) reps
-    (both_empty b.choices (b.skips ++ b.recursions) choices (both_empty b.skips b.recursions skips recursions))
+    let others_last = both_empty b.recursions tags recursions (empty_second a.recursions tags t) in
+    b.all ∙ both_empty b.repetitions (b.choices ++ (b.skips ++ (b.recursions ++ tags))) reps
+    (both_empty b.choices (b.skips ++ (b.recursions ++ tags)) choices (both_empty b.skips (b.recursions ++ tags) skips others_last))
 
 -- rules in which nothing is found are not refused for something that is, unless it is known of elsewhere
 pub nothing_else : (rules : List SpannedRule) (endless : List Span) (errors : List (Error Rule)) → AreReported rules endless [] → AreReported rules [] errors → errors ≡ []
@@ -82,7 +87,7 @@ pub none_endless : (rules : List SpannedRule) (endless : List Span) → AreRepor
 none_endless rules endless a =
     let none = none_found a.complete.0 a.findings a.complete.2 (told_empty a.findings [] a.told refl) in
     let f = a.complete.1 in
-    let rest = f.choices ++ (f.skips ++ f.recursions) in
+    let rest = f.choices ++ (f.skips ++ (f.recursions ++ of_tags rules)) in
     let others = empty_second f.repetitions (map endless_at endless ++ rest) (sym f.all ∙ none) in
     none_mapped endless (empty_first (map endless_at endless) rest others)
   where

@@ -16,6 +16,7 @@ use Rattle.meta_base.proofs.CannotFailIsNullable.{nullable_of}
 use Rattle.meta_nodes.specs.Erasure.{rules_without_spans}
 use Rattle.meta_nodes.specs.Spanned.{Span, Spanned, SpannedRule}
 use Rattle.meta_validator.specs.Alike.{AreAlike, IsAlike}
+use Rattle.meta_validator.specs.Tags.{of_tags}
 use Rattle.meta_validator.specs.Findings.{Finding, AreFound, endless_at, is_before, IsSortedBySpan, places, Reports, reports_none, reports_at, OfRepeated, never_fails, takes_nothing, goes_on, OfRepetition, repetition, no_repetition, OfChoice, unreachable, reachable, no_choice, OfSkipped, skipped, not_skipped, is_endless, is_skipped_name}
 use Rattle.meta_validator.specs.Reported.{AreReported}
 use Rattle.meta_validator.proofs.EmptyLemmas.{clash}
@@ -72,10 +73,11 @@ one_found rules endless found other a b =
     let choices = one_of_all (OfChoice G) (λ x fs gs. one_choice G) a.of_choices b.of_choices in
     let skips = one_of_all (OfSkipped G) (λ r fs gs. one_skipped G) a.of_skips b.of_skips in
     let recursions = one_list rules (places rules) a.recursions b.recursions a.of_recursions b.of_recursions in
-    a.all ∙ ap (λ z. z ++ (map endless_at endless ++ (a.choices ++ (a.skips ++ a.recursions)))) repetitions
-    ∙ ap (λ z. b.repetitions ++ (map endless_at endless ++ (z ++ (a.skips ++ a.recursions)))) choices
-    ∙ ap (λ z. b.repetitions ++ (map endless_at endless ++ (b.choices ++ (z ++ a.recursions)))) skips
-    ∙ ap (λ z. b.repetitions ++ (map endless_at endless ++ (b.choices ++ (b.skips ++ z)))) recursions
+    let tags = of_tags rules in
+    a.all ∙ ap (λ z. z ++ (map endless_at endless ++ (a.choices ++ (a.skips ++ (a.recursions ++ tags))))) repetitions
+    ∙ ap (λ z. b.repetitions ++ (map endless_at endless ++ (z ++ (a.skips ++ (a.recursions ++ tags))))) choices
+    ∙ ap (λ z. b.repetitions ++ (map endless_at endless ++ (b.choices ++ (z ++ (a.recursions ++ tags))))) skips
+    ∙ ap (λ z. b.repetitions ++ (map endless_at endless ++ (b.choices ++ (b.skips ++ (z ++ tags))))) recursions
     ∙ sym b.all
 
 -- 2. by place they have one order

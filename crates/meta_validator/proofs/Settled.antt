@@ -1,5 +1,5 @@
 -- Flags of the nodes of a rule's body, each by those of its operands, where its calls are settled.
-use Rattle.std.proofs.Common.{◌≡◌, ℕ, zero, suc, ◌+◌, ◌<◌, ◌≤◌, ◌⊎◌, inl, inr, List, [], ◌∷◌, ◌++◌, Option, Some, None, Bool, true, false, ◌&&◌, ◌||◌, if◌then◌else◌, nat_eq, slice_get, length, refl, sym, ◌∙◌, ap, subst, arith}
+use Rattle.std.proofs.Common.{◌≡◌, ℕ, ◌<◌, ◌≤◌, ◌⊎◌, inl, inr, List, [], ◌∷◌, ◌++◌, Option, Some, None, Bool, true, false, ◌&&◌, ◌||◌, if◌then◌else◌, nat_eq, slice_get, length, refl, sym, ◌∙◌, ap, subst, arith}
 use Rattle.std.specs.Bool.{Decides}
 use Rattle.std.specs.Cmp.{unsigned_Decides}
 use Rattle.std.proofs.lemmas.List.{length_push}
@@ -16,8 +16,8 @@ use Rattle.meta_validator.specs.Facts.{AreFacts}
 use Rattle.meta_validator.specs.LeftRecursion.{Means}
 use Rattle.meta_validator.specs.Levels.{Rests, AllRest, IsSettled, AreSettled, own_answer, own_answer_at}
 use Rattle.meta_validator.specs.Names.{grammar_of, kind_in, last_place, name_kind, is_end}
-use Rattle.meta_validator.specs.Numbering.{Says, IsSimple, Fits, counted, repeated, wrap_of, wrap_kind, leaf_kind, text_kind, nodes_of}
-use Rattle.meta_validator.specs.Regions.{IsNodeOf, ArePassingSoFar, root_of, first_of}
+use Rattle.meta_validator.specs.Numbering.{Says, IsSimple, Fits, counted, repeated, wrap_of, wrap_kind, leaf_kind, nodes_of}
+use Rattle.meta_validator.specs.Regions.{IsNodeOf, ArePassingSoFar, first_of}
 use Rattle.meta_validator.specs.Table.{is_set_at, at_root}
 use Rattle.meta_validator.specs.Walk.{without}
 use Rattle.meta_validator.specs.declared.facts.Facts.{Facts}
@@ -28,7 +28,6 @@ use Rattle.meta_validator.proofs.LayoutLemmas.{some_size}
 use Rattle.meta_validator.proofs.NoneWalks.{in_rules}
 use Rattle.meta_validator.proofs.PassingSteps.{flag_before, flag_at, Lower, lower, equal, lower_or_equal}
 use Rattle.meta_validator.proofs.RegionLemmas.{node_inside, node_first, node_second}
-use Rattle.meta_validator.proofs.ReportingLemmas.{says_at}
 use Rattle.meta_validator.proofs.Walk.{Compared, same_name, other_name, compared, rule_without, rule_gone, rule_within, null_more}
 
 -- 1. what is known of operands

@@ -1,8 +1,9 @@
 -- Findings by their places, as code sorts them; errors one after another.
 use Rattle.std.proofs.Common.{cond, ◌≡◌, ℕ, ◌+◌, List, [], ◌∷◌, ◌++◌, map, Option, Some, None, Bool, true, false, slice_get, get_or, take, length, refl, sym, ◌∙◌, ap, subst, arith}
-use Rattle.std.specs.Prelude.{IsPermutation, filter}
+use Rattle.std.specs.Prelude.{◌==◌, IsPermutation, filter}
 use Rattle.std.specs.Option.{option_map}
 use Rattle.std.specs.List.Sorted.{IsSortedBy, IsStableBy}
+use Rattle.std.proofs.lemmas.Bool.Decides.{nat_tests}
 use Rattle.std.proofs.lemmas.List.{take_more, map-append, nil_from_length}
 use Rattle.std.proofs.lemmas.List.Sorted.{IsPermutation-map, length_permutation}
 use Rattle.std.proofs.lemmas.Option.{slice_get_within, get_or_from_slice_get, slice_get-map}
@@ -58,6 +59,11 @@ told_more [] [] h f e t = (t, tt)
 told_more [] (y ∷ es) h f e t = absurd h
 told_more (x ∷ fs) [] h f e t = absurd h
 told_more (x ∷ fs) (y ∷ es) h f e t = (h.0, told_more fs es h.1 f e t)
+
+-- where nothing is found, nothing is told
+pub told_nothing : (fs : List code.Finding) → (length fs == 0) ≡ true → Tell (findings_of fs) []
+told_nothing [] e = tt
+told_nothing (f ∷ fs) e = absurd (grind (arith, nat_tests, e))
 
 -- one finding more is told
 pub told_step : (fs : List code.Finding) (i : ℕ) (f : code.Finding) (old new : List (Error Rule)) (e : Error Rule) → slice_get fs i ≡ Some f → new ≡ old ++ e ∷ [] → SaysAt (finding_of f).message (finding_of f).span e

@@ -143,26 +143,26 @@ module _ (rules : List ParserRule) (facts : Facts) (right : AreFacts rules facts
 
 -- a call is walked over as the code does it
 module _ (rules : List ParserRule) (facts : Facts) (right : AreFacts rules facts) (passing : List Bool) (are : ArePassing rules facts.table.roots.items passing) (start node : ℕ) (old new : Walk) (todo : List Task) (path : List ℕ)
-    (state : IsSearch rules facts.table.roots.items start old.entered.items (Visit node ∷ todo) path) (tasks : old.tasks.items ≡ ordered todo) (chain : old.chain.items ≡ ordered path) where
+    (state : IsSearch rules facts.table.roots.items start old.entered.all.items (Visit node ∷ todo) path) (tasks : old.tasks.items ≡ ordered todo) (chain : old.chain.items ≡ ordered path) where
   abbrev Goes_on : Walk → Type 0
-  Goes_on w = IsGoing rules facts.table.roots.items start w.entered.items w.tasks.items w.chain.items
-      × (cost (nodes_of rules) w.tasks.items + unentered w.entered.items (rule_views rules) < cost (nodes_of rules) (old.tasks.items ++ Visit node ∷ []) + unentered old.entered.items (rule_views rules))
+  Goes_on w = IsGoing rules facts.table.roots.items start w.entered.all.items w.tasks.items w.chain.items
+      × (cost (nodes_of rules) w.tasks.items + unentered w.entered.all.items (rule_views rules) < cost (nodes_of rules) (old.tasks.items ++ Visit node ∷ []) + unentered old.entered.all.items (rule_views rules))
 
-  pub walk_called : (t : ℕ) → called_in (slice_get facts.table.kinds.items node) ≡ Some t → (t ≡ start → ⊥) → (is_set_at old.entered.items t ≡ true → new ≡ old) → (is_set_at old.entered.items t ≡ false → new.entered.items ≡ set old.entered.items t true)
-      → (is_set_at old.entered.items t ≡ false → new.chain.items ≡ old.chain.items ++ t ∷ []) → (is_set_at old.entered.items t ≡ false → (root : ℕ) → slice_get facts.table.roots.items t ≡ Some root → new.tasks.items ≡ (old.tasks.items ++ Leave ∷ []) ++ Visit root ∷ [])
+  pub walk_called : (t : ℕ) → called_in (slice_get facts.table.kinds.items node) ≡ Some t → (t ≡ start → ⊥) → (is_set_at old.entered.all.items t ≡ true → new ≡ old) → (is_set_at old.entered.all.items t ≡ false → new.entered.all.items ≡ set old.entered.all.items t true)
+      → (is_set_at old.entered.all.items t ≡ false → new.chain.items ≡ old.chain.items ++ t ∷ []) → (is_set_at old.entered.all.items t ≡ false → (root : ℕ) → slice_get facts.table.roots.items t ≡ Some root → new.tasks.items ≡ (old.tasks.items ++ Leave ∷ []) ++ Visit root ∷ [])
       → Goes_on new
-  walk_called t e apart on entered chained queued = go (is_set_at old.entered.items t) refl
+  walk_called t e apart on entered chained queued = go (is_set_at old.entered.all.items t) refl
     where
-      go : (b : Bool) → is_set_at old.entered.items t ≡ b → Goes_on new
+      go : (b : Bool) → is_set_at old.entered.all.items t ≡ b → Goes_on new
       go true h =
-          let (next, less) = known rules facts right passing are start old.entered.items node todo path state t e apart h in
+          let (next, less) = known rules facts right passing are start old.entered.all.items node todo path state t e apart h in
           let a = ap (λ z. cost (nodes_of rules) z) tasks in
           let b = ap (λ z. cost (nodes_of rules) (z ++ Visit node ∷ [])) tasks in
           subst Goes_on (sym (on h)) (record { todo = todo; path = path; are_tasks = tasks; is_chain = chain; state = next }, omega arith)
       go false h =
-          let small = (in_range rules facts right passing are start old.entered.items node todo path state t e).0 in
+          let small = (in_range rules facts right passing are start old.entered.all.items node todo path state t e).0 in
           let (root, got) = got_within facts.table.roots.items t small in
-          let (next, less) = fresh rules facts right passing are start old.entered.items node todo path state t root e apart h got in
+          let (next, less) = fresh rules facts right passing are start old.entered.all.items node todo path state t root e apart h got in
           let same : new.tasks.items ≡ ordered (Visit root ∷ Leave ∷ todo) = queued h root got ∙ ap (λ z. (z ++ Leave ∷ []) ++ Visit root ∷ []) tasks in
           let a = ap (λ z. cost (nodes_of rules) z) same in
           let b = ap (λ z. cost (nodes_of rules) (z ++ Visit node ∷ [])) tasks in
@@ -178,10 +178,10 @@ module _ (rules : List ParserRule) (facts : Facts) (right : AreFacts rules facts
           )
 
   pub walk_inner : (o : Option Kind) → o ≡ slice_get facts.table.kinds.items node → called_in o ≡ None → (queued : List Task) → queued ≡ old.tasks.items ++ inside_of passing o
-      → IsGoing rules facts.table.roots.items start old.entered.items queued old.chain.items
-      × (cost (nodes_of rules) queued + unentered old.entered.items (rule_views rules) < cost (nodes_of rules) (old.tasks.items ++ Visit node ∷ []) + unentered old.entered.items (rule_views rules))
+      → IsGoing rules facts.table.roots.items start old.entered.all.items queued old.chain.items
+      × (cost (nodes_of rules) queued + unentered old.entered.all.items (rule_views rules) < cost (nodes_of rules) (old.tasks.items ++ Visit node ∷ []) + unentered old.entered.all.items (rule_views rules))
   walk_inner o is_kind none queued pushed =
-      let (new_todo, same, next, less) = inner rules facts right passing are start old.entered.items node todo path state (sym (ap called_in is_kind) ∙ none) in
+      let (new_todo, same, next, less) = inner rules facts right passing are start old.entered.all.items node todo path state (sym (ap called_in is_kind) ∙ none) in
       let all : queued ≡ ordered todo ++ inside_of passing (slice_get facts.table.kinds.items node) = pushed ∙ (ap (λ z. z ++ inside_of passing o) tasks ∙ ap (λ z. ordered todo ++ inside_of passing z) is_kind) in
       let a = ap (λ z. cost (nodes_of rules) z) all in
       let b = ap (λ z. cost (nodes_of rules) (z ++ Visit node ∷ [])) tasks in

@@ -1,5 +1,5 @@
--- Numbers that fall along left calls.
-use Rattle.std.specs.Prelude.{◌≡◌, ℕ, ◌<◌, List, Some, true, ⊤, slice_get, unwrap_or}
+-- Numbers that fall along left calls, and numbers that do not rise along them.
+use Rattle.std.specs.Prelude.{◌≡◌, ℕ, ◌+◌, ◌<◌, List, Some, true, ⊤, slice_get, unwrap_or}
 use Rattle.meta_validator.specs.Table.{is_set_at}
 use Rattle.meta_validator.specs.declared.table.Kind.{Kind}
 use Rattle.meta_validator.specs.declared.table.Kind.TheVariants as is
@@ -8,29 +8,38 @@ use Rattle.meta_validator.specs.declared.facts.Facts.{Facts}
 abbrev pub rank_at : List ℕ → ℕ → ℕ
 rank_at order i = unwrap_or (slice_get order i) 0
 
--- the body of a rule has a lower number
+-- the body of a rule has a number below b
 abbrev pub IsBelowRoot : Facts → List ℕ → ℕ → ℕ → Type 0
-IsBelowRoot facts order r i = (j : ℕ) → slice_get facts.table.roots.items r ≡ Some j
-    → rank_at order j < rank_at order i
+IsBelowRoot facts order r b = (j : ℕ) → slice_get facts.table.roots.items r ≡ Some j → rank_at order j < b
 
--- the nodes to which the left calls of a node lead at once have lower numbers
+-- the nodes to which the left calls of a node lead at once have numbers below b
 abbrev pub Falls : Facts → List ℕ → ℕ → Kind → Type 0
-Falls facts order i is.Taking = ⊤
-Falls facts order i is.Still = ⊤
-Falls facts order i is.End = ⊤
-Falls facts order i (is.Call r) = IsBelowRoot facts order r i
-Falls facts order i (is.EndCall r) = IsBelowRoot facts order r i
-Falls facts order i (is.Ahead j) = rank_at order j < rank_at order i
-Falls facts order i (is.NotAhead j) = rank_at order j < rank_at order i
-Falls facts order i (is.Free j) = rank_at order j < rank_at order i
-Falls facts order i (is.Inside j) = rank_at order j < rank_at order i
-Falls facts order i (is.Again j) = rank_at order j < rank_at order i
-Falls facts order i (is.OnceAgain j) = rank_at order j < rank_at order i
-Falls facts order i (is.Seq j k) = (rank_at order j < rank_at order i)
-    × (is_set_at facts.nullable.items j ≡ true → rank_at order k < rank_at order i)
-Falls facts order i (is.Choice j k) = (rank_at order j < rank_at order i)
-    × (rank_at order k < rank_at order i)
+Falls facts order b is.Taking = ⊤
+Falls facts order b is.Still = ⊤
+Falls facts order b is.End = ⊤
+Falls facts order b (is.Call r) = IsBelowRoot facts order r b
+Falls facts order b (is.EndCall r) = IsBelowRoot facts order r b
+Falls facts order b (is.Ahead j) = rank_at order j < b
+Falls facts order b (is.NotAhead j) = rank_at order j < b
+Falls facts order b (is.Free j) = rank_at order j < b
+Falls facts order b (is.Inside j) = rank_at order j < b
+Falls facts order b (is.Again j) = rank_at order j < b
+Falls facts order b (is.OnceAgain j) = rank_at order j < b
+Falls facts order b (is.Seq j k) = (rank_at order j < b)
+    × (is_set_at facts.nullable.items j ≡ true → rank_at order k < b)
+Falls facts order b (is.Choice j k) = (rank_at order j < b) × (rank_at order k < b)
 
+-- numbers fall along left calls
 abbrev pub AllFall : Facts → List ℕ → Type 0
 AllFall facts order = (i : ℕ) (k : Kind) → slice_get facts.table.kinds.items i ≡ Some k
-    → Falls facts order i k
+    → Falls facts order (rank_at order i) k
+
+-- numbers do not rise along left calls
+abbrev pub NoneRises : Facts → List ℕ → Type 0
+NoneRises facts order = (i : ℕ) (k : Kind) → slice_get facts.table.kinds.items i ≡ Some k
+    → Falls facts order (rank_at order i + 1) k
+
+-- numbers fall along the left calls of the body of a rule
+abbrev pub FallsFrom : Facts → List ℕ → ℕ → Type 0
+FallsFrom facts order r = (i : ℕ) (k : Kind) → slice_get facts.table.roots.items r ≡ Some i
+    → slice_get facts.table.kinds.items i ≡ Some k → Falls facts order (rank_at order i) k

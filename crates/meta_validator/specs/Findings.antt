@@ -1,5 +1,5 @@
 -- What the validator finds in rules: repetitions that never end, alternatives that are never reached, rules
--- that are skipped although they may take nothing, and left recursion.
+-- that are skipped although they may take nothing, left recursion, and tags on what gives no token.
 use Rattle.std.specs.Prelude.{◌≡◌, ℕ, ◌+◌, Some, None, slice_get, filter, not, ◌&&◌, IsPermutation, List, [], ◌∷◌, ◌++◌, map, flat_map, Bool, true, false, ◌||◌, bytes_eq, codes, length}
 use Rattle.std.specs.List.{range_with_len}
 use Rattle.std.specs.Ordering.{is_lt, ordering_then, nat_cmp}
@@ -11,6 +11,7 @@ use Rattle.meta_base.specs.Language.WellFormed.{IsNullable, CannotFail, Leads}
 use Rattle.meta_nodes.specs.Erasure.{without_spans, rules_without_spans}
 use Rattle.meta_nodes.specs.Spanned.{Span, span_of, Spanned, Leaf, One, Two, Unary, Rep, RepOnce, RepMin, Choice, SpannedRule}
 use Rattle.meta_validator.specs.LeftRecursion.{Closed, Means, Walks, told_chain}
+use Rattle.meta_validator.specs.Tags.{of_tags}
 
 -- what is wrong, and where: what is to be said of a piece
 abbrev pub Finding : Type 0
@@ -130,7 +131,7 @@ endless_at place =
     found_at place (codes "expression inside repetition is non-progressing and will repeat infinitely")
 
 -- what is found in rules: repetitions, then those that are known to be endless, then choices, then rules that
--- are skipped, then left recursion; of that something is found exactly where left calls have a cycle
+-- are skipped, then left recursion, of which something is found exactly where left calls have a cycle; then tags
 pub record AreFound (rules : List SpannedRule) (endless : List Span) (found : List Finding) : Type 0 where
   pub repetitions : List Finding
   pub choices : List Finding
@@ -142,7 +143,8 @@ pub record AreFound (rules : List SpannedRule) (endless : List Span) (found : Li
   pub of_recursions : Reports (OfRecursion rules) (places rules) recursions
   pub of_cycles : recursions ≡ [] → (n : Text) → Leads (rules_without_spans rules) n n → ⊥
   pub only_of_cycles : (recursions ≡ [] → ⊥) → (n : Text) × Leads (rules_without_spans rules) n n
-  pub all : found ≡ repetitions ++ (map endless_at endless ++ (choices ++ (skips ++ recursions)))
+  pub all : found
+      ≡ repetitions ++ (map endless_at endless ++ (choices ++ (skips ++ (recursions ++ of_tags rules))))
 
 -- these are all that is found in rules, by place
 abbrev pub AreAllFound : List SpannedRule → List Span → List Finding → Type 0

@@ -12,9 +12,12 @@ pub mod Levels
 pub mod Without
 pub mod Taking
 pub mod Findings
+pub mod Flags
 pub mod Reporting
+pub mod Placed
 pub mod Reported
 pub mod LeftRecursion
 pub mod Regions
 pub mod Searching
 pub mod Alike
+pub mod Tags

@@ -6,12 +6,14 @@ use Rattle.meta_nodes.specs.Erasure.{without_spans}
 use Rattle.meta_nodes.specs.Nodes.{rule_views}
 use Rattle.meta_nodes.specs.Spanned.{Spanned, span_of, SpannedRule}
 use Rattle.meta_nodes.specs.declared.node.ParserRule.{ParserRule}
+use Rattle.meta_validator.specs.Flags.{NoneSet}
 use Rattle.meta_validator.specs.LeftRecursion.{Closed, said, Means, Walks}
 use Rattle.meta_validator.specs.Numbering.{nodes_of, size}
 use Rattle.meta_validator.specs.Regions.{IsNodeOf}
 use Rattle.meta_validator.specs.Table.{is_set_at}
 use Rattle.meta_validator.specs.Walk.{Walked, WalkLeads}
 use Rattle.meta_validator.specs.declared.recursions.Task.{Task}
+use Rattle.meta_validator.specs.declared.recursions.Walk.{Walk}
 use Rattle.meta_validator.specs.declared.table.Kind.{Kind}
 use Rattle.meta_validator.specs.declared.table.Kind.TheVariants as is
 use Rattle.meta_validator.specs.declared.recursions.Task.TheVariants.{Visit, Leave}
@@ -160,3 +162,10 @@ module _ (rules : List ParserRule) (roots : List ℕ) (start : ℕ) where
   -- no walk from the start comes back to it
   abbrev pub NeverComesBack : Type 0
   NeverComesBack = (n : Text) → Means views n start → WalkLeads (said views) n n → ⊥
+
+-- a walk that is to be begun
+pub record IsIdle (rules : List ParserRule) (walk : Walk) : Type 0 where
+  pub alike : length walk.entered.all.items ≡ length rules
+  pub entered : NoneSet walk.entered.all.items
+  pub chain : walk.chain.items ≡ []
+  pub tasks : walk.tasks.items ≡ []

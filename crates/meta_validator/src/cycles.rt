@@ -1,13 +1,14 @@
 //! Whether some rule calls itself before anything is taken, in one pass: the nodes are ordered by a search
 //! in depth, and the order is then looked over node by node. Only what is looked over counts: where each
-//! left call leads down, none comes back.
+//! left call leads down, none comes back. Where one does come back, levels in place of the order tell which
+//! rules none comes back to: no left call leads to a higher level, and those of such a rule lead to lower ones.
 ghost use Rattle.std.specs.Prelude.{◌≡◌, ◌<◌, ◌≤◌, ◌+◌, ◌*◌, IfOk, OnOk, length, true};
 ghost use Rattle.meta_base.specs.Language.Text.{Text};
 ghost use Rattle.meta_base.specs.Language.WellFormed.{Leads};
 ghost use Rattle.meta_validator.specs.Marks.{unset};
 ghost use Rattle.meta_validator.specs.Facts.{AreFacts};
 ghost use Rattle.meta_validator.specs.Names.{grammar_of};
-ghost use Rattle.meta_validator.specs.Cycles.{Falls, AllFall, rank_at, IsBelowRoot};
+ghost use Rattle.meta_validator.specs.Cycles.{AllFall, Falls, FallsFrom, IsBelowRoot, NoneRises, rank_at};
 
 use crate::facts::Facts;
 use crate::table::{Kind, is_set};
@@ -141,40 +142,40 @@ pub(crate) fn number_at(order: &[usize], node: usize) -> usize
     }
 }
 
-fn is_below(order: &[usize], low: usize, high: usize) -> bool
-    ensures { result ≡ true → rank_at order.now low < rank_at order.now high }
+fn is_below(order: &[usize], node: usize, bound: usize) -> bool
+    ensures { result ≡ true → rank_at order.now node < bound }
 {
-    number_at(order, low) < number_at(order, high)
+    number_at(order, node) < bound
 }
 
-fn is_root_below(facts: &Facts, order: &[usize], rule: usize, high: usize) -> bool
-    ensures { result ≡ true → IsBelowRoot facts.now order.now rule high }
+fn is_root_below(facts: &Facts, order: &[usize], rule: usize, bound: usize) -> bool
+    ensures { result ≡ true → IsBelowRoot facts.now order.now rule bound }
 {
     match facts.table.roots.get(rule) {
-        Some(root) => is_below(order, *root, high),
+        Some(root) => is_below(order, *root, bound),
         None => true,
     }
 }
 
-/// Whether the nodes to which a node's left calls lead at once have lower numbers.
-fn falls(facts: &Facts, order: &[usize], node: usize, kind: Kind) -> bool
-    ensures { result ≡ true → Falls facts.now order.now node kind }
+/// Whether the nodes to which the left calls of such a node lead at once have numbers below a bound.
+fn falls(facts: &Facts, order: &[usize], bound: usize, kind: Kind) -> bool
+    ensures { result ≡ true → Falls facts.now order.now bound kind }
 {
     match kind {
         Kind::Taking | Kind::Still | Kind::End => true,
-        Kind::Call(rule) | Kind::EndCall(rule) => is_root_below(facts, order, rule, node),
+        Kind::Call(rule) | Kind::EndCall(rule) => is_root_below(facts, order, rule, bound),
         Kind::Ahead(body)
         | Kind::NotAhead(body)
         | Kind::Free(body)
         | Kind::Inside(body)
         | Kind::Again(body)
-        | Kind::OnceAgain(body) => is_below(order, body, node),
+        | Kind::OnceAgain(body) => is_below(order, body, bound),
         Kind::Seq(first, second) => {
-            is_below(order, first, node)
-                && (!is_set(facts.nullable.as_slice(), first) || is_below(order, second, node))
+            is_below(order, first, bound)
+                && (!is_set(facts.nullable.as_slice(), first) || is_below(order, second, bound))
         }
-        Kind::Choice(first, second) => is_below(order, first, node)
-            && is_below(order, second, node),
+        Kind::Choice(first, second) => is_below(order, first, bound)
+            && is_below(order, second, bound),
     }
 }
 
@@ -183,11 +184,47 @@ fn all_fall(facts: &Facts, order: &[usize]) -> bool
     ensures { result ≡ true → AllFall facts.now order.now }
 {
     for node in 0..facts.table.kinds.len() {
-        if !falls(facts, order, node, facts.table.kind_at(node)) {
+        let number = number_at(order, node);
+        if !falls(facts, order, number, facts.table.kind_at(node)) {
             return false;
         }
     }
     true
+}
+
+/// Whether the nodes to which a node's left calls lead at once have no higher levels.
+fn stays(facts: &Facts, levels: &[usize], node: usize, kind: Kind) -> bool
+    ensures { result ≡ true → Falls facts.now levels.now (rank_at levels.now node + 1) kind }
+{
+    match number_at(levels, node).checked_add(1) {
+        Some(bound) => falls(facts, levels, bound, kind),
+        None => false,
+    }
+}
+
+/// Whether no left call leads to a higher level.
+pub(crate) fn none_rises(facts: &Facts, levels: &[usize]) -> bool
+    ensures { result ≡ true → NoneRises facts.now levels.now }
+{
+    for node in 0..facts.table.kinds.len() {
+        if !stays(facts, levels, node, facts.table.kind_at(node)) {
+            return false;
+        }
+    }
+    true
+}
+
+/// Whether the left calls of the body of a rule lead to lower levels, so that none comes back to it.
+pub(crate) fn falls_from(facts: &Facts, levels: &[usize], rule: usize) -> bool
+    ensures { result ≡ true → FallsFrom facts.now levels.now rule }
+{
+    match facts.table.roots.get(rule) {
+        Some(root) => match facts.table.kinds.get(*root) {
+            Some(kind) => falls(facts, levels, number_at(levels, *root), *kind),
+            None => true,
+        },
+        None => true,
+    }
 }
 
 /// Whether no rule calls itself before anything is taken; a yes is certain.

@@ -1,20 +1,20 @@
 //! A level for each node: none has a lower one than those on which it depends whether the node may take
-//! nothing. Nodes that depend on one another have one level. The levels are found by a search in depth and
-//! then looked over node by node; only what is looked over counts.
+//! nothing, or than those to which its left calls lead. Nodes that lead to one another have one level. The
+//! levels are found by a search in depth and then looked over node by node; only what is looked over counts.
 ghost use Rattle.std.specs.Prelude.{◌≡◌, ◌≤◌, ◌+◌, ◌*◌, IfOk, OnOk, length, true};
-ghost use Rattle.meta_validator.specs.Cycles.{rank_at};
+ghost use Rattle.meta_validator.specs.Cycles.{NoneRises, rank_at};
 ghost use Rattle.meta_validator.specs.Levels.{AllRest, IsRootWithin, Rests};
 ghost use Rattle.meta_validator.specs.Marks.{unset};
 
-use crate::cycles::{Step, number_at};
+use crate::cycles::{Step, none_rises, number_at};
 use crate::facts::Facts;
 use crate::marks::listened_to;
 use crate::table::{Kind, is_set};
 use std::alloc::{AllocError, Global};
 
-/// The nodes that are looked into from a node, two at most. A call of a rule that takes something leads
-/// nowhere.
-fn looked_into(facts: &Facts, kind: Kind) -> (Option<usize>, Option<usize>) {
+/// The nodes on which it depends whether a node may take nothing, two at most. A call of a rule that takes
+/// something leads nowhere.
+fn rested_on(facts: &Facts, kind: Kind) -> (Option<usize>, Option<usize>) {
     match kind {
         Kind::EndCall(_) => (None, None),
         Kind::Call(rule) => {
@@ -25,6 +25,33 @@ fn looked_into(facts: &Facts, kind: Kind) -> (Option<usize>, Option<usize>) {
             }
         }
         _ => listened_to(&facts.table, kind),
+    }
+}
+
+/// The nodes to which the left calls of a node lead at once, two at most.
+fn called_on_the_left(facts: &Facts, kind: Kind) -> (Option<usize>, Option<usize>) {
+    match kind {
+        Kind::Seq(first, _) if !is_set(facts.nullable.as_slice(), first) => (Some(first), None),
+        _ => listened_to(&facts.table, kind),
+    }
+}
+
+/// What leads from a node to others.
+#[derive(Clone, Copy)]
+pub enum Ways {
+    /// It depends on these whether the node may take nothing.
+    Rests,
+    /// Its left calls lead to these.
+    LeftCalls,
+}
+
+impl Ways {
+    /// The nodes to which a node leads at once, two at most.
+    fn from(self, facts: &Facts, kind: Kind) -> (Option<usize>, Option<usize>) {
+        match self {
+            Ways::Rests => rested_on(facts, kind),
+            Ways::LeftCalls => called_on_the_left(facts, kind),
+        }
     }
 }
 
@@ -65,6 +92,7 @@ fn enter_some(steps: &mut Vec<Step>, node: Option<usize>) -> Result<(), AllocErr
 /// Enters a node that was not seen. Whether it was not.
 fn enter(
     facts: &Facts,
+    ways: Ways,
     seen: &mut Vec<bool>,
     steps: &mut Vec<Step>,
     node: usize,
@@ -80,7 +108,7 @@ fn enter(
     }
     seen[node] = true;
     steps.push(Step::Leave(node))?;
-    let (first, second) = looked_into(facts, facts.table.kinds[node]);
+    let (first, second) = ways.from(facts, facts.table.kinds[node]);
     enter_some(steps, second)?;
     enter_some(steps, first)?;
     Ok(true)
@@ -124,13 +152,13 @@ fn close(open: &mut Vec<usize>, levels: &mut Vec<usize>, level: usize, node: usi
 }
 
 /// Leaves a node. It is closed where no node that was opened before was reached from it.
-fn leave(facts: &Facts, search: &mut Search, node: usize)
+fn leave(facts: &Facts, ways: Ways, search: &mut Search, node: usize)
     ensures seen { search.new.seen ≡ search.old.seen }
     ensures steps { search.new.steps ≡ search.old.steps }
 {
     let number = number_at(search.numbers.as_slice(), node);
     let (first, second) = match facts.table.kinds.get(node) {
-        Some(kind) => looked_into(facts, *kind),
+        Some(kind) => ways.from(facts, *kind),
         None => (None, None),
     };
     let low = lower_of(search, number, first);
@@ -143,23 +171,28 @@ fn leave(facts: &Facts, search: &mut Search, node: usize)
 }
 
 /// Searches from a node.
-fn search_from(facts: &Facts, search: &mut Search, node: usize) -> Result<(), AllocError> {
+fn search_from(
+    facts: &Facts,
+    ways: Ways,
+    search: &mut Search,
+    node: usize,
+) -> Result<(), AllocError> {
     search.steps.push(Step::Enter(node))?;
     while let Some(step) = search.steps.pop() {
         match step {
             Step::Enter(node) => {
-                if enter(facts, &mut search.seen, &mut search.steps, node)? {
+                if enter(facts, ways, &mut search.seen, &mut search.steps, node)? {
                     open(search, node)?;
                 }
             }
-            Step::Leave(node) => leave(facts, search, node),
+            Step::Leave(node) => leave(facts, ways, search, node),
         }
     }
     Ok(())
 }
 
 /// A level for each node, as the search finds it.
-fn found_levels(alloc: Global, facts: &Facts) -> Result<Vec<usize>, AllocError> {
+fn found_levels(alloc: Global, facts: &Facts, ways: Ways) -> Result<Vec<usize>, AllocError> {
     let nodes = facts.table.kinds.len();
     let mut search = Search {
         numbers: vec![in alloc; 0; nodes]?,
@@ -172,7 +205,7 @@ fn found_levels(alloc: Global, facts: &Facts) -> Result<Vec<usize>, AllocError> 
         level: 0,
     };
     for node in 0..nodes {
-        search_from(facts, &mut search, node)?;
+        search_from(facts, ways, &mut search, node)?;
     }
     Ok(search.levels)
 }
@@ -218,12 +251,23 @@ fn all_rest(facts: &Facts, levels: &[usize]) -> bool
     true
 }
 
-/// A level for each node; no level at all where those that were found are not right.
+/// A level for each node by what it depends on; no level at all where those that were found are not right.
 pub(crate) fn levels_of(alloc: Global, facts: &Facts) -> Result<Vec<usize>, AllocError>
     ensures { IfOk result (λ levels. AllRest facts.now levels.items) }
 {
-    let levels = found_levels(alloc, facts)?;
+    let levels = found_levels(alloc, facts, Ways::Rests)?;
     if all_rest(facts, levels.as_slice()) {
+        return Ok(levels);
+    }
+    Ok(Vec::new(alloc))
+}
+
+/// A level for each node by its left calls; no level at all where those that were found are not right.
+pub(crate) fn left_levels(alloc: Global, facts: &Facts) -> Result<Vec<usize>, AllocError>
+    ensures { IfOk result (λ levels. NoneRises facts.now levels.items) }
+{
+    let levels = found_levels(alloc, facts, Ways::LeftCalls)?;
+    if none_rises(facts, levels.as_slice()) {
         return Ok(levels);
     }
     Ok(Vec::new(alloc))

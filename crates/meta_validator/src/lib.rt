@@ -5,6 +5,7 @@
 mod cycles;
 mod facts;
 mod findings;
+mod flags;
 pub mod laws;
 mod levels;
 mod marks;
@@ -15,4 +16,5 @@ mod recursions;
 mod reported;
 mod table;
 mod tables;
+mod tags;
 pub mod validator;

@@ -1,25 +1,28 @@
-//! The search for left recursion, made where left calls may have a cycle: a walk from a rule in the order of
+//! The search for left recursion, made from rules that left calls may come back to: a walk in the order of
 //! the text, with a list of what is still to be done in place of calls, and a flag for each rule, so that
-//! none is entered twice.
+//! none is entered twice. One walk is begun anew from rule to rule; what it has set is unset behind it.
 ghost use Rattle.std.specs.Prelude.{◌≡◌, ℕ, false, ◌<◌, ◌+◌, ◌++◌, ◌∷◌, [], List, Option, Some, None, true, IfOk, OnOk, IfNone, IfSome, length, slice_get, slice_set, string_bytes, codes};
 ghost use Rattle.meta_base.specs.Language.Text.{Text};
 ghost use Rattle.meta_base.specs.Language.WellFormed.{Leads};
 ghost use Rattle.meta_nodes.specs.Nodes.{rule_views, rule_view, piece_of};
 ghost use Rattle.meta_nodes.specs.Spanned.{SpannedRule};
+ghost use Rattle.meta_validator.specs.Cycles.{NoneRises};
 ghost use Rattle.meta_validator.specs.Facts.{AreFacts};
-ghost use Rattle.meta_validator.specs.Findings as findings;
 ghost use Rattle.meta_validator.specs.Findings.{OfRecursion, Reports, places};
+ghost use Rattle.meta_validator.specs.Flags.{NoneSet};
 ghost use Rattle.meta_validator.specs.LeftRecursion.{Means, arrows, name_at, told_chain};
 ghost use Rattle.meta_validator.specs.Names.{grammar_of};
 ghost use Rattle.meta_validator.specs.Numbering.{nodes_of};
 ghost use Rattle.meta_validator.specs.Regions.{ArePassing};
 ghost use Rattle.meta_validator.specs.Reporting.{AreSpans, finding_of, findings_of};
-ghost use Rattle.meta_validator.specs.Searching.{ordered, called_in, inside_of, cost, unentered, IsSearch, IsGoing, IsSought, IsClosing, NeverComesBack};
+ghost use Rattle.meta_validator.specs.Searching.{ordered, called_in, inside_of, cost, unentered, IsSearch, IsGoing, IsIdle, IsSought, IsClosing, NeverComesBack};
 ghost use Rattle.meta_validator.specs.Table.{is_set_at};
 
-use crate::cycles::has_no_cycle;
+use crate::cycles::{falls_from, has_no_cycle};
 use crate::facts::Facts;
 use crate::findings::{Finding, kind_of_node};
+use crate::flags::Flags;
+use crate::levels::left_levels;
 use crate::names::rule_number;
 use crate::passing::passing;
 use crate::table::{Kind, is_set};
@@ -41,7 +44,7 @@ pub enum Task {
 #[derive(Drop)]
 pub struct Walk {
     /// Which rules were entered.
-    pub entered: Vec<bool>,
+    pub entered: Flags,
     /// The rules that were entered and not left, from the start on.
     pub chain: Vec<usize>,
     /// What is to be done, what comes first at the end.
@@ -59,8 +62,9 @@ pub struct ClosedChain {
 
 /// Enters a rule, whose body has that root.
 fn enter_rule(walk: &mut Walk, rule: usize, root: usize) -> Result<(), AllocError>
-    requires { rule < walk.old.entered.len }
-    ensures entered { OnOk result (walk.new.entered.items ≡ slice_set walk.old.entered.items rule true) }
+    requires { rule < walk.old.entered.all.len }
+    ensures entered { OnOk result (walk.new.entered.all.items
+        ≡ slice_set walk.old.entered.all.items rule true) }
     ensures chain { OnOk result (walk.new.chain.items ≡ walk.old.chain.items ++ rule ∷ []) }
     ensures tasks { OnOk result (walk.new.tasks.items
         ≡ (walk.old.tasks.items ++ Task.Leave ∷ []) ++ Task.Visit root ∷ []) }
@@ -68,7 +72,7 @@ fn enter_rule(walk: &mut Walk, rule: usize, root: usize) -> Result<(), AllocErro
     walk.chain.push(rule)?;
     walk.tasks.push(Task::Leave)?;
     walk.tasks.push(Task::Visit(root))?;
-    walk.entered[rule] = true;
+    walk.entered.set(rule)?;
     Ok(())
 }
 
@@ -128,17 +132,17 @@ fn push_inside(
 /// Walks over a call of a rule that is not the start: it is entered, unless it was.
 fn walk_call(facts: &Facts, walk: &mut Walk, rule: usize) -> Result<(), AllocError>
     requires roots { rule < facts.now.table.roots.len }
-    requires flags { rule < walk.old.entered.len }
-    ensures known { OnOk result (is_set_at walk.old.entered.items rule ≡ true → walk.new ≡ walk.old) }
-    ensures entered { OnOk result (is_set_at walk.old.entered.items rule ≡ false
-        → walk.new.entered.items ≡ slice_set walk.old.entered.items rule true) }
-    ensures chain { OnOk result (is_set_at walk.old.entered.items rule ≡ false
+    requires flags { rule < walk.old.entered.all.len }
+    ensures known { OnOk result (is_set_at walk.old.entered.all.items rule ≡ true → walk.new ≡ walk.old) }
+    ensures entered { OnOk result (is_set_at walk.old.entered.all.items rule ≡ false
+        → walk.new.entered.all.items ≡ slice_set walk.old.entered.all.items rule true) }
+    ensures chain { OnOk result (is_set_at walk.old.entered.all.items rule ≡ false
         → walk.new.chain.items ≡ walk.old.chain.items ++ rule ∷ []) }
-    ensures tasks { OnOk result (is_set_at walk.old.entered.items rule ≡ false → (root : ℕ)
+    ensures tasks { OnOk result (is_set_at walk.old.entered.all.items rule ≡ false → (root : ℕ)
         → slice_get facts.now.table.roots.items rule ≡ Some root
         → walk.new.tasks.items ≡ (walk.old.tasks.items ++ Task.Leave ∷ []) ++ Task.Visit root ∷ []) }
 {
-    if is_set(walk.entered.as_slice(), rule) {
+    if walk.entered.is_set(rule) {
         return Ok(());
     }
     let root = facts.table.root_at(rule);
@@ -157,18 +161,19 @@ fn walk_node<'i>(
     requires facts { AreFacts rules.now facts.now }
     requires passing { ArePassing rules.now facts.now.table.roots.items passing.now }
     requires going { (todo : List Task) × (path : List ℕ)
-        × IsSearch rules.now facts.now.table.roots.items start walk.old.entered.items
+        × IsSearch rules.now facts.now.table.roots.items start walk.old.entered.all.items
         (Task.Visit node ∷ todo) path
         × (walk.old.tasks.items ≡ ordered todo) × (walk.old.chain.items ≡ ordered path) }
     ensures closes { IfOk result (λ closes. closes ≡ true
         → IsClosing rules.now facts.now.table.roots.items start node walk.new.chain.items) }
+    ensures ends { IfOk result (λ closes. closes ≡ true → walk.new ≡ walk.old) }
     ensures goes_on { IfOk result (λ closes. closes ≡ false → IsGoing rules.now facts.now.table.roots.items
-        start walk.new.entered.items walk.new.tasks.items walk.new.chain.items) }
+        start walk.new.entered.all.items walk.new.tasks.items walk.new.chain.items) }
     ensures less { IfOk result (λ closes. closes ≡ false
         → cost (nodes_of rules.now) walk.new.tasks.items
-        + unentered walk.new.entered.items (rule_views rules.now)
+        + unentered walk.new.entered.all.items (rule_views rules.now)
         < cost (nodes_of rules.now) (walk.old.tasks.items ++ Task.Visit node ∷ [])
-        + unentered walk.old.entered.items (rule_views rules.now)) }
+        + unentered walk.old.entered.all.items (rule_views rules.now)) }
 {
     let kind = kind_of_node(facts, node);
     match called_by(kind) {
@@ -183,57 +188,76 @@ fn walk_node<'i>(
     Ok(false)
 }
 
-/// The walk from a rule, begun: the rule is entered.
-fn begun<'i>(
-    alloc: Global,
+/// A walk that is to be begun, over so many rules.
+fn idle<'i>(alloc: Global, rules: &[ParserRule<'i>]) -> Result<Walk, AllocError>
+    ensures { IfOk result (λ walk. IsIdle rules.now walk) }
+{
+    Ok(Walk {
+        entered: Flags::new(alloc, rules.len())?,
+        chain: Vec::new(alloc),
+        tasks: Vec::new(alloc),
+    })
+}
+
+/// Begins the walk from a rule: the rule is entered.
+fn begin<'i>(
     rules: &[ParserRule<'i>],
     facts: &Facts,
     start: usize,
-) -> Result<Walk, AllocError>
+    walk: &mut Walk,
+) -> Result<(), AllocError>
     requires facts { AreFacts rules.now facts.now }
     requires inside { start < length rules.now }
     requires last { (r : SpannedRule) → slice_get (rule_views rules.now) start ≡ Some r
         → Means (rule_views rules.now) r.name start }
-    ensures { IfOk result (λ walk. IsGoing rules.now facts.now.table.roots.items
-        start walk.entered.items walk.tasks.items walk.chain.items) }
+    requires idle { IsIdle rules.now walk.old }
+    ensures { OnOk result (IsGoing rules.now facts.now.table.roots.items
+        start walk.new.entered.all.items walk.new.tasks.items walk.new.chain.items) }
 {
-    let mut walk = Walk {
-        entered: vec![in alloc; false; facts.table.roots.len()]?,
-        chain: Vec::new(alloc),
-        tasks: Vec::new(alloc),
-    };
     let root = facts.table.root_at(start);
-    enter_rule(&mut walk, start, root)?;
-    Ok(walk)
+    enter_rule(walk, start, root)?;
+    Ok(())
 }
 
-/// The first call of a rule to which the walk from that rule comes, and the rules by which it came.
-fn sought<'i>(
+/// Ends a walk: what it has come to is forgotten.
+fn end(walk: &mut Walk)
+    ensures entered { NoneSet walk.new.entered.all.items }
+    ensures long { length walk.new.entered.all.items ≡ length walk.old.entered.all.items }
+    ensures chain { walk.new.chain.items ≡ [] }
+    ensures tasks { walk.new.tasks.items ≡ [] }
+{
+    walk.entered.unset_all();
+    walk.chain.clear();
+    walk.tasks.clear();
+}
+
+/// The first call of a rule to which a walk that was begun there comes, and the rules by which it came.
+fn closed_by<'i>(
     alloc: Global,
     rules: &[ParserRule<'i>],
     facts: &Facts,
     passing: &[bool],
     start: usize,
+    walk: &mut Walk,
 ) -> Result<Option<ClosedChain>, AllocError>
     requires facts { AreFacts rules.now facts.now }
     requires passing { ArePassing rules.now facts.now.table.roots.items passing.now }
-    requires inside { start < length rules.now }
-    requires last { (r : SpannedRule) → slice_get (rule_views rules.now) start ≡ Some r
-        → Means (rule_views rules.now) r.name start }
+    requires going { IsGoing rules.now facts.now.table.roots.items
+        start walk.old.entered.all.items walk.old.tasks.items walk.old.chain.items }
     ensures none { IfOk result (λ found. IfNone found
         (IsSought rules.now facts.now.table.roots.items start None
         × NeverComesBack rules.now facts.now.table.roots.items start)) }
     ensures some { IfOk result (λ found. IfSome found (λ closed.
         IsClosing rules.now facts.now.table.roots.items start closed.call closed.chain.items)) }
+    ensures long { OnOk result (length walk.new.entered.all.items ≡ length (rule_views rules.now)) }
 {
-    let mut walk = begun(alloc, rules, facts, start)?;
     while let Some(task) = walk.tasks.pop() {
         match task {
             Task::Leave => {
                 let _left = walk.chain.pop();
             }
             Task::Visit(node) => {
-                let closes = walk_node(rules, facts, passing, start, &mut walk, node)?;
+                let closes = walk_node(rules, facts, passing, start, walk, node)?;
                 if closes {
                     let chain = mem::replace(&mut walk.chain, Vec::new(alloc));
                     return Ok(Some(ClosedChain { chain, call: node }));
@@ -242,6 +266,35 @@ fn sought<'i>(
         }
     }
     Ok(None)
+}
+
+/// The first call of a rule to which the walk from that rule comes, and the rules by which it came. The walk
+/// can be begun again then.
+fn sought<'i>(
+    alloc: Global,
+    rules: &[ParserRule<'i>],
+    facts: &Facts,
+    passing: &[bool],
+    start: usize,
+    walk: &mut Walk,
+) -> Result<Option<ClosedChain>, AllocError>
+    requires facts { AreFacts rules.now facts.now }
+    requires passing { ArePassing rules.now facts.now.table.roots.items passing.now }
+    requires inside { start < length rules.now }
+    requires last { (r : SpannedRule) → slice_get (rule_views rules.now) start ≡ Some r
+        → Means (rule_views rules.now) r.name start }
+    requires idle { IsIdle rules.now walk.old }
+    ensures none { IfOk result (λ found. IfNone found
+        (IsSought rules.now facts.now.table.roots.items start None
+        × NeverComesBack rules.now facts.now.table.roots.items start)) }
+    ensures some { IfOk result (λ found. IfSome found (λ closed.
+        IsClosing rules.now facts.now.table.roots.items start closed.call closed.chain.items)) }
+    ensures idle { OnOk result (IsIdle rules.now walk.new) }
+{
+    begin(rules, facts, start, walk)?;
+    let found = closed_by(alloc, rules, facts, passing, start, walk)?;
+    end(walk);
+    Ok(found)
 }
 
 /// Adds the name of the rule at a place, if there is one, and an arrow.
@@ -313,35 +366,58 @@ fn is_last<'i>(rules: &[ParserRule<'i>], facts: &Facts, place: usize) -> bool
     }
 }
 
-/// Adds what is found of the rule at a place as one that calls itself: only of the last rule of a name.
-fn add_recursion<'i>(
+/// Whether the rule at a place is the last of its name, and its left calls may lead back to it: a no is
+/// certain.
+fn may_come_back<'i>(
+    rules: &[ParserRule<'i>],
+    facts: &Facts,
+    levels: &[usize],
+    place: usize,
+) -> bool
+    requires facts { AreFacts rules.now facts.now }
+    requires levels { NoneRises facts.now levels.now }
+    requires inside { place < length rules.now }
+    ensures last { result ≡ true → (r : SpannedRule) → slice_get (rule_views rules.now) place ≡ Some r
+        → Means (rule_views rules.now) r.name place }
+    ensures nothing { result ≡ false → OfRecursion (rule_views rules.now) place [] }
+    ensures never { result ≡ false → NeverComesBack rules.now facts.now.table.roots.items place }
+{
+    if !is_last(rules, facts, place) {
+        return false;
+    }
+    !falls_from(facts, levels, place)
+}
+
+/// What is found of the rule at a place, the last of its name, as one that calls itself.
+fn recursion_at<'i>(
     alloc: Global,
     rules: &[ParserRule<'i>],
     facts: &Facts,
     spans: &[Span<'i>],
     passing: &[bool],
     place: usize,
-    found: &mut Vec<Finding<'i>>,
-) -> Result<(), AllocError>
+    walk: &mut Walk,
+) -> Result<Option<Finding<'i>>, AllocError>
     requires facts { AreFacts rules.now facts.now }
     requires spans { AreSpans rules.now spans.now }
     requires passing { ArePassing rules.now facts.now.table.roots.items passing.now }
     requires inside { place < length rules.now }
-    ensures exact { OnOk result ((fs : List findings.Finding) × OfRecursion (rule_views rules.now) place fs
-        × (findings_of found.new.items ≡ findings_of found.old.items ++ fs)) }
-    ensures none { OnOk result (findings_of found.new.items ≡ []
-        → NeverComesBack rules.now facts.now.table.roots.items place) }
+    requires last { (r : SpannedRule) → slice_get (rule_views rules.now) place ≡ Some r
+        → Means (rule_views rules.now) r.name place }
+    requires idle { IsIdle rules.now walk.old }
+    ensures idle { OnOk result (IsIdle rules.now walk.new) }
+    ensures nothing { IfOk result (λ found. IfNone found (OfRecursion (rule_views rules.now) place [])) }
+    ensures never { IfOk result (λ found. IfNone found
+        (NeverComesBack rules.now facts.now.table.roots.items place)) }
+    ensures some { IfOk result (λ found. IfSome found
+        (λ finding. OfRecursion (rule_views rules.now) place (finding_of finding ∷ []))) }
 {
-    if !is_last(rules, facts, place) {
-        return Ok(());
-    }
-    match sought(alloc, rules, facts, passing, place)? {
-        None => Ok(()),
+    match sought(alloc, rules, facts, passing, place, walk)? {
+        None => Ok(None),
         Some(closed) => {
             let span = spans[closed.call];
             let message = told(alloc, rules, span, closed.chain.as_slice(), &rules[place])?;
-            found.push(Finding { message, span })?;
-            Ok(())
+            Ok(Some(Finding { message, span }))
         }
     }
 }
@@ -360,24 +436,33 @@ fn closed_chains<'i>(
     ensures none { IfOk result (λ found. findings_of found.items ≡ [] → (place : ℕ)
         → place < length rules.now → NeverComesBack rules.now facts.now.table.roots.items place) }
 {
+    let levels = left_levels(alloc, facts)?;
     let passing = passing(alloc, rules, facts)?;
+    let mut walk = idle(alloc, rules)?;
     let mut found = Vec::new(alloc);
     for place in 0..rules.len() {
-        add_recursion(
+        if !may_come_back(rules, facts, levels.as_slice(), place) {
+            continue;
+        }
+        match recursion_at(
             alloc,
             rules,
             facts,
             spans,
             passing.as_slice(),
             place,
-            &mut found,
-        )?;
+            &mut walk,
+        )? {
+            None => continue,
+            Some(finding) => found.push(finding)?,
+        }
     }
     Ok(found)
 }
 
 /// What is found of left recursion: at most one for a name. Where left calls have no cycle, which one pass
-/// over the nodes makes certain, nothing is; else it is sought from each rule that is the last of its name.
+/// over the nodes makes certain, nothing is; else it is sought from each rule that is the last of its name
+/// and stands on a cycle.
 pub(crate) fn recursions<'i>(
     alloc: Global,
     rules: &[ParserRule<'i>],

@@ -1,7 +1,9 @@
 //! All that is found in rules, as errors.
-ghost use Rattle.std.specs.Prelude.{◌≡◌, ◌++◌, [], IfOk, IfErr, OnOk, alloc_error, map};
+ghost use Rattle.std.specs.Prelude.{◌≡◌, ◌++◌, [], All, IfOk, IfErr, OnOk, alloc_error, map};
 ghost use Rattle.meta_base.specs.Pieces.Saying.{SaysAt, Tell};
 ghost use Rattle.meta_base.specs.Language.WellFormed.{IsWellFormed};
+ghost use Rattle.meta_base.specs.Pieces.Span.{span_text};
+ghost use Rattle.meta_base.specs.Pieces.Survey.{survey_text};
 ghost use Rattle.meta_nodes.specs.Nodes.{piece_of, rule_views};
 ghost use Rattle.meta_validator.specs.Findings.{AreFound, AreAllFound, IsSortedBySpan, endless_at};
 ghost use Rattle.meta_validator.specs.Names.{grammar_of};
@@ -10,6 +12,7 @@ ghost use Rattle.meta_validator.specs.Reporting.{finding_of, findings_of};
 use crate::facts::facts_of;
 use crate::findings::{Finding, choices, repetitions, skips, spans_of};
 use crate::recursions::recursions;
+use crate::tags::tags;
 use meta_base::grammar::Rule;
 use meta_base::runtime::{Error, ErrorVariant, Fault, Span, Survey};
 use meta_nodes::ParserRule;
@@ -33,7 +36,7 @@ fn endless_findings<'i>(alloc: Global, endless: &[Span<'i>]) -> Result<Vec<Findi
 }
 
 /// All that is found in rules: repetitions, then those that are known to be endless, then choices, then rules
-/// that are skipped, then left recursion.
+/// that are skipped, then left recursion, then tags.
 fn all_findings<'i>(
     alloc: Global,
     rules: &[ParserRule<'i>],
@@ -55,6 +58,8 @@ fn all_findings<'i>(
     let found = with_others(found, skips)?;
     let recursions = recursions(alloc, rules, &facts, spans.as_slice())?;
     let found = with_others(found, recursions)?;
+    let tags = tags(alloc, rules, &facts.names)?;
+    let found = with_others(found, tags)?;
     Ok(found)
 }
 
@@ -129,6 +134,48 @@ pub(crate) fn errors_of<'i>(alloc: Global, found: &[Finding<'i>]) -> Result<Vec<
     let mut survey = Survey::new(alloc, first_text(found)).map_err(Fault::Memory)?;
     for place in 0..found.len() {
         let error = error_of(alloc, &mut survey, &found[place])?;
+        match errors.push(error) {
+            Ok(()) => {}
+            Err(refused) => return Err(Fault::Memory(refused.into())),
+        }
+    }
+    Ok(errors)
+}
+
+/// The error that tells of a finding in the text that was surveyed.
+fn error_in<'i>(
+    alloc: Global,
+    survey: &mut Survey<'_>,
+    finding: &Finding<'i>,
+) -> Result<Error<Rule>, Fault>
+    requires in_text { span_text finding.now.span ≡ survey_text survey.old }
+    ensures tells { IfOk result (λ error.
+        SaysAt (finding_of finding.now).message (finding_of finding.now).span error) }
+    ensures survey { survey_text survey.new ≡ survey_text survey.old }
+    ensures memory { IfErr result (λ fault. fault ≡ Fault.Memory alloc_error) }
+{
+    let message = String::from_str(alloc, finding.message.as_str()).map_err(Fault::Memory)?;
+    let variant = ErrorVariant::CustomError { message };
+    Error::new_in_survey(alloc, variant, survey, finding.span)
+}
+
+/// The errors of `errors_of` where all findings are in one text, which is walked over once.
+pub(crate) fn errors_in<'i>(
+    alloc: Global,
+    text: &str,
+    found: &[Finding<'i>],
+) -> Result<Vec<Error<Rule>>, Fault>
+    requires in_text { All (λ f. f.span.text ≡ text.now) (findings_of found.now) }
+    ensures told { IfOk result (λ errors. Tell (findings_of found.now) errors.items) }
+    ensures memory { IfErr result (λ fault. fault ≡ Fault.Memory alloc_error) }
+{
+    let mut errors = Vec::new(alloc);
+    if found.is_empty() {
+        return Ok(errors);
+    }
+    let mut survey = Survey::new(alloc, text).map_err(Fault::Memory)?;
+    for place in 0..found.len() {
+        let error = error_in(alloc, &mut survey, &found[place])?;
         match errors.push(error) {
             Ok(()) => {}
             Err(refused) => return Err(Fault::Memory(refused.into())),

@@ -5,13 +5,17 @@ ghost use Rattle.meta_base.specs.Language.WellFormed.{IsNullable, CannotFail, Is
 ghost use Rattle.meta_nodes.specs.Erasure.{without_spans, rules_without_spans};
 ghost use Rattle.meta_nodes.specs.Nodes.{piece_of, rule_views, unplaced};
 ghost use Rattle.meta_validator.specs.Facts.{Asked};
+ghost use Rattle.meta_validator.specs.Findings.{AreAllFound};
 ghost use Rattle.meta_validator.specs.Names.{grammar_of};
+ghost use Rattle.meta_validator.specs.Placed.{AreIn, ArePiecesOf};
 ghost use Rattle.meta_validator.specs.Reported.{AreReported};
+ghost use Rattle.meta_validator.specs.Reporting.{findings_of};
 
+use crate::findings::Finding;
 use crate::marks::{marked, who_listens};
 use crate::names::names_of;
 use crate::numbering::number;
-use crate::reported::{errors_of, sorted_findings};
+use crate::reported::{errors_in, errors_of, sorted_findings};
 use crate::table::{Question, is_set};
 use crate::tables::tabulated;
 use meta_base::grammar::Rule;
@@ -51,12 +55,31 @@ pub fn is_non_failing<'i>(
     answer(alloc, expr, rules.as_slice(), Question::CannotFail).map_err(Fault::Memory)
 }
 
+/// All that is found in rules, by place. The only fault is a want of memory.
+fn found_in<'i>(
+    alloc: Global,
+    rules: &[ParserRule<'i>],
+    endless: &[Span<'i>],
+) -> Result<Vec<Finding<'i>>, Fault>
+    ensures found { IfOk result (λ found.
+        AreAllFound (rule_views rules.now) (map piece_of endless.now) (findings_of found.items)) }
+    ensures accepted { IfOk result (λ found. findings_of found.items ≡ []
+        → IsWellFormed (grammar_of rules.now)) }
+    ensures memory { IfErr result (λ fault. fault ≡ Fault.Memory alloc_error) }
+{
+    match sorted_findings(alloc, rules, endless) {
+        Ok(found) => Ok(found),
+        Err(error) => Err(Fault::Memory(error)),
+    }
+}
+
 /// What is wrong with rules, in the order of their places (at one place repetitions, then those of `endless`,
-/// then choices, then skipped rules, then left recursion): a repetition `e*`, `e+` or `e{n,}` whose body
-/// cannot fail or may take nothing; an alternative with others behind it that cannot fail; a rule named
+/// then choices, then skipped rules, then left recursion, then tags): a repetition `e*`, `e+` or `e{n,}` whose
+/// body cannot fail or may take nothing; an alternative with others behind it that cannot fail; a rule named
 /// `WHITESPACE` or `COMMENT` that cannot fail or may take nothing; left recursion, at most one for a name:
 /// the chain of rules by which the walk over the body of its last rule comes back, at the first call of the
-/// rule to which it comes. Each error stands where the fault does. `endless` are the places of repetitions
+/// rule to which it comes; a tag on a Silent rule, or on a builtin that is no rule's name. Each error stands
+/// where the fault does. `endless` are the places of repetitions
 /// that never end for a reason that is not looked for here. The only fault is a want of memory.
 pub fn validate_rules<'i>(
     alloc: Global,
@@ -69,11 +92,29 @@ pub fn validate_rules<'i>(
         → IsWellFormed (rules_without_spans (rule_views rules.now.items))) }
     ensures memory { IfErr result (λ fault. fault ≡ Fault.Memory alloc_error) }
 {
-    let found = match sorted_findings(alloc, rules.as_slice(), endless) {
-        Ok(found) => found,
-        Err(error) => return Err(Fault::Memory(error)),
-    };
+    let found = found_in(alloc, rules.as_slice(), endless)?;
     let errors = errors_of(alloc, found.as_slice())?;
+    Ok(errors)
+}
+
+/// What is wrong with rules, as `validate_rules` tells it, where all their spans, and those of `endless`, are
+/// of one text: that is walked over once for the places of all errors. The only fault is a want of memory.
+pub fn validate_rules_in<'i>(
+    alloc: Global,
+    text: &str,
+    rules: &Vec<ParserRule<'i>>,
+    endless: &[Span<'i>],
+) -> Result<Vec<Error<Rule>>, Fault>
+    requires rules_in_text { AreIn text.now (rule_views rules.now.items) }
+    requires endless_in_text { ArePiecesOf text.now (map piece_of endless.now) }
+    ensures exact { IfOk result (λ errors.
+        AreReported (rule_views rules.now.items) (map piece_of endless.now) errors.items) }
+    ensures accepted { IfOk result (λ errors. errors.items ≡ []
+        → IsWellFormed (rules_without_spans (rule_views rules.now.items))) }
+    ensures memory { IfErr result (λ fault. fault ≡ Fault.Memory alloc_error) }
+{
+    let found = found_in(alloc, rules.as_slice(), endless)?;
+    let errors = errors_in(alloc, text, found.as_slice())?;
     Ok(errors)
 }
 

@@ -32,29 +32,6 @@ span_of-view n = span_at (piece_of n.span) n.expr
 pub push_piece : (found : List code.Span) (n : ParserNode) → map piece_of (found ++ n.span ∷ []) ≡ map piece_of found ++ span_of (view n) ∷ []
 push_piece found n = map-append piece_of found (n.span ∷ []) ∙ ap (λ s. map piece_of found ++ s ∷ []) (sym (span_of-view n))
 
--- an operand waits in the place of its node
-pub one_waits : (v : Spanned) (ns ms : List (Bor ParserNode)) (x : Bor ParserNode) (s : Span) (f : _) → v ≡ One s f (view x.now) → ms ≡ ns ++ (x ∷ []) → v ∷ waiting ms ≡ preorder v ++ waiting ns
-one_waits v ns ms x s f e h = rw (h, waiting_push ns x, e) refl
-
--- a node was looked at, and what was found at it
-pub walk_step : {A : Type 0} (f : Spanned → List A) (old new all : List A) (w v : List Spanned) (x : Spanned) → new ≡ old ++ f x → w ≡ x ∷ v → old ++ flat_map f w ≡ all → new ++ flat_map f v ≡ all
-walk_step f old new all w v x e h i =
-    ap (λ l. l ++ flat_map f v) e ∙ append_assoc old (f x) (flat_map f v) ∙ sym (ap (λ l. old ++ flat_map f l) h) ∙ i
-
--- a rule was looked at, and what was found in it
-pub rule_step : {A : Type 0} (f : SpannedRule → List A) (rules : List ParserRule) (i : ℕ) (x : ParserRule) (old new : List A) → i < length rules → x ≡ get_or rules i x
-    → new ≡ old ++ f (rule_view x) → old ≡ flat_map f (rule_views (take i rules)) → new ≡ flat_map f (rule_views (take (i + 1) rules))
-rule_step f rules i x old new h at e o =
-    let more : take (i + 1) rules ≡ take i rules ++ x ∷ [] = take_more rules i x h ∙ ap (λ r. take i rules ++ r ∷ []) (sym at) in
-    e ∙ (ap (λ l. l ++ f (rule_view x)) o
-    ∙ sym (ap (λ l. flat_map f (rule_views l)) more
-    ∙ (ap (flat_map f) (map-append rule_view (take i rules) (x ∷ []))
-    ∙ (flat_map-append f (rule_views (take i rules)) (rule_view x ∷ [])
-    ∙ ap (λ l. flat_map f (rule_views (take i rules)) ++ l) (append-nil (f (rule_view x)))))))
-
-pub all_rules : {A : Type 0} (f : SpannedRule → List A) (rules : List ParserRule) (i : ℕ) (found : List A) → length rules ≤ i → found ≡ flat_map f (rule_views (take i rules)) → found ≡ flat_map f (rule_views rules)
-all_rules f rules i found h e = e ∙ ap (λ l. flat_map f (rule_views l)) (take_all i rules h)
-
 -- the alternatives on a stack
 pub left_over_push : (ns : List (Bor ParserNode)) (n : Bor ParserNode) → left_over (ns ++ (n ∷ [])) ≡ alternatives (view n.now) ++ left_over ns
 left_over_push [] n = sym (append-nil (alternatives (view n.now)))

@@ -9,9 +9,9 @@ ghost use Rattle.meta_warnings.specs.Choices.{alternatives};
 ghost use Rattle.meta_warnings.specs.Lists.{IsTold, Knows, left_over};
 
 use crate::literals::{Literals, beginning, literal};
-use crate::nodes::{Operands, operands_of, push_both, push_operands};
+use crate::nodes::{Operands, operands_of, push_both};
 use meta_base::runtime::Span;
-use meta_nodes::{ParserNode, ParserRule};
+use meta_nodes::{ParserNode, ParserRule, push_operands};
 use std::alloc::{AllocError, Global};
 
 /// Where alternatives stand that are never taken, since one before them in their choice is a literal with

@@ -1,7 +1,6 @@
 //! The operands of a node.
 ghost use Rattle.std.specs.Prelude.{◌≡◌, ◌++◌, ◌∷◌, [], OnOk};
 ghost use Rattle.meta_nodes.specs.Nodes.{view};
-ghost use Rattle.meta_nodes.specs.Walk.{preorder, waiting};
 ghost use Rattle.meta_warnings.specs.Lists.{AreOperands};
 
 use meta_nodes::{ParserExpr, ParserNode};
@@ -33,23 +32,6 @@ pub(crate) fn operands_of<'n, 'i>(node: &'n ParserNode<'i>) -> Operands<'n, 'i>
         E::Seq(left, right) => Operands::Sequence(left, right),
         E::Choice(left, right) => Operands::Choice(left, right),
     }
-}
-
-/// Puts the operands of a node on a stack, the left one on top.
-pub(crate) fn push_operands<'n, 'i>(
-    node: &'n ParserNode<'i>,
-    stack: &mut Vec<&'n ParserNode<'i>>,
-) -> Result<(), AllocError>
-    ensures { OnOk result (view node.entry.now ∷ waiting stack.new.items
-        ≡ preorder (view node.entry.now) ++ waiting stack.old.items) }
-{
-    match operands_of(node) {
-        Operands::None => {}
-        Operands::One(inner) => stack.push(inner)?,
-        Operands::Sequence(left, right) => push_both(left, right, stack)?,
-        Operands::Choice(left, right) => push_both(left, right, stack)?,
-    }
-    Ok(())
 }
 
 /// Puts two nodes on a stack, the left one on top.

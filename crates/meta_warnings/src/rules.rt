@@ -7,10 +7,9 @@ ghost use Rattle.meta_nodes.specs.Nodes.{piece_of, rule_view, rule_views, view};
 ghost use Rattle.meta_warnings.specs.Lists.{HasNames, has_name};
 ghost use Rattle.meta_warnings.specs.Rules as spec;
 
-use crate::nodes::push_operands;
 use meta_ast::texts::same_text;
 use meta_base::runtime::Span;
-use meta_nodes::{ParserExpr, ParserNode, ParserRule};
+use meta_nodes::{ParserExpr, ParserNode, ParserRule, push_operands};
 use std::alloc::{AllocError, Global};
 use std::collections::HashSet;
 

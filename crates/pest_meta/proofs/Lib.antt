@@ -11,3 +11,4 @@ pub mod WholeCharacters
 pub mod OneText
 pub mod OneReportList
 pub mod OneRefusal
+pub mod InText

@@ -7,7 +7,7 @@ ghost use Rattle.meta_base.specs.Language.WellFormed.{HasReadableCounts};
 ghost use Rattle.meta_syntax.specs.Parses.{AreOfAGrammar};
 ghost use Rattle.pest_meta.specs.Spelling.{AreAccepted, AreRejected};
 
-use crate::validator::validate_ast;
+use crate::validator::validate_ast_in;
 use meta_ast::ast;
 use meta_ast::deep::Deep;
 use meta_base::runtime::{Fault, Pairs};
@@ -32,9 +32,10 @@ pub fn consume_rules(alloc: Global, pairs: Pairs<'_, Rule>) -> Result<Vec<ast::R
     ensures counts { IfOk result (λ rules. HasReadableCounts (rules_of rules.items)) }
     ensures refused { IfErr result (AreRejected (pairs_text pairs.entry) (named (pairs_trees pairs.entry))) }
 {
+    let text = pairs.get_input();
     let rules = consume_rules_with_spans(alloc, pairs)?;
     let rules = Deep { value: rules };
-    let errors = validate_ast(alloc, &rules.value)?;
+    let errors = validate_ast_in(alloc, text, &rules.value)?;
     if !errors.is_empty() {
         return Err(Fault::Grammar(errors));
     }

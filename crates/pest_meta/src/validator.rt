@@ -4,6 +4,7 @@ ghost use Rattle.meta_base.specs.Language.WellFormed.{IsWellFormed};
 ghost use Rattle.meta_nodes.specs.Erasure.{rules_without_spans};
 ghost use Rattle.meta_nodes.specs.Nodes.{rule_views};
 ghost use Rattle.meta_stack.specs.Certain.{AreReports};
+ghost use Rattle.meta_validator.specs.Placed.{AreIn};
 ghost use Rattle.pest_meta.specs.Findings.{TellFindings};
 
 use meta_base::grammar::Rule;
@@ -15,13 +16,13 @@ pub use meta_names::{
 use meta_nodes::ParserRule;
 use meta_stack::sorted_reports;
 pub use meta_stack::validate_stack_repetition;
-use meta_validator::validator::validate_rules;
+use meta_validator::validator::{validate_rules, validate_rules_in};
 pub use meta_validator::validator::{is_non_failing, is_non_progressing};
 use std::alloc::Global;
 
 /// What is wrong with rules, by the start of each place and then by its end, in bytes (at one place
 /// repetitions, then those that never end by what is known of the stack, then choices, then skipped rules,
-/// then left recursion):
+/// then left recursion, then tags):
 /// - `expression inside repetition cannot fail and will repeat infinitely` or, where that is not so,
 ///   `expression inside repetition is non-progressing and will repeat infinitely`, at a repetition `e*`, `e+`
 ///   or `e{n,}` whose body cannot fail, or may take nothing;
@@ -33,7 +34,9 @@ use std::alloc::Global;
 ///   `WHITESPACE is non-progressing and will repeat infinitely`, at the body of the rule `WHITESPACE`; and the
 ///   same of `COMMENT`;
 /// - `rule a is left-recursive (a -> b -> a); pest::pratt_parser might be useful in this case`, at the call
-///   that closes the chain, at most once for a name.
+///   that closes the chain, at most once for a name;
+/// - `tags on silent rules will not appear in the output`, at a tag on a Silent rule, and
+///   `tags on built-in rules will not appear in the output`, at one on a builtin that is no rule's name.
 ///
 /// The only fault is a want of memory.
 pub fn validate_ast<'i>(
@@ -51,5 +54,27 @@ pub fn validate_ast<'i>(
         Err(error) => return Err(Fault::Memory(error)),
     };
     let errors = validate_rules(alloc, rules, endless.as_slice())?;
+    Ok(errors)
+}
+
+/// What is wrong with rules, as `validate_ast` tells it, where all their spans are of one text: that is walked
+/// over once for the places of all errors. The only fault is a want of memory.
+pub fn validate_ast_in<'i>(
+    alloc: Global,
+    text: &str,
+    rules: &Vec<ParserRule<'i>>,
+) -> Result<Vec<Error<Rule>>, Fault>
+    requires in_text { AreIn text.now (rule_views rules.now.items) }
+    ensures exact { IfOk result (λ errors. TellFindings (rule_views rules.now.items) errors.items) }
+    ensures accepted { IfOk result (λ errors. errors.items ≡ []
+        → IsWellFormed (rules_without_spans (rule_views rules.now.items))) }
+    ensures silent { IfOk result (λ errors. errors.items ≡ [] → AreReports (rule_views rules.now.items) []) }
+    ensures memory { IfErr result (λ fault. fault ≡ Fault.Memory alloc_error) }
+{
+    let endless = match sorted_reports(alloc, rules.as_slice()) {
+        Ok(endless) => endless,
+        Err(error) => return Err(Fault::Memory(error)),
+    };
+    let errors = validate_rules_in(alloc, text, rules, endless.as_slice())?;
     Ok(errors)
 }

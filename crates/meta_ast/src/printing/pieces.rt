@@ -4,7 +4,10 @@ ghost use Rattle.std.specs.Fmt.{WritesOnOk};
 ghost use Rattle.meta_ast.specs.Pieces.{leaf_bytes, bytes_of_parts, heft_of_parts, bytes_at, inside, piece_bytes, piece_load, Puts};
 ghost use Rattle.meta_ast.specs.PrintedBytes.{ByPlace, enclosed, predicate_bytes, sequence_bytes, choice_bytes};
 
-use super::{Counts, fmt_counts, fmt_insensitive, fmt_literal, fmt_push_literal, fmt_range, fmt_skip, fmt_slice};
+use super::{
+    Counts, fmt_counts, fmt_insensitive, fmt_literal, fmt_push_literal, fmt_range, fmt_skip,
+    fmt_slice,
+};
 use std::alloc::Global;
 use std::fmt;
 

@@ -1,4 +1,4 @@
-use Rattle.std.proofs.Common.{◌≡◌, ◌∙◌, ap}
+use Rattle.std.proofs.Common.{◌∙◌, ap}
 use Rattle.meta_validator.specs.Table.{is_set_at}
 use Rattle.meta_validator.proofs.PassingLemmas.{marked_without}
 use Rattle.meta_validator.proofs.PassingSteps.{passing_more}

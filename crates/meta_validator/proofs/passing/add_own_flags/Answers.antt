@@ -1,11 +1,11 @@
-use Rattle.std.proofs.Common.{◌≡◌, ◌∙◌, ◌<◌, ◌≤◌, ◌+◌, ◌++◌, ◌∷◌, [], ℕ, ap, sym, subst, length, slice_get, arith}
+use Rattle.std.proofs.Common.{◌≡◌, ◌∙◌, ◌≤◌, ◌+◌, ◌++◌, ◌∷◌, [], ap, sym, subst, length, slice_get, arith}
 use Rattle.std.proofs.lemmas.List.{length_push}
 use Rattle.meta_validator.specs.Levels.{own_answer_at}
 use Rattle.meta_validator.specs.Regions.{ArePassingSoFar}
 use Rattle.meta_validator.specs.Table.{is_set_at}
 use Rattle.meta_validator.proofs.PassingSteps.{passing_next, flag_before}
 use Rattle.meta_validator.proofs.RegionLemmas.{rule_at}
-use Rattle.meta_validator.proofs.Settled.{own_none, own_more}
+use Rattle.meta_validator.proofs.Settled.{own_more}
 use Rattle.meta_validator.proofs.passing.add_own_flags.Goals as goal
 
 pub loop-flags-preserved : goal.loop-flags-preserved

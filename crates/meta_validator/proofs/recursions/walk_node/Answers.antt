@@ -11,14 +11,14 @@ returns-then-called-start-clause-closes c = λ h.
     let e : called_in (slice_get facts.table.kinds.items c.args.node) ≡ Some c.in-Some.called = sym (c.in-Some.ensures ∙ ap called_in c.kind_of_node-kind.ensures) in
     let same : c.in-Some.called ≡ c.args.start = c.if-called-start.true in
     subst (λ z. IsClosing rs facts.table.roots.items c.args.start c.args.node z) (sym chain)
-    (closing rs facts c.requires.facts c.args.passing.now c.requires.passing c.args.start c.args.walk.now.entered.items c.args.node todo path state (e ∙ ap Some same))
+    (closing rs facts c.requires.facts c.args.passing.now c.requires.passing c.args.start c.args.walk.now.entered.all.items c.args.node todo path state (e ∙ ap Some same))
 
 pub walk_call-requires-clause-roots : goal.walk_call-requires-clause-roots
 walk_call-requires-clause-roots c =
     let (todo, path, state, tasks, chain) = c.requires.going in
     let facts = c.args.facts.now in
     let e : called_in (slice_get facts.table.kinds.items c.args.node) ≡ Some c.in-Some.called = sym (c.in-Some.ensures ∙ ap called_in c.kind_of_node-kind.ensures) in
-    let small = (in_range c.args.rules.now facts c.requires.facts c.args.passing.now c.requires.passing c.args.start c.args.walk.now.entered.items c.args.node todo path state c.in-Some.called e).0 in
+    let small = (in_range c.args.rules.now facts c.requires.facts c.args.passing.now c.requires.passing c.args.start c.args.walk.now.entered.all.items c.args.node todo path state c.in-Some.called e).0 in
     let d = facts.table.roots.ok.0 in
     omega arith
 
@@ -27,8 +27,8 @@ walk_call-requires-clause-flags c =
     let (todo, path, state, tasks, chain) = c.requires.going in
     let facts = c.args.facts.now in
     let e : called_in (slice_get facts.table.kinds.items c.args.node) ≡ Some c.in-Some.called = sym (c.in-Some.ensures ∙ ap called_in c.kind_of_node-kind.ensures) in
-    let small = (in_range c.args.rules.now facts c.requires.facts c.args.passing.now c.requires.passing c.args.start c.args.walk.now.entered.items c.args.node todo path state c.in-Some.called e).1 in
-    let d = c.args.walk.now.entered.ok.0 in
+    let small = (in_range c.args.rules.now facts c.requires.facts c.args.passing.now c.requires.passing c.args.start c.args.walk.now.entered.all.items c.args.node todo path state c.in-Some.called e).1 in
+    let d = c.args.walk.now.entered.all.ok.0 in
     omega arith
 
 pub returns-in_ok-walk_call-in-Some-clause-goes_on : goal.returns-in_ok-walk_call-in-Some-clause-goes_on

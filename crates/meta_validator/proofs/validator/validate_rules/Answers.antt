@@ -10,12 +10,12 @@ use Rattle.meta_validator.proofs.validator.validate_rules.Goals as goal
 
 pub returns-clause-exact : goal.returns-clause-exact
 returns-clause-exact c = record {
-  findings = findings_of c.in-Ok.found.items;
-  complete = subst (λ z. AreAllFound (rule_views z) (map piece_of c.args.endless.now) (findings_of c.in-Ok.found.items)) c.as_slice.ensures.value c.in-Ok.ensures.found;
+  findings = findings_of c.in_ok-found.found.items;
+  complete = subst (λ z. AreAllFound (rule_views z) (map piece_of c.args.endless.now) (findings_of c.in_ok-found.found.items)) c.as_slice.ensures.value c.in_ok-found.ensures.found;
   told = subst (λ z. Tell (findings_of z) c.in_ok-errors.errors.items) c.as_slice-2.ensures.value c.in_ok-errors.ensures.told;
 }
 
 pub returns-clause-accepted : goal.returns-clause-accepted
 returns-clause-accepted c = λ e.
     let told = subst (λ z. Tell (findings_of z) c.in_ok-errors.errors.items) c.as_slice-2.ensures.value c.in_ok-errors.ensures.told in
-    subst (λ z. IsWellFormed (grammar_of z)) c.as_slice.ensures.value (c.in-Ok.ensures.accepted (told_empty (findings_of c.in-Ok.found.items) c.in_ok-errors.errors.items told e))
+    subst (λ z. IsWellFormed (grammar_of z)) c.as_slice.ensures.value (c.in_ok-found.ensures.accepted (told_empty (findings_of c.in_ok-found.found.items) c.in_ok-errors.errors.items told e))

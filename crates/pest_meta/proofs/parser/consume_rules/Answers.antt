@@ -1,4 +1,4 @@
-use Rattle.std.proofs.Common.{List, ◌≡◌, ◌≢◌, [], inr, refl, rules, subst, arith}
+use Rattle.std.proofs.Common.{List, ◌≡◌, ◌≢◌, [], inr, refl, rules, subst, sym, arith}
 use Rattle.std.proofs.lemmas.Grind.{common_steps}
 use Rattle.meta_ast.specs.Ast.{rules_of}
 use Rattle.meta_base.specs.Pieces.NamedTrees.{named}
@@ -10,8 +10,10 @@ use Rattle.meta_nodes.specs.Spanned.{SpannedRule}
 use Rattle.meta_nodes.specs.Nodes.{rule_views}
 use Rattle.meta_reader.proofs.ReadableCounts.{counts_readable}
 use Rattle.meta_validator.specs.Reported.{AreReported}
+use Rattle.meta_validator.specs.Placed.{AreIn}
 use Rattle.meta_validator.proofs.NothingElse.{none_endless}
 use Rattle.pest_meta.specs.Findings.{TellFindings}
+use Rattle.pest_meta.proofs.InText.{rules_in}
 use Rattle.pest_meta.proofs.Spelled.{given}
 use Rattle.pest_meta.proofs.parser.consume_rules.Goals as goal
 
@@ -50,3 +52,11 @@ returns-in-Ok-clause-counts c =
     let read = c.in_ok-rules.ensures in
     let erased : rules_of c.in-Ok.rules.items ≡ rules_without_spans (rule_views c.in_ok-rules.rules.items) = rw c.into_inner.ensures at c.in-Ok.ensures in
     rw erased (counts_readable (pairs_text c.args.pairs) {us = named (pairs_trees c.args.pairs)} read.rules read.flawless)
+
+pub validate_ast_in-requires : goal.validate_ast_in-requires
+validate_ast_in-requires c =
+    let read = c.in_ok-rules.ensures in
+    record {
+      in_text = subst (λ z. AreIn z (rule_views c.in_ok-rules.rules.items)) (sym c.get_input-text.ensures)
+          (rules_in (pairs_text c.args.pairs) {rules = rule_views c.in_ok-rules.rules.items} read.rules);
+    }

@@ -1,0 +1,30 @@
+use Rattle.std.proofs.Common.{◌≡◌, ◌∙◌, ◌++◌, ◌∷◌, [], true, ap, sym, subst, length, slice_get, Some}
+use Rattle.std.proofs.Math.ListN.{set}
+use Rattle.std.specs.Option.{option_map}
+use Rattle.std.proofs.lemmas.Option.{slice_get-map}
+use Rattle.meta_nodes.specs.Nodes.{rule_view, rule_views}
+use Rattle.meta_validator.specs.Searching.{IsGoing}
+use Rattle.meta_validator.specs.declared.recursions.Task.TheVariants.{Visit, Leave}
+use Rattle.meta_validator.proofs.ReportingLemmas.{got_within}
+use Rattle.meta_validator.proofs.WalkSteps.{begun_going}
+use Rattle.meta_validator.proofs.recursions.begin.Goals as goal
+
+pub returns : goal.returns
+returns c =
+    let rs = c.args.rules.now in
+    let facts = c.args.facts.now in
+    let roots = facts.table.roots.items in
+    let start = c.args.start in
+    let root = c.root_at-root.result in
+    let old = c.args.walk.now in
+    let idle = c.requires.idle in
+    let flags = old.entered.all.items in
+    let long : length flags ≡ length roots = idle.alike ∙ sym c.requires.facts.table.alike in
+    let (rule, at) = got_within rs start c.requires.inside in
+    let here : slice_get (rule_views rs) start ≡ Some (rule_view rule) = slice_get-map rule_view rs start ∙ ap (option_map rule_view) at in
+    let going = begun_going rs facts c.requires.facts start root (rule_view rule) flags long idle.entered here (c.requires.last (rule_view rule) here) c.root_at-root.ensures in
+    let new = c.enter_rule.new.walk in
+    let told = c.in_ok-enter_rule.ensures in
+    subst (λ z. IsGoing rs roots start z new.tasks.items new.chain.items) (sym told.entered)
+    (subst (λ z. IsGoing rs roots start (set flags start true) z new.chain.items) (sym (told.tasks ∙ ap (λ z. (z ++ Leave ∷ []) ++ Visit root ∷ []) idle.tasks))
+    (subst (λ z. IsGoing rs roots start (set flags start true) (([] ++ Leave ∷ []) ++ Visit root ∷ []) z) (sym (told.chain ∙ ap (λ z. z ++ start ∷ []) idle.chain)) going))

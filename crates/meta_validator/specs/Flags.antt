@@ -1,0 +1,12 @@
+-- Flags that are set one by one and unset together.
+use Rattle.std.specs.Prelude.{◌≡◌, ℕ, List, Bool, false}
+use Rattle.std.specs.List.{Contains}
+use Rattle.meta_validator.specs.Table.{is_set_at}
+
+-- no flag is set
+abbrev pub NoneSet : List Bool → Type 0
+NoneSet flags = (k : ℕ) → is_set_at flags k ≡ false
+
+-- only these are set
+abbrev pub AreNoted : List ℕ → List Bool → Type 0
+AreNoted noted flags = (k : ℕ) → (Contains noted k → ⊥) → is_set_at flags k ≡ false
