@@ -101,6 +101,13 @@ impl<R> fmt::Display for Error<R> {
 }
 
 impl<R> Error<R> {
+    /// The line of the text on which the error begins, as it prints it: without any `\r` and `\n`.
+    pub fn line(&self) -> &str
+        ensures { result.now ≡ error_line self.now }
+    {
+        self.line.as_str()
+    }
+
     /// The error `variant` at `span`: its places are those of the span's start and end, and it prints
     /// the line on which the span begins. The only fault is a want of memory.
     pub fn new_from_span(

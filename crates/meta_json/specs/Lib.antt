@@ -1,0 +1,5 @@
+pub mod Errors
+pub mod Format
+pub mod Nodes
+pub mod Reading
+pub mod Refusals

@@ -1,0 +1,160 @@
+//! Expressions as lists of nodes, each before its operands, and read back. No nesting takes depth of the stack.
+ghost use Rattle.std.specs.Prelude.{◌≡◌, ◌<◌, ◌+◌, ◌++◌, ℕ, List, [], ◌∷◌, IfOk, OnOk, map};
+ghost use Rattle.serde_json.specs.Data.{Data};
+ghost use Rattle.serde_json.specs.View.{view};
+ghost use Rattle.meta_json.specs.Nodes.{heft_now, heft_of_operands, in_turn, node_data, nodes_of_operands, now_in_turn};
+
+use crate::nodes::Node;
+use crate::refusal::{Unread, Why};
+use meta_ast::deep::{Deep, Release};
+use serde_json::Value;
+use std::alloc::{AllocError, Global};
+
+/// The operands of a node.
+#[derive(Clone, Copy)]
+pub(crate) enum Operands<'a, E> {
+    None,
+    One(&'a E),
+    Two(&'a E, &'a E),
+}
+
+/// Expressions that are written as nodes.
+pub(crate) trait AsNodes: Release {
+    // what is written of an expression
+    ghost nodes: { Self → List Data };
+
+    // how much there is to be written
+    ghost heft: { Self → ℕ };
+
+    /// The node at the top of an expression, and its operands.
+    fn top(&self, alloc: Global) -> Result<(Node<'_>, Operands<'_, Self>), AllocError>
+        ensures written { IfOk result
+            (λ top. node_data top.0 ∷ nodes_of_operands nodes top.1 ≡ nodes self.now) }
+        ensures lighter { IfOk result (λ top. heft_of_operands heft top.1 < heft self.now) };
+
+    /// The expression of a node with the first of these operands, the last of which comes first. It takes those
+    /// that it needs.
+    fn of_node(
+        alloc: Global,
+        node: Node<'_>,
+        operands: &mut Deep<Vec<Self>>,
+    ) -> Result<Self, Unread>
+        ensures { IfOk result (λ expr. nodes expr ++ in_turn nodes operands.new.value.items
+            ≡ node_data node.entry ∷ in_turn nodes operands.old.value.items) };
+}
+
+/// The nodes of an expression, as values.
+#[tactic(auto, using(crate::proofs::Turns::now_in_turn_last, crate::proofs::Turns::heft_now_last))]
+pub(crate) fn nodes_of<E: AsNodes>(alloc: Global, expr: &E) -> Result<Vec<Value>, AllocError>
+    ensures { IfOk result (λ values. map view values.items ≡ E.nodes expr.now) }
+{
+    let mut values = Vec::new(alloc);
+    let mut waiting = Vec::new(alloc);
+    waiting.push(expr)?;
+    while let Some(next) = waiting.pop() {
+        let (node, operands) = next.top(alloc)?;
+        values.push(node.to_value(alloc)?)?;
+        put(&mut waiting, operands)?;
+    }
+    Ok(values)
+}
+
+/// Puts operands on a list, the first of them last.
+#[tactic(auto, using(crate::proofs::Turns::now_in_turn_last, crate::proofs::Turns::now_in_turn_last_two, crate::proofs::Turns::heft_now_last))]
+fn put<'a, E: AsNodes>(
+    waiting: &mut Vec<&'a E>,
+    operands: Operands<'a, E>,
+) -> Result<(), AllocError>
+    ensures nodes { OnOk result (now_in_turn E.nodes waiting.new.items
+        ≡ nodes_of_operands E.nodes operands.entry ++ now_in_turn E.nodes waiting.old.items) }
+    ensures heft { OnOk result (heft_now E.heft waiting.new.items
+        ≡ heft_of_operands E.heft operands.entry + heft_now E.heft waiting.old.items) }
+{
+    match operands {
+        Operands::None => Ok(()),
+        Operands::One(operand) => {
+            waiting.push(operand)?;
+            Ok(())
+        }
+        Operands::Two(left, right) => {
+            waiting.push(right)?;
+            waiting.push(left)?;
+            Ok(())
+        }
+    }
+}
+
+/// The expression whose nodes these values are.
+#[tactic(auto, using(crate::proofs::Turns::in_turn_last))]
+pub(crate) fn expression_of<E: AsNodes>(alloc: Global, nodes: &[Value]) -> Result<E, Unread>
+    ensures { IfOk result (λ expr. E.nodes expr ≡ map view nodes.now) }
+{
+    let mut operands = Deep {
+        value: Vec::new(alloc),
+    };
+    let mut rest = nodes;
+    while let Some((last, before)) = rest.split_last() {
+        match expression_with(alloc, last, &mut operands) {
+            Ok(()) => rest = before,
+            Err(why) => return Err(why.at_node(before.len())),
+        }
+    }
+    match operands.value.pop() {
+        Some(expr) if operands.value.is_empty() => Ok(expr),
+        Some(expr) => {
+            expr.release();
+            Err(Unread::Why(Why::Left))
+        }
+        None => Err(Unread::Why(Why::Body)),
+    }
+}
+
+/// Puts the expression of a node with the first of these operands in their place.
+#[tactic(auto, using(crate::proofs::Turns::in_turn_last))]
+fn expression_with<E: AsNodes>(
+    alloc: Global,
+    node: &Value,
+    operands: &mut Deep<Vec<E>>,
+) -> Result<(), Unread>
+    ensures { OnOk result (in_turn E.nodes operands.new.value.items
+        ≡ view node.now ∷ in_turn E.nodes operands.old.value.items) }
+{
+    let expr = E::of_node(alloc, Node::of_value(alloc, node)?, operands)?;
+    operands.push(Deep { value: expr })?;
+    Ok(())
+}
+
+/// Takes the first of these operands, in a box that is let go by a loop.
+fn operand<E: Release>(alloc: Global, operands: &mut Deep<Vec<E>>) -> Result<Deep<Box<E>>, Unread>
+    ensures { IfOk result (λ taken. operands.old.value.items
+        ≡ operands.new.value.items ++ (taken.value.value ∷ [])) }
+{
+    match operands.value.pop() {
+        Some(expr) => Ok(Deep { value: expr }.boxed(alloc)?),
+        None => Err(Unread::Why(Why::Operands)),
+    }
+}
+
+/// Takes the first of these operands, in a box.
+pub(crate) fn one_operand<E: Release>(
+    alloc: Global,
+    operands: &mut Deep<Vec<E>>,
+) -> Result<Box<E>, Unread>
+    ensures { IfOk result (λ taken. operands.old.value.items
+        ≡ operands.new.value.items ++ (taken.value ∷ [])) }
+{
+    Ok(operand(alloc, operands)?.into_inner())
+}
+
+/// Takes the first two of these operands, each in a box.
+pub(crate) fn two_operands<E: Release>(
+    alloc: Global,
+    operands: &mut Deep<Vec<E>>,
+) -> Result<(Box<E>, Box<E>), Unread>
+    ensures { IfOk result (λ taken. operands.old.value.items
+        ≡ (operands.new.value.items ++ (taken.1.value ∷ [])) ++ (taken.0.value ∷ [])) }
+{
+    let left = operand(alloc, operands)?;
+    let right = operand(alloc, operands)?;
+    Ok((left.into_inner(), right.into_inner()))
+}

@@ -1,0 +1,18 @@
+//! Rules, names, errors and tokens as JSON, and rules read back; docs/FORMAT.md has the format.
+#![tactic(auto)]
+
+mod answers;
+mod ast;
+mod errors;
+mod expressions;
+mod nodes;
+mod optimized;
+mod refusal;
+mod rule_names;
+mod rules;
+
+pub use answers::answer_text;
+pub use errors::{errors_text, names_text};
+pub use refusal::{Place, Refusal, Why, refusal_text};
+pub use rule_names::{rule_name, rule_named};
+pub use rules::{optimized_rules_text, read_optimized_rules, read_rules, rules_text};

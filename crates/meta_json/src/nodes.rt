@@ -1,0 +1,256 @@
+//! Nodes of expressions as JSON: a list of a form's name and its arguments.
+ghost use Rattle.std.specs.Prelude.{◌≡◌, IfOk, codes};
+ghost use Rattle.serde_json.specs.Data.{array, item, string};
+ghost use Rattle.serde_json.specs.View.{items_view, view};
+ghost use Rattle.meta_json.specs.Format.{count_data, end_data, form as form_data, form_with, form_with_two, place_data, texts_data};
+ghost use Rattle.meta_json.specs.Nodes.{node_data};
+
+use crate::refusal::{Unread, Why};
+use serde_json::{Value, json};
+use std::alloc::{AllocError, Global};
+
+/// A node of an expression: its form and its arguments, without its operands.
+#[derive(Debug, Drop)]
+pub(crate) enum Node<'a> {
+    Str(&'a str),
+    Insens(&'a str),
+    Range(&'a str, &'a str),
+    Ident(&'a str),
+    PeekSlice(i32, Option<i32>),
+    PosPred,
+    NegPred,
+    Seq,
+    Choice,
+    Opt,
+    Rep,
+    RepOnce,
+    RepExact(u32),
+    RepMin(u32),
+    RepMax(u32),
+    RepMinMax(u32, u32),
+    Skip(Vec<String>),
+    Push,
+    PushLiteral(&'a str),
+    NodeTag(&'a str),
+    RestoreOnErr,
+}
+
+impl<'a> Node<'a> {
+    /// The node as a value.
+    pub(crate) fn to_value(&self, alloc: Global) -> Result<Value, AllocError>
+        ensures { IfOk result (λ value. view value ≡ node_data self.now) }
+    {
+        match self {
+            Node::Str(text) => with_text(alloc, "str", text),
+            Node::Insens(text) => with_text(alloc, "insens", text),
+            Node::Range(low, high) => json!(in alloc; ["range", *low, *high]),
+            Node::Ident(name) => with_text(alloc, "ident", name),
+            Node::PeekSlice(start, end) => slice_value(alloc, *start, *end),
+            Node::PosPred => alone(alloc, "pos_pred"),
+            Node::NegPred => alone(alloc, "neg_pred"),
+            Node::Seq => alone(alloc, "seq"),
+            Node::Choice => alone(alloc, "choice"),
+            Node::Opt => alone(alloc, "opt"),
+            Node::Rep => alone(alloc, "rep"),
+            Node::RepOnce => alone(alloc, "rep_once"),
+            Node::RepExact(count) => with_count(alloc, "rep_exact", *count),
+            Node::RepMin(least) => with_count(alloc, "rep_min", *least),
+            Node::RepMax(greatest) => with_count(alloc, "rep_max", *greatest),
+            Node::RepMinMax(least, greatest) => json!(in alloc; ["rep_min_max", *least, *greatest]),
+            Node::Skip(texts) => skip_value(alloc, texts),
+            Node::Push => alone(alloc, "push"),
+            Node::PushLiteral(text) => with_text(alloc, "push_literal", text),
+            Node::NodeTag(tag) => with_text(alloc, "node_tag", tag),
+            Node::RestoreOnErr => alone(alloc, "restore_on_err"),
+        }
+    }
+
+    /// The node that a value is.
+    pub(crate) fn of_value(alloc: Global, value: &'a Value) -> Result<Node<'a>, Unread>
+        ensures { IfOk result (λ node. node_data node ≡ view value.now) }
+    {
+        let Some(parts) = value.as_array() else {
+            return Err(Unread::Why(Why::Node));
+        };
+        let [form, arguments @ ..] = parts.as_slice() else {
+            return Err(Unread::Why(Why::Node));
+        };
+        match form.as_str() {
+            Some(form) => node_of(alloc, form, arguments),
+            None => Err(Unread::Why(Why::Node)),
+        }
+    }
+}
+
+/// A form without arguments.
+fn alone(alloc: Global, form: &str) -> Result<Value, AllocError>
+    ensures { IfOk result (λ value. view value ≡ form_data form.now) }
+{
+    json!(in alloc; [form])
+}
+
+/// A form with a text.
+fn with_text(alloc: Global, form: &str, text: &str) -> Result<Value, AllocError>
+    ensures { IfOk result (λ value. view value ≡ form_with form.now (string text.now)) }
+{
+    json!(in alloc; [form, text])
+}
+
+/// A form with a count.
+fn with_count(alloc: Global, form: &str, count: u32) -> Result<Value, AllocError>
+    ensures { IfOk result (λ value. view value ≡ form_with form.now (count_data count)) }
+{
+    json!(in alloc; [form, count])
+}
+
+/// A slice of the stack.
+fn slice_value(alloc: Global, start: i32, end: Option<i32>) -> Result<Value, AllocError>
+    ensures { IfOk result (λ value. view value
+        ≡ form_with_two (codes "peek_slice") (place_data start) (end_data end)) }
+{
+    match end {
+        Some(end) => json!(in alloc; ["peek_slice", start, end]),
+        None => json!(in alloc; ["peek_slice", start, null]),
+    }
+}
+
+/// A search for one of the texts.
+fn skip_value(alloc: Global, texts: &[String]) -> Result<Value, AllocError>
+    ensures { IfOk result (λ value. view value ≡ form_with (codes "skip") (texts_data texts.now)) }
+{
+    let mut values = Vec::new(alloc);
+    for text in texts {
+        values.push(Value::try_from_str(alloc, text.as_str())?)?;
+    }
+    json!(in alloc; ["skip", Value::Array(values)])
+}
+
+/// The node of that form with these arguments.
+fn node_of<'a>(alloc: Global, form: &'a str, arguments: &'a [Value]) -> Result<Node<'a>, Unread>
+    ensures { IfOk result (λ node. node_data node
+        ≡ array (item (string form.now) (items_view arguments.now))) }
+{
+    match arguments {
+        [] => node_alone(form),
+        [one] => node_with(alloc, form, one),
+        [first, second] => node_with_two(form, first, second),
+        _ => Err(Unread::Why(Why::Form)),
+    }
+}
+
+/// The node of that form without arguments.
+fn node_alone<'a>(form: &'a str) -> Result<Node<'a>, Unread>
+    ensures { IfOk result (λ node. node_data node ≡ form_data form.now) }
+{
+    match form {
+        "pos_pred" => Ok(Node::PosPred),
+        "neg_pred" => Ok(Node::NegPred),
+        "seq" => Ok(Node::Seq),
+        "choice" => Ok(Node::Choice),
+        "opt" => Ok(Node::Opt),
+        "rep" => Ok(Node::Rep),
+        "rep_once" => Ok(Node::RepOnce),
+        "push" => Ok(Node::Push),
+        "restore_on_err" => Ok(Node::RestoreOnErr),
+        _ => Err(Unread::Why(Why::Form)),
+    }
+}
+
+/// The node of that form with one argument.
+fn node_with<'a>(alloc: Global, form: &'a str, one: &'a Value) -> Result<Node<'a>, Unread>
+    ensures { IfOk result (λ node. node_data node
+        ≡ form_with form.now (view one.now)) }
+{
+    match form {
+        "str" => Ok(Node::Str(text_of(one)?)),
+        "insens" => Ok(Node::Insens(text_of(one)?)),
+        "ident" => Ok(Node::Ident(text_of(one)?)),
+        "push_literal" => Ok(Node::PushLiteral(text_of(one)?)),
+        "node_tag" => Ok(Node::NodeTag(text_of(one)?)),
+        "rep_exact" => Ok(Node::RepExact(count_of(one)?)),
+        "rep_min" => Ok(Node::RepMin(count_of(one)?)),
+        "rep_max" => Ok(Node::RepMax(count_of(one)?)),
+        "skip" => Ok(Node::Skip(texts_of(alloc, one)?)),
+        _ => Err(Unread::Why(Why::Form)),
+    }
+}
+
+/// The node of that form with two arguments.
+fn node_with_two<'a>(form: &'a str, first: &'a Value, second: &'a Value) -> Result<Node<'a>, Unread>
+    ensures { IfOk result (λ node. node_data node
+        ≡ form_with_two form.now (view first.now) (view second.now)) }
+{
+    match form {
+        "range" => Ok(Node::Range(text_of(first)?, text_of(second)?)),
+        "rep_min_max" => Ok(Node::RepMinMax(count_of(first)?, count_of(second)?)),
+        "peek_slice" => Ok(Node::PeekSlice(index_of(first)?, end_of(second)?)),
+        _ => Err(Unread::Why(Why::Form)),
+    }
+}
+
+/// A value that is a text.
+fn text_of(value: &Value) -> Result<&str, Unread>
+    ensures { IfOk result (λ text. string text.now ≡ view value.now) }
+{
+    match value.as_str() {
+        Some(text) => Ok(text),
+        None => Err(Unread::Why(Why::Form)),
+    }
+}
+
+/// A value that is a number of 32 bits.
+fn count_of(value: &Value) -> Result<u32, Unread>
+    ensures { IfOk result (λ count. count_data count ≡ view value.now) }
+{
+    match value.as_u64() {
+        Some(count) if count <= u64::from(u32::MAX) => Ok(count as u32),
+        _ => Err(Unread::Why(Why::Form)),
+    }
+}
+
+/// A value that is a number of 32 bits, with a sign.
+fn index_of(value: &Value) -> Result<i32, Unread>
+    ensures { IfOk result (λ index. place_data index ≡ view value.now) }
+{
+    match value.as_i64() {
+        Some(index) if i64::from(i32::MIN) <= index && index <= i64::from(i32::MAX) => Ok(
+            index as i32,
+        ),
+        _ => Err(Unread::Why(Why::Form)),
+    }
+}
+
+/// A value that is such a number, or null.
+fn end_of(value: &Value) -> Result<Option<i32>, Unread>
+    ensures { IfOk result (λ end. end_data end ≡ view value.now) }
+{
+    match value {
+        Value::Null => Ok(None),
+        _ => Ok(Some(index_of(value)?)),
+    }
+}
+
+/// A value that is a list of texts.
+fn texts_of(alloc: Global, value: &Value) -> Result<Vec<String>, Unread>
+    ensures { IfOk result (λ texts. texts_data texts.items ≡ view value.now) }
+{
+    let Some(values) = value.as_array() else {
+        return Err(Unread::Why(Why::Form));
+    };
+    let mut texts = Vec::new(alloc);
+    for value in values {
+        texts.push(String::from_str(alloc, text_of(value)?)?)?;
+    }
+    Ok(texts)
+}
+
+/// The same texts again.
+pub(crate) fn copies(alloc: Global, texts: &[String]) -> Result<Vec<String>, AllocError>
+    ensures { IfOk result (λ copies. texts_data copies.items ≡ texts_data texts.now) }
+{
+    let mut copies = Vec::new(alloc);
+    for text in texts {
+        copies.push(String::from_str(alloc, text.as_str())?)?;
+    }
+    Ok(copies)
+}

@@ -1,0 +1,219 @@
+//! Lists of rules as JSON, and read back.
+ghost use Rattle.std.specs.Prelude.{◌≡◌, IfOk, Some, codes, string_bytes};
+ghost use Rattle.serde_json.specs.Data.{array, string};
+ghost use Rattle.serde_json.specs.Find.{get};
+ghost use Rattle.serde_json.specs.Read.{read};
+ghost use Rattle.serde_json.specs.View.{items_view, view};
+ghost use Rattle.serde_json.specs.Written.{compact_text};
+ghost use Rattle.meta_json.specs.Format.{optimized_rules_data, rule_data, rules_data, type_name};
+ghost use Rattle.meta_json.specs.Reading.{AreOptimizedRules, AreRules, members_of, members_of_optimized, members_of_rule, rule_members};
+
+use crate::expressions::{AsNodes, expression_of, nodes_of};
+use crate::refusal::{Place, Refusal, Unread, Why};
+use meta_ast::ast::{Rule, RuleType};
+use meta_ast::deep::Deep;
+use meta_ast::optimized::OptimizedRule;
+use serde_json::{Value, json};
+use std::alloc::{AllocError, Global};
+
+/// Rules as JSON. The only error is a want of memory.
+#[tactic(auto, using(crate::proofs::Floats::rules_without_floats))]
+pub fn rules_text(alloc: Global, rules: &[Rule]) -> Result<String, AllocError>
+    ensures { IfOk result (λ text. string_bytes text ≡ compact_text (rules_data rules.now)) }
+{
+    rules_value(alloc, rules)?.to_string(alloc)
+}
+
+/// Optimized rules as JSON. The only error is a want of memory.
+#[tactic(auto, using(crate::proofs::Floats::optimized_without_floats))]
+pub fn optimized_rules_text(alloc: Global, rules: &[OptimizedRule]) -> Result<String, AllocError>
+    ensures { IfOk result (λ text. string_bytes text ≡ compact_text (optimized_rules_data rules.now)) }
+{
+    optimized_rules_value(alloc, rules)?.to_string(alloc)
+}
+
+/// Rules as a value.
+pub(crate) fn rules_value(alloc: Global, rules: &[Rule]) -> Result<Value, AllocError>
+    ensures { IfOk result (λ value. view value ≡ rules_data rules.now) }
+{
+    let mut values = Vec::new(alloc);
+    for rule in rules {
+        values.push(rule_value(alloc, rule.name.as_str(), rule.ty, &rule.expr)?)?;
+    }
+    Ok(Value::Array(values))
+}
+
+/// Optimized rules as a value.
+pub(crate) fn optimized_rules_value(
+    alloc: Global,
+    rules: &[OptimizedRule],
+) -> Result<Value, AllocError>
+    ensures { IfOk result (λ value. view value ≡ optimized_rules_data rules.now) }
+{
+    let mut values = Vec::new(alloc);
+    for rule in rules {
+        values.push(rule_value(alloc, rule.name.as_str(), rule.ty, &rule.expr)?)?;
+    }
+    Ok(Value::Array(values))
+}
+
+/// A rule as a value.
+fn rule_value<E: AsNodes>(
+    alloc: Global,
+    name: &str,
+    ty: RuleType,
+    body: &E,
+) -> Result<Value, AllocError>
+    ensures { IfOk result (λ value. view value ≡ rule_data name.now ty (E.nodes body.now)) }
+{
+    let nodes = nodes_of(alloc, body)?;
+    json!(in alloc; {"expr": Value::Array(nodes), "name": name, "type": name_of_type(ty)})
+}
+
+/// The name of a type.
+fn name_of_type(ty: RuleType) -> &'static str
+    ensures { result.now ≡ type_name ty }
+{
+    match ty {
+        RuleType::Normal => "normal",
+        RuleType::Silent => "silent",
+        RuleType::Atomic => "atomic",
+        RuleType::CompoundAtomic => "compound_atomic",
+        RuleType::NonAtomic => "non_atomic",
+    }
+}
+
+/// The rules that a text in JSON has. Refused for want of memory; where the text is no JSON, or no list; and at the
+/// first object that is no rule.
+pub fn read_rules(alloc: Global, text: &str) -> Result<Vec<Rule>, Refusal>
+    ensures { IfOk result (λ rules. AreRules text.now rules.items) }
+{
+    let value = value_of(alloc, text)?;
+    let values = values_of(&value)?;
+    let mut rules = Deep {
+        value: Vec::new(alloc),
+    };
+    for (place, value) in values.iter().enumerate() {
+        let rule = Deep {
+            value: rule_of(alloc, value, place)?,
+        };
+        rules.push(rule)?;
+    }
+    Ok(rules.into_inner())
+}
+
+/// The optimized rules that a text in JSON has. It is refused as by `read_rules`.
+pub fn read_optimized_rules(alloc: Global, text: &str) -> Result<Vec<OptimizedRule>, Refusal>
+    ensures { IfOk result (λ rules. AreOptimizedRules text.now rules.items) }
+{
+    let value = value_of(alloc, text)?;
+    let values = values_of(&value)?;
+    let mut rules = Deep {
+        value: Vec::new(alloc),
+    };
+    for (place, value) in values.iter().enumerate() {
+        let rule = Deep {
+            value: optimized_rule_of(alloc, value, place)?,
+        };
+        rules.push(rule)?;
+    }
+    Ok(rules.into_inner())
+}
+
+/// The value of a text in JSON.
+fn value_of(alloc: Global, text: &str) -> Result<Value, Refusal>
+    ensures { IfOk result (λ value. read text.now ≡ Some (view value)) }
+{
+    match Value::from_str(alloc, text) {
+        Ok(value) => Ok(value),
+        Err(error) if error.is_memory() => Err(Refusal::Memory),
+        Err(error) => Err(Refusal::Text(Place::Text(error.line(), error.column()), Why::Json)),
+    }
+}
+
+/// The values of a list.
+fn values_of(value: &Value) -> Result<&Vec<Value>, Refusal>
+    ensures { IfOk result (λ values. view value.now ≡ array (items_view values.now.items)) }
+{
+    match value {
+        Value::Array(values) => Ok(values),
+        _ => Err(Refusal::Text(Place::List, Why::NoList)),
+    }
+}
+
+/// The rule that a value is, the one of that number.
+fn rule_of(alloc: Global, value: &Value, place: usize) -> Result<Rule, Refusal>
+    ensures { IfOk result (λ rule. members_of (view value.now) ≡ members_of_rule rule) }
+{
+    match parts_of(alloc, value) {
+        Ok((name, ty, expr)) => Ok(Rule { name, ty, expr }),
+        Err(why) => Err(why.in_rule(place)),
+    }
+}
+
+/// The optimized rule that a value is, the one of that number.
+fn optimized_rule_of(alloc: Global, value: &Value, place: usize) -> Result<OptimizedRule, Refusal>
+    ensures { IfOk result (λ rule. members_of (view value.now) ≡ members_of_optimized rule) }
+{
+    match parts_of(alloc, value) {
+        Ok((name, ty, expr)) => Ok(OptimizedRule { name, ty, expr }),
+        Err(why) => Err(why.in_rule(place)),
+    }
+}
+
+/// A rule's name, type and body.
+fn parts_of<E: AsNodes>(alloc: Global, value: &Value) -> Result<(String, RuleType, E), Unread>
+    ensures { IfOk result (λ parts. members_of (view value.now)
+        ≡ rule_members (string_bytes parts.0) parts.1 (E.nodes parts.2)) }
+{
+    let name = String::from_str(alloc, name_in(value)?)?;
+    let ty = type_in(value)?;
+    let nodes = nodes_in(value)?;
+    let body = expression_of(alloc, nodes.as_slice())?;
+    Ok((name, ty, body))
+}
+
+/// A rule's name.
+fn name_in(value: &Value) -> Result<&str, Unread>
+    ensures { IfOk result (λ name. get (codes "name") (view value.now) ≡ Some (string name.now)) }
+{
+    match value.get("name") {
+        Some(Value::String(name)) => Ok(name.as_str()),
+        _ => Err(Unread::Why(Why::Name)),
+    }
+}
+
+/// A rule's type.
+fn type_in(value: &Value) -> Result<RuleType, Unread>
+    ensures { IfOk result (λ ty. get (codes "type") (view value.now) ≡ Some (string (type_name ty))) }
+{
+    match value.get("type") {
+        Some(Value::String(name)) => type_named(name.as_str()),
+        _ => Err(Unread::Why(Why::Type)),
+    }
+}
+
+/// A rule's nodes.
+fn nodes_in(value: &Value) -> Result<&Vec<Value>, Unread>
+    ensures { IfOk result (λ nodes. get (codes "expr") (view value.now)
+        ≡ Some (array (items_view nodes.now.items))) }
+{
+    match value.get("expr") {
+        Some(Value::Array(nodes)) => Ok(nodes),
+        _ => Err(Unread::Why(Why::Body)),
+    }
+}
+
+/// The type of that name.
+fn type_named(name: &str) -> Result<RuleType, Unread>
+    ensures { IfOk result (λ ty. name.now ≡ type_name ty) }
+{
+    match name {
+        "normal" => Ok(RuleType::Normal),
+        "silent" => Ok(RuleType::Silent),
+        "atomic" => Ok(RuleType::Atomic),
+        "compound_atomic" => Ok(RuleType::CompoundAtomic),
+        "non_atomic" => Ok(RuleType::NonAtomic),
+        _ => Err(Unread::Why(Why::Type)),
+    }
+}
