@@ -15,12 +15,12 @@ static ALL: [Growth; 13] = [
     Growth {
         shape: "beside",
         stage: "validate_rules",
-        size: 2500,
+        size: 10000,
     },
     Growth {
         shape: "itself",
         stage: "consume_rules",
-        size: 2500,
+        size: 10000,
     },
     Growth {
         shape: "crossing",
@@ -35,12 +35,12 @@ static ALL: [Growth; 13] = [
     Growth {
         shape: "passed",
         stage: "optimize",
-        size: 10000,
+        size: 20000,
     },
     Growth {
         shape: "literals",
         stage: "concatenate",
-        size: 10000,
+        size: 40000,
     },
     Growth {
         shape: "copied",

@@ -127,11 +127,11 @@ pub fn parse<'i>(alloc: Global, rule: Rule, text: &'i str) -> Result<Pairs<'i, R
 /// follows in its term. A bar before the first alternative and a comment that documents say
 /// nothing. A slice without its first number starts at 0, and one without its second has no end.
 ///
-/// A rule stands where its name does, and a node without operands where it is written. A choice or
-/// a sequence reaches from the start of its left operand to the end of its right one, and a postfix
-/// operator from the start of its operand to its own end. A predicate, a tag and `PUSH` begin where
-/// they are written, and end where their operand does; a literal push stands where its string does. An expression in parentheses ends with the second
-/// of them; and with all postfix operators behind them it begins with the first.
+/// A rule stands where its name does, and a node without operands where it is written. A choice or a sequence
+/// reaches from the start of its left operand to the end of its right one, and a postfix operator from the
+/// start of its operand to its own end. A predicate, a tag and `PUSH` begin where they are written, and end
+/// where their operand does; a literal push stands where its string does. An expression in parentheses ends
+/// with the second of them; and with all postfix operators behind them it begins with the first.
 ///
 /// The first flaw of a text is told, reading from left to right and a tree before those in it: the
 /// fault holds one error with a message of its own, at the span of the piece that is wrong:
