@@ -1,0 +1,2 @@
+pub mod FlatLines
+pub mod BuiltTrees

@@ -1,0 +1,4 @@
+pub mod Shown
+pub mod Flat
+pub mod Values
+pub mod Built

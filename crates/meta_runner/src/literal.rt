@@ -1,0 +1,20 @@
+//! Texts between quotes.
+ghost use Rattle.std.specs.Prelude.{Some, encode_utf8_all};
+ghost use Rattle.std.specs.Str.{chars};
+ghost use Rattle.meta_ast.specs.Printing.{literal};
+
+use meta_ast::printing::fmt_literal;
+use std::fmt;
+
+/// A text that is written between quotes, as a literal of a grammar is: a quote and a backslash stand behind a
+/// backslash, and control characters are written by a letter or by their number, as Rust's `Debug` writes them.
+#[derive(Clone, Copy, Debug)]
+pub struct Literal<'a>(pub &'a str);
+
+impl fmt::Display for Literal<'_> {
+    ghost output = { λ l. Some (encode_utf8_all (literal 34 (chars l.0.now))) };
+
+    fn fmt<W: fmt::Write>(&self, f: &mut fmt::Formatter<W>) -> fmt::Result {
+        fmt_literal(f, self.0, '"')
+    }
+}

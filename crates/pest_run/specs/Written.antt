@@ -1,0 +1,49 @@
+-- What the program writes.
+use Rattle.std.specs.Prelude.{◌≡◌, ℕ, List, [], ◌∷◌, ◌++◌, Option, None, Result, OnOk, IsUtf8, codes}
+use Rattle.std.specs.Borrow.{Bor}
+use Rattle.std.specs.Io.KnownBytes.{Appends}
+use Rattle.meta_ast.specs.Optimized.{optimized_rules_of}
+use Rattle.meta_ast.specs.declared.optimized.OptimizedRule.{OptimizedRule}
+use Rattle.meta_base.specs.declared.grammar.Rule.{Rule}
+use Rattle.meta_base.specs.declared.runtime.errors.Error.{Error}
+use Rattle.pest_meta.specs.Reports.{report_text}
+use Rattle.pest_meta.specs.Spelling.{IsAnswer, IsRefusedWith}
+use Rattle.pest_run.specs.Outcomes.{HasFailed, HasNoRule, IsShown}
+use Rattle.pest_run.specs.declared.arguments.Format.{Format}
+use Rattle.pest_run.specs.declared.run.Source.{Source}
+
+-- the file could be read, and is text
+abbrev pub IsReadable : Source → Type 0
+IsReadable source = (source.why ≡ None) × IsUtf8 source.bytes.items
+
+-- unless a write was refused, what the writer holds grew by the message and a line feed
+abbrev pub TellsLine : {X E : Type 0} → List ℕ → Result X E → Option (List ℕ) → Option (List ℕ) → Type 0
+TellsLine message written old new = OnOk written (Appends old new (message ++ 10 ∷ []))
+
+-- there is an answer for the grammar, its rule matches the text, and what the writer holds grew by the trees
+pub record PrintsTrees (grammar rule text : List ℕ) (format : Format) (old new : Option (List ℕ)) : Type 0 where
+  pub builtins : List (Bor (List ℕ))
+  pub rules : List OptimizedRule
+  pub answers : IsAnswer grammar builtins rules
+  pub lines : List ℕ
+  pub shows : IsShown (optimized_rules_of rules) rule text format lines
+  pub gained : Appends old new lines
+
+-- why there are no trees, and the text that says so: the grammar is refused, and its report is the text; or
+-- it has an answer, and in that no rule has the name; or the rule fails, and the place of that is shown
+pub data IsReason (grammar rule text : List ℕ) : List ℕ → Type 0 where
+  refused : (errors : List (Error Rule)) → IsRefusedWith grammar errors
+      → IsReason grammar rule text (report_text errors)
+  no_rule : (builtins : List (Bor (List ℕ))) (rules : List OptimizedRule) → IsAnswer grammar builtins rules
+      → HasNoRule (optimized_rules_of rules) rule
+      → IsReason grammar rule text (codes "the grammar has no rule " ++ rule)
+  no_match : (builtins : List (Bor (List ℕ))) (rules : List OptimizedRule) (report : List ℕ)
+      → IsAnswer grammar builtins rules → HasFailed (optimized_rules_of rules) rule text report
+      → IsReason grammar rule text report
+
+-- there is such a reason, and it is the line
+pub record TellsReason {X E : Type 0} (grammar rule text : List ℕ) (written : Result X E)
+    (old new : Option (List ℕ)) : Type 0 where
+  pub message : List ℕ
+  pub reason : IsReason grammar rule text message
+  pub line : TellsLine message written old new

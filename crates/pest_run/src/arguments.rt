@@ -1,0 +1,48 @@
+//! The command line.
+use clap::{Arg, ArgMatches, Command};
+use std::alloc::{AllocError, Global};
+
+/// How trees are written.
+#[derive(Clone, Copy)]
+pub enum Format {
+    Text,
+    Json,
+}
+
+/// The arguments that the program takes.
+pub fn command<'a>(alloc: Global) -> Result<Command<'a>, AllocError> {
+    let format = Arg::new(alloc, "format")
+        .long("format")
+        .value_parser(["text", "json"].as_slice())
+        .default_value("text")
+        .help("How the trees are written");
+    let grammar = Arg::new(alloc, "GRAMMAR")
+        .required(true)
+        .help("The file of a grammar");
+    let rule = Arg::new(alloc, "RULE")
+        .required(true)
+        .help("The rule that the text is matched by");
+    let text = Arg::new(alloc, "TEXT")
+        .default_value("-")
+        .help("The file of the text; - is standard input");
+    Command::new(alloc, "pest-run")
+        .version("2.9.5")
+        .about("Matches a text by a rule of a pest grammar, and prints the trees")
+        .after_help(
+            "status: 0 the trees were printed, 1 the grammar is refused, has no such rule, or does not \
+             match the text, 2 out of memory, 3 a file or the command line can't be read, 4 output \
+             refused, 5 the run was stopped",
+        )
+        .arg(format)?
+        .arg(grammar)?
+        .arg(rule)?
+        .arg(text)
+}
+
+/// The format that a command line asks for.
+pub fn format_of(matches: &ArgMatches<'_>) -> Format {
+    match matches.get_str("format") {
+        Some("json") => Format::Json,
+        _ => Format::Text,
+    }
+}

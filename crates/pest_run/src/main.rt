@@ -1,0 +1,64 @@
+//! Matches a text by a rule of a grammar, and prints the trees.
+#![tactic(auto)]
+
+mod arguments;
+mod outcomes;
+mod run;
+
+use arguments::{command, format_of};
+use run::{MEMORY, Source, UNREADABLE, run_files};
+use std::alloc::AllocError;
+use std::io::Read;
+use std::process::ExitCode;
+use std::{env, fs};
+
+/// The bytes of the file of a name, or of standard input for `-`; or why they can't be read.
+fn source<'a>(rt: &HostRuntime, name: &'a str) -> Result<Source<'a>, AllocError> {
+    let alloc = rt.alloc();
+    let mut bytes = Vec::new(alloc);
+    let read = if name == "-" {
+        rt.stdin().read_to_end(&mut bytes)
+    } else {
+        fs::File::open(rt, name).and_then(|mut file| file.read_to_end(&mut bytes))
+    };
+    let why = match read {
+        Ok(_) => None,
+        Err(error) => Some(format!(in alloc; "{error}")?),
+    };
+    Ok(Source { name, bytes, why })
+}
+
+/// The status for the words of the command line.
+fn answer(rt: &HostRuntime) -> Result<u8, clap::Error> {
+    let alloc = rt.alloc();
+    let Ok(words) = env::args(rt) else {
+        return Ok(UNREADABLE);
+    };
+    let words: Vec<String> = words.collect(alloc)?;
+    let matches = match command(alloc)?.try_get_matches_from(words.as_slice()) {
+        Ok(matches) => matches,
+        Err(error) => {
+            let _ = error.print(rt);
+            return Ok(if error.use_stderr() { UNREADABLE } else { 0 });
+        }
+    };
+    let grammar = source(rt, matches.get_str("GRAMMAR").unwrap_or(""))?;
+    let text = source(rt, matches.get_str("TEXT").unwrap_or("-"))?;
+    let exit = run_files(
+        alloc,
+        &grammar,
+        matches.get_str("RULE").unwrap_or(""),
+        &text,
+        format_of(&matches),
+        &mut rt.stdout(),
+        &mut rt.stderr(),
+    );
+    Ok(exit.status)
+}
+
+fn main(rt: HostRuntime) -> ExitCode {
+    match answer(&rt) {
+        Ok(status) => ExitCode::from(status),
+        Err(_) => ExitCode::from(MEMORY),
+    }
+}

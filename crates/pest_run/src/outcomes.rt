@@ -1,0 +1,143 @@
+//! What comes of a rule on a text.
+ghost use Rattle.std.specs.Prelude.{◌≡◌, IfOk, string_bytes};
+ghost use Rattle.meta_ast.specs.Optimized.{optimized_rules_of};
+ghost use Rattle.meta_base.specs.Language.State.{Trees};
+ghost use Rattle.meta_base.specs.Pieces.Span.{position_offset, position_text};
+ghost use Rattle.meta_matcher.specs.Written.{seen};
+ghost use Rattle.meta_syntax.specs.Entries.{entries_of};
+ghost use Rattle.pest_run.specs.Outcomes.{IsNoAnswer, IsOutcome, TellsOf, failure_text, trees_text};
+
+use crate::arguments::Format;
+use meta_base::grammar::Rule;
+use meta_base::runtime::{Error, ErrorVariant, Fault, Position};
+use meta_matcher::compile::Unfit;
+use meta_matcher::entries::Entry;
+use meta_matcher::machine::Stop;
+use meta_matcher::matcher::{Found, Matcher, Refusal};
+use meta_properties::UnicodeProperties;
+use meta_runner::shown::tree_text;
+use meta_runner::values::tree_value;
+use pest_meta::optimizer::OptimizedRule;
+use std::alloc::{AllocError, Global};
+
+/// How many calls of the matcher may stand within one another.
+const DEPTH: usize = 10000;
+
+/// What comes of a rule on a text.
+#[derive(Drop)]
+pub enum Outcome {
+    /// The rule matches, and these lines show the trees.
+    Shown(String),
+    /// The rule fails, and this tells where.
+    Failed(String),
+    /// The grammar has no rule of that name.
+    NoRule,
+    /// The rules can't be run on the text, for that reason.
+    Stopped(&'static str),
+    /// Memory was wanting.
+    Memory,
+}
+
+/// What comes of the rule of a name on a text.
+pub fn outcome_of(
+    alloc: Global,
+    rules: &[OptimizedRule],
+    rule: &str,
+    text: &str,
+    format: Format,
+) -> Outcome
+    ensures { IsOutcome (optimized_rules_of rules.now) rule.now text.now format result }
+{
+    let matcher = match Matcher::new(alloc, rules, &UnicodeProperties) {
+        Ok(matcher) => matcher,
+        Err(unfit) => return unfit_outcome(unfit),
+    };
+    match matcher.parse(alloc, rule, text, DEPTH) {
+        Ok(found) => match lines_of(alloc, text, &found, format) {
+            Ok(lines) => Outcome::Shown(lines),
+            Err(_) => Outcome::Memory,
+        },
+        Err(Refusal::UnknownRule(_)) => Outcome::NoRule,
+        Err(Refusal::NoMatch(place)) => failed_outcome(alloc, text, place),
+        Err(Refusal::Stopped(stop)) => stopped_outcome(stop),
+    }
+}
+
+/// The trees that were found as text, or as a line of JSON. The only error is a want of memory.
+fn lines_of(
+    alloc: Global,
+    text: &str,
+    found: &Found<'_>,
+    format: Format,
+) -> Result<String, AllocError>
+    ensures { IfOk result (λ lines. (trees : Trees) → seen found.now.entries.items ≡ entries_of 0 trees
+        → string_bytes lines ≡ trees_text format text.now found.now.end trees) }
+{
+    match format {
+        Format::Text => tree_text(alloc, text, &found.entries),
+        Format::Json => json_line(alloc, text, &found.entries, found.end),
+    }
+}
+
+/// Trees and where they end as a line of JSON. The only error is a want of memory.
+fn json_line(
+    alloc: Global,
+    text: &str,
+    entries: &[Entry<'_>],
+    end: usize,
+) -> Result<String, AllocError>
+    ensures { IfOk result (λ line. (trees : Trees) → seen entries.now ≡ entries_of 0 trees
+        → string_bytes line ≡ trees_text Format.Json text.now end trees) }
+{
+    let value = tree_value(alloc, text, entries, end)?;
+    let mut line = value.to_string(alloc)?;
+    line.push_str("\n")?;
+    Ok(line)
+}
+
+/// What comes of a text on which the rule fails, where that is the place of the failure.
+fn failed_outcome(alloc: Global, text: &str, place: usize) -> Outcome
+    ensures { TellsOf text.now place result }
+{
+    let Some(position) = Position::new(text, place) else {
+        return Outcome::Stopped("the place of the failure is no place of the text");
+    };
+    match report_at(alloc, position) {
+        Ok(report) => Outcome::Failed(report),
+        Err(_) => Outcome::Memory,
+    }
+}
+
+/// What an error prints that stands at a place. The only error is a want of memory.
+fn report_at(alloc: Global, place: Position<'_>) -> Result<String, Fault>
+    ensures { IfOk result (λ report. string_bytes report
+        ≡ failure_text (position_text place.entry) (position_offset place.entry)) }
+{
+    let error: Error<Rule> = Error::new_from_pos(alloc, ErrorVariant::ParsingError, place)?;
+    format!(in alloc; "{error}").map_err(Fault::Memory)
+}
+
+/// What comes of a run that was stopped.
+fn stopped_outcome(stop: Stop) -> Outcome
+    ensures { IsNoAnswer result }
+{
+    match stop {
+        Stop::Memory => Outcome::Memory,
+        Stop::OutOfSteps => Outcome::Stopped("the text is nested too deep for this program"),
+        Stop::EmptyStack => Outcome::Stopped("PEEK or POP found nothing on the stack"),
+        Stop::Unsliced => Outcome::Stopped("what was matched is no part of the text"),
+    }
+}
+
+/// What comes of rules that can't be run. Rules of a grammar that is accepted can.
+fn unfit_outcome(unfit: Unfit) -> Outcome
+    ensures { IsNoAnswer result }
+{
+    match unfit {
+        Unfit::Memory => Outcome::Memory,
+        Unfit::UnknownName(_) => Outcome::Stopped("the grammar calls a rule that is not known"),
+        Unfit::Bound(_) => Outcome::Stopped(
+            "a range of the grammar has a bound that is no character",
+        ),
+    }
+}

@@ -1,0 +1,199 @@
+//! What the program does once its files are read.
+ghost use Rattle.std.specs.Prelude.{◌≡◌, ◌≢◌, ◌≤◌, ◌⊎◌, ◌↔◌, ◌++◌, IfSome, IsErr, IsOk, IsSome, OnOk, codes};
+ghost use Rattle.std.specs.Io.KnownBytes.{Appends};
+ghost use Rattle.pest_run.specs.Ends.{EndsAs, IsStatus};
+ghost use Rattle.pest_run.specs.Written.{IsReadable, PrintsTrees, TellsLine, TellsReason};
+
+use crate::arguments::Format;
+use crate::outcomes::{Outcome, outcome_of};
+use meta_ast::optimized::release;
+use pest_meta::{Report, parse_and_optimize, unwrap_or_report};
+use std::alloc::Global;
+use std::io::{self, Write};
+
+/// The trees were printed.
+const PRINTED: u8 = 0;
+/// The grammar is refused, has no such rule, or does not match the text.
+const REFUSED: u8 = 1;
+/// Want of memory.
+pub const MEMORY: u8 = 2;
+/// A file can't be read.
+pub const UNREADABLE: u8 = 3;
+/// Standard output refused a write.
+const UNWRITABLE: u8 = 4;
+/// The run was stopped.
+const STOPPED: u8 = 5;
+
+/// A file: its name, its bytes, and why they can't be read, if so.
+#[derive(Drop)]
+pub struct Source<'a> {
+    pub name: &'a str,
+    pub bytes: Vec<u8>,
+    pub why: Option<String>,
+}
+
+/// How a run ends.
+#[derive(Drop)]
+pub struct Exit {
+    /// The status that the program ends with.
+    pub status: u8,
+    /// Whether `err` took the line that it was given: an error where it refused a write.
+    pub told: io::Result<()>,
+}
+
+/// Matches a text by the rule of a name of a grammar, both as their files hold them, and prints the trees to
+/// `out`, as `run` does. A file that can't be read or is not UTF-8 is told on `err` with its name and why (3).
+pub fn run_files<W: Write, E: Write>(
+    alloc: Global,
+    grammar: &Source<'_>,
+    rule: &str,
+    text: &Source<'_>,
+    format: Format,
+    out: &mut W,
+    err: &mut E,
+) -> Exit
+    ensures known { result.status ≤ 5 }
+    ensures read { result.status ≢ 3 → IsReadable grammar.now × IsReadable text.now }
+    ensures unread { IsReadable grammar.now → IsReadable text.now → result.status ≢ 3 }
+{
+    let Some(rules) = text_of(grammar) else {
+        return unreadable(grammar, err);
+    };
+    let Some(input) = text_of(text) else {
+        return unreadable(text, err);
+    };
+    run(alloc, rules, rule, input, format, out, err)
+}
+
+/// Matches a text by the rule of a name of a grammar, and prints the trees to `out` (0).
+///
+/// Otherwise one text with a line break behind it goes to `err`: the report of a grammar that is refused, that
+/// the grammar has no such rule, or the furthest place at which the rule fails (1); `out of memory` (2);
+/// `cannot write` where `out` refuses a write (4); why the run was stopped (5). A write that `err` refuses
+/// changes no status.
+pub fn run<W: Write, E: Write>(
+    alloc: Global,
+    grammar: &str,
+    rule: &str,
+    text: &str,
+    format: Format,
+    out: &mut W,
+    err: &mut E,
+) -> Exit
+    ensures known { IsStatus result.status }
+    ensures printed { result.status ≡ 0
+        → PrintsTrees grammar.now rule.now text.now format (W.contents out.old) (W.contents out.new) }
+    ensures unprinted { result.status ≢ 0 → result.status ≢ 4 → out.new ≡ out.old }
+    ensures silent { result.status ≡ 0 → err.new ≡ err.old }
+    ensures reason { result.status ≡ 1
+        → TellsReason grammar.now rule.now text.now result.told (E.contents err.old) (E.contents err.new) }
+    ensures tells_memory { result.status ≡ 2
+        → TellsLine (codes "out of memory") result.told (E.contents err.old) (E.contents err.new) }
+    ensures tells_unwritten { result.status ≡ 4
+        → TellsLine (codes "cannot write") result.told (E.contents err.old) (E.contents err.new) }
+{
+    match unwrap_or_report(alloc, parse_and_optimize(alloc, grammar)) {
+        Ok((_, rules)) => {
+            let outcome = outcome_of(alloc, &rules, rule, text, format);
+            release(rules);
+            shown(outcome, rule, out, err)
+        }
+        Err(Report::Memory) => told(err, "out of memory", MEMORY),
+        Err(Report::Text(report)) => told(err, report.as_str(), REFUSED),
+    }
+}
+
+/// The text of a file, if it can be read and is UTF-8.
+fn text_of<'s>(source: &'s Source<'_>) -> Option<&'s str>
+    ensures readable { IsSome result ↔ IsReadable source.entry.now }
+    ensures text { IfSome result (λ text. text.now ≡ source.entry.now.bytes.items) }
+{
+    match source.why {
+        Some(_) => None,
+        None => str::from_utf8(&source.bytes).ok(),
+    }
+}
+
+/// Tells of a file that can't be read.
+fn unreadable<E: Write>(source: &Source<'_>, err: &mut E) -> Exit
+    ensures { result.status ≡ 3 }
+{
+    let why = match &source.why {
+        Some(why) => why.as_str(),
+        None => "it is not UTF-8",
+    };
+    let told = writeln!(err, "cannot read {}: {why}", source.name);
+    Exit {
+        status: UNREADABLE,
+        told,
+    }
+}
+
+/// Prints what comes of a rule, or tells why there are no trees.
+fn shown<W: Write, E: Write>(outcome: Outcome, rule: &str, out: &mut W, err: &mut E) -> Exit
+    ensures known { IsStatus result.status }
+    ensures ends { EndsAs outcome rule.now result.status result.told
+        (W.contents out.old) (W.contents out.new) (E.contents err.old) (E.contents err.new) }
+    ensures unprinted { result.status ≢ 0 → result.status ≢ 4 → out.new ≡ out.old }
+    ensures silent { result.status ≡ 0 → err.new ≡ err.old }
+    ensures tells_memory { result.status ≡ 2
+        → TellsLine (codes "out of memory") result.told (E.contents err.old) (E.contents err.new) }
+    ensures tells_unwritten { result.status ≡ 4
+        → TellsLine (codes "cannot write") result.told (E.contents err.old) (E.contents err.new) }
+{
+    match outcome {
+        Outcome::Shown(lines) => written(err, write_text(out, lines.as_str())),
+        Outcome::Failed(report) => told(err, report.as_str(), REFUSED),
+        Outcome::NoRule => no_rule(err, rule),
+        Outcome::Stopped(why) => told(err, why, STOPPED),
+        Outcome::Memory => told(err, "out of memory", MEMORY),
+    }
+}
+
+/// How a run ends where the trees were printed or a write of them was refused, which is told.
+fn written<E: Write>(err: &mut E, outcome: io::Result<()>) -> Exit
+    ensures known { (result.status ≡ 0) ⊎ (result.status ≡ 4) }
+    ensures printed { IsOk outcome → result.status ≡ 0 }
+    ensures silent { IsOk outcome → err.new ≡ err.old }
+    ensures unwritten { IsErr outcome → result.status ≡ 4 }
+    ensures tells { IsErr outcome
+        → TellsLine (codes "cannot write") result.told (E.contents err.old) (E.contents err.new) }
+{
+    match outcome {
+        Ok(()) => Exit {
+            status: PRINTED,
+            told: Ok(()),
+        },
+        Err(_) => told(err, "cannot write", UNWRITABLE),
+    }
+}
+
+/// Tells that the grammar has no rule of a name.
+fn no_rule<E: Write>(err: &mut E, rule: &str) -> Exit
+    ensures status { result.status ≡ 1 }
+    ensures tells { TellsLine (codes "the grammar has no rule " ++ rule.now) result.told
+        (E.contents err.old) (E.contents err.new) }
+{
+    let told = writeln!(err, "the grammar has no rule {rule}");
+    Exit {
+        status: REFUSED,
+        told,
+    }
+}
+
+/// Writes a message and a line break to `err`, whatever comes of it.
+fn told<E: Write>(err: &mut E, message: &str, status: u8) -> Exit
+    ensures status { result.status ≡ status }
+    ensures tells { TellsLine message.now result.told (E.contents err.old) (E.contents err.new) }
+{
+    let told = writeln!(err, "{message}");
+    Exit { status, told }
+}
+
+/// Writes a text, all of it.
+fn write_text<W: Write>(out: &mut W, text: &str) -> io::Result<()>
+    ensures { OnOk result (Appends (W.contents out.old) (W.contents out.new) text.now) }
+{
+    out.write_all(text.as_bytes())?;
+    out.flush()
+}
