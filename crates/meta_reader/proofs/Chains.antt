@@ -1,18 +1,18 @@
 -- Alternatives and sequences, read from their front.
 use Rattle.meta_reader.proofs.SpansArePieces.{piece_in}
-use Rattle.std.proofs.Common.{◌≡◌, ◌≤◌, ◌<◌, ℕ, List, None, refl, sym, ap, ◌∙◌, subst, arith}
+use Rattle.std.proofs.Common.{◌≡◌, ◌≤◌, ℕ, List, None, refl, sym, ap, ◌∙◌, subst, arith}
 use Rattle.std.specs.Prelude.{codes}
-use Rattle.std.specs.Option.{option_or}
 use Rattle.meta_base.specs.Language.Text.{Text}
 use Rattle.meta_base.specs.Language.State.{Trees, None', Tree, joined}
-use Rattle.meta_reader.specs.Flaws.{first_flaw, own_flaw}
+use Rattle.meta_reader.specs.Flaws.{own_flaw}
 use Rattle.meta_reader.specs.Pieces.{IsPiece, NestedInBytes, StandIn}
 use Rattle.meta_reader.specs.Reading as reading
 use Rattle.meta_reader.specs.Reading.{Reads, AnExpression, Alternatives, ASequence, ATerm, both}
 use Rattle.meta_base.specs.Pieces.MetaRules.{name_of}
 use Rattle.meta_syntax.specs.Shape.{Mark, IsExpression, IsChain, IsMore, IsTerm, barred, unbarred, chain, infix_operator, tilde, bar}
 use Rattle.meta_nodes.specs.Spanned.{Span, Spanned, Binary, Seq, Choice}
-use Rattle.meta_reader.specs.Views.{IsBehindBar, IsRest, at_bar, TakesTerm, takes_term, count_of, ReadsFront}
+use Rattle.meta_reader.specs.Levels.{InFront, SplitOff}
+use Rattle.meta_reader.specs.Views.{IsBehindBar, IsRest, at_bar, TakesTerm, takes_term}
 use Rattle.meta_nodes.specs.Nodes.{view}
 use Rattle.meta_base.specs.declared.grammar.Rule.{Rule}
 use Rattle.meta_base.specs.declared.grammar.Rule.TheVariants as rule_is
@@ -68,20 +68,6 @@ pub tilde_term : {text : List ℕ} {n : Text} {i j k l : ℕ} {inner us vs : Tre
     → IsMore text (Tree (codes "sequence_operator") i j us (Tree n k l inner vs))
     → TakesTerm text (Tree (codes "sequence_operator") i j us (Tree n k l inner vs)) inner vs
 tilde_term (infix_operator p (chain h k)) = takes_term h k
-
--- what is in front of the rest, while a sequence is read, and while an expression is read
-pub record InFront (text : List ℕ) (us rest : Trees) (x : Spanned) : Type 0 where
-  pub front : Trees
-  pub split : us ≡ joined front rest
-  pub reads : Reads text ASequence front x
-
-pub record SplitOff (text : List ℕ) (us rest : Trees) (x : Spanned) : Type 0 where
-  pub front : Trees
-  pub whole : Trees
-  pub split : whole ≡ joined front rest
-  pub reads : Reads text Alternatives front x
-  pub behind : (y : Spanned) → Reads text Alternatives whole y → Reads text AnExpression us y
-  pub standing : StandIn text whole
 
 -- from the start of one node to the end of another
 pub piece_across : (text : List ℕ) (m n : ParserNode) → m.span.text.now ≡ text → n.span.text.now ≡ text
@@ -180,52 +166,12 @@ rest_tree (at_bar h) = (refl, refl, h)
 pub no_chain : {text : List ℕ} → IsChain text None' → ⊥
 no_chain h = elim h [ ]
 
--- nothing is wrong with a bar, a tilde or a term by itself
+-- nothing is wrong with a bar or a term by itself
 pub quiet_bar : (text : List ℕ) (i j : ℕ) (us vs : Trees)
     → own_flaw text (codes "choice_operator") i j us vs ≡ None
 unfolding own_flaw
 quiet_bar text i j us vs = refl
 
-pub quiet_tilde : (text : List ℕ) (i j : ℕ) (us vs : Trees)
-    → own_flaw text (codes "sequence_operator") i j us vs ≡ None
-unfolding own_flaw
-quiet_tilde text i j us vs = refl
-
 pub quiet_term : (text : List ℕ) (i j : ℕ) (us vs : Trees) → own_flaw text (codes "term") i j us vs ≡ None
 unfolding own_flaw
 quiet_term text i j us vs = refl
-
--- what follows from a tilde and a term
-pub record HasTerm (text : List ℕ) (us inner after : Trees) : Type 0 where
-  pub operand : IsTerm text inner
-  pub others : IsMore text after
-  pub flaw : first_flaw text us ≡ option_or (first_flaw text inner) (first_flaw text after)
-  pub stand_operand : StandIn text us → StandIn text inner
-  pub stand_others : StandIn text us → StandIn text after
-  pub smaller : count_of inner < count_of us
-  pub shorter : count_of after < count_of us
-  pub step : (whole : Trees) (x y : Spanned) → InFront text whole us x → Reads text ATerm inner y
-      → InFront text whole after (both text Seq x y)
-  pub place : (whole : Trees) (m n : ParserNode) → StandIn text whole → InFront text whole us (view m)
-      → Reads text ATerm inner (view n) → IsPiece text m.span.start n.span.end
-
-pub has_term : {text : List ℕ} {us inner after : Trees}
-    → TakesTerm text us inner after → HasTerm text us inner after
-unfolding own_flaw
-has_term {text} (takes_term h k) = record {
-  operand = h;
-  others = k;
-  flaw = refl;
-  stand_operand = λ s. stand_inner (stand_behind s);
-  stand_others = λ s. stand_behind (stand_behind s);
-  smaller = omega arith;
-  shorter = omega arith;
-  step = λ whole x y d e. sequence_step text d e;
-  place = λ whole m n s d e. sequence_piece text m n s d e;
-}
-
--- the end of a sequence
-pub sequence_end : {text : List ℕ} {us rest : Trees} (n : ParserNode) → InFront text us rest (view n)
-    → IsRest text rest → first_flaw text us ≡ first_flaw text rest → count_of rest < count_of us
-    → ReadsFront text us n rest
-sequence_end n d h f k = record { front = d.front; split = d.split; reads = d.reads; flaws = f; shape = h; shorter = k }

@@ -9,6 +9,7 @@ pub mod Rules
 pub mod Signs
 pub mod Terminals
 pub mod Terms
+pub mod Levels
 pub mod NodesStandInTrees
 pub mod Uniqueness
 pub mod Flawless

@@ -1,6 +1,6 @@
 -- Terms and nodes, by the trees in them.
 use Rattle.meta_reader.proofs.SpansArePieces.{piece_in}
-use Rattle.std.proofs.Common.{◌≡◌, ◌<◌, ℕ, List, None, refl, sym, ap, ◌∙◌, arith}
+use Rattle.std.proofs.Common.{◌≡◌, ℕ, List, refl, sym, ap, ◌∙◌, arith}
 use Rattle.std.specs.Prelude.{codes}
 use Rattle.std.specs.Option.{option_or}
 use Rattle.meta_base.specs.Language.Text.{Text}
@@ -10,18 +10,18 @@ use Rattle.meta_reader.specs.Pieces.{IsPiece, NestedInBytes, StandIn}
 use Rattle.meta_reader.specs.Reading as reading
 use Rattle.meta_reader.specs.Reading.{Reads, Postfixed, AnExpression, ATerm, ANode, tag_name}
 use Rattle.meta_base.specs.Pieces.MetaRules.{name_of}
-use Rattle.meta_syntax.specs.Shape.{Mark, IsExpression, IsTerm, IsNode, IsTerminal, ArePostfixes, tagged, predicate, bare, terminal, pushed, identifier, string, insensitive, range, slice, push_literal}
+use Rattle.meta_syntax.specs.Shape.{Mark, IsTerm, IsNode, IsTerminal, ArePostfixes, tagged, predicate, bare, terminal, pushed, identifier, string, insensitive, range, slice, push_literal}
 use Rattle.meta_nodes.specs.Spanned as spanned
 use Rattle.meta_nodes.specs.Spanned.{Spanned, One, PosPred, NegPred, Push, Tag, span_of, start_of, end_of, placed, starting, ending}
 use Rattle.meta_reader.specs.Signs.{IsOperand, group, node}
-use Rattle.meta_reader.specs.Views.{StandsBefore, count_of}
+use Rattle.meta_reader.specs.Views.{StandsBefore}
 use Rattle.meta_nodes.specs.Nodes.{view, piece_of}
 use Rattle.meta_base.specs.declared.grammar.Rule.{Rule}
 use Rattle.meta_base.specs.declared.grammar.Rule.TheVariants as rule_is
 use Rattle.meta_nodes.specs.declared.node.ParserNode.{ParserNode}
 use Rattle.meta_reader.proofs.FlawsInOrder.{or_none, or_assoc}
 use Rattle.meta_reader.proofs.Chains.{same_text}
-use Rattle.meta_reader.proofs.Nodes.{span_of-view, start_of-view, end_of-view, view_at-placed}
+use Rattle.meta_reader.proofs.Nodes.{span_of-view, end_of-view, view_at-placed}
 use Rattle.meta_reader.proofs.TreesStandInText.{nested_from, nested_order}
 use Rattle.meta_base.proofs.MetaNames.{name_of-injective}
 use Rattle.meta_base.specs.Pieces.Saying.{piece}
@@ -80,20 +80,6 @@ pub open_group : {text : List ℕ} {n : Text} {i j k l : ℕ} {inner : Trees}
     → IsOperand text (Mark (codes "opening_paren") i j (Tree n k l inner None')) → ⊥
 open_group (node (terminal h) k) = elim h [ ]
 
-pub record IsGroup (text : List ℕ) (us inner operators : Trees) (i q : ℕ) : Type 0 where
-  pub inside : IsExpression text inner
-  pub behind : ArePostfixes text operators
-  pub flaw : first_flaw text us ≡ option_or (first_flaw text inner) (first_flaw text operators)
-  pub reads : (x y : Spanned) → Reads text AnExpression inner x
-      → Postfixed text (ending q x) operators y → Reads text ATerm us (starting i y)
-
-pub group_tree : {text : List ℕ} {n o : Text} {i j k l m q : ℕ} {inner ws us : Trees}
-    → IsOperand text (Mark (codes "opening_paren") i j (Tree n k l inner (Tree o m q ws us)))
-    → IsGroup text (Mark (codes "opening_paren") i j (Tree n k l inner (Tree o m q ws us))) inner us i q
-unfolding own_flaw
-group_tree (group h k) = record { inside = h; behind = k; flaw = refl; reads = λ x y d e. reading.grouped d e }
-group_tree (node (terminal h) k) = elim h [ ]
-
 -- the others: a node, and operators
 
 pub node_tree : {text : List ℕ} {n : Text} {i j : ℕ} {inner us : Trees} (r : Rule)
@@ -134,19 +120,6 @@ pub open_push : {text : List ℕ} {n : Text} {i j : ℕ} {inner : Trees}
     → IsNode text (codes "_push") (Tree n i j inner None') → ⊥
 open_push (terminal h) = elim h [ ]
 
-pub record IsPush (text : List ℕ) (us inner : Trees) : Type 0 where
-  pub inside : IsExpression text inner
-  pub flaw : (i j : ℕ) → first_flaw text (Tree (codes "_push") i j us None') ≡ first_flaw text inner
-  pub reads : (i j : ℕ) (x : Spanned) → Reads text AnExpression inner x
-      → Reads text ANode (Tree (codes "_push") i j us None') (One (piece text i (end_of x)) Push x)
-
-pub push_tree : {text : List ℕ} {n o : Text} {i j k l : ℕ} {vs inner us : Trees}
-    → IsNode text (codes "_push") (Tree n i j vs (Tree o k l inner us))
-    → IsPush text (Tree n i j vs (Tree o k l inner us)) inner
-unfolding own_flaw
-push_tree (terminal h) = elim h [ ]
-push_tree {text} {inner = inner} (pushed h) = record { inside = h; flaw = λ i j. or_none (option_or (first_flaw text inner) None) ∙ or_none (first_flaw text inner); reads = λ i j x d. reading.pushed d }
-
 -- where nodes of terms stand
 
 -- a node before its operators
@@ -160,10 +133,6 @@ before_operators {text} {r} {a} {b} {inner} {us} n s d =
       same_text = same_text n s.from b d t;
       behind = record { to = s.to; nested = nested_from text us n.span.end b s.to (rw (end_of-view n) at w.before) s.nested.4 };
     }
-
-pub count_positive : (us : Trees) → 0 < count_of us
-count_positive None' = omega arith
-count_positive (Tree r i j inner us) = omega arith
 
 -- a node that is placed elsewhere in the text
 view_placed : (t : spanned.Span) (n x : ParserNode) → x.expr ≡ n.expr → piece_of x.span ≡ t

@@ -5,6 +5,7 @@ pub mod Refusals
 pub mod Pieces
 pub mod Views
 pub mod Signs
+pub mod Levels
 pub mod ShownNames
 pub mod PlainNames
 pub mod Laws

@@ -1,5 +1,5 @@
 -- What the code's values stand for, and what its answers say.
-use Rattle.std.specs.Prelude.{◌≡◌, ◌≤◌, ◌<◌, ◌+◌, ◌⊎◌, ℕ, List, [], ◌∷◌, true, false, Option, Some, None, chars, Result, Ok, Err, MatchOption, MatchResult, ℤ, codes, option_map, string_bytes, Vec}
+use Rattle.std.specs.Prelude.{◌≡◌, ◌≤◌, ◌+◌, ◌⊎◌, ℕ, List, [], ◌∷◌, true, false, Option, Some, None, chars, Result, Ok, Err, MatchOption, MatchResult, ℤ, codes, option_map, string_bytes, Vec}
 use Rattle.std.specs.Borrow.{Bor}
 use Rattle.std.specs.declared.alloc.Global.{Global}
 use Rattle.std.specs.declared.string.String.{String}
@@ -15,7 +15,7 @@ use Rattle.meta_syntax.specs.Shape.{Mark, IsChain, IsMore, IsTerm, IsModifier}
 use Rattle.meta_nodes.specs.Spanned.{Spanned, Binary, Seq, Choice, One, Unary, Opt, Rep, RepOnce, RepExact, RepMin, RepMax, RepMinMax}
 use Rattle.meta_nodes.specs.Nodes.{piece_of, view, rule_view, rule_views}
 use Rattle.meta_base.specs.Pieces.NamedTrees.{named_trees_of}
-use Rattle.meta_reader.specs.Reading.{Modifies, Category, AnExpression, Alternatives, ASequence, Reads, ReadsRule, ReadsRules, Postfix, Postfixed, integer, literal_value}
+use Rattle.meta_reader.specs.Reading.{Modifies, Category, AnExpression, Alternatives, Reads, ReadsRule, ReadsRules, Postfix, Postfixed, integer, literal_value}
 use Rattle.meta_reader.specs.Literal.{unescaped}
 use Rattle.meta_reader.specs.Flaws as flaws
 use Rattle.meta_reader.specs.Flaws.{first_flaw, wrong_literal}
@@ -62,9 +62,11 @@ alone_as rule tree = state.Tree rule tree.start tree.end (named_trees_of tree.in
 abbrev pub alone : FirstTree Rule → state.Trees
 alone tree = alone_as (name_of tree.rule) tree
 
--- an opening parenthesis, and what is behind it
-abbrev pub group_from : FirstTree Rule → state.Trees
-group_from paren = Mark (codes "opening_paren") paren.start paren.end (named_trees_of paren.others.now)
+-- a tree of the code, and those behind it
+abbrev pub all_from : FirstTree Rule → state.Trees
+all_from tree =
+    state.Tree (name_of tree.rule) tree.start tree.end (named_trees_of tree.inner.now)
+    (named_trees_of tree.others.now)
 
 -- what the trees of a category read as, or their first flaw
 abbrev pub ReadsAs : List ℕ → Category → state.Trees → Result ParserNode error.ReadError → Type 0
@@ -192,20 +194,6 @@ pub data TakesTerm (text : List ℕ) : state.Trees → state.Trees → state.Tre
       → IsMore text us
       → TakesTerm text (Mark (codes "sequence_operator") tilde_at tilde_to
       (state.Tree (codes "term") term_at term_to inner us)) inner us
-
--- a front of the trees is read as a sequence, and the rest is left
-pub record ReadsFront (text : List ℕ) (us : state.Trees) (n : ParserNode) (rest : state.Trees) : Type 0 where
-  pub front : state.Trees
-  pub split : us ≡ joined front rest
-  pub reads : Reads text ASequence front (view n)
-  pub flaws : first_flaw text us ≡ first_flaw text rest
-  pub shape : IsRest text rest
-  pub shorter : count_of rest < count_of us
-
-abbrev pub AnswersFront : List ℕ → state.Trees
-    → Result (ParserNode × Bor (List (TokenTree Rule))) error.ReadError → Type 0
-AnswersFront text us result =
-    MatchResult result (λ x. ReadsFront text us x.0 (named_trees_of x.1.now)) (IsFirst (first_flaw text us))
 
 -- where a rule's modifier may stand: it does, or the opening brace follows at once
 pub data MayBeModifier : state.Trees → Type 0 where

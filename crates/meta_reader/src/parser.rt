@@ -10,6 +10,7 @@ ghost use Rattle.meta_reader.specs.Views.{AnswersRule, AnswersRules, MayBeModifi
 ghost use Rattle.meta_nodes.specs.Nodes.{rule_views, type_of};
 
 mod flaws;
+mod levels;
 mod literal;
 mod operators;
 mod pieces;

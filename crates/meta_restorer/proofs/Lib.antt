@@ -7,7 +7,8 @@ pub mod Said
 pub mod Deciding
 pub mod Telling
 pub mod Holding
-pub mod Behind
+pub mod Stepping
+pub mod Turns
 pub mod Restoring
 pub mod Quiet
 pub mod Safe

@@ -1,8 +1,7 @@
 -- Numbers that are noted behind one another are those of an expression's names.
-use Rattle.std.proofs.Common.{◌≡◌, ℕ, ◌+◌, List, [], ◌∷◌, ◌++◌, Some, take, drop, slice_get, length, refl, sym, ◌∙◌, ap, subst, arith}
+use Rattle.std.proofs.Common.{◌≡◌, ◌+◌, List, [], ◌∷◌, ◌++◌, Some, take, drop, slice_get, length, refl, sym, ◌∙◌, ap, subst, arith}
 use Rattle.std.proofs.lemmas.List.{append_assoc, length-append, length-map, length-take-le, map-append, take-append-drop}
 use Rattle.std.proofs.lemmas.List.Folds.{drop_split}
-use Rattle.std.proofs.Math.Nat.{add_assoc}
 use Rattle.meta_base.specs.Language.Text.{Text}
 use Rattle.meta_base.specs.Language.Expression.{Expression, Str, Insens, Range, Ident, PeekSlice, PosPred, NegPred, Seq, Choice, Opt, Rep, RepOnce, RepExact, RepMin, RepMax, RepMinMax, Skip, Push, RestoreOnErr, PushLiteral, NodeTag}
 use Rattle.meta_restorer.specs.Calls.{names_in, AreNoted}
@@ -14,9 +13,6 @@ use Rattle.meta_restorer.specs.declared.noted.Share.{Share}
 got_here : {A : Type 0} (xs ys : List A) (x : A) → slice_get (xs ++ (x ∷ ys)) (length xs) ≡ Some x
 got_here [] ys x = refl
 got_here (z ∷ xs) ys x = got_here xs ys x
-
-pub counted : {A : Type 0} (xs ys : List A) (i j k : ℕ) → j ≡ i + length xs → i + length (xs ++ ys) ≡ k → j + length ys ≡ k
-counted xs ys i j k e f = ap (λ n. n + length ys) e ∙ (add_assoc i (length xs) (length ys) ∙ (ap (λ n. i + n) (sym (length-append xs ys)) ∙ f))
 
 module _ (names : Names) where
   abbrev numbers : List Text → Numbers

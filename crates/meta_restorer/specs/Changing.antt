@@ -1,5 +1,5 @@
 -- What changes the stack and what the restorer makes of it, where it is known which names change the stack.
-use Rattle.std.specs.Prelude.{Bool, true, false, ◌||◌, if◌then◌else◌, bytes_eq, codes}
+use Rattle.std.specs.Prelude.{◌≡◌, ⊤, Bool, true, false, ◌||◌, if◌then◌else◌, bytes_eq, codes}
 use Rattle.meta_base.specs.Language.Text.{Text}
 use Rattle.meta_base.specs.Language.Expression.{Expression, Ident, PosPred, NegPred, Seq, Choice, Opt, Rep, RepOnce, RepExact, RepMin, RepMax, RepMinMax, Push, PushLiteral, RestoreOnErr, Part, NodeTag}
 
@@ -26,6 +26,10 @@ changes_by p (RepMax e i) = changes_by p e
 changes_by p (RepMinMax e i j) = changes_by p e
 changes_by p _ = false
 
+-- it is told rightly whether an expression changes the stack
+abbrev pub IsTold : (Text → Bool) → Bool → Expression → Type 0
+IsTold p b e = b ≡ changes_by p e
+
 -- a wrapper round what changes the stack
 abbrev pub wrapped_by : (Text → Bool) → Expression → Expression
 wrapped_by p e = if changes_by p e then RestoreOnErr e else e
@@ -42,6 +46,12 @@ restored_by p (Opt e) = Opt (wrapped_by p (restored_by p e))
 restored_by p (Rep e) = Rep (wrapped_by p (restored_by p e))
 restored_by p (RepOnce e) = RepOnce (wrapped_by p (restored_by p e))
 restored_by p e = e
+
+-- no `~` and no `|`
+abbrev pub IsNoPair : Expression → Type 0
+IsNoPair (Seq a b) = ⊥
+IsNoPair (Choice a b) = ⊥
+IsNoPair _ = ⊤
 
 -- no part is a wrapper
 abbrev pub HasNoWrappers : Expression → Type 0

@@ -1,4 +1,5 @@
 pub mod Agreeing
+pub mod Around
 pub mod Bodies
 pub mod Calls
 pub mod Changing
@@ -6,6 +7,6 @@ pub mod Faults
 pub mod Names
 pub mod Noted
 pub mod Restoring
-pub mod Sides
 pub mod Size
 pub mod Telling
+pub mod Turns

@@ -1,5 +1,5 @@
 -- What is told of the rules that change the stack.
-use Rattle.std.specs.Prelude.{ℕ, Bool}
+use Rattle.std.specs.Prelude.{◌≡◌, ⊤, ℕ, ◌+◌, List, [], ◌∷◌, ◌++◌, Some, Bool, slice_get}
 use Rattle.std.specs.Bool.{Decides}
 use Rattle.std.specs.declared.alloc.Global.{Global}
 use Rattle.std.specs.declared.string.String.{String}
@@ -8,6 +8,7 @@ use Rattle.meta_base.specs.Language.Expression.{Expression, Ident, Grammar}
 use Rattle.meta_base.specs.Rewritings.Wrapping.{ChangesStack}
 use Rattle.meta_ast.specs.Ast.{text_of}
 use Rattle.meta_restorer.specs.Calls.{AreNoted, name_changes}
+use Rattle.meta_restorer.specs.Names.{number_of}
 use Rattle.meta_restorer.specs.declared.changes.Changes.{Changes}
 
 -- whether a name changes the stack
@@ -21,3 +22,19 @@ Tells c g = (n : String Global) → Decides (told c (text_of n)) (ChangesStack g
 -- from a place on the numbers of the names that are met in an expression are noted
 abbrev pub IsNotedFrom : Changes → Expression → ℕ → Type 0
 IsNotedFrom c e i = AreNoted c.names c.noted.numbers.items e i
+
+-- the number of the first of some names, if there is one, is noted at a place
+abbrev pub IsNext : Changes → List Text → ℕ → Type 0
+IsNext c [] i = ⊤
+IsNext c (n ∷ ns) i = slice_get c.noted.numbers.items i ≡ Some (number_of c.names n)
+
+-- the numbers from one place up to another are those of names, in order
+abbrev pub AreNumbers : Changes → List Text → ℕ → ℕ → Type 0
+AreNumbers c [] i end = i ≡ end
+AreNumbers c (n ∷ ns) i end =
+    (slice_get c.noted.numbers.items i ≡ Some (number_of c.names n)) × AreNumbers c ns (i + 1) end
+
+-- names `ns` from place `i` on are read down to names `ms` from place `j` on, whatever follows
+abbrev pub ReadsOn : Changes → List Text → ℕ → List Text → ℕ → Type 0
+ReadsOn c ns i ms j = (more : List Text) (end : ℕ)
+    → AreNumbers c (ns ++ more) i end → AreNumbers c (ms ++ more) j end

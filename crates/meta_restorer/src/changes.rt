@@ -1,5 +1,5 @@
 //! Which rules change the stack, by name.
-ghost use Rattle.std.specs.Prelude.{◌≡◌, IfOk, map};
+ghost use Rattle.std.specs.Prelude.{◌≡◌, ◌+◌, IfOk, Some, map, slice_get};
 ghost use Rattle.meta_ast.specs.Ast.{text_of};
 ghost use Rattle.meta_restorer.specs.Bodies.{said_by, grammar_with};
 ghost use Rattle.meta_restorer.specs.Names.{number_of};
@@ -45,4 +45,16 @@ pub(crate) fn is_changing(changes: &Changes, name: &String, rule: Option<usize>)
     ensures { result ≡ told changes.now (text_of name.now) }
 {
     is_changer_name(name) || is_marked(&changes.marks, rule)
+}
+
+/// Whether a call of a name changes the stack, the number of whose rule is noted at a place, which moves on.
+pub(crate) fn is_next_changing(changes: &Changes, place: &mut usize, name: &String) -> bool
+    requires { slice_get changes.now.noted.numbers.items place.old
+        ≡ Some (number_of changes.now.names (text_of name.now)) }
+    ensures changes { result ≡ told changes.now (text_of name.now) }
+    ensures place { place.new ≡ place.old + 1 }
+{
+    let rule = changes.noted.numbers[*place];
+    *place += 1;
+    is_changing(changes, name, rule)
 }

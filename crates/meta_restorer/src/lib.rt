@@ -1,6 +1,7 @@
 //! The restorer: wrappers round what may fail and changes the stack, where something is tried next.
 #![tactic(auto)]
 
+mod around;
 mod bodies;
 mod calls;
 mod changes;
@@ -10,6 +11,5 @@ mod names;
 mod noted;
 mod restored;
 mod restorer;
-mod sides;
 
 pub use restorer::{child_modifies_state, restore_on_err, restore_rules};

@@ -36,7 +36,9 @@ pub struct Noted {
 
 /// Whether a `PUSH`, `PUSH_LITERAL`, `POP`, `POP_ALL` or `DROP` is met in an expression, not below a wrapper. The number of
 /// each name that is met goes behind the others.
+#[tactic(auto, using(crate::proofs::Turns::changes_in_turn_last, crate::proofs::Turns::names_in_turn_last, crate::proofs::Turns::work_in_turn_last, crate::proofs::Turns::some_size))]
 fn look(
+    alloc: Global,
     names: &Names,
     expr: &OptimizedExpr,
     numbers: &mut Vec<Option<usize>>,
@@ -47,51 +49,58 @@ fn look(
         ≡ numbers.old.items ++ numbers_of names.now (names_in (optimized_expression_of expr.now))) }
 {
     let mut is_changing = false;
+    let mut waiting: Vec<&OptimizedExpr> = Vec::new(alloc);
     let mut here = expr;
-    'down: loop {
+    'parts: loop {
         match here {
-            OptimizedExpr::Ident(name) => {
-                numbers.push(number_of_name(names, name))?;
-                return Ok(is_changing || is_changer_name(name));
-            }
             OptimizedExpr::Push(inner) => {
                 is_changing = true;
                 here = inner;
             }
-            OptimizedExpr::PushLiteral(_) => return Ok(true),
             OptimizedExpr::NodeTag(inner, _) => here = inner,
             OptimizedExpr::PosPred(inner) => here = inner,
             OptimizedExpr::NegPred(inner) => here = inner,
             OptimizedExpr::Opt(inner) => here = inner,
             OptimizedExpr::Rep(inner) => here = inner,
             OptimizedExpr::RepOnce(inner) => here = inner,
-            OptimizedExpr::Seq(left, right) => {
+            OptimizedExpr::Seq(left, right) | OptimizedExpr::Choice(left, right) => {
+                let is_left_plain = is_plain(left);
                 let is_right_plain = is_plain(right);
-                if !is_plain(left) && look(names, left, numbers)? {
-                    is_changing = true;
+                if is_left_plain {
+                    here = right;
+                } else if is_right_plain {
+                    here = left;
+                } else {
+                    waiting.push(right)?;
+                    here = left;
                 }
-                if is_right_plain {
-                    return Ok(is_changing);
-                }
-                here = right;
             }
-            OptimizedExpr::Choice(left, right) => {
-                let is_right_plain = is_plain(right);
-                if !is_plain(left) && look(names, left, numbers)? {
-                    is_changing = true;
+            OptimizedExpr::Ident(name) => {
+                numbers.push(number_of_name(names, name))?;
+                is_changing = is_changing || is_changer_name(name);
+                match waiting.pop() {
+                    Some(next) => here = next,
+                    None => return Ok(is_changing),
                 }
-                if is_right_plain {
-                    return Ok(is_changing);
-                }
-                here = right;
             }
-            _ => return Ok(is_changing),
+            OptimizedExpr::PushLiteral(_) => {
+                is_changing = true;
+                match waiting.pop() {
+                    Some(next) => here = next,
+                    None => return Ok(true),
+                }
+            }
+            _ => match waiting.pop() {
+                Some(next) => here = next,
+                None => return Ok(is_changing),
+            },
         }
     }
 }
 
 /// Notes what is met in an expression.
 pub(crate) fn note(
+    alloc: Global,
     names: &Names,
     expr: &OptimizedExpr,
     numbers: &mut Vec<Option<usize>>,
@@ -102,7 +111,7 @@ pub(crate) fn note(
         → IsNotedAs names.now e numbers.old.items s → IsNotedAs names.now e numbers.new.items s) }
 {
     let start = numbers.len();
-    let changes = look(names, expr, numbers)?;
+    let changes = look(alloc, names, expr, numbers)?;
     Ok(Share {
         changes,
         start,
@@ -121,7 +130,7 @@ pub(crate) fn noted_of<'a>(
     let mut numbers = Vec::new(alloc);
     let mut shares = Vec::with_capacity(alloc, bodies.len())?;
     for body in bodies {
-        let share = note(names, body.expr, &mut numbers)?;
+        let share = note(alloc, names, body.expr, &mut numbers)?;
         shares.push(share)?;
     }
     Ok(Noted { numbers, shares })

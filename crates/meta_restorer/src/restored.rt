@@ -1,31 +1,21 @@
 //! An expression with wrappers round what changes the stack.
-ghost use Rattle.std.specs.Prelude.{◌≡◌, ◌<◌, ◌+◌, IfOk, OnOk, Some, length, slice_get};
+ghost use Rattle.std.specs.Prelude.{◌≡◌, ◌+◌, IfOk, OnOk, length};
+ghost use Rattle.meta_restorer.specs.Around.{flagged, flagged_by};
 ghost use Rattle.meta_restorer.specs.Calls.{names_in};
-ghost use Rattle.meta_restorer.specs.Sides.{IsTold, IsNoPair};
-ghost use Rattle.meta_restorer.specs.Changing.{restored_by, wrapped_by};
+ghost use Rattle.meta_restorer.specs.Changing.{IsTold, IsNoPair, restored_by, wrapped_by};
 ghost use Rattle.meta_restorer.specs.Telling.{IsNotedFrom, told};
 ghost use Rattle.meta_ast.specs.Optimized.{optimized_expression_of};
 
+use crate::around::{Restored, closed, nothing, opened, wrap};
 use crate::calls::is_plain;
-use crate::changes::{Changes, is_changing};
-use crate::sides::{Left, Restored, Side, behind, nothing, wrap};
+use crate::changes::{Changes, is_next_changing};
 use meta_ast::deep::Deep;
 use meta_ast::optimized::OptimizedExpr;
+use meta_ast::rebuilt::Step;
 use std::alloc::{AllocError, Global};
 use std::mem;
 
-/// What is noted at a place, which moves on.
-fn next_rule(numbers: &[Option<usize>], place: &mut usize) -> Option<usize>
-    requires { place.old < length numbers.now }
-    ensures rule { slice_get numbers.now place.old ≡ Some result }
-    ensures place { place.new ≡ place.old + 1 }
-{
-    let rule = numbers[*place];
-    *place += 1;
-    rule
-}
-
-/// So many levels are taken by calls; what lies deeper is restored along right sides by a loop.
+/// So many levels are taken by calls; what lies deeper is restored by a loop with a list.
 pub(crate) const LEVELS: usize = 64;
 
 /// Restores an expression where it stands, where the rules of its names are noted from a place on: no node is
@@ -91,11 +81,10 @@ fn restore_wrapped(
         (restored_by (told changes.now) (optimized_expression_of expr.old.value))) }
 {
     let is_changing = restore(alloc, changes, place, levels, expr)?;
-    wrap(alloc, changes, expr, is_changing)
+    wrap(alloc, expr, is_changing)
 }
 
-// The same, along right sides by a loop.
-#[cycle(restored)]
+// The same, where it lies deeper.
 fn restore_deep(
     alloc: Global,
     changes: &Changes,
@@ -110,17 +99,40 @@ fn restore_deep(
     ensures made { OnOk result (optimized_expression_of expr.new
         ≡ restored_by (told changes.now) (optimized_expression_of expr.old)) }
 {
-    match expr {
-        OptimizedExpr::Seq(_, _) | OptimizedExpr::Choice(_, _) => {
-            let chain = mem::replace(expr, nothing());
-            let Restored {
-                expr: chain,
-                changes: is_changing,
-            } = restored_chain(alloc, changes, place, chain)?;
-            *expr = chain.into_inner();
-            Ok(is_changing)
+    let whole = mem::replace(expr, nothing());
+    let Restored {
+        expr: whole,
+        changes: is_changing,
+    } = restored(alloc, changes, place, whole)?;
+    *expr = whole.into_inner();
+    Ok(is_changing)
+}
+
+// An expression, restored by a loop: what stands around the operand at hand lies in a list.
+fn restored(
+    alloc: Global,
+    changes: &Changes,
+    place: &mut usize,
+    expr: OptimizedExpr,
+) -> Result<Restored, AllocError>
+    requires noted { IsNotedFrom changes.now (optimized_expression_of expr) place.old }
+    ensures place { OnOk result (place.new ≡ place.old + length (names_in (optimized_expression_of expr))) }
+    ensures made { IfOk result (λ whole. flagged whole ≡ flagged_by (told changes.now) expr) }
+{
+    let mut outside = Vec::new(alloc);
+    let mut step = opened(changes, place, expr);
+    'steps: loop {
+        match step {
+            Step::Inside(around, operand) => {
+                let operand = Deep { value: operand };
+                outside.push(around)?;
+                step = opened(changes, place, operand.into_inner());
+            }
+            Step::Made(whole) => match outside.pop() {
+                Some(around) => step = closed(alloc, around, whole)?,
+                None => return Ok(whole),
+            },
         }
-        _ => restore_one(alloc, changes, place, 0, expr),
     }
 }
 
@@ -144,11 +156,7 @@ fn restore_one(
         ≡ restored_by (told changes.now) (optimized_expression_of expr.old)) }
 {
     match expr {
-        OptimizedExpr::Ident(name) => Ok(is_changing(
-            changes,
-            name,
-            next_rule(&changes.noted.numbers, place),
-        )),
+        OptimizedExpr::Ident(name) => Ok(is_next_changing(changes, place, name)),
         OptimizedExpr::PosPred(inner) => Ok(restore(alloc, changes, place, levels, inner)?),
         OptimizedExpr::NegPred(inner) => Ok(restore(alloc, changes, place, levels, inner)?),
         OptimizedExpr::Push(inner) => {
@@ -170,65 +178,5 @@ fn restore_one(
             Ok(false)
         }
         _ => Ok(false),
-    }
-}
-
-// An expression with what stands on its right along `~` and `|`, restored.
-#[cycle(restored)]
-fn restored_chain(
-    alloc: Global,
-    changes: &Changes,
-    place: &mut usize,
-    expr: OptimizedExpr,
-) -> Result<Restored, AllocError>
-    requires noted { IsNotedFrom changes.now (optimized_expression_of expr) place.old }
-    ensures place { OnOk result (place.new ≡ place.old + length (names_in (optimized_expression_of expr))) }
-    ensures told { IfOk result
-        (λ r. IsTold (told changes.now) r.changes (optimized_expression_of r.expr.value)) }
-    ensures made { IfOk result (λ r. optimized_expression_of r.expr.value
-        ≡ restored_by (told changes.now) (optimized_expression_of expr)) }
-{
-    let mut sides = Vec::new(alloc);
-    let mut rest = expr;
-    'along: loop {
-        match rest {
-            OptimizedExpr::Seq(left, right) => {
-                let mut left = Deep { value: left };
-                let mut right = Deep { value: right };
-                let is_changing = restore(alloc, changes, place, 0, &mut left.value)?;
-                let next = Deep {
-                    value: Box::replace(&mut right.value, nothing()),
-                };
-                sides.push(Side::Sequence(Left {
-                    expr: left,
-                    changes: is_changing,
-                    room: right.into_inner(),
-                }))?;
-                rest = next.into_inner();
-            }
-            OptimizedExpr::Choice(left, right) => {
-                let mut left = Deep { value: left };
-                let mut right = Deep { value: right };
-                let is_changing = restore(alloc, changes, place, 0, &mut left.value)?;
-                let next = Deep {
-                    value: Box::replace(&mut right.value, nothing()),
-                };
-                sides.push(Side::Choice(Left {
-                    expr: left,
-                    changes: is_changing,
-                    room: right.into_inner(),
-                }))?;
-                rest = next.into_inner();
-            }
-            last => {
-                let mut last = Deep { value: last };
-                let is_changing = restore_one(alloc, changes, place, 0, &mut last.value)?;
-                let last = Restored {
-                    expr: last,
-                    changes: is_changing,
-                };
-                return behind(alloc, changes, sides, last);
-            }
-        }
     }
 }

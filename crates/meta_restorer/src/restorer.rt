@@ -84,10 +84,12 @@ pub fn restore_rules(alloc: Global, rules: Vec<OptimizedRule>) -> Result<Vec<Opt
         (λ answer. AreSameErased (optimized_rules_of rules.items) (optimized_rules_of answer.items)) }
     ensures memory { IfErr result IsMemory }
 {
-    if !is_any_changing(&rules) {
-        return Ok(rules);
-    }
     let mut rules = Deep { value: rules };
+    match is_any_changing(alloc, &rules.value) {
+        Ok(true) => {}
+        Ok(false) => return Ok(rules.into_inner()),
+        Err(error) => return Err(Fault::Memory(error)),
+    }
     match changes_in_rules(alloc, &rules.value) {
         Ok(changes) => match restore_all(alloc, &changes, &mut rules.value) {
             Ok(()) => Ok(rules.into_inner()),
@@ -98,15 +100,15 @@ pub fn restore_rules(alloc: Global, rules: Vec<OptimizedRule>) -> Result<Vec<Opt
 }
 
 // Whether a `PUSH`, `PUSH_LITERAL`, `POP`, `POP_ALL` or `DROP` is met in any rule; where none is, no rule changes the stack.
-fn is_any_changing(rules: &[OptimizedRule]) -> bool
-    ensures { result ≡ false → AreQuiet rules.now }
+fn is_any_changing(alloc: Global, rules: &[OptimizedRule]) -> Result<bool, AllocError>
+    ensures { IfOk result (λ yes. yes ≡ false → AreQuiet rules.now) }
 {
     for rule in rules {
-        if changes_itself(&rule.expr) {
-            return true;
+        if changes_itself(alloc, &rule.expr)? {
+            return Ok(true);
         }
     }
-    false
+    Ok(false)
 }
 
 // Which of the rules in a map change the stack.
@@ -137,7 +139,7 @@ fn is_changed(alloc: Global, changes: &Changes, expr: &OptimizedExpr) -> Result<
         (λ yes. yes ≡ changes_by (told changes.now) (optimized_expression_of expr.now)) }
 {
     let mut numbers = Vec::new(alloc);
-    let share = note(&changes.names, expr, &mut numbers)?;
+    let share = note(alloc, &changes.names, expr, &mut numbers)?;
     Ok(is_shown(&numbers, share, &changes.marks))
 }
 
@@ -176,7 +178,12 @@ fn noted_rule(
 {
     let mut changes = changes;
     let mut rule = rule;
-    let share = note(&changes.names, &rule.value.expr, &mut changes.noted.numbers)?;
+    let share = note(
+        alloc,
+        &changes.names,
+        &rule.value.expr,
+        &mut changes.noted.numbers,
+    )?;
     restore_rule(alloc, &changes, share, &mut rule.value)?;
     Ok(rule.into_inner())
 }

@@ -1,16 +1,16 @@
 -- Copies and turns, followed so far.
-use Rattle.std.proofs.Common.{◌≡◌, ℕ, zero, suc, ◌+◌, ◌-◌, ◌<◌, ◌≤◌, ◌%◌, List, [], ◌∷◌, ◌++◌, Option, Some, None, Bool, true, false, slice_get, reverse, length, refl, sym, ◌∙◌, ap, arith, ◌⊎◌, inl, inr, append_assoc, if◌then◌else◌, replicate, ◌||◌}
+use Rattle.std.proofs.Common.{◌≡◌, ℕ, zero, suc, ◌+◌, ◌-◌, ◌<◌, ◌≤◌, ◌%◌, List, [], ◌∷◌, ◌++◌, Option, Some, None, Bool, true, false, slice_get, reverse, length, refl, sym, ◌∙◌, ap, arith, ◌⊎◌, inl, inr, append_assoc, ◌||◌}
 use Rattle.meta_stacks.specs.Stack.{AbstractStack, is_among, stack_eq, unknown}
 use Rattle.meta_stacks.specs.Reading as says
-use Rattle.meta_stacks.specs.Reading.{turns, onward, stays, walk, Copy, Required, Optional, Endless}
+use Rattle.meta_stacks.specs.Reading.{turns, onward, walk, Required, Optional}
 use Rattle.meta_stack.specs.Table.{IsMeaning, copies}
 use Rattle.meta_stacks.specs.Walks.{stepped, turned}
-use Rattle.meta_stack.proofs.Counts.{times_more, times_left, walk_times, walk_both}
+use Rattle.meta_stack.proofs.Counts.{times_more, times_left}
 use Rattle.std.proofs.lemmas.Option.{slice_get_within, slice_get_cases}
 use Rattle.std.proofs.lemmas.Bool.{cases_lt}
-use Rattle.std.proofs.lemmas.List.{map_push, reverse-append}
+use Rattle.std.proofs.lemmas.List.{length_push, map_push, reverse-append}
 use Rattle.meta_stack.specs.Memory.{Meaning, IsRight}
-use Rattle.meta_stack.specs.Following.{times, copy_step, seen_stacks, IsTrace, Comes}
+use Rattle.meta_stack.specs.Following.{times, copy_step, seen_stacks, IsForeseen, IsRun, IsTrace, Comes}
 use Rattle.meta_stacks.specs.Reported.{turn_starts}
 use Rattle.meta_stacks.specs.Views.{stack_of, walk_of, possible}
 use Rattle.meta_stacks.specs.declared.stack.Stack.{Stack}
@@ -86,6 +86,29 @@ module _ (f : says.Walk → says.Walk) (w : says.Walk) where
       all : (k : ℕ) → k < n → (j : ℕ) × Comes items (times k f w) j
       all k x = elim (split k i) [ inl y ↦ (k, comes_at items k (omega arith) each) | inr y ↦ far k y ]
 
+-- one walk more
+pub run_more : (f : says.Walk → says.Walk) (start : says.Walk) (items : List Walk) (v : Walk) (w : says.Walk) → IsRun f start items (walk_of v) → w ≡ f (walk_of v) → IsRun f start (items ++ v ∷ []) w
+run_more f start items v w run e = record {
+  each = each_more f start items v (length items) refl run.each run.here;
+  here = e ∙ (ap f run.here ∙ (sym (times_more (length items) 1 f start) ∙ ap (λ n. times n f start) (sym (length_push items v))));
+}
+
+pub foreseen_now : (items : List Walk) (w : Walk) (left : ℕ) → left ≡ 0 → IsForeseen items (walk_of w) left w
+foreseen_now items w left e = record {
+  value = λ f start run. ap (λ n. times n f (walk_of w)) (sym e);
+  trace = λ f start run. traced_all f start items (length items + left) (omega arith) run.each;
+}
+
+-- a walk that stood before leads on as it did there
+pub foreseen_back : (items : List Walk) (w v : Walk) (left place : ℕ) → Comes items (walk_of w) place → slice_get items (place + left % (length items - place)) ≡ Some v → IsForeseen items (walk_of w) left v
+foreseen_back items w v left place found got =
+    let i : ℕ = length items in
+    let small : place < i = slice_get_within items place found.walk found.at in
+    let again : (f : says.Walk → says.Walk) (start : says.Walk) → IsRun f start items (walk_of w) → times i f start ≡ times place f start = λ f start run. sym run.here ∙ (sym found.same ∙ run.each place found.walk found.at) in record {
+      value = λ f start run. run.each (place + left % (i - place)) v got ∙ (back f start i place left small (again f start run) ∙ (times_more i left f start ∙ ap (times left f) (sym run.here)));
+      trace = λ f start run. traced_back f start items i place (i + left) refl small (omega arith) (again f start run) run.each;
+    }
+
 -- one copy more
 pub step_value : (t : Table) (meaning : Meaning) (body : ℕ) (required : Bool) (w : Walk) (s : Stack) (r : says.Reading) → w.here ≡ Some s → r ≡ meaning body (stack_of s) → stepped required (stack_of s) r (walk_of w) ≡ copy_step t meaning body required (walk_of w)
 step_value t meaning body true w s r e h = ap (λ x. stepped true (stack_of s) x (walk_of w)) h ∙ sym (ap (λ q. onward t.limit (meaning body) Required (possible q) (walk_of w)) e)
@@ -94,22 +117,6 @@ step_value t meaning body false w s r e h = ap (λ x. stepped false (stack_of s)
 pub step_none : (t : Table) (meaning : Meaning) (body : ℕ) (required : Bool) (w : Walk) → w.here ≡ None → walk_of w ≡ copy_step t meaning body required (walk_of w)
 step_none t meaning body true w e = sym (ap (λ q. onward t.limit (meaning body) Required (possible q) (walk_of w)) e)
 step_none t meaning body false w e = sym (ap (λ q. onward t.limit (meaning body) Optional (possible q) (walk_of w)) e)
-
--- all copies
-pub all_copies : (t : Table) (meaning : Meaning) (body r o : ℕ) (e : Bool) (a b c d : says.Walk)
-    → b ≡ times r (copy_step t meaning body true) a → c ≡ times o (copy_step t meaning body false) b
-    → d ≡ (if e then onward t.limit (meaning body) Endless c.here c else c)
-    → d ≡ walk t.limit (meaning body) (copies r o e) a
-all_copies t meaning body r o e a b c d f g h =
-    h ∙ (last e c ∙ (ap (λ x. walk t.limit (meaning body) (if e then Endless ∷ [] else []) x) second ∙ sym (walk_both t.limit (meaning body) (replicate o Optional) (if e then Endless ∷ [] else []) _)
-    ∙ sym (walk_both t.limit (meaning body) (replicate r Required) (replicate o Optional ++ (if e then Endless ∷ [] else [])) a)))
-  where
-    last : (e : Bool) (c : says.Walk) → (if e then onward t.limit (meaning body) Endless c.here c else c) ≡ walk t.limit (meaning body) (if e then Endless ∷ [] else []) c
-    last true c = refl
-    last false c = refl
-
-    second : c ≡ walk t.limit (meaning body) (replicate o Optional) (walk t.limit (meaning body) (replicate r Required) a)
-    second = g ∙ (sym (walk_times t.limit (meaning body) o Optional b) ∙ ap (λ x. walk t.limit (meaning body) (replicate o Optional) x) (f ∙ sym (walk_times t.limit (meaning body) r Required a)))
 
 module _ (limit : ℕ) (step : AbstractStack → says.Reading) where
   pub turns_none : (k : ℕ) (seen : List AbstractStack) (w : says.Walk) → 0 < k → turns limit step k seen None w ≡ w

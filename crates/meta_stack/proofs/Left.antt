@@ -9,13 +9,13 @@ use Rattle.meta_stack.specs.Table.{HasParts, Inside, copies, level, nodes_of}
 use Rattle.meta_stack.specs.Memory.{Meaning}
 use Rattle.meta_stack.specs.Following.{seen_stacks}
 use Rattle.meta_stack.specs.Visiting.{Collects, IsAfter, IsStartOf, IsReportedWhereItLoops, FindsIn, StandsFor, LeftStand, ReportedLeft, AreLeftLow, VisitsNodes, VisitsOn, effort_left}
-use Rattle.meta_stack.specs.Waiting.{IsLow, effort}
+use Rattle.meta_stack.specs.Waiting.{IsLow, effort_of}
 use Rattle.meta_stack.specs.declared.table.Parts.TheVariants as parts
 use Rattle.meta_stack.specs.declared.table.Table.{Table}
 use Rattle.meta_stack.specs.declared.memory.Memory.{Memory}
 use Rattle.meta_stack.specs.declared.visits.Pending.{Pending}
 use Rattle.meta_base.specs.declared.runtime.places.Span as code_span
-use Rattle.meta_stack.proofs.Awaiting.{effort_more, effort_some, level_inside}
+use Rattle.meta_stack.proofs.Awaiting.{level_inside, more_effort, some_effort}
 use Rattle.meta_stack.proofs.Reporting.{none_reports, both_reports, inside_reports}
 
 module _ (t : Table) (meaning : Meaning) (read : Spanned → AbstractStack → says.Reading) (nullable : Spanned → Bool) where
@@ -55,7 +55,7 @@ module _ (t : Table) (meaning : Meaning) (read : Spanned → AbstractStack → s
   told_pop (w ∷ vs) (y ∷ ys) v x us s (u, rest, q, l, e) =
       let (ts, more, r, m, f) = told_pop vs ys v x rest s.1 l in (ts, more ++ u, r, (u, more, q, m, refl), e ∙ (ap (λ z. z ++ u) f ∙ append_assoc ts more u))
 
-effort_last : (t : Table) (vs : List Pending) (v : Pending) → effort_left t (vs ++ v ∷ []) ≡ effort_left t vs + effort (level t v.node)
+effort_last : (t : Table) (vs : List Pending) (v : Pending) → effort_left t (vs ++ v ∷ []) ≡ effort_left t vs + effort_of t v.node
 effort_last t [] v = omega arith
 effort_last t (w ∷ vs) v = let e = effort_last t vs v in omega arith
 
@@ -87,7 +87,7 @@ visits_none t m ws v found has = record {
           ),
         );
   };
-  less = let e = effort_last t ws v in let f = effort_some (level t v.node) in omega arith;
+  less = let e = effort_last t ws v in let f = some_effort t v.node in omega arith;
   low = λ l a. (low_first t l ws v a).0;
 }
 
@@ -118,8 +118,8 @@ visits_both t a b ws vs v w u choice found has n same inside items = record {
       let e = effort_last t ws v in
       let f = ap (effort_left t) items ∙ effort_last t (ws ++ w ∷ []) u in
       let g = effort_last t ws w in
-      let h = effort_more (level t v.node) (level t u.node) (level_inside t v.node u.node inside.0) in
-      let i = effort_more (level t v.node) (level t w.node) (level_inside t v.node w.node inside.1) in omega arith;
+      let h = more_effort t v.node u.node (level_inside t v.node u.node inside.0) in
+      let i = more_effort t v.node w.node (level_inside t v.node w.node inside.1) in omega arith;
   low = λ l p.
       let z = low_first t l ws v p in
       subst (AreLeftLow t l) (sym items) (low_last t l (ws ++ w ∷ []) u (low_last t l ws w z.0 (lower t l v.node w.node inside.1 z.1)) (lower t l v.node u.node inside.0 z.1));
@@ -150,7 +150,7 @@ visits_inside t a b c ws vs v w required optional endless before after has l n i
   less =
       let e = effort_last t ws v in
       let f = ap (effort_left t) items ∙ effort_last t ws w in
-      let h = effort_more (level t v.node) (level t w.node) (level_inside t v.node w.node inside) in omega arith;
+      let h = more_effort t v.node w.node (level_inside t v.node w.node inside) in omega arith;
   low = λ k p. let z = low_first t k ws v p in subst (AreLeftLow t k) (sym items) (low_last t k ws w z.0 (lower t k v.node w.node inside z.1));
 }
 

@@ -31,4 +31,5 @@ pub mod Lacked
 pub mod Still
 pub mod Silence
 pub mod Answered
+pub mod Repeated
 pub mod StaysApart

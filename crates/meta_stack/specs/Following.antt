@@ -1,8 +1,8 @@
 -- How copies and turns are followed.
-use Rattle.std.specs.Prelude.{◌≡◌, ℕ, zero, suc, ◌<◌, List, [], Some, Bool, slice_get, map}
+use Rattle.std.specs.Prelude.{◌≡◌, ℕ, zero, suc, ◌+◌, ◌<◌, List, [], Some, Bool, slice_get, map, length}
 use Rattle.meta_stacks.specs.Stack.{AbstractStack}
 use Rattle.meta_stacks.specs.Reading as says
-use Rattle.meta_stacks.specs.Reading.{stays, tried, Endless, onward}
+use Rattle.meta_stacks.specs.Reading.{Endless, onward}
 use Rattle.meta_stack.specs.Table.{IsMeaning}
 use Rattle.meta_stack.specs.Memory.{Meaning, IsRight, copy_of}
 use Rattle.meta_stacks.specs.Reported.{turn_starts}
@@ -34,6 +34,19 @@ copy_step t meaning body required w = onward t.limit (meaning body) (copy_of req
 pub record IsTrace (f : says.Walk → says.Walk) (n : ℕ) (w : says.Walk) (items : List Walk) : Type 0 where
   pub each : (j : ℕ) (v : Walk) → slice_get items j ≡ Some v → (walk_of v ≡ times j f w) × (j < n)
   pub all : (i : ℕ) → i < n → (j : ℕ) × Comes items (times i f w) j
+
+-- each walk of a list is what an action makes of the one before it, and this is what it makes of the last one
+pub record IsRun (f : says.Walk → says.Walk) (start : says.Walk) (items : List Walk) (w : says.Walk)
+    : Type 0 where
+  pub each : (j : ℕ) (v : Walk) → slice_get items j ≡ Some v → walk_of v ≡ times j f start
+  pub here : w ≡ times (length items) f start
+
+-- where so many more copies lead to behind a run
+pub record IsForeseen (items : List Walk) (w : says.Walk) (left : ℕ) (v : Walk) : Type 0 where
+  pub value : (f : says.Walk → says.Walk) (start : says.Walk) → IsRun f start items w
+      → walk_of v ≡ times left f w
+  pub trace : (f : says.Walk → says.Walk) (start : says.Walk) → IsRun f start items w
+      → IsTrace f (length items + left) start items
 
 -- so many copies were followed
 pub record Follows (t : Table) (old new : Memory) (body : ℕ) (required : Bool) (count : ℕ) (w : says.Walk)

@@ -16,6 +16,7 @@ pub mod Certain
 pub mod Reportable
 pub mod NamedPlaces
 pub mod Leading
+pub mod Repeating
 pub mod Waiting
 pub mod Lacking
 pub mod Apart

@@ -6,10 +6,10 @@ use Rattle.meta_stacks.specs.Stack.{AbstractStack, In, entry}
 use Rattle.meta_stacks.specs.Reading as says
 use Rattle.meta_stacks.specs.Reading.{loops, Copy}
 use Rattle.meta_stack.specs.Flags.{is_set_at}
-use Rattle.meta_stack.specs.Table.{IsMeaning, copies, level, nodes_of, parts_of}
+use Rattle.meta_stack.specs.Table.{IsMeaning, copies, nodes_of, parts_of}
 use Rattle.meta_stack.specs.Memory.{Meaning, IsRight}
 use Rattle.meta_stack.specs.Following.{seen_stacks}
-use Rattle.meta_stack.specs.Waiting.{IsLow, effort}
+use Rattle.meta_stack.specs.Waiting.{IsLow, effort_of}
 use Rattle.meta_stacks.specs.Walks.{next_after}
 use Rattle.meta_stacks.specs.Reported.{starts, copies_of, is_endless, is_choice, ReportedIn}
 use Rattle.meta_stacks.specs.Views.{possible}
@@ -164,7 +164,7 @@ module _ (t : Table) (meaning : Meaning) (read : Spanned → AbstractStack → s
 
 abbrev pub effort_left : Table → List Pending → ℕ
 effort_left t [] = 0
-effort_left t (v ∷ vs) = effort (level t v.node) + effort_left t vs
+effort_left t (v ∷ vs) = effort_of t v.node + effort_left t vs
 
 abbrev pub AreLeftLow : Table → ℕ → List Pending → Type 0
 AreLeftLow t l [] = ⊤

@@ -3,11 +3,14 @@ use Rattle.std.specs.Prelude.{◌≡◌, ℕ, zero, suc, ◌+◌, ◌*◌, ◌<�
 use Rattle.meta_stacks.specs.Stack.{AbstractStack}
 use Rattle.meta_stacks.specs.Reading as says
 use Rattle.meta_stacks.specs.Reading.{from, ahead_reading, not_ahead_reading, opt_reading, pushed_reading, seq_reading, choice_reading}
-use Rattle.meta_stacks.specs.Views.{reading_of, stack_of}
-use Rattle.meta_stacks.specs.Walks.{next_after}
+use Rattle.meta_stacks.specs.Views.{reading_of, stack_of, walk_of}
+use Rattle.meta_stacks.specs.Walks.{ended, next_after, stepped, turned}
 use Rattle.meta_stack.specs.Memory.{Meaning, IsRight}
+use Rattle.meta_stack.specs.Repeating.{HasTrace, copied_reading, copies_left, most_readings, turned_reading}
 use Rattle.meta_stack.specs.Table.{IsMeaning, level, nodes_of}
 use Rattle.meta_stacks.specs.declared.stack.Stack.{Stack}
+use Rattle.meta_stacks.specs.declared.reading.Reading.{Reading}
+use Rattle.meta_stack.specs.declared.copies.Copies.{Copies}
 use Rattle.meta_stack.specs.declared.memory.Memory.{Memory}
 use Rattle.meta_stack.specs.declared.table.Table.{Table}
 use Rattle.meta_stack.specs.declared.waiting.Awaited.{Awaited}
@@ -37,6 +40,24 @@ abbrev pub filled : Table → Meaning → Awaited → AbstractStack → says.Rea
 filled t meaning (awaits.First second choice) a r =
     both_reading choice t.skips a r (from (next_after choice r a) (meaning second))
 filled t meaning (awaits.Last h) a r = whole_of h t.skips a r
+filled t meaning (awaits.Copy c required s) a r =
+    copied_reading t meaning c a (stepped required (stack_of s) r (walk_of c.walk))
+filled t meaning (awaits.Turn u s) a r =
+    turned_reading t meaning u a r.ok (turned (stack_of s) r (walk_of u.walk))
+
+-- past a copy that is waited for, the copies of its kind have a trace
+abbrev pub IsTraced : Table → Meaning → Awaited → says.Reading → Type 0
+IsTraced t meaning (awaits.First second choice) r = ⊤
+IsTraced t meaning (awaits.Last h) r = ⊤
+IsTraced t meaning (awaits.Copy c required s) r =
+    HasTrace t meaning c required (stepped required (stack_of s) r (walk_of c.walk))
+IsTraced t meaning (awaits.Turn u s) r = ⊤
+
+-- the reading that is waited for leads to that of the whole
+pub record Fills (t : Table) (meaning : Meaning) (awaited : Awaited) (a : AbstractStack)
+    (r whole : says.Reading) : Type 0 where
+  pub made : filled t meaning awaited a r ≡ whole
+  pub traced : IsTraced t meaning awaited r
 
 -- the reading at hand is what the innermost node waits for, which is the last one, and each node is what the
 -- one before it waits for; the first one has this reading
@@ -44,25 +65,35 @@ abbrev pub Lead : Table → Meaning → List Waiting → says.Reading → says.R
 Lead t meaning [] whole r = r ≡ whole
 Lead t meaning (w ∷ ws) whole r =
     (inner : says.Reading) × (meaning w.node (stack_of w.stack) ≡ whole)
-    × (filled t meaning w.awaited (stack_of w.stack) inner ≡ whole) × Lead t meaning ws inner r
+    × Fills t meaning w.awaited (stack_of w.stack) inner whole × Lead t meaning ws inner r
 
 -- the reading that is at hand, or will be
 abbrev pub at_hand : Meaning → Next → says.Reading
 at_hand meaning (next.Read node s) = meaning node (stack_of s)
 at_hand meaning (next.Done r) = reading_of r
 
--- how much there is to do for a node of a level: more than for two of lower levels
-unfoldable pub effort : ℕ → ℕ
-effort zero = 3
-effort (suc n) = 2 * effort n + 3
+-- how much there is to do for a node of a level: more than for two of lower levels, or for so many readings
+-- of one of them
+unfoldable pub effort : ℕ → ℕ → ℕ
+effort readings zero = 3
+effort readings (suc n) = (readings + 3) * (effort readings n + 1)
+
+abbrev pub effort_of : Table → ℕ → ℕ
+effort_of t node = effort (most_readings t) (level t node)
+
+-- for so many readings of a node, and what they lead to
+abbrev pub effort_times : Table → ℕ → ℕ → ℕ
+effort_times t node n = n * (effort_of t node + 1)
 
 abbrev pub effort_next : Table → Next → ℕ
-effort_next t (next.Read node s) = effort (level t node)
+effort_next t (next.Read node s) = effort_of t node
 effort_next t (next.Done r) = 0
 
 abbrev pub effort_awaited : Table → Awaited → ℕ
-effort_awaited t (awaits.First second choice) = 2 + effort (level t second)
+effort_awaited t (awaits.First second choice) = 2 + effort_of t second
 effort_awaited t (awaits.Last h) = 1
+effort_awaited t (awaits.Copy c required s) = 1 + effort_times t c.body (copies_left t c)
+effort_awaited t (awaits.Turn u s) = 1 + effort_times t u.body u.left
 
 abbrev pub effort_waiting : Table → List Waiting → ℕ
 effort_waiting t [] = 0
@@ -80,6 +111,8 @@ IsNextLow t l (next.Done r) = ⊤
 abbrev pub IsAwaitedLow : Table → ℕ → Awaited → Type 0
 IsAwaitedLow t l (awaits.First second choice) = IsLow t l second
 IsAwaitedLow t l (awaits.Last h) = ⊤
+IsAwaitedLow t l (awaits.Copy c required s) = IsLow t l c.body
+IsAwaitedLow t l (awaits.Turn u s) = IsLow t l u.body
 
 abbrev pub AreLow : Table → ℕ → List Waiting → Type 0
 AreLow t l [] = ⊤
@@ -98,3 +131,38 @@ pub record IsPut (ws vs : List Waiting) (node : ℕ) (s : Stack) (a : Awaited) (
     : Type 0 where
   pub items : vs ≡ ws ++ record { node = node; stack = s; awaited = a } ∷ []
   pub next : q ≡ next.Read operand s
+
+-- a repetition goes on, of which this is known: what is at hand leads to its reading, and no more is left to do
+-- than so many readings of what is repeated ask for
+pub record GoesOn (t : Table) (old new : Memory) (node : ℕ) (s : Stack) (Known : Meaning → Type 0)
+    (body readings : ℕ) (ws vs : List Waiting) (q : Next) : Type 0 where
+  pub right : (meaning : Meaning) → IsMeaning t meaning → IsRight meaning old → Known meaning
+      → (whole : says.Reading) → Lead t meaning ws whole (meaning node (stack_of s))
+      → IsRight meaning new × Lead t meaning vs whole (at_hand meaning q)
+  pub less : effort_next t q + effort_waiting t vs ≤ effort_times t body readings + effort_waiting t ws
+  pub low : (l : ℕ) → IsLow t l body → AreLow t l ws → IsNextLow t l q × AreLow t l vs
+
+-- it goes on with the reading that it waited for
+abbrev pub Resumes : Table → Memory → Memory → ℕ → Stack → Awaited → Reading → ℕ → ℕ → List Waiting
+    → List Waiting → Next → Type 0
+Resumes t old new node s awaited r body readings ws vs q = GoesOn t old new node s
+    (λ meaning. Fills t meaning awaited (stack_of s) (reading_of r) (meaning node (stack_of s)))
+    body readings ws vs q
+
+-- a repetition waits for a copy; c: what is left behind it
+pub record AwaitsCopy (ws vs : List Waiting) (node : ℕ) (s : Stack) (c : Copies) (required : Bool)
+    (from : Stack) (q : Next) : Type 0 where
+  pub copies : Copies
+  pub items : vs ≡ ws ++ record { node = node; stack = s; awaited = awaits.Copy copies required from } ∷ []
+  pub same : copies ≡ record c { trace = copies.trace }
+  pub trace : copies.trace.items ≡ c.trace.items ++ c.walk ∷ []
+  pub next : q ≡ next.Read c.body from
+
+-- the reading of a repetition is there, and was remembered
+pub record EndsWith (old new : Memory) (node : ℕ) (s : Stack) (alone : Bool) (w : says.Walk) (q : Next)
+    : Type 0 where
+  pub reading : Reading
+  pub next : q ≡ next.Done reading
+  pub value : reading_of reading ≡ ended (stack_of s) alone w
+  pub kept : (meaning : Meaning) → IsRight meaning old → reading_of reading ≡ meaning node (stack_of s)
+      → IsRight meaning new

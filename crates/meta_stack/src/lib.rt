@@ -4,6 +4,7 @@
 mod apart;
 pub mod ast;
 mod calls;
+mod copies;
 mod facts;
 mod groups;
 mod listeners;

@@ -1,53 +1,20 @@
 //! Readings of nodes, each made once.
-ghost use Rattle.std.specs.Prelude.{◌≡◌, ◌<◌, [], IfOk, IfSome, not, ◌||◌};
-ghost use Rattle.meta_stacks.specs.Stack as is;
-ghost use Rattle.meta_stacks.specs.Reading as says;
-ghost use Rattle.meta_stack.specs.Table.{IsOrdered, copies};
-ghost use Rattle.meta_stack.specs.Memory.{AnswersRightly, ReadsNode, Steps};
-ghost use Rattle.meta_stack.specs.Following.{Comes, Follows, Turned, seen_stacks};
+ghost use Rattle.std.specs.Prelude.{◌≡◌, ◌<◌, [], IfOk};
+ghost use Rattle.meta_stack.specs.Table.{IsOrdered};
+ghost use Rattle.meta_stack.specs.Memory.{ReadsNode, Steps};
+ghost use Rattle.meta_stack.specs.Following.{Follows, Turned};
 ghost use Rattle.meta_stack.specs.Waiting.{ReadsOn};
-ghost use Rattle.meta_stacks.specs.Views.{reading_of, stack_of, walk_of};
+ghost use Rattle.meta_stacks.specs.Views.{stack_of, walk_of};
 
+use crate::copies::{all_copies, foreseen, is_among, next_copy};
 use crate::memory::Memory;
 use crate::table::{Kind, Table};
 use crate::waiting::{Awaited, How, Next, Waiting, go_on, wait};
 use meta_stacks::{Reading, Stack, Walk};
 use std::alloc::{AllocError, Global};
 
-/// Whether a stack is among others.
-pub fn is_among(stacks: &[Stack], stack: Stack) -> bool
-    ensures { result ≡ is.is_among (seen_stacks stacks.now) (stack_of stack) }
-{
-    for seen in stacks {
-        if stack.is_same(*seen) {
-            return true;
-        }
-    }
-    false
-}
-
-/// A place at which the same walk stands.
-fn place_of(trace: &[Walk], walk: Walk) -> Option<usize>
-    ensures { IfSome result (Comes trace.now (walk_of walk)) }
-{
-    for (place, earlier) in trace.iter().enumerate() {
-        if earlier.is_same(walk) {
-            return Some(place);
-        }
-    }
-    None
-}
-
-/// Whether nothing can be skipped between the copies.
-fn stands_alone(skips: bool, required: u32, optional: u32, endless: bool) -> bool
-    ensures { result ≡ (not skips || says.is_single (copies required optional endless)) }
-{
-    !skips || (!endless && required as u64 + optional as u64 <= 1)
-}
-
-/// The reading of a node from a stack. What waits for the reading of an operand lies on a list, so that no
-/// depth of an expression or of calls takes the machine's stack, but repetitions in one another.
-#[cycle(reader)]
+/// The reading of a node from a stack. What waits for the reading of an operand, or of what it repeats, lies
+/// on a list, so that no depth of an expression or of calls takes the machine's stack.
 pub fn read(
     alloc: Global,
     table: &Table,
@@ -67,7 +34,7 @@ pub fn read(
                 next = begin(alloc, table, memory, node, stack, &mut waiting)?;
             }
             Next::Done(reading) => match waiting.pop() {
-                Some(last) => next = go_on(table, memory, &mut waiting, last, reading)?,
+                Some(last) => next = go_on(alloc, table, memory, &mut waiting, last, reading)?,
                 None => return Ok(reading),
             },
         }
@@ -75,7 +42,6 @@ pub fn read(
 }
 
 /// What is done to read a node: it waits for the reading of an operand, or its reading is there.
-#[cycle(reader)]
 fn begin(
     alloc: Global,
     table: &Table,
@@ -117,58 +83,13 @@ fn begin(
             wait(waiting, node, stack, Awaited::First(second, true), first)
         }
         Kind::Repeat(body, required, optional, endless) => {
-            let reading = repeat(
-                alloc, table, memory, body, stack, required, optional, endless,
-            )?;
-            memory.remember(node, stack, reading)?;
-            Ok(Next::Done(reading))
+            let copies = all_copies(alloc, table, stack, body, required, optional, endless);
+            next_copy(alloc, table, memory, waiting, node, stack, copies)
         }
     }
 }
 
-/// The reading of a repetition, by that of what is repeated.
-#[cycle(reader)]
-fn repeat(
-    alloc: Global,
-    table: &Table,
-    memory: &mut Memory,
-    body: usize,
-    stack: Stack,
-    required: u32,
-    optional: u32,
-    endless: bool,
-) -> Result<Reading, AllocError>
-    requires inside { body < table.now.nodes.len }
-    requires ordered { IsOrdered table.now }
-    ensures { IfOk result (AnswersRightly reading_of
-        (λ meaning. says.walked table.now.limit (meaning body) table.now.skips (stack_of stack)
-        (copies required optional endless)) table.now memory.old memory.new) }
-{
-    let start = Walk {
-        here: Some(stack),
-        failing: false,
-        still: true,
-    };
-    let mut trace = Vec::new(alloc);
-    let first = follow(
-        alloc, table, memory, body, true, required, start, &mut trace,
-    )?;
-    let mut trace = Vec::new(alloc);
-    let second = follow(
-        alloc, table, memory, body, false, optional, first, &mut trace,
-    )?;
-    let last = if endless {
-        let mut seen = Vec::new(alloc);
-        turn(alloc, table, memory, body, second, &mut seen)?
-    } else {
-        second
-    };
-    let alone = stands_alone(table.skips, required, optional, endless);
-    Ok(last.reading(stack, alone))
-}
-
 /// One copy more.
-#[cycle(reader)]
 fn step(
     alloc: Global,
     table: &Table,
@@ -190,7 +111,6 @@ fn step(
 
 /// So many copies, followed until they come back to a walk that was seen. `trace` has the walks
 /// from which one of them starts, each once.
-#[cycle(reader)]
 pub fn follow(
     alloc: Global,
     table: &Table,
@@ -210,8 +130,8 @@ pub fn follow(
     let count = count as usize;
     let mut walk = start;
     for done in 0..count {
-        if let Some(place) = place_of(trace, walk) {
-            return Ok(trace[place + (count - done) % (done - place)]);
+        if let Some(last) = foreseen(trace, walk, count - done) {
+            return Ok(last);
         }
         trace.push(walk)?;
         walk = step(alloc, table, memory, body, required, walk)?;
@@ -221,7 +141,6 @@ pub fn follow(
 
 /// Turns without end, followed until one starts as an earlier one. `seen` has the stacks from which
 /// they start.
-#[cycle(reader)]
 pub fn turn(
     alloc: Global,
     table: &Table,

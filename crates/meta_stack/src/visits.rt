@@ -4,9 +4,10 @@ ghost use Rattle.meta_stack.specs.Table.{IsOrdered, copies};
 ghost use Rattle.meta_stack.specs.Visiting.{AddsStack, AddsAll, AddsEach, AddsWhere, Collects, IsAfter, IsReportedWhereItLoops, IsStartOf, FindsLoop, FindsIn, VisitsOn};
 ghost use Rattle.meta_stacks.specs.Views.{stack_of};
 
+use crate::copies::is_among;
 use crate::loops::loops;
 use crate::memory::Memory;
-use crate::reader::{follow, is_among, read, turn};
+use crate::reader::{follow, read, turn};
 use crate::table::{Parts, Table, is_set};
 use meta_base::runtime::Span;
 use meta_stacks::{Stack, Walk};

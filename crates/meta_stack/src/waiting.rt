@@ -3,10 +3,11 @@ ghost use Rattle.std.specs.Prelude.{◌≡◌, [], ◌∷◌, ◌++◌, IfOk};
 ghost use Rattle.meta_stack.specs.Waiting.{ReadsOn, IsPut, whole_of};
 ghost use Rattle.meta_stacks.specs.Views.{reading_of, stack_of};
 
+use crate::copies::{Copies, Turns, copied, turned};
 use crate::memory::Memory;
 use crate::table::Table;
 use meta_stacks::{Reading, Stack};
-use std::alloc::AllocError;
+use std::alloc::{AllocError, Global};
 
 /// How the reading of a node comes from that of its last operand.
 #[derive(Clone, Copy)]
@@ -21,15 +22,21 @@ pub enum How {
 }
 
 /// Which operand is waited for.
-#[derive(Clone, Copy)]
+#[derive(Drop)]
 pub enum Awaited {
     /// The first of two: the second one, and whether it is a choice.
     First(usize, bool),
     Last(How),
+    /// What is repeated, once more: what is left behind that copy, whether it is required, and the stack from
+    /// which it is read.
+    Copy(Copies, bool, Stack),
+    /// What is repeated, for one of the turns without end: what is left behind it, and the stack from which
+    /// it is read.
+    Turn(Turns, Stack),
 }
 
 /// A node that waits, and the stack from which it is read.
-#[derive(Clone, Copy)]
+#[derive(Drop)]
 pub struct Waiting {
     pub node: usize,
     pub stack: Stack,
@@ -83,6 +90,7 @@ pub fn wait(
 /// What is done once the operand is read that the last of the nodes was waiting for. The reading of a node is
 /// remembered.
 pub fn go_on(
+    alloc: Global,
     table: &Table,
     memory: &mut Memory,
     waiting: &mut Vec<Waiting>,
@@ -92,22 +100,33 @@ pub fn go_on(
     ensures { IfOk result (ReadsOn table.now memory.old memory.new (Next.Done reading)
         (waiting.old.items ++ last ∷ []) waiting.new.items) }
 {
-    match last.awaited {
+    let Waiting {
+        node,
+        stack,
+        awaited,
+    } = last;
+    match awaited {
         Awaited::First(second, choice) => {
             waiting.push(Waiting {
-                node: last.node,
-                stack: last.stack,
+                node,
+                stack,
                 awaited: Awaited::Last(How::Both(reading, choice)),
             })?;
-            match reading.next_after(choice, last.stack) {
-                Some(stack) => Ok(Next::Read(second, stack)),
+            match reading.next_after(choice, stack) {
+                Some(after) => Ok(Next::Read(second, after)),
                 None => Ok(Next::Done(Reading::impossible())),
             }
         }
         Awaited::Last(how) => {
-            let whole = how.whole(reading, last.stack, table.skips);
-            memory.remember(last.node, last.stack, whole)?;
+            let whole = how.whole(reading, stack, table.skips);
+            memory.remember(node, stack, whole)?;
             Ok(Next::Done(whole))
+        }
+        Awaited::Copy(copies, required, from) => copied(
+            alloc, table, memory, waiting, node, stack, copies, required, from, reading,
+        ),
+        Awaited::Turn(turns, from) => {
+            turned(table, memory, waiting, node, stack, turns, from, reading)
         }
     }
 }

@@ -3,6 +3,7 @@ pub mod CommentEnds
 pub mod EntryLists
 pub mod Expectations
 pub mod FirstCharacters
+pub mod Following
 pub mod LeafLemmas
 pub mod Lookup
 pub mod Making
@@ -21,5 +22,6 @@ pub mod SingleCharacters
 pub mod Steps
 pub mod Taken
 pub mod Untold
+pub mod Waiting
 pub mod Yielding
 pub mod Yields

@@ -9,14 +9,9 @@ use Rattle.meta_syntax.specs.declared.table.Form.{Form}
 use Rattle.meta_syntax.specs.declared.table.Form.TheVariants as form
 use Rattle.meta_syntax.specs.Entries.{named_entries}
 use Rattle.meta_syntax.specs.Forms.{AreParts, cost, expression_of, followed, null}
+use Rattle.meta_syntax.specs.Nesting.{FoundBefore}
 use Rattle.meta_syntax.specs.Runs.{Fails, Finds}
 use Rattle.meta_syntax.proofs.Steps.{fails_first, fails_second, finds_seq}
-
--- what was found of a sequence, and the form that is still to be run behind it
-pub record FoundBefore (m : Mode) (whole : Expression) (text from : List ℕ) (es : List Entry) (p : ℕ) (left : Form) (rest : List ℕ) (fs : List Entry) (q : ℕ) : Type 0 where
-  pub done : Expression
-  pub found : Finds (Run m done) text from es fs p q rest
-  pub goes_on : followed (Some done) left ≡ whole
 
 -- the text has become shorter, or all parts so far may take nothing, and the rest is no more than all others were
 abbrev pub Begun : List ℕ → List ℕ → Form → Form → Form → Type 0

@@ -6,6 +6,7 @@ pub mod Expecting
 pub mod Firsts
 pub mod Forms
 pub mod MetaGrammar
+pub mod Nesting
 pub mod Parses
 pub mod Remembering
 pub mod Rows

@@ -30,6 +30,7 @@ pub(crate) fn count_of_entries(entries: &Vec<Entry>) -> usize
 }
 
 /// Starts a tree, if there is to be one. Its partner is not known yet.
+#[inline(always)]
 pub(crate) fn open(
     entries: &mut Vec<Entry>,
     gives: bool,

@@ -9,6 +9,7 @@ pub mod grammar;
 pub mod laws;
 mod leaves;
 mod modes;
+mod nesting;
 mod recognize;
 mod sets;
 mod table;

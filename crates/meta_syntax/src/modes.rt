@@ -32,6 +32,7 @@ pub fn is_seen_from(mode: Mode) -> bool
 }
 
 /// Whether a rule of a kind gives a token to a caller's mode.
+#[inline(always)]
 pub fn gives_token(kind: Kind, mode: Mode) -> bool
     ensures { result ≡ gives_token (kind_of kind) (mode_of mode) }
 {
@@ -43,6 +44,7 @@ pub fn gives_token(kind: Kind, mode: Mode) -> bool
 }
 
 /// Whether a failed call counts for the place.
+#[inline(always)]
 pub fn call_counts(kind: Kind, mode: Mode) -> bool
     ensures { result ≡ (seen_from (mode_of mode) && gives_token (kind_of kind) (mode_of mode)) }
 {
@@ -57,6 +59,7 @@ fn is_blank(rule: Rule) -> bool
 }
 
 /// The mode in which the body of a rule is run.
+#[inline(always)]
 pub fn body_mode(rule: Rule, kind: Kind, mode: Mode) -> Mode
     requires { kind_of kind ≡ type_of_rule rule }
     ensures skips { skips_in result ≤ skips_in_call rule mode }
@@ -70,6 +73,7 @@ pub fn body_mode(rule: Rule, kind: Kind, mode: Mode) -> Mode
 }
 
 /// A failure, if it counts and is further than those before it.
+#[inline(always)]
 pub fn furthest_with(counts: bool, position: usize, furthest: usize) -> usize
     ensures value { result ≡ furthest_with counts position furthest }
     ensures further { furthest ≤ result }

@@ -48,6 +48,7 @@ pub struct Recognizer {
 
 /// Whether a call is that of a comment which is begun there: such a call may be made again and
 /// again, and take long.
+#[inline(always)]
 fn begins_comment(rule: Rule, rest: &str) -> bool
     ensures { result ≡ true → rule ≡ block_comment }
 {
@@ -85,7 +86,7 @@ impl Recognizer {
     ///
     /// It is built into `call`, which asks it first.
     #[inline(always)]
-    fn decided<'i>(
+    pub fn decided<'i>(
         &mut self,
         text: &str,
         rule: Rule,
@@ -114,7 +115,8 @@ impl Recognizer {
 
     /// Whether it is remembered that a call fails here. Nothing is then noted that was not noted
     /// before.
-    fn has_failed(&self, rule: Rule, mode: Mode, rest: &str) -> bool
+    #[inline(always)]
+    pub fn has_failed(&self, rule: Rule, mode: Mode, rest: &str) -> bool
         ensures { (text : List ℕ) → RemembersTruly text self.now → IsLeft text rest.now → result ≡ true
             → FailsWithin rule (mode_of mode) text rest.now self.now.furthest }
     {
@@ -128,7 +130,8 @@ impl Recognizer {
     }
 
     /// Remembers that a call has failed here, if it may be made again.
-    fn remember(&mut self, rule: Rule, mode: Mode, rest: &str) -> Result<(), AllocError>
+    #[inline(always)]
+    pub fn remember(&mut self, rule: Rule, mode: Mode, rest: &str) -> Result<(), AllocError>
         ensures entries { OnOk result (self.new.entries ≡ self.old.entries) }
         ensures furthest { OnOk result (self.new.furthest ≡ self.old.furthest) }
         ensures remembers { (text : List ℕ) → RemembersTruly text self.old → IsLeft text rest.now
@@ -182,7 +185,7 @@ impl Recognizer {
     }
 
     /// Matches the end of the text, with a token.
-    fn end_of_input<'i>(
+    pub fn end_of_input<'i>(
         &mut self,
         text: &str,
         mode: Mode,
@@ -212,7 +215,7 @@ impl Recognizer {
     /// not two.
     #[inline(always)]
     #[cycle(recognize)]
-    fn run<'i>(
+    pub fn run<'i>(
         &mut self,
         text: &str,
         form: &'static Form,
@@ -264,7 +267,7 @@ impl Recognizer {
     /// be while it does not call itself; so this is the function that it calls in its place.
     #[inline(never)]
     #[cycle(recognize)]
-    fn copies<'i>(
+    pub fn copies<'i>(
         &mut self,
         text: &str,
         spelled: &'static Form,
@@ -313,7 +316,7 @@ impl Recognizer {
     #[inline(never)]
     #[cycle(recognize)]
     #[tactic(auto, using(crate::proofs::Choices::rank_at))]
-    fn first_of<'i>(
+    pub fn first_of<'i>(
         &mut self,
         text: &str,
         first: Rule,
@@ -608,7 +611,7 @@ impl Recognizer {
     /// whole text where comments end.
     #[inline(never)]
     #[cycle(recognize)]
-    fn comment<'i>(
+    pub fn comment<'i>(
         &mut self,
         text: &str,
         spelled: &'static Form,

@@ -508,6 +508,7 @@ macro_rules! compound_atomic {
 
 /// The row of a rule: what the meta-grammar says of it. `EOI` has none, being no rule of the
 /// grammar.
+#[inline(always)]
 pub fn row_of(rule: Rule) -> Option<Row>
     ensures { MatchOption result (rule ≡ EOI) (λ row. IsRow row.kind row.body.now rule) }
 {

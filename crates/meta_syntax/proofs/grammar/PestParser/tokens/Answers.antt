@@ -2,8 +2,8 @@ use Rattle.std.proofs.Common.{rules}
 use Rattle.meta_syntax.proofs.Parsing.{fails_on_character, refused, refuses, spelled, tokens_whole}
 use Rattle.meta_syntax.proofs.grammar.PestParser.tokens.Goals as goal
 
-pub call-requires : goal.call-requires
-call-requires c = record { ready = record { left = search rules; remembers = c.new-recognizer.ensures.remembers c.args.text.now } }
+pub recognize-requires : goal.recognize-requires
+recognize-requires c = record { ready = record { left = search rules; remembers = c.new-recognizer.ensures.remembers c.args.text.now } }
 
 pub returns-in-Ok-Some-clause-trees : goal.returns-in-Ok-Some-clause-trees
 returns-in-Ok-Some-clause-trees c =

@@ -9,7 +9,8 @@ use Rattle.meta_syntax.specs.Remembering.{RemembersTruly}
 use Rattle.meta_syntax.specs.Runs.{Fails, IsLeft, measure, mode_of, skips_in, skips_in_call}
 use Rattle.meta_syntax.proofs.Quoted.{text_of_string}
 use Rattle.meta_base.specs.Language.State.{AtomicMode}
-use Rattle.meta_syntax.proofs.Sequences.{Begun, FoundBefore}
+use Rattle.meta_syntax.specs.Nesting.{FoundBefore}
+use Rattle.meta_syntax.proofs.Sequences.{Begun}
 use Rattle.meta_syntax.proofs.Steps.{SoFar, blanks, comments}
 use Rattle.meta_syntax.proofs.recognize.Recognizer.+recognize.Given as goal
 

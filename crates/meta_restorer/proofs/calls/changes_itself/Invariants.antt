@@ -1,0 +1,12 @@
+use Rattle.std.proofs.Common.{◌≡◌, ◌||◌, ◌+◌}
+use Rattle.meta_ast.specs.Optimized.{optimized_expression_of}
+use Rattle.meta_restorer.specs.Changing.{changes_by, is_changer}
+use Rattle.meta_restorer.specs.Size.{size}
+use Rattle.meta_restorer.specs.Turns.{changes_in_turn, work_in_turn}
+use Rattle.meta_restorer.proofs.calls.changes_itself.Given as goal
+
+abbrev pub invariant-parts : goal.invariant-parts
+invariant-parts l = (changes_by is_changer (optimized_expression_of l.here) || changes_in_turn l.waiting.items) ≡ changes_by is_changer (optimized_expression_of l.fn.expr)
+
+abbrev pub decreases-parts : goal.decreases-parts
+decreases-parts l = size (optimized_expression_of l.here) + work_in_turn l.waiting.items

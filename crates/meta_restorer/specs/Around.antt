@@ -1,0 +1,109 @@
+-- What stands around an operand that is restored, and what comes of a step.
+use Rattle.std.specs.Prelude.{ℕ, ◌+◌, ◌*◌, List, [], ◌++◌, Bool, true, false, ◌&&◌, ◌||◌, if◌then◌else◌}
+use Rattle.meta_base.specs.Language.Text.{Text}
+use Rattle.meta_base.specs.Language.Expression as e
+use Rattle.meta_base.specs.Language.Expression.{Expression}
+use Rattle.meta_ast.specs.Ast.{text_of}
+use Rattle.meta_ast.specs.Optimized.{optimized_expression_of}
+use Rattle.meta_ast.specs.Rebuilding.{meaning_of, work_of}
+use Rattle.meta_ast.specs.declared.optimized.OptimizedExpr.{OptimizedExpr}
+use Rattle.meta_ast.specs.declared.rebuilt.Step.{Step}
+use Rattle.meta_restorer.specs.Calls.{names_in}
+use Rattle.meta_restorer.specs.Changing.{changes_by, restored_by, wrapped_by}
+use Rattle.meta_restorer.specs.Size.{size}
+use Rattle.meta_restorer.specs.declared.around.Around.{Around}
+use Rattle.meta_restorer.specs.declared.around.Restored.{Restored}
+use Rattle.meta_restorer.specs.declared.around.Sign.{Sign}
+use Rattle.meta_restorer.specs.declared.around.Sign.TheVariants as sign
+
+-- an expression, and whether it changes the stack
+abbrev pub Flagged : Type 0
+Flagged = Expression × Bool
+
+abbrev pub flagged : Restored → Flagged
+flagged r = (optimized_expression_of r.expr.value, r.changes)
+
+-- an expression, with a wrapper or without one
+abbrev pub wrapped_if : Bool → Expression → Expression
+wrapped_if b x = if b then e.RestoreOnErr x else x
+
+-- whether an operand that changes the stack gets a wrapper under a sign
+abbrev pub is_wrapping : Sign → Bool
+is_wrapping sign.Opt = true
+is_wrapping sign.Rep = true
+is_wrapping sign.RepOnce = true
+is_wrapping (sign.FirstOfChoice right) = true
+is_wrapping (sign.SecondOfChoice left) = true
+is_wrapping _ = false
+
+-- `p`: which names change the stack
+module _ (p : Text → Bool) where
+  -- an expression that is to be restored, as it then is
+  abbrev pub flagged_by : OptimizedExpr → Flagged
+  flagged_by x = let r = restored_by p (optimized_expression_of x) in (r, changes_by p r)
+
+  -- the whole, restored, around an operand that is restored and wrapped
+  abbrev pub whole_of : Sign → Expression → Expression
+  whole_of sign.PosPred x = e.PosPred x
+  whole_of sign.NegPred x = e.NegPred x
+  whole_of sign.Opt x = e.Opt x
+  whole_of sign.Rep x = e.Rep x
+  whole_of sign.RepOnce x = e.RepOnce x
+  whole_of sign.Push x = e.Push x
+  whole_of (sign.NodeTag t) x = e.NodeTag x (text_of t)
+  whole_of (sign.FirstOfSeq right) x = e.Seq x (restored_by p (optimized_expression_of right.value.value))
+  whole_of (sign.FirstOfChoice right) x =
+      e.Choice x (wrapped_by p (restored_by p (optimized_expression_of right.value.value)))
+  whole_of (sign.SecondOfSeq left b) x = e.Seq (optimized_expression_of left.value.value) x
+  whole_of (sign.SecondOfChoice left) x = e.Choice (optimized_expression_of left.value.value) x
+
+  -- whether it changes the stack, where it is known of the operand
+  abbrev pub changes_around : Sign → Bool → Bool
+  changes_around sign.PosPred b = b
+  changes_around sign.NegPred b = b
+  changes_around sign.Push b = true
+  changes_around (sign.NodeTag t) b = b
+  changes_around (sign.FirstOfSeq right) b =
+      b || changes_by p (restored_by p (optimized_expression_of right.value.value))
+  changes_around (sign.SecondOfSeq left c) b = c || b
+  changes_around _ b = false
+
+  abbrev pub with_operand : Sign → Flagged → Flagged
+  with_operand s f = (whole_of s (wrapped_if (is_wrapping s && f.1) f.0), changes_around s f.1)
+
+  abbrev pub filled_in : Around → Flagged → Flagged
+  filled_in a f = with_operand a.sign f
+
+  -- what comes of a step in the end
+  abbrev pub step_as : Step OptimizedExpr Around Restored → Flagged
+  step_as step = meaning_of flagged_by flagged filled_in step
+
+-- the names that are still to be met under a sign, where it is known of the operand
+abbrev pub names_beside : Sign → List Text → List Text
+names_beside (sign.FirstOfSeq right) ns = ns ++ names_in (optimized_expression_of right.value.value)
+names_beside (sign.FirstOfChoice right) ns = ns ++ names_in (optimized_expression_of right.value.value)
+names_beside _ ns = ns
+
+abbrev pub names_around : Around → List Text → List Text
+names_around a ns = names_beside a.sign ns
+
+abbrev pub names_to_meet : OptimizedExpr → List Text
+names_to_meet x = names_in (optimized_expression_of x)
+
+abbrev pub names_left : Step OptimizedExpr Around Restored → List Text
+names_left step = meaning_of names_to_meet (λ r. []) names_around step
+
+-- how much there is to be done with an expression, under a sign once the operand is restored, and at all
+abbrev pub work_in : OptimizedExpr → ℕ
+work_in x = 4 * size (optimized_expression_of x)
+
+abbrev pub waits_of : Sign → ℕ
+waits_of (sign.FirstOfSeq right) = work_in right.value.value + 3
+waits_of (sign.FirstOfChoice right) = work_in right.value.value + 3
+waits_of _ = 1
+
+abbrev pub waits_around : Around → ℕ
+waits_around a = waits_of a.sign
+
+abbrev pub work_left : Step OptimizedExpr Around Restored → ℕ
+work_left step = work_of work_in waits_around step

@@ -1,0 +1,194 @@
+//! An expression that is restored by a loop: what stands around an operand of it, and what comes of a step.
+ghost use Rattle.std.specs.Prelude.{◌≡◌, ◌≤◌, ◌<◌, ◌+◌, [], Bool, IfOk, OnOk};
+ghost use Rattle.meta_base.specs.Language.Text.{Text};
+ghost use Rattle.meta_ast.specs.Optimized.{optimized_expression_of};
+ghost use Rattle.meta_restorer.specs.Around.{flagged, flagged_by, is_wrapping, names_around, names_beside};
+ghost use Rattle.meta_restorer.specs.Around.{names_left, names_to_meet, step_as, waits_around, waits_of};
+ghost use Rattle.meta_restorer.specs.Around.{filled_in, with_operand, work_left, work_in, wrapped_if};
+ghost use Rattle.meta_restorer.specs.Telling.{IsNext, ReadsOn, told};
+
+use crate::changes::{Changes, is_next_changing};
+use meta_ast::deep::Deep;
+use meta_ast::optimized::OptimizedExpr;
+use meta_ast::rebuilt::Step;
+use std::alloc::{AllocError, Global};
+use std::mem;
+
+/// A restored expression.
+#[derive(Drop)]
+pub struct Restored {
+    pub expr: Deep<OptimizedExpr>,
+    /// Whether it changes the stack.
+    pub changes: bool,
+}
+
+/// What stands around an operand while it is restored.
+#[derive(Drop)]
+pub struct Around {
+    pub sign: Sign,
+    /// Where the operand has its room.
+    pub room: Box<OptimizedExpr>,
+}
+
+/// What an operand stands under while it is restored.
+#[derive(Drop)]
+pub enum Sign {
+    PosPred,
+    NegPred,
+    Opt,
+    Rep,
+    RepOnce,
+    Push,
+    NodeTag(String),
+    /// A `~` or a `|` whose left side is at hand, with the right one.
+    FirstOfSeq(Deep<Box<OptimizedExpr>>),
+    FirstOfChoice(Deep<Box<OptimizedExpr>>),
+    /// A `~` or a `|` whose right side is at hand, with the left one, restored: that of a `~` with whether it
+    /// changes the stack, that of a `|` in its wrapper.
+    SecondOfSeq(Deep<Box<OptimizedExpr>>, bool),
+    SecondOfChoice(Deep<Box<OptimizedExpr>>),
+}
+
+impl Sign {
+    /// Whether an operand that changes the stack gets a wrapper there.
+    fn is_wrapping(&self) -> bool
+        ensures { result ≡ is_wrapping self.now }
+    {
+        match self {
+            Sign::Opt => true,
+            Sign::Rep => true,
+            Sign::RepOnce => true,
+            Sign::FirstOfChoice(_) => true,
+            Sign::SecondOfChoice(_) => true,
+            _ => false,
+        }
+    }
+}
+
+/// What stands where an expression has been taken out.
+pub(crate) fn nothing() -> OptimizedExpr {
+    OptimizedExpr::PeekSlice(0, None)
+}
+
+/// Puts a wrapper round an expression that changes the stack.
+pub(crate) fn wrap(
+    alloc: Global,
+    expr: &mut Box<OptimizedExpr>,
+    is_changing: bool,
+) -> Result<(), AllocError>
+    ensures { OnOk result (optimized_expression_of expr.new.value
+        ≡ wrapped_if is_changing (optimized_expression_of expr.old.value)) }
+{
+    if is_changing {
+        let wrapper = Box::new(alloc, nothing())?;
+        let wrapped = mem::replace(expr, wrapper);
+        drop(Box::replace(expr, OptimizedExpr::RestoreOnErr(wrapped)));
+    }
+    Ok(())
+}
+
+/// An expression in a box that was made before.
+fn put(room: Box<OptimizedExpr>, expr: OptimizedExpr) -> Box<OptimizedExpr>
+    ensures { result.value ≡ expr }
+{
+    let mut room = room;
+    drop(Box::replace(&mut room, expr));
+    room
+}
+
+/// A step that makes an expression.
+fn made(expr: OptimizedExpr, changes: bool) -> Step<OptimizedExpr, Around, Restored>
+    ensures { result ≡ Step.Made (record { expr = record { value = expr }; changes = changes }) }
+{
+    let expr = Deep { value: expr };
+    Step::Made(Restored { expr, changes })
+}
+
+/// A step into an operand, which is taken out of its box.
+fn inside(sign: Sign, operand: Box<OptimizedExpr>) -> Step<OptimizedExpr, Around, Restored>
+    ensures meaning { (p : Text → Bool)
+        → step_as p result ≡ with_operand p sign (flagged_by p operand.value) }
+    ensures names { names_left result ≡ names_beside sign (names_to_meet operand.value) }
+    ensures work { work_left result ≡ 1 + (waits_of sign + work_in operand.value) }
+{
+    let mut room = operand;
+    let operand = Box::replace(&mut room, nothing());
+    Step::Inside(Around { sign, room }, operand)
+}
+
+/// What is made of an expression without operands; else its first operand, and what stands around it. The
+/// rule of a name is noted at the place, which then moves on.
+pub(crate) fn opened(
+    changes: &Changes,
+    place: &mut usize,
+    expr: OptimizedExpr,
+) -> Step<OptimizedExpr, Around, Restored>
+    requires { IsNext changes.now (names_to_meet expr) place.old }
+    ensures meaning { step_as (told changes.now) result ≡ flagged_by (told changes.now) expr }
+    ensures reads { ReadsOn changes.now (names_to_meet expr) place.old (names_left result) place.new }
+    ensures work { work_left result ≤ work_in expr }
+{
+    use OptimizedExpr as E;
+    let (sign, operand) = match expr {
+        E::PosPred(inner) => (Sign::PosPred, inner),
+        E::NegPred(inner) => (Sign::NegPred, inner),
+        E::Opt(inner) => (Sign::Opt, inner),
+        E::Rep(inner) => (Sign::Rep, inner),
+        E::RepOnce(inner) => (Sign::RepOnce, inner),
+        E::Push(inner) => (Sign::Push, inner),
+        E::NodeTag(inner, tag) => (Sign::NodeTag(tag), inner),
+        E::Seq(left, right) => (Sign::FirstOfSeq(Deep { value: right }), left),
+        E::Choice(left, right) => (Sign::FirstOfChoice(Deep { value: right }), left),
+        E::Ident(name) => {
+            let is_changing = is_next_changing(changes, place, &name);
+            return made(E::Ident(name), is_changing);
+        }
+        E::PushLiteral(text) => return made(E::PushLiteral(text), true),
+        leaf => return made(leaf, false),
+    };
+    inside(sign, operand)
+}
+
+/// What is made of the whole, once its last operand is restored; else the next operand.
+pub(crate) fn closed(
+    alloc: Global,
+    around: Around,
+    operand: Restored,
+) -> Result<Step<OptimizedExpr, Around, Restored>, AllocError>
+    ensures meaning { IfOk result (λ step. (p : Text → Bool)
+        → step_as p step ≡ filled_in p around (flagged operand)) }
+    ensures names { IfOk result (λ step. names_left step ≡ names_around around []) }
+    ensures work { IfOk result (λ step. work_left step < waits_around around) }
+{
+    use OptimizedExpr as E;
+    let Around { sign, room } = around;
+    let Restored { expr, changes } = operand;
+    let mut operand = Deep {
+        value: put(room, expr.into_inner()),
+    };
+    wrap(alloc, &mut operand.value, sign.is_wrapping() && changes)?;
+    let operand = operand.into_inner();
+    let step = match sign {
+        Sign::PosPred => made(E::PosPred(operand), changes),
+        Sign::NegPred => made(E::NegPred(operand), changes),
+        Sign::Opt => made(E::Opt(operand), false),
+        Sign::Rep => made(E::Rep(operand), false),
+        Sign::RepOnce => made(E::RepOnce(operand), false),
+        Sign::Push => made(E::Push(operand), true),
+        Sign::NodeTag(tag) => made(E::NodeTag(operand, tag), changes),
+        Sign::FirstOfSeq(right) => {
+            let sign = Sign::SecondOfSeq(Deep { value: operand }, changes);
+            inside(sign, right.into_inner())
+        }
+        Sign::FirstOfChoice(right) => {
+            let sign = Sign::SecondOfChoice(Deep { value: operand });
+            inside(sign, right.into_inner())
+        }
+        Sign::SecondOfSeq(left, is_left_changing) => made(
+            E::Seq(left.into_inner(), operand),
+            is_left_changing || changes,
+        ),
+        Sign::SecondOfChoice(left) => made(E::Choice(left.into_inner(), operand), false),
+    };
+    Ok(step)
+}

@@ -1,0 +1,7 @@
+use Rattle.std.proofs.Common.{refl}
+use Rattle.meta_stack.specs.Table.{copies}
+use Rattle.meta_stack.proofs.Work.{ended_value}
+use Rattle.meta_stack.proofs.copies.all_copies.Goals as goal
+
+pub returns-clause-all : goal.returns-clause-all
+returns-clause-all c meaning = ended_value c.args.table.now.limit (meaning c.args.body) c.args.table.now.skips _ (copies c.args.required c.args.optional c.args.endless) _ _ refl c.stands_alone.ensures

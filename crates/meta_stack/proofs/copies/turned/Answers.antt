@@ -1,0 +1,10 @@
+use Rattle.std.proofs.Common.{◌∙◌, ap, arith}
+use Rattle.meta_stacks.specs.Views.{possible, stack_of}
+use Rattle.meta_stack.specs.Repeating.{turned_reading}
+use Rattle.meta_stack.proofs.Repeated.{goes_on_by}
+use Rattle.meta_stack.proofs.Work.{where_ok}
+use Rattle.meta_stack.proofs.copies.turned.Goals as goal
+
+pub returns : goal.returns
+returns c = where_ok c.next_turn.result (λ q g. goes_on_by c.args.table.now _ _ _ _ _ _ _ _ _ _ _ q
+    (λ meaning f. ap (turned_reading c.args.table.now meaning c.args.turns (stack_of c.args.stack) (possible c.args.reading.ok)) c.turned-turns.ensures ∙ f.made) (omega arith) g) c.next_turn.ensures

@@ -1,0 +1,298 @@
+//! Repetitions that wait for the reading of what they repeat: copies and turns are followed one at a time.
+ghost use Rattle.std.specs.Prelude.{◌≡◌, ◌≤◌, ◌<◌, [], IfOk, IfSome, IfNone, not, ◌||◌};
+ghost use Rattle.meta_stacks.specs.Stack as is;
+ghost use Rattle.meta_stacks.specs.Reading as says;
+ghost use Rattle.meta_stacks.specs.Views.{stack_of, walk_of, possible};
+ghost use Rattle.meta_stack.specs.Table.{copies};
+ghost use Rattle.meta_stack.specs.Memory.{Meaning};
+ghost use Rattle.meta_stack.specs.Following.{Comes, IsForeseen, seen_stacks};
+ghost use Rattle.meta_stack.specs.Repeating.{CopiesLead, TurnsLead, copied_reading, copies_left, most_readings};
+ghost use Rattle.meta_stack.specs.Waiting.{AwaitsCopy, EndsWith, GoesOn, Resumes};
+
+use crate::memory::Memory;
+use crate::table::Table;
+use crate::waiting::{Awaited, Next, Waiting};
+use meta_stacks::{Reading, Stack, Walk};
+use std::alloc::{AllocError, Global};
+
+/// A repetition whose copies are followed.
+#[derive(Drop)]
+pub struct Copies {
+    pub body: usize,
+    /// How many required copies are left.
+    pub required: u32,
+    /// How many copies are left that may fail.
+    pub optional: u32,
+    /// Whether turns without end follow.
+    pub endless: bool,
+    /// Whether nothing can be skipped between the copies.
+    pub alone: bool,
+    /// How far the copies have been followed.
+    pub walk: Walk,
+    /// The walks from which those of the last kind started, each once.
+    pub trace: Vec<Walk>,
+}
+
+/// A repetition whose turns without end are followed.
+#[derive(Drop)]
+pub struct Turns {
+    pub body: usize,
+    pub alone: bool,
+    /// How many more turns are followed at most.
+    pub left: usize,
+    pub walk: Walk,
+    /// The stacks from which turns started.
+    pub seen: Vec<Stack>,
+}
+
+/// Whether a stack is among others.
+pub fn is_among(stacks: &[Stack], stack: Stack) -> bool
+    ensures { result ≡ is.is_among (seen_stacks stacks.now) (stack_of stack) }
+{
+    for seen in stacks {
+        if stack.is_same(*seen) {
+            return true;
+        }
+    }
+    false
+}
+
+/// A place at which the same walk stands.
+fn place_of(trace: &[Walk], walk: Walk) -> Option<usize>
+    ensures { IfSome result (Comes trace.now (walk_of walk)) }
+{
+    for (place, earlier) in trace.iter().enumerate() {
+        if earlier.is_same(walk) {
+            return Some(place);
+        }
+    }
+    None
+}
+
+/// Where so many copies more lead to, if none is left or the walk stood in the trace before.
+pub fn foreseen(trace: &[Walk], walk: Walk, left: usize) -> Option<Walk>
+    ensures known { IfSome result (IsForeseen trace.now (walk_of walk) left) }
+    ensures unknown { IfNone result (0 < left) }
+{
+    if left == 0 {
+        return Some(walk);
+    }
+    let place = place_of(trace, walk)?;
+    Some(trace[place + left % (trace.len() - place)])
+}
+
+/// Whether nothing can be skipped between the copies.
+fn stands_alone(skips: bool, required: u32, optional: u32, endless: bool) -> bool
+    ensures { result ≡ (not skips || says.is_single (copies required optional endless)) }
+{
+    !skips || (!endless && required as u64 + optional as u64 <= 1)
+}
+
+/// A repetition of which no copy has been followed yet, from a stack.
+pub fn all_copies(
+    alloc: Global,
+    table: &Table,
+    stack: Stack,
+    body: usize,
+    required: u32,
+    optional: u32,
+    endless: bool,
+) -> Copies
+    ensures all { (meaning : Meaning)
+        → copied_reading table.now meaning result (stack_of stack) (walk_of result.walk)
+        ≡ says.walked table.now.limit (meaning body) table.now.skips (stack_of stack)
+        (copies required optional endless) }
+    ensures body { result.body ≡ body }
+    ensures none { result.trace.items ≡ [] }
+    ensures few { copies_left table.now result ≤ most_readings table.now }
+{
+    Copies {
+        body,
+        required,
+        optional,
+        endless,
+        alone: stands_alone(table.skips, required, optional, endless),
+        walk: Walk {
+            here: Some(stack),
+            failing: false,
+            still: true,
+        },
+        trace: Vec::new(alloc),
+    }
+}
+
+/// The reading of a repetition is there, and is remembered.
+fn end(
+    memory: &mut Memory,
+    node: usize,
+    stack: Stack,
+    alone: bool,
+    walk: Walk,
+) -> Result<Next, AllocError>
+    ensures { IfOk result (EndsWith memory.old memory.new node stack alone (walk_of walk)) }
+{
+    let reading = walk.reading(stack, alone);
+    memory.remember(node, stack, reading)?;
+    Ok(Next::Done(reading))
+}
+
+/// A repetition waits for a copy, which is read from a stack; `copies`: what is left behind that copy.
+fn wait_for_copy(
+    waiting: &mut Vec<Waiting>,
+    node: usize,
+    stack: Stack,
+    mut copies: Copies,
+    required: bool,
+    from: Stack,
+) -> Result<Next, AllocError>
+    ensures { IfOk result (AwaitsCopy waiting.old.items waiting.new.items node stack copies required from) }
+{
+    let body = copies.body;
+    let walk = copies.walk;
+    copies.trace.push(walk)?;
+    waiting.push(Waiting {
+        node,
+        stack,
+        awaited: Awaited::Copy(copies, required, from),
+    })?;
+    Ok(Next::Read(body, from))
+}
+
+/// The next copy of a repetition is read, or the reading of the repetition is there.
+pub fn next_copy(
+    alloc: Global,
+    table: &Table,
+    memory: &mut Memory,
+    waiting: &mut Vec<Waiting>,
+    node: usize,
+    stack: Stack,
+    mut copies: Copies,
+) -> Result<Next, AllocError>
+    ensures { IfOk result (GoesOn table.now memory.old memory.new node stack
+        (λ meaning. CopiesLead table.now meaning copies (stack_of stack) (meaning node (stack_of stack)))
+        copies.body (copies_left table.now copies) waiting.old.items waiting.new.items) }
+{
+    let walk = copies.walk;
+    let Some(from) = walk.here else {
+        return end(memory, node, stack, copies.alone, walk);
+    };
+    if copies.required > 0 {
+        copies.required -= 1;
+        return wait_for_copy(waiting, node, stack, copies, true, from);
+    }
+    if copies.optional > 0 {
+        copies.optional -= 1;
+        return wait_for_copy(waiting, node, stack, copies, false, from);
+    }
+    if !copies.endless {
+        return end(memory, node, stack, copies.alone, walk);
+    }
+    let turns = Turns {
+        body: copies.body,
+        alone: copies.alone,
+        left: table.limit,
+        walk: Walk {
+            here: None,
+            failing: walk.failing,
+            still: walk.still,
+        },
+        seen: Vec::new(alloc),
+    };
+    next_turn(table, memory, waiting, node, stack, turns, Some(from))
+}
+
+/// A repetition goes on behind a copy that was read from a stack.
+pub fn copied(
+    alloc: Global,
+    table: &Table,
+    memory: &mut Memory,
+    waiting: &mut Vec<Waiting>,
+    node: usize,
+    stack: Stack,
+    mut copies: Copies,
+    required: bool,
+    from: Stack,
+    reading: Reading,
+) -> Result<Next, AllocError>
+    ensures { IfOk result (Resumes table.now memory.old memory.new node stack
+        (Awaited.Copy copies required from) reading copies.body (copies_left table.now copies)
+        waiting.old.items waiting.new.items) }
+{
+    copies.walk = copies.walk.stepped(reading, from, required);
+    let left = if required {
+        copies.required
+    } else {
+        copies.optional
+    };
+    let Some(walk) = foreseen(&copies.trace, copies.walk, left as usize) else {
+        return next_copy(alloc, table, memory, waiting, node, stack, copies);
+    };
+    copies.walk = walk;
+    copies.trace = Vec::new(alloc);
+    if required {
+        copies.required = 0;
+    } else {
+        copies.optional = 0;
+    }
+    next_copy(alloc, table, memory, waiting, node, stack, copies)
+}
+
+/// The next turn of a repetition is read, or the reading of the repetition is there; `next`: where the turn
+/// starts.
+fn next_turn(
+    table: &Table,
+    memory: &mut Memory,
+    waiting: &mut Vec<Waiting>,
+    node: usize,
+    stack: Stack,
+    mut turns: Turns,
+    next: Option<Stack>,
+) -> Result<Next, AllocError>
+    ensures { IfOk result (GoesOn table.now memory.old memory.new node stack
+        (λ meaning. TurnsLead table.now meaning turns (stack_of stack) (possible next)
+        (meaning node (stack_of stack)))
+        turns.body turns.left waiting.old.items waiting.new.items) }
+{
+    let walk = turns.walk;
+    if turns.left == 0 {
+        let unknown = Walk {
+            here: Some(Stack::unknown()),
+            failing: walk.failing,
+            still: false,
+        };
+        return end(memory, node, stack, turns.alone, unknown);
+    }
+    let Some(from) = next else {
+        return end(memory, node, stack, turns.alone, walk);
+    };
+    if is_among(&turns.seen, from) {
+        return end(memory, node, stack, turns.alone, walk);
+    }
+    let body = turns.body;
+    turns.left -= 1;
+    turns.seen.push(from)?;
+    waiting.push(Waiting {
+        node,
+        stack,
+        awaited: Awaited::Turn(turns, from),
+    })?;
+    Ok(Next::Read(body, from))
+}
+
+/// A repetition goes on behind a turn that was read from a stack.
+pub fn turned(
+    table: &Table,
+    memory: &mut Memory,
+    waiting: &mut Vec<Waiting>,
+    node: usize,
+    stack: Stack,
+    mut turns: Turns,
+    from: Stack,
+    reading: Reading,
+) -> Result<Next, AllocError>
+    ensures { IfOk result (Resumes table.now memory.old memory.new node stack
+        (Awaited.Turn turns from) reading turns.body turns.left waiting.old.items waiting.new.items) }
+{
+    turns.walk = turns.walk.turned(reading, from);
+    next_turn(table, memory, waiting, node, stack, turns, reading.ok)
+}

@@ -1,0 +1,554 @@
+//! What may stand in itself without end is recognized with a list of what waits, and not by calls in calls:
+//! so no text takes the machine's stack.
+//!
+//! A few rules of the meta-grammar reach themselves: an expression in parentheses, and a comment where it is
+//! asked for by itself. What lies between two such calls goes over the list, frame by frame; all else is left
+//! to the functions of `recognize`, whose depth the table bounds. Which forms go over the list is a matter of
+//! the stack alone: either way they match the same.
+ghost use Rattle.std.specs.Prelude.{◌≡◌, ◌+◌, ◌<◌, ◌≤◌, ◌∷◌, ◌&&◌, ℕ, IfOk, IfSome, OnOk, Some, false, if◌then◌else◌, length, true};
+ghost use Rattle.meta_base.specs.Language.Expression.{Ident};
+ghost use Rattle.meta_base.specs.Language.Meaning.{Run};
+ghost use Rattle.meta_base.specs.Pieces.MetaRules.{name_of};
+ghost use Rattle.meta_syntax.specs.Forms.{IsGood, IsRunnable, IsSpelled, all_take, choice_among, cost, expression_of, followed, greatest_rank, null, nullable, rank_of};
+ghost use Rattle.meta_syntax.specs.Nesting.{Follows, FrameFollows, HasTurned, IsAnswered, IsAsked, IsNext, IsPartWay, IsTried, IsWaiting, Question, effort, question_of, steps, work_aside, work_of};
+ghost use Rattle.meta_syntax.specs.Remembering.{IsReady, RemembersTruly};
+ghost use Rattle.meta_syntax.specs.Runs.{GoesOnIfFound, Runs, mode_of};
+ghost use Rattle.meta_syntax.specs.declared.nesting.Wait.{Wait};
+
+use crate::entries::{close, count_of_entries, cut, open};
+use crate::firsts::{Lookahead, look};
+use crate::modes::{Mode, body_mode, call_counts, furthest_with, gives_token, is_seen_from};
+use crate::recognize::Recognizer;
+use crate::table::{Form, Kind, parts_of, row_of};
+use meta_base::grammar::Rule;
+use std::alloc::{AllocError, Global};
+
+/// What is to be done once the answer is there.
+#[derive(Clone, Copy)]
+pub enum Wait {
+    /// A call of a rule of a kind ends.
+    Call(Rule, Kind),
+    /// A sequence goes on: of this, the first part was begun, and these parts are behind it.
+    Sequence(&'static Form, Option<&'static Form>),
+    /// This is tried where the first alternative fails.
+    Choice(&'static Form),
+    /// These rules are tried where the rules before them fail.
+    FirstOf(&'static [Rule]),
+    /// There may be one more turn of this.
+    Repetition(&'static Form),
+}
+
+/// What waits for the answer of what it has begun.
+#[derive(Clone, Copy)]
+pub struct Frame<'i> {
+    pub wait: Wait,
+    pub mode: Mode,
+    /// How many entries there were when it began.
+    pub mark: usize,
+    /// What is left of the text where what it has begun begins; of a repetition, behind its last turn.
+    pub rest: &'i str,
+}
+
+/// What is to be done next.
+#[derive(Clone, Copy)]
+pub enum Step<'i> {
+    /// This form is to be run.
+    Begin(&'static Form, Mode, &'i str),
+    /// What was begun last has this answer.
+    Answer(Option<&'i str>),
+}
+
+/// How many parentheses a text may open and still be left to calls in calls: they take a megabyte of the
+/// machine's stack.
+const FEW: usize = 512;
+
+/// Whether a text opens so few parentheses that nothing in it is deep.
+fn is_shallow(text: &str) -> bool {
+    let mut left = FEW;
+    for byte in text.as_bytes() {
+        if *byte == b'(' {
+            if left == 0 {
+                return false;
+            }
+            left -= 1;
+        }
+    }
+    true
+}
+
+/// Whether what begins so may have an expression in it: signs, a tag, parentheses or `PUSH`.
+#[inline(always)]
+fn may_hold_expression(rest: &str) -> bool {
+    matches!(
+        rest.as_bytes().first(),
+        Some(b'(' | b'!' | b'&' | b'#' | b'P')
+    )
+}
+
+/// Whether a rule may reach itself, or leads to one that may.
+#[inline(always)]
+fn may_reach_itself(rule: Rule) -> bool {
+    matches!(
+        rule,
+        Rule::grammar_rules
+            | Rule::grammar_rule
+            | Rule::expression
+            | Rule::term
+            | Rule::node
+            | Rule::terminal
+            | Rule::_push
+            | Rule::block_comment
+    )
+}
+
+/// Whether it may do so on what is left of a text.
+#[inline(always)]
+fn nests(rule: Rule, rest: &str) -> bool {
+    match rule {
+        Rule::term | Rule::node | Rule::terminal | Rule::_push => may_hold_expression(rest),
+        _ => may_reach_itself(rule),
+    }
+}
+
+/// Whether a form is a call of a rule that may reach itself.
+#[inline(always)]
+fn is_nesting_call(form: &Form) -> bool {
+    match form {
+        Form::Call(rule) => may_reach_itself(*rule),
+        _ => false,
+    }
+}
+
+/// Whether a part of a sequence goes over the list, on what is left of a text.
+#[inline(always)]
+fn may_nest(form: &Form, rest: &str) -> bool {
+    match form {
+        Form::Call(rule) => nests(*rule, rest),
+        Form::Rep(body) => match *body {
+            Form::Call(rule) => may_reach_itself(*rule),
+            Form::Seq(_, last) => is_nesting_call(last),
+            Form::Choice(first, _) => is_nesting_call(first),
+            _ => false,
+        },
+        _ => false,
+    }
+}
+
+/// Whether a call is left to calls in calls: of a comment it never is, since they stand in one another without
+/// parentheses.
+fn stays_shallow(text: &str, rule: Rule, rest: &str) -> bool {
+    match rule {
+        Rule::block_comment => false,
+        _ => !nests(rule, rest) || is_shallow(text),
+    }
+}
+
+/// The place of the first of these rules that goes over the list, if what is left may begin with it.
+fn nesting_among(rules: &[Rule], rest: &str) -> Option<usize>
+    ensures { IfSome result (λ i. i < length rules.now) }
+{
+    let first = rest.chars().next()?;
+    rules.iter().position(|rule| nests(*rule, rest) && look(*rule, first) != Lookahead::Fails)
+}
+
+impl Recognizer {
+    /// What a rule matches, as `call` has it, and with no text that takes the machine's stack.
+    pub fn recognize<'i>(
+        &mut self,
+        alloc: Global,
+        text: &str,
+        rule: Rule,
+        mode: Mode,
+        rest: &'i str,
+    ) -> Result<Option<&'i str>, AllocError>
+        requires ready { IsReady text.now rest.now self.old }
+        ensures goes_on { IfOk result (GoesOnIfFound text.now rest.entry.now (nullable rule)) }
+        ensures remembers { OnOk result (RemembersTruly text.now self.new) }
+        ensures means { IfOk result
+            (Runs (Run (mode_of mode) (Ident (name_of rule)))
+            text.now rest.entry.now self.old self.new) }
+    {
+        if stays_shallow(text, rule, rest) {
+            return self.call(text, rule, mode, rest);
+        }
+        let mut frames = Vec::new(alloc);
+        let mut step = self.enter(text, &mut frames, rule, mode, rest)?;
+        loop {
+            match step {
+                Step::Begin(form, inner, from) => {
+                    step = self.begin(text, &mut frames, form, inner, from)?;
+                }
+                Step::Answer(answer) => {
+                    let Some(frame) = frames.pop() else {
+                        return Ok(answer);
+                    };
+                    step = self.resume(text, &mut frames, frame, answer)?;
+                }
+            }
+        }
+    }
+
+    /// Begins a form.
+    #[inline(always)]
+    fn begin<'i>(
+        &mut self,
+        text: &str,
+        frames: &mut Vec<Frame<'i>>,
+        form: &'static Form,
+        mode: Mode,
+        rest: &'i str,
+    ) -> Result<Step<'i>, AllocError>
+        requires form { IsRunnable form.now }
+        requires ready { IsReady text.now rest.now self.old }
+        ensures next { (top : Question) (work : ℕ) → IsAsked text.now frames.old.items
+            (question_of (Run (mode_of mode) (expression_of form.now))
+            rest.entry.now (null form.now) self.old)
+            top → work_aside frames.old.items + steps (effort rest.entry.now (cost form.now)) ≤ work
+            → IfOk result (λ step. IsNext text.now frames.new.items self.new step top work) }
+    {
+        match form {
+            Form::Call(rule) => {
+                if nests(*rule, rest) {
+                    self.enter(text, frames, *rule, mode, rest)
+                } else {
+                    Ok(Step::Answer(self.call(text, *rule, mode, rest)?))
+                }
+            }
+            Form::Seq(first, others) => self.first_part(text, frames, first, others, mode, rest),
+            Form::Choice(first, second) => {
+                let wait = Wait::Choice(*second);
+                frames.push(Frame {
+                    wait,
+                    mode,
+                    mark: 0,
+                    rest,
+                })?;
+                Ok(Step::Begin(*first, mode, rest))
+            }
+            Form::FirstOf(first, others) => {
+                let step = self.first_rule(text, frames, *first, others, mode, rest)?;
+                Ok(step)
+            }
+            Form::Rep(body) => {
+                let mark = count_of_entries(&self.entries);
+                let wait = Wait::Repetition(*body);
+                frames.push(Frame {
+                    wait,
+                    mode,
+                    mark,
+                    rest,
+                })?;
+                Ok(Step::Begin(*body, mode, rest))
+            }
+            Form::Comment(spelled) => {
+                if is_seen_from(mode) {
+                    Ok(Step::Begin(*spelled, mode, rest))
+                } else {
+                    Ok(Step::Answer(self.comment(text, spelled, mode, rest)?))
+                }
+            }
+            _ => Ok(Step::Answer(self.copies(text, form, mode, rest)?)),
+        }
+    }
+
+    /// Begins a call of a rule.
+    #[inline(always)]
+    fn enter<'i>(
+        &mut self,
+        text: &str,
+        frames: &mut Vec<Frame<'i>>,
+        rule: Rule,
+        mode: Mode,
+        rest: &'i str,
+    ) -> Result<Step<'i>, AllocError>
+        requires ready { IsReady text.now rest.now self.old }
+        ensures next { (top : Question) (work : ℕ) → IsAsked text.now frames.old.items
+            (question_of (Run (mode_of mode) (Ident (name_of rule))) rest.entry.now (nullable rule) self.old)
+            top → work_aside frames.old.items + steps (effort rest.entry.now (rank_of rule + 3)) ≤ work
+            → IfOk result (λ step. IsNext text.now frames.new.items self.new step top work) }
+    {
+        if let Some(answer) = self.decided(text, rule, mode, rest) {
+            return Ok(Step::Answer(answer));
+        }
+        let Some(row) = row_of(rule) else {
+            return Ok(Step::Answer(self.end_of_input(text, mode, rest)?));
+        };
+        if self.has_failed(rule, mode, rest) {
+            return Ok(Step::Answer(None));
+        }
+        let place = text.len() - rest.len();
+        let mark = count_of_entries(&self.entries);
+        open(&mut self.entries, gives_token(row.kind, mode), rule, place)?;
+        let wait = Wait::Call(rule, row.kind);
+        frames.push(Frame {
+            wait,
+            mode,
+            mark,
+            rest,
+        })?;
+        Ok(Step::Begin(row.body, body_mode(rule, row.kind, mode), rest))
+    }
+
+    /// Runs the first part of a sequence, and goes on with the others.
+    #[inline(always)]
+    fn first_part<'i>(
+        &mut self,
+        text: &str,
+        frames: &mut Vec<Frame<'i>>,
+        first: &'static Form,
+        others: &'static Form,
+        mode: Mode,
+        rest: &'i str,
+    ) -> Result<Step<'i>, AllocError>
+        requires first { IsRunnable first.now }
+        requires others { IsRunnable others.now }
+        requires below { cost others.now < 1000 }
+        requires ready { IsReady text.now rest.now self.old }
+        ensures next { (top : Question) (n work : ℕ) → IsAsked text.now frames.old.items
+            (question_of (Run (mode_of mode) (followed (Some (expression_of first.now)) others.now))
+            rest.entry.now (null first.now && null others.now) self.old) top
+            → effort rest.entry.now (if null first.now then cost others.now else 0) < n
+            → work_aside frames.old.items + steps n ≤ work
+            → IfOk result (λ step. IsNext text.now frames.new.items self.new step top work) }
+    {
+        let mark = count_of_entries(&self.entries);
+        match self.copies(text, first, mode, rest)? {
+            Some(after) => self.parts(text, frames, others, mode, mark, after),
+            None => Ok(Step::Answer(None)),
+        }
+    }
+
+    /// Runs the parts of a sequence that are left, each after the skipping, up to one that goes over the
+    /// list.
+    #[inline(never)]
+    fn parts<'i>(
+        &mut self,
+        text: &str,
+        frames: &mut Vec<Frame<'i>>,
+        others: &'static Form,
+        mode: Mode,
+        mark: usize,
+        from: &'i str,
+    ) -> Result<Step<'i>, AllocError>
+        requires ready { IsReady text.now from.now self.old }
+        requires good { IsGood others.now }
+        requires spelled { IsSpelled others.now }
+        requires below { cost others.now < 1000 }
+        ensures next { (k top : Question) (n work : ℕ)
+            → IsPartWay text.now others.now mode mark self.old.entries.items self.old.furthest
+            from.entry.now k
+            → IsAsked text.now frames.old.items k top → effort from.entry.now (cost others.now) < n
+            → work_aside frames.old.items + steps n ≤ work
+            → IfOk result (λ step. IsNext text.now frames.new.items self.new step top work) }
+    {
+        let mut left = others;
+        let mut rest = from;
+        loop {
+            let next = self.skip(text, mode, rest)?;
+            let parts = parts_of(left);
+            if may_nest(parts.first, next) {
+                let wait = Wait::Sequence(left, parts.others);
+                frames.push(Frame {
+                    wait,
+                    mode,
+                    mark,
+                    rest: next,
+                })?;
+                return Ok(Step::Begin(parts.first, mode, next));
+            }
+            let Some(after) = self.run(text, parts.first, mode, next)? else {
+                cut(&mut self.entries, mark);
+                return Ok(Step::Answer(None));
+            };
+            let Some(behind) = parts.others else {
+                return Ok(Step::Answer(Some(after)));
+            };
+            left = behind;
+            rest = after;
+        }
+    }
+
+    /// Tries some rules, up to one that goes over the list.
+    #[inline(always)]
+    fn first_rule<'i>(
+        &mut self,
+        text: &str,
+        frames: &mut Vec<Frame<'i>>,
+        first: Rule,
+        others: &'static [Rule],
+        mode: Mode,
+        rest: &'i str,
+    ) -> Result<Step<'i>, AllocError>
+        requires takes { nullable first ≡ false }
+        requires others_take { all_take others.now ≡ true }
+        requires ready { IsReady text.now rest.now self.old }
+        ensures next { (top : Question) (work : ℕ) → IsAsked text.now frames.old.items
+            (question_of (Run (mode_of mode) (choice_among (Ident (name_of first)) others.now))
+            rest.entry.now false self.old) top
+            → work_aside frames.old.items
+            + steps (effort rest.entry.now (4 + greatest_rank (first ∷ others.now))) ≤ work
+            → IfOk result (λ step. IsNext text.now frames.new.items self.new step top work) }
+    {
+        let Some(place) = nesting_among(others, rest) else {
+            return Ok(Step::Answer(self.first_of(text, first, others, mode, rest)?));
+        };
+        if let Some(after) = self.first_of(text, first, &others[..place], mode, rest)? {
+            return Ok(Step::Answer(Some(after)));
+        }
+        let wait = Wait::FirstOf(&others[place + 1..]);
+        frames.push(Frame {
+            wait,
+            mode,
+            mark: 0,
+            rest,
+        })?;
+        let step = self.enter(text, frames, others[place], mode, rest)?;
+        Ok(step)
+    }
+
+    /// A call of the first of some rules that matches, where what stands before them has failed.
+    fn among<'i>(
+        &mut self,
+        text: &str,
+        others: &'static [Rule],
+        mode: Mode,
+        rest: &'i str,
+    ) -> Result<Option<&'i str>, AllocError>
+        requires ready { IsReady text.now rest.now self.old }
+        ensures remembers { OnOk result (RemembersTruly text.now self.new) }
+        ensures answered { (q : Question)
+            → IsTried text.now others.now mode self.old.entries.items self.old.furthest rest.entry.now q
+            → IfOk result (IsAnswered text.now q self.new.entries.items self.new.furthest) }
+    {
+        for rule in others {
+            if let Some(after) = self.call(text, *rule, mode, rest)? {
+                return Ok(Some(after));
+            }
+        }
+        Ok(None)
+    }
+
+    /// Goes on with what waits.
+    #[inline(always)]
+    fn resume<'i>(
+        &mut self,
+        text: &str,
+        frames: &mut Vec<Frame<'i>>,
+        frame: Frame<'i>,
+        answer: Option<&'i str>,
+    ) -> Result<Step<'i>, AllocError>
+        requires remembers { RemembersTruly text.now self.old }
+        requires follows { (k : Question) × (q : Question) × FrameFollows text.now frame k q
+            × IsAnswered text.now k self.old.entries.items self.old.furthest answer }
+        ensures next { (k q top : Question) (work : ℕ) → FrameFollows text.now frame.entry k q
+            → IsAnswered text.now k self.old.entries.items self.old.furthest answer.entry
+            → IsWaiting text.now frames.old.items q top
+            → work_aside frames.old.items + work_of frame.entry ≤ work
+            → IfOk result (λ step. IsNext text.now frames.new.items self.new step top work) }
+    {
+        match frame.wait {
+            Wait::Call(rule, kind) => {
+                let left = self.leave(
+                    text, rule, kind, frame.mode, frame.mark, frame.rest, answer,
+                )?;
+                Ok(Step::Answer(left))
+            }
+            Wait::Sequence(_, others) => match answer {
+                Some(after) => match others {
+                    Some(behind) => self.parts(text, frames, behind, frame.mode, frame.mark, after),
+                    None => Ok(Step::Answer(answer)),
+                },
+                None => {
+                    cut(&mut self.entries, frame.mark);
+                    Ok(Step::Answer(None))
+                }
+            },
+            Wait::Choice(second) => match answer {
+                Some(_) => Ok(Step::Answer(answer)),
+                None => Ok(Step::Begin(second, frame.mode, frame.rest)),
+            },
+            Wait::FirstOf(others) => match answer {
+                Some(_) => Ok(Step::Answer(answer)),
+                None => {
+                    let found = self.among(text, others, frame.mode, frame.rest)?;
+                    Ok(Step::Answer(found))
+                }
+            },
+            Wait::Repetition(body) => match answer {
+                Some(after) => self.turn(text, frames, body, frame.mode, after),
+                None => {
+                    cut(&mut self.entries, frame.mark);
+                    Ok(Step::Answer(Some(frame.rest)))
+                }
+            },
+        }
+    }
+
+    /// Ends a call of a rule.
+    #[inline(always)]
+    fn leave<'i>(
+        &mut self,
+        text: &str,
+        rule: Rule,
+        kind: Kind,
+        mode: Mode,
+        mark: usize,
+        rest: &'i str,
+        answer: Option<&'i str>,
+    ) -> Result<Option<&'i str>, AllocError>
+        requires remembers { RemembersTruly text.now self.old }
+        requires follows { (k : Question) × (q : Question)
+            × Follows text.now (Wait.Call rule kind) mode mark rest k q
+            × IsAnswered text.now k self.old.entries.items self.old.furthest answer }
+        ensures remembers { OnOk result (RemembersTruly text.now self.new) }
+        ensures answered { (k q : Question)
+            → Follows text.now (Wait.Call rule kind) mode mark rest.entry k q
+            → IsAnswered text.now k self.old.entries.items self.old.furthest answer.entry
+            → IfOk result (IsAnswered text.now q self.new.entries.items self.new.furthest) }
+    {
+        let place = text.len() - rest.len();
+        match answer {
+            Some(after) => {
+                let gives = gives_token(kind, mode);
+                let end = text.len() - after.len();
+                close(&mut self.entries, gives, rule, mark, place, end)?;
+                Ok(Some(after))
+            }
+            None => {
+                cut(&mut self.entries, mark);
+                self.furthest = furthest_with(call_counts(kind, mode), place, self.furthest);
+                self.remember(rule, mode, rest)?;
+                Ok(None)
+            }
+        }
+    }
+
+    /// Begins one more turn of a repetition, behind the skipping.
+    #[inline(always)]
+    fn turn<'i>(
+        &mut self,
+        text: &str,
+        frames: &mut Vec<Frame<'i>>,
+        body: &'static Form,
+        mode: Mode,
+        after: &'i str,
+    ) -> Result<Step<'i>, AllocError>
+        requires ready { IsReady text.now after.now self.old }
+        ensures next { (k top : Question) (n work : ℕ)
+            → HasTurned text.now body.now mode self.old.entries.items self.old.furthest after.entry.now k
+            → IsAsked text.now frames.old.items k top → effort after.entry.now 999 < n
+            → work_aside frames.old.items + steps n ≤ work
+            → IfOk result (λ step. IsNext text.now frames.new.items self.new step top work) }
+    {
+        let mark = count_of_entries(&self.entries);
+        let next = self.skip(text, mode, after)?;
+        let wait = Wait::Repetition(body);
+        frames.push(Frame {
+            wait,
+            mode,
+            mark,
+            rest: after,
+        })?;
+        Ok(Step::Begin(body, mode, next))
+    }
+}
