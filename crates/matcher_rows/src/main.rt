@@ -19,8 +19,8 @@ use std::alloc::{AllocError, Global};
 use std::io;
 use std::process::ExitCode;
 
-/// How many calls may stand within one another.
-const DEPTH: usize = 1000;
+/// How many steps a row may take.
+const STEPS: u64 = 1_000_000;
 
 /// Each property is the small Greek letters.
 struct Greek;
@@ -35,9 +35,8 @@ impl Properties for Greek {
     }
 }
 
-/// The text with line feeds and carriage returns for the signs that stand for them.
-fn written(alloc: Global, text: &str) -> Result<String, AllocError> {
-    let mut out = String::new(alloc);
+/// Adds a text with line feeds and carriage returns for the signs that stand for them.
+fn add_written(out: &mut String, text: &str) -> Result<(), AllocError> {
     for c in text.chars() {
         let c = match c {
             '⏎' => '\n',
@@ -45,6 +44,22 @@ fn written(alloc: Global, text: &str) -> Result<String, AllocError> {
             _ => c,
         };
         out.push(c)?;
+    }
+    Ok(())
+}
+
+/// The text of a row: its pieces, some of them many times.
+fn written(alloc: Global, text: &str) -> Result<String, AllocError> {
+    let mut out = String::new(alloc);
+    for piece in text.split('·') {
+        match piece.split_once('×') {
+            Some((times, repeated)) => {
+                for _ in 0..times.parse::<u32>().unwrap_or(1) {
+                    add_written(&mut out, repeated)?;
+                }
+            }
+            None => add_written(&mut out, piece)?,
+        }
     }
     Ok(out)
 }
@@ -95,7 +110,7 @@ fn write_refusal(out: &mut String, refusal: &Refusal) -> Result<(), AllocError> 
         Refusal::NoMatch(place) => write!(out, "    fails at {place}\n"),
         Refusal::Stopped(stop) => out.push_str(match stop {
             Stop::Memory => "    out of memory\n",
-            Stop::OutOfSteps => "    out of depth\n",
+            Stop::OutOfSteps => "    out of steps\n",
             Stop::EmptyStack => "    no outcome\n",
             Stop::Unsliced => "    no slice\n",
         }),
@@ -125,7 +140,7 @@ fn write_answer(
     let matcher = Matcher::new(alloc, &rules, &Greek);
     release(rules);
     match matcher {
-        Ok(matcher) => match matcher.parse(alloc, rule, text, DEPTH) {
+        Ok(matcher) => match matcher.parse(alloc, rule, text, STEPS) {
             Ok(found) => write_found(out, &found),
             Err(refusal) => write_refusal(out, &refusal),
         },

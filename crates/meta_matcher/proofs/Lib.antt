@@ -1,5 +1,6 @@
 pub mod Leaving
 pub mod Steps
+pub mod Waiting
 pub mod Whole
 pub mod Compiling
 pub mod Stacking

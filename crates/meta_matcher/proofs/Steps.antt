@@ -8,7 +8,7 @@ use Rattle.meta_base.specs.Language.Expression.{Grammar, Expression, Ident, NegP
 use Rattle.meta_base.specs.Language.Text.{Text}
 use Rattle.meta_base.specs.Language.Builtins.{Builtin, One, Soi, Eoi, builtin_of, builtins}
 use Rattle.meta_base.specs.Language.Matching.{character_outcome, other_outcome, builtin_outcome, end_outcome, with_stack}
-use Rattle.meta_base.specs.Language.Meaning.{Task, Run, Turns, Skipping, restore, tag, body_mode, mode_in, gives_token, seen_from, with_token}
+use Rattle.meta_base.specs.Language.Meaning.{Does, Task, Run, Turns, Skipping, seq_first, seq_second, skips, restore, tag, body_mode, mode_in, gives_token, seen_from, with_token}
 use Rattle.meta_base.specs.Language.FurthestFailure.{place_of, is_eoi}
 use Rattle.meta_base.specs.Language.Ran.{Ran}
 use Rattle.meta_base.proofs.Steps.{after_trees, after_assoc, after_none, joined_nil, ran_other, ran_quietly, ran_call, ran_ahead, ran_not_ahead, ran_opt, ran_opt_none, ran_seq_fails, ran_seq, ran_left, ran_right, ran_rep_none, ran_rep, ran_rep_once, ran_turns_end, ran_turns_more, ran_more, ran_skips, ran_atomic, ran_compound_atomic, ran_between, ran_blank}
@@ -25,6 +25,7 @@ use Rattle.meta_matcher.specs.declared.form.Row.{Row}
 use Rattle.meta_matcher.specs.declared.form.Property.{Property}
 use Rattle.meta_matcher.specs.Programs.{Fits, class_name, expression_of, grammar_of, names_of, rule_of_row, set_of, IsRow, IsRuleOf, IsSound}
 use Rattle.meta_matcher.specs.Machines.{IsBlankName, is_whitespace, is_comment}
+use Rattle.meta_matcher.specs.Frames.{blanks, comments}
 use Rattle.meta_matcher.specs.Runs.{Fails, Finds, Gives, IsLeft, IsReset, Now, Setting, leaving, mode_of, standing}
 
 -- what a builtin's name does in a mode of the code
@@ -77,6 +78,13 @@ unfolding builtins
 eoi_builtin = refl
 
 module _ {g : Grammar} {classes : Classes} where
+  rep_never_fails : {m : Mode} {e : Expression} {s : State} → Does g classes (Run m (Rep e)) s Failure → ⊥
+  rep_never_fails d = elim d [ ]
+
+  skipping_never_fails : {m : Mode} {s : State} → Does g classes (Skipping m) s Failure → ⊥
+  skipping_never_fails (skips (seq_first d)) = rep_never_fails d
+  skipping_never_fails (skips (seq_second a b d)) = rep_never_fails d
+
   pub ran_one : (m : mode.Mode) (k : Class) {s : State} {o : Outcome} {p : ℕ} → rule_of g (class_name k) ≡ None → o ≡ character_outcome (set_of k) s → Ran g classes (Run (mode_of m) (Ident (class_name k))) s o p p
   ran_one m k {s} u e = ran_quietly u (rw (by_builtin classes m _ _ s (class_builtin k), e) refl) (rw (class_is_no_end k) (never (seen_from (mode_of m))))
 
@@ -192,14 +200,28 @@ module _ {g : Setting} {m : Mode} {x y : Expression} {text rest : List ℕ} wher
   pub finds_left : {a b : Now} {s : List ℕ} → Finds g (Run m x) text rest a b s → Finds g (Run m (Choice x y)) text rest a b s
   finds_left f = record { trees = f.trees; added = f.added; ran = λ classes fits. ran_left (f.ran classes fits) }
 
-gives_right : (g : Setting) (m : Mode) (x y : Expression) (text rest : List ℕ) (a b c : Now) (o : Option (Bor (List ℕ))) → Fails g (Run m x) text rest a b → Gives g (Run m y) text rest b c o → Gives g (Run m (Choice x y)) text rest a c o
-gives_right g m x y text rest a b c None f h = record { kept = h.kept ∙ f.kept; same = h.same ∙ f.same; ran = λ classes fits. ran_right (f.ran classes fits) (same_start text rest f.same (h.ran classes fits)) }
-gives_right g m x y text rest a b c (Some s) f h = record { trees = h.trees; added = adds_on a.entries b.entries c.entries _ f.kept h.added; ran = λ classes fits. ran_right (f.ran classes fits) (same_start text rest f.same (h.ran classes fits)) }
+  -- the right side, where the left one fails
+  pub finds_right : {a b c : Now} {s : List ℕ} → Fails g (Run m x) text rest a b → Finds g (Run m y) text rest b c s → Finds g (Run m (Choice x y)) text rest a c s
+  finds_right {a} {b} {c} f h = record {
+    trees = h.trees;
+    added = adds_on a.entries b.entries c.entries _ f.kept h.added;
+    ran = λ classes fits. ran_right (f.ran classes fits) (same_start text rest f.same (h.ran classes fits));
+  }
 
--- the answer of the second alternative
-pub right_if_ok : {E : Type 0} (g : Setting) (m : Mode) (x y : Expression) (text rest : List ℕ) (a b c : Now) (answer : Result (Option (Bor (List ℕ))) E) → Fails g (Run m x) text rest a b → IfOk answer (λ o. Gives g (Run m y) text rest b c o) → IfOk answer (λ o. Gives g (Run m (Choice x y)) text rest a c o)
-right_if_ok g m x y text rest a b c (Ok o) f h = gives_right g m x y text rest a b c o f h
-right_if_ok g m x y text rest a b c (Err e) f h = tt
+  pub fails_right : {a b c : Now} → Fails g (Run m x) text rest a b → Fails g (Run m y) text rest b c → Fails g (Run m (Choice x y)) text rest a c
+  fails_right f h = record {
+    kept = h.kept ∙ f.kept;
+    same = h.same ∙ f.same;
+    ran = λ classes fits. ran_right (f.ran classes fits) (same_start text rest f.same (h.ran classes fits));
+  }
+
+  -- the skipping never fails
+  pub fails_gap : {a b c d : Now} {n : ℕ} {ts : List Text} {s : List ℕ} → Finds g (Run m x) text rest a b s → Fails g (Skipping m) text s b c → IsReset n ts c d → n ≡ length a.entries → ts ≡ a.stack → Fails g (Run m (Seq x y)) text rest a d
+  fails_gap {a} {b} {c} {d} {n} f k r l i = record {
+    kept = cut_to a.entries b.entries d.entries n _ f.added (r.entries ∙ ap (take n) k.kept) l;
+    same = r.stack ∙ i;
+    ran = λ classes fits. absurd (skipping_never_fails (k.ran classes fits).found);
+  }
 
 module _ {g : Setting} {m : Mode} {x : Expression} {text rest : List ℕ} {a b : Now} where
   pub finds_opt : {s : List ℕ} → Finds g (Run m x) text rest a b s → Finds g (Run m (Opt x)) text rest a b s
@@ -239,98 +261,76 @@ module _ {g : Setting} {m : Mode} {x : Expression} {text rest : List ℕ} {a b :
     ran = λ classes fits. ran_rep (f.ran classes fits) (h.ran classes fits);
   }
 
-  pub finds_rep_once : {c d : Now} {s t u : List ℕ} → Finds g (Run m x) text rest a b s → Finds g (Skipping m) text s b c t → Finds g (Run m (Rep x)) text t c d u → Finds g (Run m (RepOnce x)) text rest a d u
-  finds_rep_once f k h = finds_as (λ classes s o p q r. ran_rep_once r) (finds_seq f k h)
+  pub finds_rep_once : {s : List ℕ} → Finds g (Run m (Seq x (Rep x))) text rest a b s → Finds g (Run m (RepOnce x)) text rest a b s
+  finds_rep_once f = finds_as (λ classes s o p q r. ran_rep_once r) f
 
-  pub fails_rep_once : Fails g (Run m x) text rest a b → Fails g (Run m (RepOnce x)) text rest a b
-  fails_rep_once f = fails_as (λ classes s o p q r. ran_rep_once r) (fails_first {y = Rep x} f)
+  pub fails_rep_once : Fails g (Run m (Seq x (Rep x))) text rest a b → Fails g (Run m (RepOnce x)) text rest a b
+  fails_rep_once f = fails_as (λ classes s o p q r. ran_rep_once r) f
 
   pub finds_no_rep : Fails g (Run m x) text rest a b → Finds g (Run m (Rep x)) text rest a b rest
   finds_no_rep f = finds_nothing (λ classes s p q r. ran_rep_none r) f
 
--- what a loop has done so far: whatever the task does from here on, it does from its start with these trees before it
-pub record SoFar (g : Setting) (k : Task) (text from : List ℕ) (a : Now) (rest : List ℕ) (b : Now) : Type 0 where
-  pub trees : Trees
-  pub added : b.entries ≡ a.entries ++ entries_of (length a.entries) trees
-  pub goes_on : (classes : Classes) → Fits g.properties classes → (o : Outcome) (z : ℕ) → Ran g.grammar classes k (standing text rest b.stack) o b.furthest z → Ran g.grammar classes k (standing text from a.stack) (after_trees trees o) a.furthest z
-
-pub so_far_nothing : (g : Setting) (k : Task) (text from : List ℕ) (a : Now) → SoFar g k text from a from a
-so_far_nothing g k text from a = record { trees = None'; added = not_grown a.entries; goes_on = λ classes fits o z r. rw after_none r }
-
-module _ {g : Setting} {m : Mode} {x : Expression} {text from rest : List ℕ} {a b : Now} (f : SoFar g (Turns m x) text from a rest b) where
-  pub so_far_turn : {c d : Now} {s t : List ℕ} → Finds g (Skipping m) text rest b c s → Finds g (Run m x) text s c d t → SoFar g (Turns m x) text from a t d
-  so_far_turn {c} {d} y w = record {
-    trees = joined f.trees (joined y.trees w.trees);
-    added = grown a.entries b.entries d.entries _ _ f.added (grown b.entries c.entries d.entries _ _ y.added w.added);
-    goes_on = λ classes fits o z r. rw (← after_assoc, ← after_assoc) (f.goes_on classes fits _ _ (ran_turns_more (y.ran classes fits) (w.ran classes fits) r));
+-- the turns of a repetition after its first
+module _ {g : Setting} {m : Mode} {x : Expression} {text rest : List ℕ} {a b : Now} where
+  pub finds_turn : {c d : Now} {s t u : List ℕ} → Finds g (Skipping m) text rest a b s → Finds g (Run m x) text s b c t → Finds g (Turns m x) text t c d u → Finds g (Turns m x) text rest a d u
+  finds_turn {c} {d} k f h = record {
+    trees = joined k.trees (joined f.trees h.trees);
+    added = grown a.entries b.entries d.entries _ _ k.added (grown b.entries c.entries d.entries _ _ f.added h.added);
+    ran = λ classes fits. ran_turns_more (k.ran classes fits) (f.ran classes fits) (h.ran classes fits);
   }
 
-  pub finds_turns : {c d e : Now} {n : ℕ} {ts : List Text} {s : List ℕ} → Finds g (Skipping m) text rest b c s → Fails g (Run m x) text s c d → IsReset n ts d e → n ≡ length b.entries → ts ≡ b.stack → Finds g (Turns m x) text from a e rest
-  finds_turns {c} {d} {e} {n} y w r l i = record {
-    trees = f.trees;
-    added = cut_to b.entries c.entries e.entries n _ y.added (r.entries ∙ ap (take n) w.kept) l ∙ f.added;
-    ran = λ classes fits.
-        let z = f.goes_on classes fits _ _ (ran_turns_end (y.ran classes fits) (w.ran classes fits)) in
-        let v = rw joined_nil at z in
-        same_noted r.furthest (subst (λ us. Ran g.grammar classes (Turns m x) (standing text from a.stack) (Success (standing text rest us) f.trees) a.furthest d.furthest) (sym (r.stack ∙ i)) v);
+  pub finds_last_turn : {c d : Now} {n : ℕ} {ts : List Text} {s : List ℕ} → Finds g (Skipping m) text rest a b s → Fails g (Run m x) text s b c → IsReset n ts c d → n ≡ length a.entries → ts ≡ a.stack → Finds g (Turns m x) text rest a d rest
+  finds_last_turn {c} {d} {n} k f r l i = record {
+    trees = None';
+    added = adds_on a.entries d.entries d.entries None' (cut_to a.entries b.entries d.entries n _ k.added (r.entries ∙ ap (take n) f.kept) l) (not_grown d.entries);
+    ran = λ classes fits. same_noted r.furthest (subst (λ ts. Ran g.grammar classes (Turns m x) (standing text rest a.stack) (Success (standing text rest ts) None') a.furthest c.furthest) (sym (r.stack ∙ i)) (ran_turns_end (k.ran classes fits) (f.ran classes fits)));
   }
 
-module _ {g : Setting} {x : Expression} {text from rest : List ℕ} {a b : Now} (f : SoFar g (Run Between (Rep x)) text from a rest b) where
-  so_far_more : {c : Now} {s : List ℕ} → Finds g (Run Between x) text rest b c s → SoFar g (Run Between (Rep x)) text from a s c
-  so_far_more {c} y = record {
-    trees = joined f.trees y.trees;
-    added = grown a.entries b.entries c.entries _ _ f.added y.added;
-    goes_on = λ classes fits o z r. rw (← after_assoc) (f.goes_on classes fits _ _ (ran_more (y.ran classes fits) r));
+  -- the skipping never fails
+  pub finds_no_turn : {c : Now} {n : ℕ} {ts : List Text} → Fails g (Skipping m) text rest a b → IsReset n ts b c → n ≡ length a.entries → ts ≡ a.stack → Finds g (Turns m x) text rest a c rest
+  finds_no_turn {c} {n} k r l i = record {
+    trees = None';
+    added = adds_on a.entries c.entries c.entries None' (cut_to a.entries a.entries c.entries n None' (not_grown a.entries) (r.entries ∙ ap (take n) k.kept) l) (not_grown c.entries);
+    ran = λ classes fits. absurd (skipping_never_fails (k.ran classes fits).found);
   }
 
-  finds_all : {c : Now} → Fails g (Run Between x) text rest b c → Finds g (Run Between (Rep x)) text from a c rest
-  finds_all {c} y = record {
-    trees = f.trees;
-    added = y.kept ∙ f.added;
-    ran = λ classes fits.
-        let r = f.goes_on classes fits _ _ (ran_rep_none (y.ran classes fits)) in
-        let v = rw joined_nil at r in
-        subst (λ us. Ran g.grammar classes (Run Between (Rep x)) (standing text from a.stack) (Success (standing text rest us) f.trees) a.furthest c.furthest) (sym y.same) v;
-  }
+-- a failure, with what was there before put back
+pub fails_reset : {g : Setting} {k : Task} {text rest : List ℕ} {a b c : Now} {n : ℕ} {ts : List Text} → Fails g k text rest a b → IsReset n ts b c → n ≡ length a.entries → ts ≡ a.stack → Fails g k text rest a c
+fails_reset {a = a} {b} {c} {n} f r l i = record {
+  kept = cut_to a.entries a.entries c.entries n None' (not_grown a.entries) (r.entries ∙ ap (take n) f.kept) l;
+  same = r.stack ∙ i;
+  ran = λ classes fits. same_noted r.furthest (f.ran classes fits);
+}
 
-abbrev pub blanks : Task
-blanks = Run Between (Rep (Ident whitespace))
-
-abbrev pub comments : Task
-comments = Run Between (Rep (Seq (Ident comment) (Rep (Ident whitespace))))
+-- where nothing is skipped between turns, one more turn
+pub finds_more : {g : Setting} {x : Expression} {text rest s t : List ℕ} {a b c : Now} → Finds g (Run Between x) text rest a b s → Finds g (Run Between (Rep x)) text s b c t → Finds g (Run Between (Rep x)) text rest a c t
+finds_more {a = a} {b} {c} f h = record {
+  trees = joined f.trees h.trees;
+  added = grown a.entries b.entries c.entries _ _ f.added h.added;
+  ran = λ classes fits. ran_more (f.ran classes fits) (h.ran classes fits);
+}
 
 -- nothing is skipped between a comment and the blanks after it
 nothing_between : {g : Setting} {text s : List ℕ} {a : Now} → Finds g (Skipping Between) text s a a s
 nothing_between {a = a} = record { trees = None'; added = not_grown a.entries; ran = λ classes fits. ran_between }
 
-module _ {g : Setting} {text from rest : List ℕ} {a b : Now} where
-  pub so_far_blank : {c : Now} {s : List ℕ} → SoFar g blanks text from a rest b → Finds g (Run Between (Ident whitespace)) text rest b c s → SoFar g blanks text from a s c
-  so_far_blank x y = so_far_more x y
+pub finds_comment : {g : Setting} {text rest s t : List ℕ} {a b c : Now} → Finds g (Run Between (Ident comment)) text rest a b s → Finds g blanks text s b c t → Finds g (Run Between (Seq (Ident comment) (Rep (Ident whitespace)))) text rest a c t
+finds_comment f h = finds_seq f nothing_between h
 
-  pub finds_blanks : {c : Now} → SoFar g blanks text from a rest b → Fails g (Run Between (Ident whitespace)) text rest b c → Finds g blanks text from a c rest
-  finds_blanks x y = finds_all x y
-
-  pub so_far_comment : {c d : Now} {s t : List ℕ} → SoFar g comments text from a rest b → Finds g (Run Between (Ident comment)) text rest b c s → Finds g blanks text s c d t → SoFar g comments text from a t d
-  so_far_comment x y w = so_far_more x (finds_seq y nothing_between w)
-
-  pub finds_comments : {c : Now} → SoFar g comments text from a rest b → Fails g (Run Between (Ident comment)) text rest b c → Finds g comments text from a c rest
-  finds_comments x y = finds_all x (fails_first y)
-
-  pub finds_skipped : {c : Now} {s : List ℕ} → Finds g blanks text from a b rest → Finds g comments text rest b c s → Finds g (Skipping NonAtomicMode) text from a c s
-  finds_skipped x y = finds_as (λ classes s o p q r. ran_skips r) (finds_seq x nothing_between y)
+pub finds_skipped : {g : Setting} {text rest s t : List ℕ} {a b c : Now} → Finds g blanks text rest a b s → Finds g comments text s b c t → Finds g (Skipping NonAtomicMode) text rest a c t
+finds_skipped x y = finds_as (λ classes s o p q r. ran_skips r) (finds_seq x nothing_between y)
 
 pub finds_no_skipping : (g : Setting) (m : mode.Mode) (text rest : List ℕ) (a : Now) → (m ≡ in_mode.Atomic) ⊎ (m ≡ in_mode.CompoundAtomic) → Finds g (Skipping (mode_of m)) text rest a a rest
 finds_no_skipping g m text rest a (inl e) = record { trees = None'; added = not_grown a.entries; ran = λ classes fits. rw e ran_atomic }
 finds_no_skipping g m text rest a (inr e) = record { trees = None'; added = not_grown a.entries; ran = λ classes fits. rw e ran_compound_atomic }
 
 -- the skipping's calls
-gives_blank : (g : Setting) (n : Text) (r : Rule) (text rest : List ℕ) (a b : Now) (o : Option (Bor (List ℕ))) → rule_of g.grammar n ≡ Some r → Gives g (Run NonAtomicMode (Ident n)) text rest a b o → Gives g (Run Between (Ident n)) text rest a b o
-gives_blank g n r text rest a b None h x = fails_as (λ classes s o p q y. ran_blank h y) x
-gives_blank g n r text rest a b (Some s) h x = finds_as (λ classes s o p q y. ran_blank h y) x
+module _ {g : Setting} {n : Text} {r : Rule} {text rest : List ℕ} {a b : Now} (meant : rule_of g.grammar n ≡ Some r) where
+  pub finds_blank : {s : List ℕ} → Finds g (Run NonAtomicMode (Ident n)) text rest a b s → Finds g (Run Between (Ident n)) text rest a b s
+  finds_blank x = finds_as (λ classes s o p q y. ran_blank meant y) x
 
-pub blank_if_ok : {E : Type 0} (g : Setting) (n : Text) (r : Rule) (text rest : List ℕ) (a b : Now) (answer : Result (Option (Bor (List ℕ))) E) → rule_of g.grammar n ≡ Some r → IfOk answer (λ o. Gives g (Run NonAtomicMode (Ident n)) text rest a b o) → IfOk answer (λ o. Gives g (Run Between (Ident n)) text rest a b o)
-blank_if_ok g n r text rest a b (Ok o) h x = gives_blank g n r text rest a b o h x
-blank_if_ok g n r text rest a b (Err e) h x = tt
+  pub fails_blank : Fails g (Run NonAtomicMode (Ident n)) text rest a b → Fails g (Run Between (Ident n)) text rest a b
+  fails_blank x = fails_as (λ classes s o p q y. ran_blank meant y) x
 
 blank_is_no_end : (n : Text) → IsBlankName n → is_eoi n ≡ false
 unfolding whitespace comment
@@ -377,10 +377,6 @@ row_meant rs n i row h e =
 pub row_mode : (g : Grammar) (names : List Text) (ps : List Property) (row : Row) (m inner : Mode) → IsRow g names ps row → inner ≡ mode_in (rule_type_of row.kind) row.blank m → inner ≡ body_mode (rule_of_row names row) m
 row_mode g names ps row m inner h e = e ∙ ap (λ b. mode_in (rule_type_of row.kind) b m) h.blank
 
--- the same name
-pub named_if_ok : {E : Type 0} (g : Setting) (m : Mode) (n k : Text) (text rest : List ℕ) (a b : Now) (answer : Result (Option (Bor (List ℕ))) E) → n ≡ k → IfOk answer (λ o. Gives g (Run m (Ident n)) text rest a b o) → IfOk answer (λ o. Gives g (Run m (Ident k)) text rest a b o)
-named_if_ok g m n k text rest a b answer e x = subst (λ j. IfOk answer (λ o. Gives g (Run m (Ident j)) text rest a b o)) e x
-
 pub found_row : (g : Setting) (m inner : Mode) (names : List Text) (row : Row) (text rest after : List ℕ) (a b c d : Now) (gives : Bool) (name : Text) (place end_ first : ℕ) → name ≡ text_of row.name → rule_of g.grammar (text_of row.name) ≡ Some (rule_of_row names row) → inner ≡ body_mode (rule_of_row names row) m → gives ≡ gives_token (rule_type_of row.kind) m
     → place ≡ length text - length rest → end_ ≡ length text - length after
     → b.entries ≡ a.entries ++ open_start gives name place → b.stack ≡ a.stack → b.furthest ≡ a.furthest → Finds g (Run inner (expression_of names row.body)) text rest b c after → first ≡ length a.entries
@@ -422,13 +418,3 @@ row_within rs n i h = omega (arith, length-map rs (rule_of_row (names_of rs)), h
 -- what is known of the row of a number
 pub row_known : (rs : List Row) (ps : List Property) (white blank : Option ℕ) (n : Text) (i : ℕ) (row : Row) → IsSound rs ps white blank → IsRuleOf (grammar_of rs) n i → row ≡ get_or rs i row → IsRow (grammar_of rs) (names_of rs) ps row
 row_known rs ps white blank n i row s h e = subst (IsRow (grammar_of rs) (names_of rs) ps) (sym e) (s.rows i row (row_within rs n i h))
-
--- a rule that is skipped has one meaning
-pub skipped_if_ok : {E : Type 0} (rs : List Row) (ps : List Property) (n k : Text) (i : ℕ) (row : Row) (text rest : List ℕ) (a b : Now) (answer : Result (Option (Bor (List ℕ))) E) → IsRuleOf (grammar_of rs) n i → row ≡ get_or rs i row → IfOk answer (λ o. Gives (record { grammar = grammar_of rs; properties = ps }) (Run NonAtomicMode (Ident (text_of row.name))) text rest a b o)
-    → IfOk answer (λ o. (n : Text) → IsBlankName n → IsRuleOf (grammar_of rs) n i → Gives (record { grammar = grammar_of rs; properties = ps }) (Run Between (Ident n)) text rest a b o)
-skipped_if_ok rs ps n k i row text rest a b (Ok o) h e x = λ m bl h2.
-    let w = row_meant rs m i row h2 e in
-    let y = rw w.1 at x in
-    let z = rw w.1 at w.0 in
-    gives_blank (record { grammar = grammar_of rs; properties = ps }) m _ text rest a b o z y
-skipped_if_ok rs ps n k i row text rest a b (Err d) h e x = tt

@@ -1,17 +1,18 @@
 -- What a machine keeps, and what its functions say.
-use Rattle.std.specs.Prelude.{ℕ, List, Option}
+use Rattle.std.specs.Prelude.{◌≡◌, ℕ, List, Option, length}
 use Rattle.std.specs.Borrow.{Bor}
 use Rattle.meta_base.specs.Language.Text.{Text}
 use Rattle.meta_base.specs.Language.Expression.{Expression, Grammar, whitespace, comment}
 use Rattle.meta_base.specs.Language.Meaning.{Task}
 use Rattle.meta_matcher.specs.declared.form.Form.{Form}
 use Rattle.meta_matcher.specs.declared.form.Row.{Row}
+use Rattle.meta_matcher.specs.declared.frames.Mark.{Mark}
 use Rattle.meta_matcher.specs.declared.machine.Machine.{Machine}
 use Rattle.meta_matcher.specs.declared.machine.Scene.{Scene}
 use Rattle.meta_matcher.specs.Written.{seen}
 use Rattle.meta_matcher.specs.Stacked.{stack_of}
 use Rattle.meta_matcher.specs.Programs.{IsBound, IsRow, IsSound, expression_of, grammar_of, names_of}
-use Rattle.meta_matcher.specs.Runs.{Finds, Gives, Now, Setting}
+use Rattle.meta_matcher.specs.Runs.{Gives, Now, Setting}
 
 -- what a machine has so far
 abbrev pub now_of : Machine → Now
@@ -52,10 +53,10 @@ abbrev pub GivesIn : Scene → Task → List ℕ → Machine → Machine → Opt
 GivesIn scene k rest old new answer =
     Gives (setting_of scene) k scene.text.now rest (now_of old) (now_of new) answer
 
--- the task was found to succeed, and to leave these bytes
-abbrev pub FindsIn : Scene → Task → List ℕ → Machine → Machine → List ℕ → Type 0
-FindsIn scene k rest old new after =
-    Finds (setting_of scene) k scene.text.now rest (now_of old) (now_of new) after
+-- how many entries there were, and which stack
+pub record IsMark (mark : Mark) (now : Now) : Type 0 where
+  pub entries : mark.entries ≡ length now.entries
+  pub stack : stack_of mark.stack ≡ now.stack
 
 -- the names that are skipped
 pub data IsBlankName : Text → Type 0 where

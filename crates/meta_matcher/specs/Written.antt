@@ -14,8 +14,8 @@ abbrev pub seen : List code.Entry → List Entry
 seen es = map entry_of es
 
 -- whatever trees were written behind an open_start start of the number `first`, they stand now in one tree, if there is to be one
-abbrev pub Closes : Bool → Text → ℕ → ℕ → ℕ → List code.Entry → List code.Entry → Type 0
+abbrev pub Closes : Bool → Text → ℕ → ℕ → ℕ → List Entry → List Entry → Type 0
 Closes gives r i j first old new =
     (before : List Entry) (us : Trees) → length before ≡ first
-    → seen old ≡ (before ++ open_start gives r i) ++ entries_of (length (before ++ open_start gives r i)) us
-    → seen new ≡ before ++ entries_of first (token gives r i j us)
+    → old ≡ (before ++ open_start gives r i) ++ entries_of (length (before ++ open_start gives r i)) us
+    → new ≡ before ++ entries_of first (token gives r i j us)

@@ -60,7 +60,8 @@ pub(crate) fn close<'a>(
     to: usize,
 ) -> Result<(), AllocError>
     requires { gives ≡ true → first < length entries.old.items }
-    ensures { OnOk result (Closes gives (chars rule.entry.now) from to first entries.old.items entries.new.items) }
+    ensures { OnOk result (Closes gives (chars rule.entry.now) from to first
+        (seen entries.old.items) (seen entries.new.items)) }
 {
     if gives {
         let last = entries.len();

@@ -4,9 +4,11 @@
 pub mod compile;
 pub mod entries;
 pub mod form;
+pub mod frames;
 mod leaves;
 pub mod machine;
 pub mod matcher;
 mod modes;
 pub mod properties;
+mod running;
 pub mod stack;

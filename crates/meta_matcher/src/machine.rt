@@ -1,19 +1,18 @@
-//! The interpreter of compiled rules.
-ghost use Rattle.std.specs.Prelude.{◌≡◌, ℕ, List, IfOk, IfSome, OnOk, [], true, false, None, Some, codes, chars, length, ◌≤◌, ◌<◌, ◌+◌};
+//! What a machine keeps, and what it matches at once.
+ghost use Rattle.std.specs.Prelude.{◌≡◌, IfOk, [], None, codes};
 ghost use Rattle.meta_ast.specs.Ast.{text_of};
-ghost use Rattle.meta_base.specs.Language.Expression.{Choice, Ident, NegPred, NodeTag, PosPred, Opt, PeekSlice, Rep, RepOnce, Seq, Push, PushLiteral, RestoreOnErr, comment, whitespace, rule_of};
-ghost use Rattle.meta_base.specs.Language.Meaning.{Run, Skipping, Turns};
-ghost use Rattle.meta_base.specs.Language.State.{Between};
-ghost use Rattle.meta_base.specs.Language.Text.{Text};
-ghost use Rattle.meta_matcher.specs.Programs.{IsKnown, IsSkippedRule, rule_of_row};
-ghost use Rattle.meta_matcher.specs.Runs.{GoesOn, IsLeft, IsReset, Progress, mode_of};
+ghost use Rattle.meta_base.specs.Language.Expression.{Ident, PeekSlice, PushLiteral, rule_of};
+ghost use Rattle.meta_base.specs.Language.Meaning.{Run};
+ghost use Rattle.meta_matcher.specs.Frames.{ComesAtOnce};
+ghost use Rattle.meta_matcher.specs.Machines.{GivesIn, IsBoundIn, IsMark, IsSoundIn, grammar_in, now_of};
+ghost use Rattle.meta_matcher.specs.Runs.{IsLeft, IsReset, Progress, mode_of};
 ghost use Rattle.meta_matcher.specs.Stacked.{stack_of};
-ghost use Rattle.meta_matcher.specs.Machines.{FindsIn, GivesIn, IsBlankName, IsBoundIn, IsRowIn, IsSoundIn, grammar_in, names_within, now_of, said};
 
 use crate::entries::{Entry, close, cut, open, written};
 use crate::form::{Form, Program, Row};
+use crate::frames::{AtOnce, Frame, Mark};
 use crate::leaves::{ahead_to, character, insens, literal, literals, newline, one, slice, within};
-use crate::modes::{Mode, body_mode, call_counts, gives_token, is_seen_from, noted};
+use crate::modes::{Mode, is_seen_from, noted};
 use crate::stack::{Stack, pushed, shared, texts_of};
 use std::alloc::{AllocError, Global};
 
@@ -22,7 +21,7 @@ use std::alloc::{AllocError, Global};
 pub enum Stop {
     /// Memory was wanting.
     Memory,
-    /// It nests deeper than was allowed, or goes on without taking input.
+    /// It takes more steps than were allowed.
     OutOfSteps,
     /// `PEEK` or `POP` on the empty stack.
     EmptyStack,
@@ -36,29 +35,15 @@ impl From<AllocError> for Stop {
     }
 }
 
-/// The idle turns that are left after one more turn, which may have taken input.
-#[inline(always)]
-fn spend(idle: usize, before: &str, after: &str) -> Result<usize, Stop>
-    requires { length after.now ≤ length before.now }
-    ensures { IfOk result (λ left. left + length after.now < idle + length before.now) }
-{
-    if after.len() < before.len() {
-        Ok(idle)
-    } else if idle == 0 {
-        Err(Stop::OutOfSteps)
-    } else {
-        Ok(idle - 1)
-    }
-}
-
-/// Rules, and the text that they are run on.
+/// Rules, the one that is called, and the text that it is run on.
 #[derive(Clone, Copy)]
 pub struct Scene<'a> {
     pub program: &'a Program,
+    pub row: &'a Row,
     pub text: &'a str,
 }
 
-/// What a run has written and noted so far.
+/// What a run has written and noted so far, and what waits.
 #[derive(Drop)]
 pub struct Machine<'a> {
     /// The tokens, in order.
@@ -67,6 +52,8 @@ pub struct Machine<'a> {
     pub stack: Stack<'a>,
     /// The furthest place, in bytes, at which a call that counts has failed.
     pub furthest: usize,
+    /// What waits for answers: the last frame for what is run now.
+    pub frames: Vec<Frame<'a>>,
 }
 
 impl<'a> Machine<'a> {
@@ -74,11 +61,13 @@ impl<'a> Machine<'a> {
         ensures entries { (now_of result).entries ≡ [] }
         ensures stack { (now_of result).stack ≡ [] }
         ensures furthest { (now_of result).furthest ≡ 0 }
+        ensures frames { result.frames.items ≡ [] }
     {
         Machine {
             entries: Vec::new(alloc),
             stack: Stack::Empty,
             furthest: 0,
+            frames: Vec::new(alloc),
         }
     }
 
@@ -90,6 +79,7 @@ impl<'a> Machine<'a> {
             entries,
             stack: _,
             furthest: _,
+            frames: _,
         } = self;
         entries
     }
@@ -103,6 +93,7 @@ impl<'a> Machine<'a> {
     ) -> Result<Option<&'a str>, Stop>
         requires unnamed { rule_of (grammar_in scene.now) (codes "EOI") ≡ None }
         requires left { IsLeft scene.now.text.now rest.now }
+        ensures frames { self.new.frames ≡ self.old.frames }
         ensures goes_on { IfOk result (Progress scene.entry.now.text.now rest.entry.now) }
         ensures means { IfOk result
             (GivesIn scene.entry.now (Run (mode_of mode) (Ident (codes "EOI")))
@@ -129,6 +120,7 @@ impl<'a> Machine<'a> {
     ) -> Result<Option<&'a str>, Stop>
         requires unnamed { rule_of (grammar_in scene.now) (codes "PEEK") ≡ None }
         requires left { IsLeft scene.now.text.now rest.now }
+        ensures frames { self.new.frames ≡ self.old.frames }
         ensures goes_on { IfOk result (Progress scene.entry.now.text.now rest.entry.now) }
         ensures means { IfOk result
             (GivesIn scene.entry.now (Run (mode_of mode) (Ident (codes "PEEK")))
@@ -144,6 +136,7 @@ impl<'a> Machine<'a> {
     fn pop(&mut self, scene: &Scene<'a>, mode: Mode, rest: &'a str) -> Result<Option<&'a str>, Stop>
         requires unnamed { rule_of (grammar_in scene.now) (codes "POP") ≡ None }
         requires left { IsLeft scene.now.text.now rest.now }
+        ensures frames { self.new.frames ≡ self.old.frames }
         ensures goes_on { IfOk result (Progress scene.entry.now.text.now rest.entry.now) }
         ensures means { IfOk result
             (GivesIn scene.entry.now (Run (mode_of mode) (Ident (codes "POP")))
@@ -171,6 +164,7 @@ impl<'a> Machine<'a> {
     ) -> Result<Option<&'a str>, Stop>
         requires unnamed { rule_of (grammar_in scene.now) (codes "DROP") ≡ None }
         requires left { IsLeft scene.now.text.now rest.now }
+        ensures frames { self.new.frames ≡ self.old.frames }
         ensures goes_on { IfOk result (Progress scene.entry.now.text.now rest.entry.now) }
         ensures means { IfOk result
             (GivesIn scene.entry.now (Run (mode_of mode) (Ident (codes "DROP")))
@@ -195,6 +189,7 @@ impl<'a> Machine<'a> {
     ) -> Result<Option<&'a str>, Stop>
         requires unnamed { rule_of (grammar_in scene.now) (codes "PEEK_ALL") ≡ None }
         requires left { IsLeft scene.now.text.now rest.now }
+        ensures frames { self.new.frames ≡ self.old.frames }
         ensures goes_on { IfOk result (Progress scene.entry.now.text.now rest.entry.now) }
         ensures means { IfOk result
             (GivesIn scene.entry.now (Run (mode_of mode) (Ident (codes "PEEK_ALL")))
@@ -213,6 +208,7 @@ impl<'a> Machine<'a> {
     ) -> Result<Option<&'a str>, Stop>
         requires unnamed { rule_of (grammar_in scene.now) (codes "POP_ALL") ≡ None }
         requires left { IsLeft scene.now.text.now rest.now }
+        ensures frames { self.new.frames ≡ self.old.frames }
         ensures goes_on { IfOk result (Progress scene.entry.now.text.now rest.entry.now) }
         ensures means { IfOk result
             (GivesIn scene.entry.now (Run (mode_of mode) (Ident (codes "POP_ALL")))
@@ -238,9 +234,11 @@ impl<'a> Machine<'a> {
         rest: &'a str,
     ) -> Result<Option<&'a str>, Stop>
         requires left { IsLeft scene.now.text.now rest.now }
+        ensures frames { self.new.frames ≡ self.old.frames }
         ensures goes_on { IfOk result (Progress scene.entry.now.text.now rest.entry.now) }
         ensures means { IfOk result
-            (GivesIn scene.entry.now (Run (mode_of mode) (PeekSlice from to)) rest.entry.now self.old self.new) }
+            (GivesIn scene.entry.now (Run (mode_of mode) (PeekSlice from to))
+            rest.entry.now self.old self.new) }
     {
         let mut texts = texts_of(*self.entries.allocator(), &self.stack)?;
         texts.reverse();
@@ -256,6 +254,7 @@ impl<'a> Machine<'a> {
         rest: &'a str,
     ) -> Result<Option<&'a str>, Stop>
         requires left { IsLeft scene.now.text.now rest.now }
+        ensures frames { self.new.frames ≡ self.old.frames }
         ensures goes_on { IfOk result (Progress scene.entry.now.text.now rest.entry.now) }
         ensures means { IfOk result
             (GivesIn scene.entry.now (Run (mode_of mode) (PushLiteral (text_of pushed_text.entry.now)))
@@ -267,571 +266,77 @@ impl<'a> Machine<'a> {
         Ok(Some(rest))
     }
 
-    /// Runs a form on what is left of the text. The answer is what is left after it, or `None`
-    /// where it fails. The entries of its trees are then written, or none.
+    /// What there is.
     #[inline(always)]
-    #[cycle(machine)]
-    fn run(
+    pub fn mark(&self) -> Result<Mark<'a>, AllocError>
+        ensures { IfOk result (λ mark. IsMark mark (now_of self.now)) }
+    {
+        let stack = shared(&self.stack)?;
+        Ok(Mark {
+            entries: written(&self.entries),
+            stack,
+        })
+    }
+
+    /// Puts back what there was.
+    #[inline(always)]
+    pub fn back_to(&mut self, mark: Mark<'a>)
+        ensures frames { self.new.frames ≡ self.old.frames }
+        ensures reset { IsReset mark.entry.entries (stack_of mark.entry.stack)
+            (now_of self.old) (now_of self.new) }
+    {
+        let Mark { entries, stack } = mark;
+        cut(&mut self.entries, entries);
+        self.stack = stack;
+    }
+
+    /// Runs a form that has no parts. The answer is what is left of the text after it, or `None` where it
+    /// fails. A form with parts is left alone.
+    #[inline]
+    pub fn at_once(
         &mut self,
         scene: &Scene<'a>,
         form: &'a Form,
         mode: Mode,
         rest: &'a str,
-        depth: usize,
-    ) -> Result<Option<&'a str>, Stop>
-        requires sound { IsSoundIn scene.now }
+    ) -> Result<AtOnce<'a>, Stop>
         requires bound { IsBoundIn scene.now form.now }
         requires left { IsLeft scene.now.text.now rest.now }
-        ensures goes_on { IfOk result (Progress scene.entry.now.text.now rest.entry.now) }
+        ensures frames { self.new.frames ≡ self.old.frames }
         ensures means { IfOk result
-            (GivesIn scene.entry.now
-            (Run (mode_of mode) (said scene.entry.now form.entry.now))
-            rest.entry.now self.old self.new) }
+            (ComesAtOnce scene.entry.now form.entry.now mode rest.entry.now self.old self.new) }
     {
-        if depth == 0 {
-            return Err(Stop::OutOfSteps);
-        }
-        let depth = depth - 1;
         match form {
-            Form::Str(literally) => Ok(literal(literally.as_str(), rest)),
-            Form::Range(low, high) => Ok(character(*low, *high, rest)),
-            Form::One(class) => Ok(one(*class, rest)),
+            Form::Str(literally) => Ok(AtOnce::Answered(literal(literally.as_str(), rest))),
+            Form::Range(low, high) => Ok(AtOnce::Answered(character(*low, *high, rest))),
+            Form::One(class) => Ok(AtOnce::Answered(one(*class, rest))),
             Form::Start => {
                 if rest.len() == scene.text.len() {
-                    Ok(Some(rest))
+                    Ok(AtOnce::Answered(Some(rest)))
                 } else {
-                    Ok(None)
+                    Ok(AtOnce::Answered(None))
                 }
             }
-            Form::End => self.end_of_input(scene, mode, rest),
-            Form::Call(number) => {
-                let row = &scene.program.rows[*number];
-                self.call(scene, row, mode, rest, depth)
+            Form::End => Ok(AtOnce::Answered(self.end_of_input(scene, mode, rest)?)),
+            Form::PushLiteral(text) => {
+                Ok(AtOnce::Answered(self.push_text(scene, text, mode, rest)?))
             }
-            Form::Seq(first, second) => { self.sequence(scene, first, second, mode, rest, depth) }
-            Form::Choice(first, second) => { self.choice(scene, first, second, mode, rest, depth) }
-            Form::Opt(body) => self.option(scene, body, mode, rest, depth),
-            Form::Rep(body) => {
-                let after = self.repetition(scene, body, mode, rest, depth)?;
-                Ok(Some(after))
-            }
-            Form::RepOnce(body) => self.at_least_once(scene, body, mode, rest, depth),
-            Form::NegPred(body) => self.negation(scene, body, mode, rest, depth),
-            Form::PosPred(body) => self.lookahead(scene, body, mode, rest, depth),
-            Form::Restore(body) => self.restored(scene, body, mode, rest, depth),
-            Form::Push(body) => self.pushing(scene, body, mode, rest, depth),
-            Form::PushLiteral(text) => self.push_text(scene, text, mode, rest),
-            Form::Tag(body, tag) => self.tagged(scene, body, tag, mode, rest, depth),
-            Form::Insens(literally) => Ok(insens(literally.as_str(), rest)),
-            Form::Newline => Ok(newline(rest)),
+            Form::Insens(literally) => Ok(AtOnce::Answered(insens(literally.as_str(), rest))),
+            Form::Newline => Ok(AtOnce::Answered(newline(rest))),
             Form::Property(_, number) => {
                 let property = &scene.program.properties[*number];
-                Ok(within(&property.ranges, rest))
+                Ok(AtOnce::Answered(within(&property.ranges, rest)))
             }
-            Form::Skip(texts) => Ok(Some(ahead_to(texts, rest))),
-            Form::Peek => self.peek(scene, mode, rest),
-            Form::Pop => self.pop(scene, mode, rest),
-            Form::Discard => self.discard(scene, mode, rest),
-            Form::PeekAll => self.peek_all(scene, mode, rest),
-            Form::PopAll => self.pop_all(scene, mode, rest),
-            Form::PeekSlice(from, to) => self.peek_slice(scene, *from, *to, mode, rest),
-        }
-    }
-
-    /// The form, whose failure leaves the stack as it was.
-    #[inline(never)]
-    #[cycle(machine)]
-    fn restored(
-        &mut self,
-        scene: &Scene<'a>,
-        body: &'a Form,
-        mode: Mode,
-        rest: &'a str,
-        depth: usize,
-    ) -> Result<Option<&'a str>, Stop>
-        requires sound { IsSoundIn scene.now }
-        requires bound { IsBoundIn scene.now body.now }
-        requires left { IsLeft scene.now.text.now rest.now }
-        ensures goes_on { IfOk result (Progress scene.entry.now.text.now rest.entry.now) }
-        ensures means { IfOk result
-            (GivesIn scene.entry.now
-            (Run (mode_of mode) (RestoreOnErr (said scene.entry.now body.entry.now)))
-            rest.entry.now self.old self.new) }
-    {
-        match self.run(scene, body, mode, rest, depth)? {
-            Some(after) => Ok(Some(after)),
-            None => Ok(None),
-        }
-    }
-
-    /// The form under a tag, which means what the form means.
-    #[inline(never)]
-    #[cycle(machine)]
-    fn tagged(
-        &mut self,
-        scene: &Scene<'a>,
-        body: &'a Form,
-        tag: &'a String,
-        mode: Mode,
-        rest: &'a str,
-        depth: usize,
-    ) -> Result<Option<&'a str>, Stop>
-        requires sound { IsSoundIn scene.now }
-        requires bound { IsBoundIn scene.now body.now }
-        requires left { IsLeft scene.now.text.now rest.now }
-        ensures goes_on { IfOk result (Progress scene.entry.now.text.now rest.entry.now) }
-        ensures means { IfOk result
-            (GivesIn scene.entry.now
-            (Run (mode_of mode) (NodeTag (said scene.entry.now body.entry.now) (text_of tag.entry.now)))
-            rest.entry.now self.old self.new) }
-    {
-        let _ = tag;
-        match self.run(scene, body, mode, rest, depth)? {
-            Some(after) => Ok(Some(after)),
-            None => Ok(None),
-        }
-    }
-
-    /// The form, whose text is then put on the stack.
-    #[inline(never)]
-    #[cycle(machine)]
-    fn pushing(
-        &mut self,
-        scene: &Scene<'a>,
-        body: &'a Form,
-        mode: Mode,
-        rest: &'a str,
-        depth: usize,
-    ) -> Result<Option<&'a str>, Stop>
-        requires sound { IsSoundIn scene.now }
-        requires bound { IsBoundIn scene.now body.now }
-        requires left { IsLeft scene.now.text.now rest.now }
-        ensures goes_on { IfOk result (Progress scene.entry.now.text.now rest.entry.now) }
-        ensures means { IfOk result
-            (GivesIn scene.entry.now
-            (Run (mode_of mode) (Push (said scene.entry.now body.entry.now)))
-            rest.entry.now self.old self.new) }
-    {
-        match self.run(scene, body, mode, rest, depth)? {
-            Some(after) => {
-                let Some(taken) = rest.get(..rest.len() - after.len()) else {
-                    return Err(Stop::Unsliced);
-                };
-                let alloc = *self.entries.allocator();
-                let below = shared(&self.stack)?;
-                self.stack = pushed(alloc, taken, below)?;
-                Ok(Some(after))
+            Form::Skip(texts) => Ok(AtOnce::Answered(Some(ahead_to(texts, rest)))),
+            Form::Peek => Ok(AtOnce::Answered(self.peek(scene, mode, rest)?)),
+            Form::Pop => Ok(AtOnce::Answered(self.pop(scene, mode, rest)?)),
+            Form::Discard => Ok(AtOnce::Answered(self.discard(scene, mode, rest)?)),
+            Form::PeekAll => Ok(AtOnce::Answered(self.peek_all(scene, mode, rest)?)),
+            Form::PopAll => Ok(AtOnce::Answered(self.pop_all(scene, mode, rest)?)),
+            Form::PeekSlice(from, to) => {
+                Ok(AtOnce::Answered(self.peek_slice(scene, *from, *to, mode, rest)?))
             }
-            None => Ok(None),
-        }
-    }
-
-    /// One form, or the other.
-    #[inline(never)]
-    #[cycle(machine)]
-    fn choice(
-        &mut self,
-        scene: &Scene<'a>,
-        first: &'a Form,
-        second: &'a Form,
-        mode: Mode,
-        rest: &'a str,
-        depth: usize,
-    ) -> Result<Option<&'a str>, Stop>
-        requires sound { IsSoundIn scene.now }
-        requires first { IsBoundIn scene.now first.now }
-        requires second { IsBoundIn scene.now second.now }
-        requires left { IsLeft scene.now.text.now rest.now }
-        ensures goes_on { IfOk result (Progress scene.entry.now.text.now rest.entry.now) }
-        ensures means { IfOk result
-            (GivesIn scene.entry.now
-            (Run (mode_of mode) (Choice
-            (said scene.entry.now first.entry.now)
-            (said scene.entry.now second.entry.now)))
-            rest.entry.now self.old self.new) }
-    {
-        match self.run(scene, first, mode, rest, depth)? {
-            Some(after) => Ok(Some(after)),
-            None => self.run(scene, second, mode, rest, depth),
-        }
-    }
-
-    /// A form, or nothing.
-    #[inline(never)]
-    #[cycle(machine)]
-    fn option(
-        &mut self,
-        scene: &Scene<'a>,
-        body: &'a Form,
-        mode: Mode,
-        rest: &'a str,
-        depth: usize,
-    ) -> Result<Option<&'a str>, Stop>
-        requires sound { IsSoundIn scene.now }
-        requires bound { IsBoundIn scene.now body.now }
-        requires left { IsLeft scene.now.text.now rest.now }
-        ensures goes_on { IfOk result (Progress scene.entry.now.text.now rest.entry.now) }
-        ensures means { IfOk result
-            (GivesIn scene.entry.now
-            (Run (mode_of mode) (Opt (said scene.entry.now body.entry.now)))
-            rest.entry.now self.old self.new) }
-    {
-        match self.run(scene, body, mode, rest, depth)? {
-            Some(after) => Ok(Some(after)),
-            None => Ok(Some(rest)),
-        }
-    }
-
-    /// Nothing, where a form fails.
-    #[inline(never)]
-    #[cycle(machine)]
-    fn negation(
-        &mut self,
-        scene: &Scene<'a>,
-        body: &'a Form,
-        mode: Mode,
-        rest: &'a str,
-        depth: usize,
-    ) -> Result<Option<&'a str>, Stop>
-        requires sound { IsSoundIn scene.now }
-        requires bound { IsBoundIn scene.now body.now }
-        requires left { IsLeft scene.now.text.now rest.now }
-        ensures goes_on { IfOk result (Progress scene.entry.now.text.now rest.entry.now) }
-        ensures means { IfOk result
-            (GivesIn scene.entry.now
-            (Run (mode_of mode) (NegPred (said scene.entry.now body.entry.now)))
-            rest.entry.now self.old self.new) }
-    {
-        let mark = written(&self.entries);
-        let stack = shared(&self.stack)?;
-        match self.run(scene, body, mode, rest, depth)? {
-            Some(_) => {
-                self.back_to(mark, stack);
-                Ok(None)
-            }
-            None => Ok(Some(rest)),
-        }
-    }
-
-    /// Nothing, where a form succeeds.
-    #[inline(never)]
-    #[cycle(machine)]
-    fn lookahead(
-        &mut self,
-        scene: &Scene<'a>,
-        body: &'a Form,
-        mode: Mode,
-        rest: &'a str,
-        depth: usize,
-    ) -> Result<Option<&'a str>, Stop>
-        requires sound { IsSoundIn scene.now }
-        requires bound { IsBoundIn scene.now body.now }
-        requires left { IsLeft scene.now.text.now rest.now }
-        ensures goes_on { IfOk result (Progress scene.entry.now.text.now rest.entry.now) }
-        ensures means { IfOk result
-            (GivesIn scene.entry.now
-            (Run (mode_of mode) (PosPred (said scene.entry.now body.entry.now)))
-            rest.entry.now self.old self.new) }
-    {
-        let mark = written(&self.entries);
-        let stack = shared(&self.stack)?;
-        match self.run(scene, body, mode, rest, depth)? {
-            Some(_) => {
-                self.back_to(mark, stack);
-                Ok(Some(rest))
-            }
-            None => Ok(None),
-        }
-    }
-
-    /// Cuts the entries back, and puts a stack in place.
-    #[inline(always)]
-    fn back_to(&mut self, mark: usize, stack: Stack<'a>)
-        ensures { IsReset mark (stack_of stack.entry) (now_of self.old) (now_of self.new) }
-    {
-        cut(&mut self.entries, mark);
-        self.stack = stack;
-    }
-
-    /// One form, the skipping, and the other.
-    #[inline(never)]
-    #[cycle(machine)]
-    fn sequence(
-        &mut self,
-        scene: &Scene<'a>,
-        first: &'a Form,
-        second: &'a Form,
-        mode: Mode,
-        rest: &'a str,
-        depth: usize,
-    ) -> Result<Option<&'a str>, Stop>
-        requires sound { IsSoundIn scene.now }
-        requires first { IsBoundIn scene.now first.now }
-        requires second { IsBoundIn scene.now second.now }
-        requires left { IsLeft scene.now.text.now rest.now }
-        ensures goes_on { IfOk result (Progress scene.entry.now.text.now rest.entry.now) }
-        ensures means { IfOk result
-            (GivesIn scene.entry.now
-            (Run (mode_of mode) (Seq
-            (said scene.entry.now first.entry.now)
-            (said scene.entry.now second.entry.now)))
-            rest.entry.now self.old self.new) }
-    {
-        let mark = written(&self.entries);
-        let stack = shared(&self.stack)?;
-        let Some(after) = self.run(scene, first, mode, rest, depth)? else {
-            return Ok(None);
-        };
-        let next = self.skip(scene, mode, after, depth)?;
-        match self.run(scene, second, mode, next, depth)? {
-            Some(last) => Ok(Some(last)),
-            None => {
-                self.back_to(mark, stack);
-                Ok(None)
-            }
-        }
-    }
-
-    /// As many turns as there are.
-    #[inline(never)]
-    #[cycle(machine)]
-    fn repetition(
-        &mut self,
-        scene: &Scene<'a>,
-        body: &'a Form,
-        mode: Mode,
-        rest: &'a str,
-        depth: usize,
-    ) -> Result<&'a str, Stop>
-        requires sound { IsSoundIn scene.now }
-        requires bound { IsBoundIn scene.now body.now }
-        requires left { IsLeft scene.now.text.now rest.now }
-        ensures goes_on { IfOk result (λ after. GoesOn scene.entry.now.text.now rest.entry.now after.now) }
-        ensures means { IfOk result
-            (λ after. FindsIn scene.entry.now
-            (Run (mode_of mode) (Rep (said scene.entry.now body.entry.now)))
-            rest.entry.now self.old self.new after.now) }
-    {
-        match self.run(scene, body, mode, rest, depth)? {
-            Some(after) => {
-                let last = self.turns(scene, body, mode, after, depth)?;
-                Ok(last)
-            }
-            None => Ok(rest),
-        }
-    }
-
-    /// The form, the skipping, and as many turns more as there are.
-    #[inline(never)]
-    #[cycle(machine)]
-    fn at_least_once(
-        &mut self,
-        scene: &Scene<'a>,
-        body: &'a Form,
-        mode: Mode,
-        rest: &'a str,
-        depth: usize,
-    ) -> Result<Option<&'a str>, Stop>
-        requires sound { IsSoundIn scene.now }
-        requires bound { IsBoundIn scene.now body.now }
-        requires left { IsLeft scene.now.text.now rest.now }
-        ensures goes_on { IfOk result (Progress scene.entry.now.text.now rest.entry.now) }
-        ensures means { IfOk result
-            (GivesIn scene.entry.now
-            (Run (mode_of mode) (RepOnce (said scene.entry.now body.entry.now)))
-            rest.entry.now self.old self.new) }
-    {
-        let Some(after) = self.run(scene, body, mode, rest, depth)? else {
-            return Ok(None);
-        };
-        let from = self.skip(scene, mode, after, depth)?;
-        let last = self.repetition(scene, body, mode, from, depth)?;
-        Ok(Some(last))
-    }
-
-    /// The turns of a repetition after its first.
-    #[inline(never)]
-    #[cycle(machine)]
-    fn turns(
-        &mut self,
-        scene: &Scene<'a>,
-        body: &'a Form,
-        mode: Mode,
-        from: &'a str,
-        depth: usize,
-    ) -> Result<&'a str, Stop>
-        requires sound { IsSoundIn scene.now }
-        requires bound { IsBoundIn scene.now body.now }
-        requires left { IsLeft scene.now.text.now from.now }
-        ensures goes_on { IfOk result (λ after. GoesOn scene.entry.now.text.now from.entry.now after.now) }
-        ensures means { IfOk result
-            (λ after. FindsIn scene.entry.now
-            (Turns (mode_of mode) (said scene.entry.now body.entry.now))
-            from.entry.now self.old self.new after.now) }
-    {
-        let mut rest = from;
-        let mut idle = depth;
-        loop {
-            let mark = written(&self.entries);
-            let stack = shared(&self.stack)?;
-            let next = self.skip(scene, mode, rest, depth)?;
-            match self.run(scene, body, mode, next, depth)? {
-                Some(after) => {
-                    idle = spend(idle, rest, after)?;
-                    rest = after;
-                }
-                None => {
-                    self.back_to(mark, stack);
-                    return Ok(rest);
-                }
-            }
-        }
-    }
-
-    /// A call of a rule.
-    #[inline(never)]
-    #[cycle(machine)]
-    pub fn call(
-        &mut self,
-        scene: &Scene<'a>,
-        row: &'a Row,
-        mode: Mode,
-        rest: &'a str,
-        depth: usize,
-    ) -> Result<Option<&'a str>, Stop>
-        requires sound { IsSoundIn scene.now }
-        requires row { IsRowIn scene.now row.now }
-        requires meant { rule_of (grammar_in scene.now) (text_of row.now.name)
-            ≡ Some (rule_of_row (names_within scene.now) row.now) }
-        requires left { IsLeft scene.now.text.now rest.now }
-        ensures goes_on { IfOk result (Progress scene.entry.now.text.now rest.entry.now) }
-        ensures means { IfOk result
-            (GivesIn scene.entry.now
-            (Run (mode_of mode) (Ident (text_of row.entry.now.name)))
-            rest.entry.now self.old self.new) }
-    {
-        let place = scene.text.len() - rest.len();
-        let gives = gives_token(row.kind, mode);
-        let first = written(&self.entries);
-        let name = row.name.as_str();
-        open(&mut self.entries, gives, name, place)?;
-        let inner_mode = body_mode(row.kind, row.blank, mode);
-        match self.run(scene, &row.body, inner_mode, rest, depth)? {
-            Some(after) => {
-                let end = scene.text.len() - after.len();
-                close(&mut self.entries, gives, name, first, place, end)?;
-                Ok(Some(after))
-            }
-            None => {
-                cut(&mut self.entries, first);
-                self.furthest = noted(call_counts(row.kind, mode), place, self.furthest);
-                Ok(None)
-            }
-        }
-    }
-
-    /// The implicit skipping.
-    #[inline(always)]
-    #[cycle(machine)]
-    fn skip(
-        &mut self,
-        scene: &Scene<'a>,
-        mode: Mode,
-        from: &'a str,
-        depth: usize,
-    ) -> Result<&'a str, Stop>
-        requires sound { IsSoundIn scene.now }
-        requires left { IsLeft scene.now.text.now from.now }
-        ensures goes_on { IfOk result (λ after. GoesOn scene.entry.now.text.now from.entry.now after.now) }
-        ensures means { IfOk result
-            (λ after. FindsIn scene.entry.now (Skipping (mode_of mode))
-            from.entry.now self.old self.new after.now) }
-    {
-        match mode {
-            Mode::NonAtomic => {
-                let after = self.blanks(scene, from, depth)?;
-                let last = self.comments(scene, after, depth)?;
-                Ok(last)
-            }
-            Mode::Atomic | Mode::CompoundAtomic => Ok(from),
-        }
-    }
-
-    /// A rule that is skipped, if there is one.
-    #[inline(always)]
-    #[cycle(machine)]
-    fn skipped(
-        &mut self,
-        scene: &Scene<'a>,
-        number: Option<usize>,
-        rest: &'a str,
-        depth: usize,
-    ) -> Result<Option<&'a str>, Stop>
-        requires sound { IsSoundIn scene.now }
-        requires known { IsKnown (grammar_in scene.now) number }
-        requires left { IsLeft scene.now.text.now rest.now }
-        ensures goes_on { IfOk result (Progress scene.entry.now.text.now rest.entry.now) }
-        ensures means { IfOk result (λ answer. (n : Text) → IsBlankName n
-            → IsSkippedRule (grammar_in scene.entry.now) n number
-            → GivesIn scene.entry.now (Run Between (Ident n))
-            rest.entry.now self.old self.new answer) }
-    {
-        match number {
-            Some(number) => {
-                let row = &scene.program.rows[number];
-                self.call(scene, row, Mode::NonAtomic, rest, depth)
-            }
-            None => Ok(None),
-        }
-    }
-
-    /// All blanks, from here on.
-    #[inline(never)]
-    #[cycle(machine)]
-    fn blanks(&mut self, scene: &Scene<'a>, from: &'a str, depth: usize) -> Result<&'a str, Stop>
-        requires sound { IsSoundIn scene.now }
-        requires left { IsLeft scene.now.text.now from.now }
-        ensures goes_on { IfOk result (λ after. GoesOn scene.entry.now.text.now from.entry.now after.now) }
-        ensures means { IfOk result
-            (λ after. FindsIn scene.entry.now (Run Between (Rep (Ident whitespace)))
-            from.entry.now self.old self.new after.now) }
-    {
-        let mut rest = from;
-        let mut idle = depth;
-        loop {
-            match self.skipped(scene, scene.program.whitespace, rest, depth)? {
-                Some(after) => {
-                    idle = spend(idle, rest, after)?;
-                    rest = after;
-                }
-                None => return Ok(rest),
-            }
-        }
-    }
-
-    /// All comments from here on, each with the blanks after it.
-    #[inline(never)]
-    #[cycle(machine)]
-    fn comments(&mut self, scene: &Scene<'a>, from: &'a str, depth: usize) -> Result<&'a str, Stop>
-        requires sound { IsSoundIn scene.now }
-        requires left { IsLeft scene.now.text.now from.now }
-        ensures goes_on { IfOk result (λ after. GoesOn scene.entry.now.text.now from.entry.now after.now) }
-        ensures means { IfOk result
-            (λ after. FindsIn scene.entry.now
-            (Run Between (Rep (Seq (Ident comment) (Rep (Ident whitespace)))))
-            from.entry.now self.old self.new after.now) }
-    {
-        let mut rest = from;
-        let mut idle = depth;
-        loop {
-            match self.skipped(scene, scene.program.comment, rest, depth)? {
-                Some(after) => {
-                    let next = self.blanks(scene, after, depth)?;
-                    idle = spend(idle, rest, next)?;
-                    rest = next;
-                }
-                None => return Ok(rest),
-            }
+            _ => Ok(AtOnce::Nested),
         }
     }
 }

@@ -7,7 +7,6 @@ use crate::compile::{Unfit, program_of, same};
 use crate::entries::Entry;
 use crate::form::{Program, Row};
 use crate::machine::{Machine, Scene, Stop};
-use crate::modes::Mode;
 use crate::properties::Properties;
 use meta_ast::optimized::OptimizedRule;
 use std::alloc::Global;
@@ -72,15 +71,15 @@ impl Matcher {
         Ok(Matcher { program })
     }
 
-    /// What the rule of a name matches in NonAtomic from the start of a text, with the empty stack. `depth`
-    /// is how many calls of the machine may stand within one another, and how many turns of a loop may take
-    /// nothing. Refused are a name that no rule has, a text on which the rule fails, and what stops a run.
+    /// What the rule of a name matches in NonAtomic from the start of a text, with the empty stack, found in
+    /// so many steps at most: a step begins with a form, or takes an answer. Refused are a name that no rule
+    /// has, a text on which the rule fails, and what stops a run.
     pub fn parse<'a>(
         &'a self,
         alloc: Global,
         rule: &'a str,
         text: &'a str,
-        depth: usize,
+        steps: u64,
     ) -> Result<Found<'a>, Refusal<'a>>
         requires sound { IsSoundMatcher self.now }
         ensures matched { IfOk result (λ found. IsMatched (grammar_of self.entry.now.program.rows.items)
@@ -94,10 +93,11 @@ impl Matcher {
         let row = &self.program.rows[number];
         let scene = Scene {
             program: &self.program,
+            row,
             text,
         };
         let mut machine = Machine::new(alloc);
-        match machine.call(&scene, row, Mode::NonAtomic, text, depth) {
+        match machine.run(&scene, steps) {
             Ok(Some(after)) => Ok(Found {
                 entries: machine.into_entries(),
                 end: text.len() - after.len(),

@@ -20,8 +20,8 @@ use meta_runner::values::tree_value;
 use pest_meta::optimizer::OptimizedRule;
 use std::alloc::{AllocError, Global};
 
-/// How many calls of the matcher may stand within one another.
-const DEPTH: usize = 10000;
+/// How many steps the matcher may take: no run comes to so many.
+const STEPS: u64 = u64::MAX;
 
 /// What comes of a rule on a text.
 #[derive(Drop)]
@@ -52,7 +52,7 @@ pub fn outcome_of(
         Ok(matcher) => matcher,
         Err(unfit) => return unfit_outcome(unfit),
     };
-    match matcher.parse(alloc, rule, text, DEPTH) {
+    match matcher.parse(alloc, rule, text, STEPS) {
         Ok(found) => match lines_of(alloc, text, &found, format) {
             Ok(lines) => Outcome::Shown(lines),
             Err(_) => Outcome::Memory,
@@ -123,7 +123,7 @@ fn stopped_outcome(stop: Stop) -> Outcome
 {
     match stop {
         Stop::Memory => Outcome::Memory,
-        Stop::OutOfSteps => Outcome::Stopped("the text is nested too deep for this program"),
+        Stop::OutOfSteps => Outcome::Stopped("the text takes too many steps"),
         Stop::EmptyStack => Outcome::Stopped("PEEK or POP found nothing on the stack"),
         Stop::Unsliced => Outcome::Stopped("what was matched is no part of the text"),
     }

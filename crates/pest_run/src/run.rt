@@ -55,6 +55,18 @@ pub fn run_files<W: Write, E: Write>(
     ensures known { result.status ≤ 5 }
     ensures read { result.status ≢ 3 → IsReadable grammar.now × IsReadable text.now }
     ensures unread { IsReadable grammar.now → IsReadable text.now → result.status ≢ 3 }
+    ensures printed { result.status ≡ 0
+        → PrintsTrees grammar.now.bytes.items rule.now text.now.bytes.items format
+        (W.contents out.old) (W.contents out.new) }
+    ensures unprinted { result.status ≢ 0 → result.status ≢ 4 → out.new ≡ out.old }
+    ensures silent { result.status ≡ 0 → err.new ≡ err.old }
+    ensures reason { result.status ≡ 1
+        → TellsReason grammar.now.bytes.items rule.now text.now.bytes.items result.told
+        (E.contents err.old) (E.contents err.new) }
+    ensures tells_memory { result.status ≡ 2
+        → TellsLine (codes "out of memory") result.told (E.contents err.old) (E.contents err.new) }
+    ensures tells_unwritten { result.status ≡ 4
+        → TellsLine (codes "cannot write") result.told (E.contents err.old) (E.contents err.new) }
 {
     let Some(rules) = text_of(grammar) else {
         return unreadable(grammar, err);

@@ -1,0 +1,56 @@
+use Rattle.std.proofs.Common.{arith, length}
+use Rattle.meta_base.proofs.Steps.{ran_range, ran_str}
+use Rattle.meta_matcher.specs.Machines.{now_of, setting_of}
+use Rattle.meta_matcher.proofs.Stacking.{finds_skip, gives_class, gives_insens, gives_newline}
+use Rattle.meta_matcher.proofs.Steps.{fails_start, finds_start, gives_leaving, ran_one}
+use Rattle.meta_matcher.proofs.Waiting.{gives_from}
+use Rattle.meta_matcher.proofs.machine.Machine.at_once.Goals as goal
+
+pub returns-in-Str-clause-means : goal.returns-in-Str-clause-means
+returns-in-Str-clause-means c =
+    let m = c.literal.ensures.means c.args.scene.now.text.now (now_of c.args.self.now).stack c.requires.left in
+    let n = rw c.as_str.ensures.value at m in
+    rw c.in-Str.is (gives_from c.args.scene.now _ c.args.rest.now (now_of c.args.self.now) (now_of c.args.self.now) _ (gives_leaving _ _ _ _ _ _ (λ classes fits. ran_str n)) (c.literal.ensures.goes_on c.args.scene.now.text.now c.requires.left))
+
+pub returns-in-Range-clause-means : goal.returns-in-Range-clause-means
+returns-in-Range-clause-means c =
+    rw c.in-Range.is (gives_from c.args.scene.now _ c.args.rest.now (now_of c.args.self.now) (now_of c.args.self.now) _ (gives_leaving _ _ _ _ _ _ (λ classes fits. ran_range (c.character.ensures.means c.args.scene.now.text.now (now_of c.args.self.now).stack c.requires.left))) (c.character.ensures.goes_on c.args.scene.now.text.now c.requires.left))
+
+pub returns-in-One-clause-means : goal.returns-in-One-clause-means
+returns-in-One-clause-means c =
+    let u = rw c.in-One.is at c.requires.bound in
+    rw c.in-One.is (gives_from c.args.scene.now _ c.args.rest.now (now_of c.args.self.now) (now_of c.args.self.now) _ (gives_leaving _ _ _ _ _ _ (λ classes fits. ran_one c.args.mode _ u (c.one.ensures.means c.args.scene.now.text.now (now_of c.args.self.now).stack c.requires.left))) (c.one.ensures.goes_on c.args.scene.now.text.now c.requires.left))
+
+pub returns-in-Insens-clause-means : goal.returns-in-Insens-clause-means
+returns-in-Insens-clause-means c =
+    let m = c.insens.ensures.means c.args.scene.now.text.now (now_of c.args.self.now).stack c.requires.left in
+    let n = rw c.as_str-in-Insens.ensures.value at m in
+    rw c.in-Insens.is (gives_from c.args.scene.now _ c.args.rest.now (now_of c.args.self.now) (now_of c.args.self.now) _ (gives_insens _ _ _ _ _ (now_of c.args.self.now) _ n) (c.insens.ensures.goes_on c.args.scene.now.text.now c.requires.left))
+
+pub returns-in-Newline-clause-means : goal.returns-in-Newline-clause-means
+returns-in-Newline-clause-means c =
+    let u = rw c.in-Newline.is at c.requires.bound in
+    rw c.in-Newline.is (gives_from c.args.scene.now _ c.args.rest.now (now_of c.args.self.now) (now_of c.args.self.now) _ (gives_newline _ c.args.mode _ _ (now_of c.args.self.now) _ u (c.newline.ensures.means c.args.scene.now.text.now (now_of c.args.self.now).stack c.requires.left)) (c.newline.ensures.goes_on c.args.scene.now.text.now c.requires.left))
+
+pub returns-in-Property-clause-means : goal.returns-in-Property-clause-means
+returns-in-Property-clause-means c =
+    let h = rw c.in-Property.is at c.requires.bound in
+    rw c.in-Property.is (gives_from c.args.scene.now _ c.args.rest.now (now_of c.args.self.now) (now_of c.args.self.now) _ (gives_class (setting_of c.args.scene.now) c.args.mode _ _ (now_of c.args.self.now) _ _ c.in-Property.number c.index-property.result.now c.deref.result.now h c.index-property.ensures c.deref.ensures.value
+    (λ set k. c.within.ensures.means c.args.scene.now.text.now (now_of c.args.self.now).stack set c.requires.left k)) (c.within.ensures.goes_on c.args.scene.now.text.now c.requires.left))
+
+pub returns-in-Skip-clause-means : goal.returns-in-Skip-clause-means
+returns-in-Skip-clause-means c =
+    rw c.in-Skip.is (record { found = finds_skip _ _ _ _ _ _ (now_of c.args.self.now) (c.ahead_to.ensures.means c.args.scene.now.text.now (now_of c.args.self.now).stack c.requires.left); goes_on = c.ahead_to.ensures.goes_on c.args.scene.now.text.now c.requires.left })
+
+pub returns-then-rest-scene-clause-means : goal.returns-then-rest-scene-clause-means
+returns-then-rest-scene-clause-means c =
+    let u = rw c.in-Start.is at c.requires.bound in
+    rw c.in-Start.is (record {
+      found = finds_start _ c.args.mode _ _ (now_of c.args.self.now) u c.if-rest-scene.true;
+      goes_on = record { left = c.requires.left; shorter = omega arith };
+    })
+
+pub returns-else-rest-scene-clause-means : goal.returns-else-rest-scene-clause-means
+returns-else-rest-scene-clause-means c =
+    let u = rw c.in-Start.is at c.requires.bound in
+    rw c.in-Start.is (fails_start _ c.args.mode _ _ (now_of c.args.self.now) u c.requires.left c.if-rest-scene.false)

@@ -1,0 +1,7 @@
+use Rattle.std.proofs.Common.{refl}
+use Rattle.meta_matcher.proofs.Waiting.{awaits_same, follows_ahead}
+use Rattle.meta_matcher.proofs.machine.Machine.lookahead.Goals as goal
+
+pub enter-requires-clause-follows : goal.enter-requires-clause-follows
+enter-requires-clause-follows c =
+    awaits_same refl (λ whole d. follows_ahead (record { rest = c.args.rest; mark = c.in_ok-mark.mark }) c.requires.left c.in_ok-mark.ensures d) c.requires.starts

@@ -1,0 +1,709 @@
+//! The steps of a machine: what it does with the form at hand, and with an answer.
+ghost use Rattle.std.specs.Prelude.{◌≡◌, ℕ, List, IfOk, OnOk, [], ◌∷◌, false, reverse, true};
+ghost use Rattle.meta_ast.specs.Ast.{text_of};
+ghost use Rattle.meta_base.specs.Language.Expression.{Choice, Ident, NegPred, Opt, PosPred, Push, Rep, Seq, rule_of};
+ghost use Rattle.meta_base.specs.Language.Meaning.{Run, Skipping, Turns};
+ghost use Rattle.meta_base.specs.Language.State.{NonAtomicMode};
+ghost use Rattle.meta_matcher.specs.Frames.{Awaits, Decides, Ends, FindsFrom, Follows, GivesFrom, IsAhead, IsBlank, IsBoundSecond, IsCall, IsComment, IsFirst, IsGap, IsLeftSide, IsNegated, IsNested, IsOnTheWay, IsOptional, IsPushed, IsResumed, IsRunning, IsSecond, IsStarting, IsTurn, IsTurnGap, Skips, comments, said_second, starting, top_of};
+ghost use Rattle.meta_matcher.specs.Machines.{IsBoundIn, IsRowIn, IsSoundIn, grammar_in, names_within, now_of, said};
+ghost use Rattle.meta_matcher.specs.Programs.{rule_of_row};
+ghost use Rattle.meta_matcher.specs.Runs.{IsLeft, Now, mode_of};
+
+use crate::entries::{close, cut, open, written};
+use crate::form::{Form, Row};
+use crate::frames::{
+    AtOnce, Called, Control, Frame, Mark, Predicate, Repetition, Second, Sequence,
+};
+use crate::machine::{Machine, Scene, Stop};
+use crate::modes::{Mode, body_mode, call_counts, gives_token, noted};
+use crate::stack::{pushed, shared};
+use std::alloc::AllocError;
+
+/// Whether anything is skipped in a mode.
+#[inline(always)]
+fn skips(scene: &Scene<'_>, mode: Mode) -> bool
+    requires sound { IsSoundIn scene.now }
+    ensures anything { result ≡ true → mode_of mode ≡ NonAtomicMode }
+    ensures nothing { result ≡ false → (rest : List ℕ) (now : Now) → IsLeft scene.now.text.now rest
+        → FindsFrom scene.now (starting (Skipping (mode_of mode)) rest now) now rest }
+{
+    match mode {
+        Mode::NonAtomic => match scene.program.whitespace {
+            Some(_) => true,
+            None => match scene.program.comment {
+                Some(_) => true,
+                None => false,
+            },
+        },
+        Mode::Atomic | Mode::CompoundAtomic => false,
+    }
+}
+
+impl<'a> Machine<'a> {
+    /// Puts a frame on the list.
+    #[inline(always)]
+    fn wait(&mut self, frame: Frame<'a>) -> Result<(), AllocError>
+        ensures now { now_of self.new ≡ now_of self.old }
+        ensures frames { OnOk result
+            (reverse self.new.frames.items ≡ frame.entry ∷ reverse self.old.frames.items) }
+    {
+        self.frames.push(frame)?;
+        Ok(())
+    }
+
+    /// Runs a form for a frame that waits for its answer, at once where the form has no parts.
+    #[inline]
+    fn enter(
+        &mut self,
+        scene: &Scene<'a>,
+        frame: Frame<'a>,
+        form: &'a Form,
+        mode: Mode,
+        rest: &'a str,
+    ) -> Result<Control<'a>, Stop>
+        requires sound { IsSoundIn scene.now }
+        requires bound { IsBoundIn scene.now form.now }
+        requires left { IsLeft scene.now.text.now rest.now }
+        requires follows { Awaits scene.now self.old
+            (Follows scene.now frame (starting (Run (mode_of mode) (said scene.now form.now))
+            rest.now (now_of self.old))) }
+        ensures { IfOk result (IsOnTheWay scene.entry.now self.new) }
+    {
+        match self.at_once(scene, form, mode, rest)? {
+            AtOnce::Answered(answer) => self.resume(scene, frame, answer),
+            AtOnce::Nested => {
+                self.wait(frame)?;
+                Ok(Control::Run(form, mode, rest))
+            }
+        }
+    }
+
+    /// A frame that was taken off the list gets its answer.
+    fn resume(
+        &mut self,
+        scene: &Scene<'a>,
+        frame: Frame<'a>,
+        answer: Option<&'a str>,
+    ) -> Result<Control<'a>, Stop>
+        requires sound { IsSoundIn scene.now }
+        requires follows { IsResumed scene.now self.old (Follows scene.now frame) answer }
+        ensures { IfOk result (IsOnTheWay scene.entry.now self.new) }
+    {
+        match frame {
+            Frame::First(sequence) => self.after_first(scene, sequence, answer),
+            Frame::Gap(sequence) => self.after_gap(scene, sequence, answer),
+            Frame::Second(mark) => Ok(self.after_second(scene, mark, answer)),
+            Frame::Left(right, mode, rest) => Ok(self.after_left(scene, right, mode, rest, answer)),
+            Frame::Optional(rest) => Ok(self.after_optional(scene, rest, answer)),
+            Frame::Turn(repetition) => self.after_turn(scene, repetition, answer),
+            Frame::TurnGap(repetition) => self.after_turn_gap(scene, repetition, answer),
+            Frame::Not(predicate) => Ok(self.after_not(scene, predicate, answer)),
+            Frame::Ahead(predicate) => Ok(self.after_ahead(scene, predicate, answer)),
+            Frame::Push(rest) => self.after_push(scene, rest, answer),
+            Frame::Call(called) => self.after_call(scene, called, answer),
+            Frame::Blank(rest) => self.after_blank(scene, rest, answer),
+            Frame::Comment(rest) => self.after_comment(scene, rest, answer),
+        }
+    }
+
+    /// One form, the skipping, and another.
+    fn sequence(
+        &mut self,
+        scene: &Scene<'a>,
+        first: &'a Form,
+        second: Second<'a>,
+        mode: Mode,
+        rest: &'a str,
+    ) -> Result<Control<'a>, Stop>
+        requires sound { IsSoundIn scene.now }
+        requires first { IsBoundIn scene.now first.now }
+        requires second { IsBoundSecond scene.now second }
+        requires left { IsLeft scene.now.text.now rest.now }
+        requires starts { IsStarting scene.now self.old
+            (Run (mode_of mode) (Seq (said scene.now first.now) (said_second scene.now second))) rest.now }
+        ensures { IfOk result (IsOnTheWay scene.entry.now self.new) }
+    {
+        let mark = self.mark()?;
+        let frame = Frame::First(Sequence { second, mode, mark });
+        self.enter(scene, frame, first, mode, rest)
+    }
+
+    /// The first form of a sequence has an answer.
+    #[inline]
+    fn after_first(
+        &mut self,
+        scene: &Scene<'a>,
+        sequence: Sequence<'a>,
+        answer: Option<&'a str>,
+    ) -> Result<Control<'a>, Stop>
+        requires sound { IsSoundIn scene.now }
+        requires follows { IsResumed scene.now self.old (IsFirst scene.now sequence) answer }
+        ensures { IfOk result (IsOnTheWay scene.entry.now self.new) }
+    {
+        match answer {
+            Some(after) => {
+                if skips(scene, sequence.mode) {
+                    self.wait(Frame::Gap(sequence))?;
+                    self.blanks(scene, after)
+                } else {
+                    self.second(scene, sequence, after)
+                }
+            }
+            None => Ok(Control::Answer(None)),
+        }
+    }
+
+    /// What lies between the forms of a sequence is skipped.
+    #[inline]
+    fn after_gap(
+        &mut self,
+        scene: &Scene<'a>,
+        sequence: Sequence<'a>,
+        answer: Option<&'a str>,
+    ) -> Result<Control<'a>, Stop>
+        requires sound { IsSoundIn scene.now }
+        requires follows { IsResumed scene.now self.old (IsGap scene.now sequence) answer }
+        ensures { IfOk result (IsOnTheWay scene.entry.now self.new) }
+    {
+        match answer {
+            Some(after) => self.second(scene, sequence, after),
+            None => {
+                self.back_to(sequence.mark);
+                Ok(Control::Answer(None))
+            }
+        }
+    }
+
+    /// Runs the second form of a sequence, at once where it has no parts.
+    #[inline]
+    fn second(
+        &mut self,
+        scene: &Scene<'a>,
+        sequence: Sequence<'a>,
+        rest: &'a str,
+    ) -> Result<Control<'a>, Stop>
+        requires sound { IsSoundIn scene.now }
+        requires bound { IsBoundSecond scene.now sequence.second }
+        requires left { IsLeft scene.now.text.now rest.now }
+        requires follows { Awaits scene.now self.old (IsSecond scene.now sequence.mark
+            (starting (Run (mode_of sequence.mode) (said_second scene.now sequence.second))
+            rest.now (now_of self.old))) }
+        ensures { IfOk result (IsOnTheWay scene.entry.now self.new) }
+    {
+        let Sequence { second, mode, mark } = sequence;
+        match second {
+            Second::Once(form) => match self.at_once(scene, form, mode, rest)? {
+                AtOnce::Answered(answer) => Ok(self.after_second(scene, mark, answer)),
+                AtOnce::Nested => {
+                    self.wait(Frame::Second(mark))?;
+                    Ok(Control::Run(form, mode, rest))
+                }
+            },
+            Second::Repeated(body) => {
+                self.wait(Frame::Second(mark))?;
+                self.repetition(scene, body, mode, rest)
+            }
+        }
+    }
+
+    /// The second form of a sequence has an answer.
+    #[inline]
+    fn after_second(
+        &mut self,
+        scene: &Scene<'a>,
+        mark: Mark<'a>,
+        answer: Option<&'a str>,
+    ) -> Control<'a>
+        requires follows { IsResumed scene.now self.old (IsSecond scene.now mark) answer }
+        ensures { IsOnTheWay scene.entry.now self.new result }
+    {
+        match answer {
+            Some(after) => Control::Answer(Some(after)),
+            None => {
+                self.back_to(mark);
+                Control::Answer(None)
+            }
+        }
+    }
+
+    /// The left side of a choice has an answer.
+    #[inline]
+    fn after_left(
+        &mut self,
+        scene: &Scene<'a>,
+        right: &'a Form,
+        mode: Mode,
+        rest: &'a str,
+        answer: Option<&'a str>,
+    ) -> Control<'a>
+        requires follows { IsResumed scene.now self.old
+            (IsLeftSide scene.now right.now mode rest.now) answer }
+        ensures { IsOnTheWay scene.entry.now self.new result }
+    {
+        match answer {
+            Some(after) => Control::Answer(Some(after)),
+            None => Control::Run(right, mode, rest),
+        }
+    }
+
+    /// The form of an option has an answer.
+    #[inline]
+    fn after_optional(
+        &mut self,
+        scene: &Scene<'a>,
+        rest: &'a str,
+        answer: Option<&'a str>,
+    ) -> Control<'a>
+        requires follows { IsResumed scene.now self.old (IsOptional scene.now rest.now) answer }
+        ensures { IsOnTheWay scene.entry.now self.new result }
+    {
+        match answer {
+            Some(after) => Control::Answer(Some(after)),
+            None => Control::Answer(Some(rest)),
+        }
+    }
+
+    /// As many turns as there are.
+    fn repetition(
+        &mut self,
+        scene: &Scene<'a>,
+        body: &'a Form,
+        mode: Mode,
+        rest: &'a str,
+    ) -> Result<Control<'a>, Stop>
+        requires bound { IsBoundIn scene.now body.now }
+        requires left { IsLeft scene.now.text.now rest.now }
+        requires ends { Awaits scene.now self.old
+            (Ends scene.now (starting (Run (mode_of mode) (Rep (said scene.now body.now)))
+            rest.now (now_of self.old))) }
+        ensures { IfOk result (IsOnTheWay scene.entry.now self.new) }
+    {
+        let mark = self.mark()?;
+        let repetition = Repetition {
+            body,
+            mode,
+            rest,
+            mark,
+        };
+        self.turn(scene, repetition, rest)
+    }
+
+    /// Runs the form of a repetition.
+    #[inline]
+    fn turn(
+        &mut self,
+        scene: &Scene<'a>,
+        repetition: Repetition<'a>,
+        rest: &'a str,
+    ) -> Result<Control<'a>, Stop>
+        requires left { IsLeft scene.now.text.now rest.now }
+        requires follows { Awaits scene.now self.old (IsTurn scene.now repetition
+            (starting (Run (mode_of repetition.mode) (said scene.now repetition.body.now))
+            rest.now (now_of self.old))) }
+        ensures { IfOk result (IsOnTheWay scene.entry.now self.new) }
+    {
+        let body = repetition.body;
+        let mode = repetition.mode;
+        self.wait(Frame::Turn(repetition))?;
+        Ok(Control::Run(body, mode, rest))
+    }
+
+    /// The form of a repetition has an answer.
+    #[inline]
+    fn after_turn(
+        &mut self,
+        scene: &Scene<'a>,
+        repetition: Repetition<'a>,
+        answer: Option<&'a str>,
+    ) -> Result<Control<'a>, Stop>
+        requires sound { IsSoundIn scene.now }
+        requires follows { IsResumed scene.now self.old (IsTurn scene.now repetition) answer }
+        ensures { IfOk result (IsOnTheWay scene.entry.now self.new) }
+    {
+        match answer {
+            Some(after) => self.next_turn(scene, repetition.body, repetition.mode, after),
+            None => {
+                self.back_to(repetition.mark);
+                Ok(Control::Answer(Some(repetition.rest)))
+            }
+        }
+    }
+
+    /// One more turn, with what is skipped before it.
+    #[inline]
+    fn next_turn(
+        &mut self,
+        scene: &Scene<'a>,
+        body: &'a Form,
+        mode: Mode,
+        rest: &'a str,
+    ) -> Result<Control<'a>, Stop>
+        requires sound { IsSoundIn scene.now }
+        requires bound { IsBoundIn scene.now body.now }
+        requires left { IsLeft scene.now.text.now rest.now }
+        requires ends { Awaits scene.now self.old
+            (Ends scene.now (starting (Turns (mode_of mode) (said scene.now body.now))
+            rest.now (now_of self.old))) }
+        ensures { IfOk result (IsOnTheWay scene.entry.now self.new) }
+    {
+        let mark = self.mark()?;
+        let repetition = Repetition {
+            body,
+            mode,
+            rest,
+            mark,
+        };
+        if skips(scene, mode) {
+            self.wait(Frame::TurnGap(repetition))?;
+            self.blanks(scene, rest)
+        } else {
+            self.turn(scene, repetition, rest)
+        }
+    }
+
+    /// What lies before the form of a repetition is skipped.
+    #[inline]
+    fn after_turn_gap(
+        &mut self,
+        scene: &Scene<'a>,
+        repetition: Repetition<'a>,
+        answer: Option<&'a str>,
+    ) -> Result<Control<'a>, Stop>
+        requires follows { IsResumed scene.now self.old (IsTurnGap scene.now repetition) answer }
+        ensures { IfOk result (IsOnTheWay scene.entry.now self.new) }
+    {
+        match answer {
+            Some(after) => self.turn(scene, repetition, after),
+            None => {
+                self.back_to(repetition.mark);
+                Ok(Control::Answer(Some(repetition.rest)))
+            }
+        }
+    }
+
+    /// Nothing, where a form fails.
+    fn negation(
+        &mut self,
+        scene: &Scene<'a>,
+        body: &'a Form,
+        mode: Mode,
+        rest: &'a str,
+    ) -> Result<Control<'a>, Stop>
+        requires sound { IsSoundIn scene.now }
+        requires bound { IsBoundIn scene.now body.now }
+        requires left { IsLeft scene.now.text.now rest.now }
+        requires starts { IsStarting scene.now self.old
+            (Run (mode_of mode) (NegPred (said scene.now body.now))) rest.now }
+        ensures { IfOk result (IsOnTheWay scene.entry.now self.new) }
+    {
+        let mark = self.mark()?;
+        let frame = Frame::Not(Predicate { rest, mark });
+        self.enter(scene, frame, body, mode, rest)
+    }
+
+    /// The form of a negative predicate has an answer.
+    #[inline]
+    fn after_not(
+        &mut self,
+        scene: &Scene<'a>,
+        predicate: Predicate<'a>,
+        answer: Option<&'a str>,
+    ) -> Control<'a>
+        requires follows { IsResumed scene.now self.old (IsNegated scene.now predicate) answer }
+        ensures { IsOnTheWay scene.entry.now self.new result }
+    {
+        match answer {
+            Some(_) => {
+                self.back_to(predicate.mark);
+                Control::Answer(None)
+            }
+            None => Control::Answer(Some(predicate.rest)),
+        }
+    }
+
+    /// Nothing, where a form succeeds.
+    fn lookahead(
+        &mut self,
+        scene: &Scene<'a>,
+        body: &'a Form,
+        mode: Mode,
+        rest: &'a str,
+    ) -> Result<Control<'a>, Stop>
+        requires sound { IsSoundIn scene.now }
+        requires bound { IsBoundIn scene.now body.now }
+        requires left { IsLeft scene.now.text.now rest.now }
+        requires starts { IsStarting scene.now self.old
+            (Run (mode_of mode) (PosPred (said scene.now body.now))) rest.now }
+        ensures { IfOk result (IsOnTheWay scene.entry.now self.new) }
+    {
+        let mark = self.mark()?;
+        let frame = Frame::Ahead(Predicate { rest, mark });
+        self.enter(scene, frame, body, mode, rest)
+    }
+
+    /// The form of a positive predicate has an answer.
+    #[inline]
+    fn after_ahead(
+        &mut self,
+        scene: &Scene<'a>,
+        predicate: Predicate<'a>,
+        answer: Option<&'a str>,
+    ) -> Control<'a>
+        requires follows { IsResumed scene.now self.old (IsAhead scene.now predicate) answer }
+        ensures { IsOnTheWay scene.entry.now self.new result }
+    {
+        match answer {
+            Some(_) => {
+                self.back_to(predicate.mark);
+                Control::Answer(Some(predicate.rest))
+            }
+            None => Control::Answer(None),
+        }
+    }
+
+    /// A form whose text is pushed has an answer.
+    fn after_push(
+        &mut self,
+        scene: &Scene<'a>,
+        rest: &'a str,
+        answer: Option<&'a str>,
+    ) -> Result<Control<'a>, Stop>
+        requires follows { IsResumed scene.now self.old (IsPushed scene.now rest.now) answer }
+        ensures { IfOk result (IsOnTheWay scene.entry.now self.new) }
+    {
+        match answer {
+            Some(after) => {
+                let Some(taken) = rest.get(..rest.len() - after.len()) else {
+                    return Err(Stop::Unsliced);
+                };
+                let alloc = *self.entries.allocator();
+                let below = shared(&self.stack)?;
+                self.stack = pushed(alloc, taken, below)?;
+                Ok(Control::Answer(Some(after)))
+            }
+            None => Ok(Control::Answer(None)),
+        }
+    }
+
+    /// A call of a rule.
+    #[inline]
+    fn call(
+        &mut self,
+        scene: &Scene<'a>,
+        row: &'a Row,
+        mode: Mode,
+        rest: &'a str,
+    ) -> Result<Control<'a>, Stop>
+        requires row { IsRowIn scene.now row.now }
+        requires meant { rule_of (grammar_in scene.now) (text_of row.now.name)
+            ≡ Some (rule_of_row (names_within scene.now) row.now) }
+        requires left { IsLeft scene.now.text.now rest.now }
+        requires starts { IsStarting scene.now self.old
+            (Run (mode_of mode) (Ident (text_of row.now.name))) rest.now }
+        ensures { IfOk result (IsOnTheWay scene.entry.now self.new) }
+    {
+        let place = scene.text.len() - rest.len();
+        let first = written(&self.entries);
+        let gives = gives_token(row.kind, mode);
+        open(&mut self.entries, gives, row.name.as_str(), place)?;
+        self.wait(Frame::Call(Called {
+            row,
+            mode,
+            place,
+            first,
+        }))?;
+        let inner_mode = body_mode(row.kind, row.blank, mode);
+        Ok(Control::Run(&row.body, inner_mode, rest))
+    }
+
+    /// The body of a rule has an answer.
+    #[inline]
+    fn after_call(
+        &mut self,
+        scene: &Scene<'a>,
+        called: Called<'a>,
+        answer: Option<&'a str>,
+    ) -> Result<Control<'a>, Stop>
+        requires follows { IsResumed scene.now self.old (IsCall scene.now called) answer }
+        ensures { IfOk result (IsOnTheWay scene.entry.now self.new) }
+    {
+        let Called {
+            row,
+            mode,
+            place,
+            first,
+        } = called;
+        match answer {
+            Some(after) => {
+                let end = scene.text.len() - after.len();
+                let gives = gives_token(row.kind, mode);
+                close(
+                    &mut self.entries,
+                    gives,
+                    row.name.as_str(),
+                    first,
+                    place,
+                    end,
+                )?;
+                Ok(Control::Answer(Some(after)))
+            }
+            None => {
+                cut(&mut self.entries, first);
+                self.furthest = noted(call_counts(row.kind, mode), place, self.furthest);
+                Ok(Control::Answer(None))
+            }
+        }
+    }
+
+    /// Skips the blanks, if there is a rule for them, and then the comments.
+    fn blanks(&mut self, scene: &Scene<'a>, rest: &'a str) -> Result<Control<'a>, Stop>
+        requires sound { IsSoundIn scene.now }
+        requires left { IsLeft scene.now.text.now rest.now }
+        requires skips { Awaits scene.now self.old (Skips scene.now rest.now (now_of self.old)) }
+        ensures { IfOk result (IsOnTheWay scene.entry.now self.new) }
+    {
+        match scene.program.whitespace {
+            Some(number) => {
+                let row = &scene.program.rows[number];
+                self.wait(Frame::Blank(rest))?;
+                self.call(scene, row, Mode::NonAtomic, rest)
+            }
+            None => self.comments(scene, rest),
+        }
+    }
+
+    /// Skips the comments, if there is a rule for them.
+    fn comments(&mut self, scene: &Scene<'a>, rest: &'a str) -> Result<Control<'a>, Stop>
+        requires sound { IsSoundIn scene.now }
+        requires left { IsLeft scene.now.text.now rest.now }
+        requires ends { Awaits scene.now self.old
+            (Ends scene.now (starting comments rest.now (now_of self.old))) }
+        ensures { IfOk result (IsOnTheWay scene.entry.now self.new) }
+    {
+        match scene.program.comment {
+            Some(number) => {
+                let row = &scene.program.rows[number];
+                self.wait(Frame::Comment(rest))?;
+                self.call(scene, row, Mode::NonAtomic, rest)
+            }
+            None => Ok(Control::Answer(Some(rest))),
+        }
+    }
+
+    /// `WHITESPACE` has an answer.
+    #[inline]
+    fn after_blank(
+        &mut self,
+        scene: &Scene<'a>,
+        rest: &'a str,
+        answer: Option<&'a str>,
+    ) -> Result<Control<'a>, Stop>
+        requires sound { IsSoundIn scene.now }
+        requires follows { IsResumed scene.now self.old (IsBlank scene.now rest.now) answer }
+        ensures { IfOk result (IsOnTheWay scene.entry.now self.new) }
+    {
+        match answer {
+            Some(after) => self.blanks(scene, after),
+            None => self.comments(scene, rest),
+        }
+    }
+
+    /// `COMMENT` has an answer.
+    #[inline]
+    fn after_comment(
+        &mut self,
+        scene: &Scene<'a>,
+        rest: &'a str,
+        answer: Option<&'a str>,
+    ) -> Result<Control<'a>, Stop>
+        requires sound { IsSoundIn scene.now }
+        requires follows { IsResumed scene.now self.old (IsComment scene.now rest.now) answer }
+        ensures { IfOk result (IsOnTheWay scene.entry.now self.new) }
+    {
+        match answer {
+            Some(after) => self.blanks(scene, after),
+            None => Ok(Control::Answer(Some(rest))),
+        }
+    }
+
+    /// Begins with a form.
+    fn start(
+        &mut self,
+        scene: &Scene<'a>,
+        form: &'a Form,
+        mode: Mode,
+        rest: &'a str,
+    ) -> Result<Control<'a>, Stop>
+        requires sound { IsSoundIn scene.now }
+        requires running { IsRunning scene.now self.old form.now mode rest.now }
+        ensures { IfOk result (IsOnTheWay scene.entry.now self.new) }
+    {
+        match self.at_once(scene, form, mode, rest)? {
+            AtOnce::Answered(answer) => Ok(Control::Answer(answer)),
+            AtOnce::Nested => self.parts(scene, form, mode, rest),
+        }
+    }
+
+    /// Begins with the first part of a form that has parts.
+    fn parts(
+        &mut self,
+        scene: &Scene<'a>,
+        form: &'a Form,
+        mode: Mode,
+        rest: &'a str,
+    ) -> Result<Control<'a>, Stop>
+        requires sound { IsSoundIn scene.now }
+        requires running { IsRunning scene.now self.old form.now mode rest.now }
+        requires nested { IsNested form.now }
+        ensures { IfOk result (IsOnTheWay scene.entry.now self.new) }
+    {
+        match form {
+            Form::Call(number) => {
+                let row = &scene.program.rows[*number];
+                self.call(scene, row, mode, rest)
+            }
+            Form::Seq(first, second) => {
+                self.sequence(scene, first, Second::Once(second), mode, rest)
+            }
+            Form::RepOnce(body) => {
+                self.sequence(scene, body, Second::Repeated(body), mode, rest)
+            }
+            Form::Choice(left, right) => {
+                self.enter(scene, Frame::Left(right, mode, rest), left, mode, rest)
+            }
+            Form::Opt(body) => self.enter(scene, Frame::Optional(rest), body, mode, rest),
+            Form::Push(body) => self.enter(scene, Frame::Push(rest), body, mode, rest),
+            Form::Rep(body) => self.repetition(scene, body, mode, rest),
+            Form::NegPred(body) => self.negation(scene, body, mode, rest),
+            Form::PosPred(body) => self.lookahead(scene, body, mode, rest),
+            Form::Restore(body) => Ok(Control::Run(body, mode, rest)),
+            Form::Tag(body, _) => Ok(Control::Run(body, mode, rest)),
+            _ => unreachable!(),
+        }
+    }
+
+    /// Runs the scene's rule on its text, in NonAtomic, for so many steps at most. The answer is what is left
+    /// of the text after it, or `None` where it fails. Refused are want of memory, a run of more steps, and
+    /// `PEEK` or `POP` on the empty stack.
+    pub fn run(&mut self, scene: &Scene<'a>, steps: u64) -> Result<Option<&'a str>, Stop>
+        requires sound { IsSoundIn scene.now }
+        requires row { IsRowIn scene.now scene.now.row.now }
+        requires meant { rule_of (grammar_in scene.now) (text_of scene.now.row.now.name)
+            ≡ Some (rule_of_row (names_within scene.now) scene.now.row.now) }
+        requires fresh { now_of self.old ≡ (top_of scene.now).now }
+        requires no_frames { self.old.frames.items ≡ [] }
+        ensures { IfOk result (GivesFrom scene.entry.now (top_of scene.entry.now) (now_of self.new)) }
+    {
+        let mut control = self.call(scene, scene.row, Mode::NonAtomic, scene.text)?;
+        'steps: for _ in 0..steps {
+            control = match control {
+                Control::Run(form, mode, rest) => self.start(scene, form, mode, rest)?,
+                Control::Answer(answer) => match self.frames.pop() {
+                    Some(frame) => self.resume(scene, frame, answer)?,
+                    None => return Ok(answer),
+                },
+            };
+        }
+        Err(Stop::OutOfSteps)
+    }
+}
