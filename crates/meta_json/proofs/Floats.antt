@@ -24,12 +24,15 @@ use Rattle.meta_json.specs.declared.refusal.Place.{Place}
 use Rattle.meta_json.specs.declared.refusal.Place.TheVariants as place
 use Rattle.meta_json.specs.declared.refusal.Why.{Why}
 use Rattle.meta_json.specs.Refusals.{message_of}
+use Rattle.meta_json.specs.Tokens.{entry_data, tokens_data}
+use Rattle.meta_syntax.specs.declared.entries.Entry.{Entry}
+use Rattle.meta_syntax.specs.declared.entries.Entry.TheVariants as entry
 
-both_false : (a b : Bool) → a ≡ false → b ≡ false → (a || b) ≡ false
+pub both_false : (a b : Bool) → a ≡ false → b ≡ false → (a || b) ≡ false
 both_false true b h k = h
 both_false false b h k = k
 
-then_free : (a b : Bool) → a ≡ false → b ≡ false → (a || (b || false)) ≡ false
+pub then_free : (a b : Bool) → a ≡ false → b ≡ false → (a || (b || false)) ≡ false
 then_free a b h k = both_false a (b || false) h (both_false b false k refl)
 
 first_false : (a b : Bool) → (a || b) ≡ false → a ≡ false
@@ -40,26 +43,26 @@ second_false : (a b : Bool) → (a || b) ≡ false → b ≡ false
 second_false true b h = absurd (true≢false h)
 second_false false b h = h
 
-append_free : (ds es : List Data) → items_have_float (items_of ds) ≡ false → items_have_float (items_of es) ≡ false → items_have_float (items_of (ds ++ es)) ≡ false
+pub append_free : (ds es : List Data) → items_have_float (items_of ds) ≡ false → items_have_float (items_of es) ≡ false → items_have_float (items_of (ds ++ es)) ≡ false
 append_free [] es h k = k
 append_free (d ∷ ds) es h k = both_false (has_float d) _ (first_false (has_float d) _ h) (append_free ds es (second_false (has_float d) _ h) k)
 
-map_free : {A : Type 0} (f : A → Data) → ((x : A) → has_float (f x) ≡ false) → (xs : List A) → items_have_float (items_of (map f xs)) ≡ false
+pub map_free : {A : Type 0} (f : A → Data) → ((x : A) → has_float (f x) ≡ false) → (xs : List A) → items_have_float (items_of (map f xs)) ≡ false
 map_free f h [] = refl
 map_free f h (x ∷ xs) = both_false (has_float (f x)) _ (h x) (map_free f h xs)
 
 texts_free : (ss : List (String Global)) → items_have_float (items_of (map text_data ss)) ≡ false
 texts_free ss = map_free text_data (λ s. refl) ss
 
-place_float : (z : ℤ) → is_float (of_integer z) ≡ false
+pub place_float : (z : ℤ) → is_float (of_integer z) ≡ false
 place_float (pos n) = refl
 place_float (negsuc n) = refl
 
-end_free : (j : Option ℤ) → has_float (end_data j) ≡ false
+pub end_free : (j : Option ℤ) → has_float (end_data j) ≡ false
 end_free None = refl
 end_free (Some z) = place_float z
 
-one_free : (a b : Bool) → a ≡ false → b ≡ false → ((a || (b || false)) || false) ≡ false
+pub one_free : (a b : Bool) → a ≡ false → b ≡ false → ((a || (b || false)) || false) ≡ false
 one_free a b h k = both_false (a || (b || false)) false (then_free a b h k) refl
 
 skip_free : (a : Bool) → a ≡ false → ((a || false) || false) ≡ false
@@ -138,9 +141,16 @@ errors_without_floats expected errors = map_free (error_data expected) (λ e. sa
 
 said_at_free : (p : Place) (message : List ℕ) → has_float (said_at p message) ≡ false
 said_at_free (place.Text l c) m = refl
-said_at_free place.List m = refl
+said_at_free place.Whole m = refl
 said_at_free (place.Rule r) m = refl
 said_at_free (place.Node r n) m = refl
 
 pub refusal_without_floats : (p : Place) (why : Why) → has_float (refusal_data p why) ≡ false
 refusal_without_floats p why = said_at_free p (message_of why)
+
+entry_free : (e : Entry) → has_float (entry_data e) ≡ false
+entry_free (entry.Start rule place partner) = refl
+entry_free (entry.End place partner) = refl
+
+pub tokens_without_floats : (entries : List Entry) → has_float (tokens_data entries) ≡ false
+tokens_without_floats entries = map_free entry_data entry_free entries

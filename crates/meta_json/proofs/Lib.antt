@@ -1,3 +1,5 @@
 pub mod Floats
 pub mod Lists
+pub mod PlacedFloats
+pub mod Spans
 pub mod Turns

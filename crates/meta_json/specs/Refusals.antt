@@ -18,12 +18,13 @@ message_of is.Node = codes "a node is a list that begins with the name of its fo
 message_of is.Form = codes "no node here has this form with these arguments"
 message_of is.Operands = codes "an operand of this node is missing"
 message_of is.Left = codes "there are more nodes than the expression has"
+message_of is.UnknownRule = codes "no rule of the meta-grammar has this name"
 
 -- a message and its place
 abbrev pub said_at : Place → List ℕ → Data
 said_at (place.Text line column) message = object (member (codes "column") (size_data column)
     (member (codes "line") (size_data line) (member (codes "message") (string message) no_members)))
-said_at place.List message = object (member (codes "message") (string message) no_members)
+said_at place.Whole message = object (member (codes "message") (string message) no_members)
 said_at (place.Rule rule) message = object (member (codes "message") (string message)
     (member (codes "rule") (size_data rule) no_members))
 said_at (place.Node rule node) message = object (member (codes "message") (string message)

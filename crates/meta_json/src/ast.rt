@@ -3,7 +3,7 @@ ghost use Rattle.meta_ast.specs.Ast.{expression_of};
 ghost use Rattle.meta_ast.specs.Weight.{weight};
 ghost use Rattle.meta_json.specs.Format.{nodes_of};
 
-use crate::expressions::{AsNodes, Operands, one_operand, two_operands};
+use crate::expressions::{AsNodes, FromNodes, Operands, one_operand, two_operands};
 use crate::nodes::{Node, copies};
 use crate::refusal::{Unread, Why};
 use meta_ast::ast::Expr;
@@ -44,7 +44,9 @@ impl AsNodes for Expr {
             Expr::NodeTag(inner, tag) => Ok((Node::NodeTag(tag.as_str()), Operands::One(inner))),
         }
     }
+}
 
+impl FromNodes for Expr {
     #[tactic(auto, using(crate::proofs::Turns::in_turn_last, crate::proofs::Turns::in_turn_last_two))]
     fn of_node(
         alloc: Global,

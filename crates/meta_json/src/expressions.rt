@@ -19,7 +19,7 @@ pub(crate) enum Operands<'a, E> {
 }
 
 /// Expressions that are written as nodes.
-pub(crate) trait AsNodes: Release {
+pub(crate) trait AsNodes {
     // what is written of an expression
     ghost nodes: { Self → List Data };
 
@@ -31,7 +31,10 @@ pub(crate) trait AsNodes: Release {
         ensures written { IfOk result
             (λ top. node_data top.0 ∷ nodes_of_operands nodes top.1 ≡ nodes self.now) }
         ensures lighter { IfOk result (λ top. heft_of_operands heft top.1 < heft self.now) };
+}
 
+/// Expressions that are read from nodes too.
+pub(crate) trait FromNodes: AsNodes + Release {
     /// The expression of a node with the first of these operands, the last of which comes first. It takes those
     /// that it needs.
     fn of_node(
@@ -39,8 +42,8 @@ pub(crate) trait AsNodes: Release {
         node: Node<'_>,
         operands: &mut Deep<Vec<Self>>,
     ) -> Result<Self, Unread>
-        ensures { IfOk result (λ expr. nodes expr ++ in_turn nodes operands.new.value.items
-            ≡ node_data node.entry ∷ in_turn nodes operands.old.value.items) };
+        ensures { IfOk result (λ expr. Self.nodes expr ++ in_turn Self.nodes operands.new.value.items
+            ≡ node_data node.entry ∷ in_turn Self.nodes operands.old.value.items) };
 }
 
 /// The nodes of an expression, as values.
@@ -86,7 +89,7 @@ fn put<'a, E: AsNodes>(
 
 /// The expression whose nodes these values are.
 #[tactic(auto, using(crate::proofs::Turns::in_turn_last))]
-pub(crate) fn expression_of<E: AsNodes>(alloc: Global, nodes: &[Value]) -> Result<E, Unread>
+pub(crate) fn expression_of<E: FromNodes>(alloc: Global, nodes: &[Value]) -> Result<E, Unread>
     ensures { IfOk result (λ expr. E.nodes expr ≡ map view nodes.now) }
 {
     let mut operands = Deep {
@@ -111,7 +114,7 @@ pub(crate) fn expression_of<E: AsNodes>(alloc: Global, nodes: &[Value]) -> Resul
 
 /// Puts the expression of a node with the first of these operands in their place.
 #[tactic(auto, using(crate::proofs::Turns::in_turn_last))]
-fn expression_with<E: AsNodes>(
+fn expression_with<E: FromNodes>(
     alloc: Global,
     node: &Value,
     operands: &mut Deep<Vec<E>>,

@@ -3,7 +3,7 @@ ghost use Rattle.meta_ast.specs.Optimized.{optimized_expression_of};
 ghost use Rattle.meta_ast.specs.Weight.{weight};
 ghost use Rattle.meta_json.specs.Format.{optimized_nodes_of};
 
-use crate::expressions::{AsNodes, Operands, one_operand, two_operands};
+use crate::expressions::{AsNodes, FromNodes, Operands, one_operand, two_operands};
 use crate::nodes::{Node, copies};
 use crate::refusal::{Unread, Why};
 use meta_ast::deep::Deep;
@@ -51,7 +51,9 @@ impl AsNodes for OptimizedExpr {
             )),
         }
     }
+}
 
+impl FromNodes for OptimizedExpr {
     #[tactic(auto, using(crate::proofs::Turns::in_turn_last, crate::proofs::Turns::in_turn_last_two))]
     fn of_node(
         alloc: Global,

@@ -1,4 +1,4 @@
-//! Why a text is not read as rules.
+//! Why a text is not read as rules, or as the name of one.
 ghost use Rattle.std.specs.Prelude.{◌≡◌, IfOk, string_bytes};
 ghost use Rattle.serde_json.specs.View.{view};
 ghost use Rattle.serde_json.specs.Written.{compact_text};
@@ -28,6 +28,8 @@ pub enum Why {
     Operands,
     /// More nodes stand behind an expression than belong to it.
     Left,
+    /// No rule of the meta-grammar has this name.
+    UnknownRule,
 }
 
 impl Why {
@@ -45,6 +47,7 @@ impl Why {
             Why::Form => "no node here has this form with these arguments",
             Why::Operands => "an operand of this node is missing",
             Why::Left => "there are more nodes than the expression has",
+            Why::UnknownRule => "no rule of the meta-grammar has this name",
         }
     }
 }
@@ -54,8 +57,8 @@ impl Why {
 pub enum Place {
     /// In the text, by line and column.
     Text(usize, usize),
-    /// In the list as a whole.
-    List,
+    /// Nowhere in it: the whole is wrong.
+    Whole,
     /// In the rule of that number, counted from 0.
     Rule(usize),
     /// In the rule of the first number, at the node of the second, both counted from 0.
@@ -133,7 +136,7 @@ fn refusal_value(alloc: Global, place: Place, message: &str) -> Result<Value, Al
         Place::Text(line, column) => {
             json!(in alloc; {"column": column, "line": line, "message": message})
         }
-        Place::List => json!(in alloc; {"message": message}),
+        Place::Whole => json!(in alloc; {"message": message}),
         Place::Rule(rule) => json!(in alloc; {"message": message, "rule": rule}),
         Place::Node(rule, node) => {
             json!(in alloc; {"message": message, "node": node, "rule": rule})

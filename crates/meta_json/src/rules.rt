@@ -8,7 +8,7 @@ ghost use Rattle.serde_json.specs.Written.{compact_text};
 ghost use Rattle.meta_json.specs.Format.{optimized_rules_data, rule_data, rules_data, type_name};
 ghost use Rattle.meta_json.specs.Reading.{AreOptimizedRules, AreRules, members_of, members_of_optimized, members_of_rule, rule_members};
 
-use crate::expressions::{AsNodes, expression_of, nodes_of};
+use crate::expressions::{AsNodes, FromNodes, expression_of, nodes_of};
 use crate::refusal::{Place, Refusal, Unread, Why};
 use meta_ast::ast::{Rule, RuleType};
 use meta_ast::deep::Deep;
@@ -71,7 +71,7 @@ fn rule_value<E: AsNodes>(
 }
 
 /// The name of a type.
-fn name_of_type(ty: RuleType) -> &'static str
+pub(crate) fn name_of_type(ty: RuleType) -> &'static str
     ensures { result.now ≡ type_name ty }
 {
     match ty {
@@ -137,7 +137,7 @@ fn values_of(value: &Value) -> Result<&Vec<Value>, Refusal>
 {
     match value {
         Value::Array(values) => Ok(values),
-        _ => Err(Refusal::Text(Place::List, Why::NoList)),
+        _ => Err(Refusal::Text(Place::Whole, Why::NoList)),
     }
 }
 
@@ -162,7 +162,7 @@ fn optimized_rule_of(alloc: Global, value: &Value, place: usize) -> Result<Optim
 }
 
 /// A rule's name, type and body.
-fn parts_of<E: AsNodes>(alloc: Global, value: &Value) -> Result<(String, RuleType, E), Unread>
+fn parts_of<E: FromNodes>(alloc: Global, value: &Value) -> Result<(String, RuleType, E), Unread>
     ensures { IfOk result (λ parts. members_of (view value.now)
         ≡ rule_members (string_bytes parts.0) parts.1 (E.nodes parts.2)) }
 {

@@ -1,0 +1,60 @@
+/* Calls each function of the library once on a grammar, and one with too little room.
+ *
+ *   cc bridge/example.c -Icrates/pest_meta_c/include \
+ *      crates/pest_meta_c/out/libpest_meta_c.a KIT/c/liblibc_c.a -o example
+ */
+#include <pest_meta.h>
+
+#include <stdio.h>
+#include <string.h>
+
+static uint8_t out[65536];
+
+static void show(const char *call, uint8_t status, size_t needed)
+{
+    printf("%s: status %d, length %zu\n", call, status, needed);
+    if (status <= PEST_META_REFUSED)
+        printf("  %.*s\n", (int)needed, (const char *)out);
+}
+
+int main(void)
+{
+    const uint8_t *text = (const uint8_t *)"a = @{ \"x\"? ~ b | 'a'..'z' } b = { ASCII_DIGIT{2} ~ a* }";
+    const uint8_t *wrong = (const uint8_t *)"a = { b ~ \"x }";
+    const uint8_t *loop = (const uint8_t *)"a = { (\"\")* }";
+    const uint8_t *bytes = (const uint8_t *)"\xff";
+    const uint8_t *rules = (const uint8_t *)"[{\"name\":\"a\",\"type\":\"normal\",\"expr\":[[\"rep_exact\",2],[\"str\",\"x\"]]}]";
+    size_t length = strlen((const char *)text);
+    size_t needed = 0;
+    uint8_t status;
+
+    status = pest_meta_version(out, sizeof out, &needed);
+    show("version", status, needed);
+    status = pest_meta_tokens((const uint8_t *)"\"x\"", 3, (const uint8_t *)"string", 6, out, sizeof out, &needed);
+    show("tokens", status, needed);
+    status = pest_meta_tokens(text, length, (const uint8_t *)"strong", 6, out, sizeof out, &needed);
+    show("tokens of an unknown rule", status, needed);
+    status = pest_meta_names(text, length, out, sizeof out, &needed);
+    show("names", status, needed);
+    status = pest_meta_rules(text, length, out, sizeof out, &needed);
+    show("rules", status, needed);
+    status = pest_meta_rules(loop, strlen((const char *)loop), out, sizeof out, &needed);
+    show("rules of a loop", status, needed);
+    status = pest_meta_nodes(text, length, out, sizeof out, &needed);
+    show("nodes", status, needed);
+    status = pest_meta_optimize(rules, strlen((const char *)rules), out, sizeof out, &needed);
+    show("optimize", status, needed);
+    status = pest_meta_optimize(text, length, out, sizeof out, &needed);
+    show("optimize of no JSON", status, needed);
+    status = pest_meta_parse_and_optimize(text, length, out, sizeof out, &needed);
+    show("parse_and_optimize", status, needed);
+    status = pest_meta_parse_and_optimize(wrong, strlen((const char *)wrong), out, sizeof out, &needed);
+    show("parse_and_optimize of no grammar", status, needed);
+    status = pest_meta_parse_and_optimize(bytes, 1, out, sizeof out, &needed);
+    show("parse_and_optimize of no text", status, needed);
+    memset(out, '.', sizeof out);
+    status = pest_meta_parse_and_optimize(text, length, out, 8, &needed);
+    show("parse_and_optimize with too little room", status, needed);
+    printf("  %.10s\n", (const char *)out);
+    return 0;
+}

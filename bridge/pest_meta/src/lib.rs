@@ -1,0 +1,106 @@
+//! The crate `pest_meta` 2.9.5 over a proved front end.
+//!
+//! Grammars of [pest](https://pest.rs) are read, validated and optimized here by a static library in which
+//! every function is proved. Names and types are those of the original crate, so that `pest_derive` and other
+//! users of it need no change.
+//!
+//! ```
+//! let grammar = r#"list = { "[" ~ (item ~ ("," ~ item)*)? ~ "]" } item = @{ ASCII_ALPHA+ }"#;
+//! let (builtins, rules) = pest_meta::unwrap_or_report(pest_meta::parse_and_optimize(grammar));
+//! assert_eq!(builtins, ["ASCII_ALPHA"]);
+//! assert_eq!(rules[0].expr.to_string(), r#"("[" ~ (item ~ ("," ~ item)*)? ~ "]")"#);
+//! ```
+//!
+//! # What is proved
+//!
+//! The rules that are read are those that the text spells, of which there is one list at most. A syntax error
+//! stands at the furthest place where a rule failed. Each other error is at the piece of the text that it
+//! speaks of, and an accepted grammar is well-formed. The optimized rules come from the rules by named
+//! rewriting steps. No call of the library panics, overflows a number or reads out of bounds, and each ends.
+//!
+//! # Where the proof ends
+//!
+//! It ends at the calls of the library. This crate hands texts over and makes Rust's values of the answers,
+//! which is tested and not proved:
+//!
+//! - `library`: the calls over C, the only `unsafe` code;
+//! - `json`, `nodes`, `answers`: answers in JSON, read into rules, errors and entries of trees;
+//! - `parser`: the entries are replayed through [`pest::state`], which makes the pairs;
+//! - `printing`: expressions as text, for `Display` and for [`validator::validate_ast`];
+//! - maps and iterators over expressions, `e+` as `e ~ e*`, and the words that are Rust's keywords.
+//!
+//! The crate `pest`, the code that `pest_generator` makes of optimized rules, and the compilers are trusted
+//! as before.
+//!
+//! # Limits
+//!
+//! A call panics where the library has no memory. An expression of great depth takes stack in the library, in
+//! pest's parser state and in what Rust derives for trees, as it does in the original crate.
+#![warn(missing_docs, rust_2018_idioms, unused_qualifications)]
+#![deny(unsafe_code)]
+// The signatures are those of the original, and the errors pest's.
+#![allow(clippy::result_large_err)]
+
+use std::fmt::Display;
+use std::sync::LazyLock;
+
+use pest::error::Error;
+use pest::unicode::unicode_property_names;
+
+mod answers;
+pub mod ast;
+mod json;
+#[allow(unsafe_code)]
+mod library;
+mod nodes;
+pub mod optimizer;
+pub mod parser;
+mod printing;
+pub mod validator;
+
+/// What a result holds; a refusal ends in a panic with a report of all its errors.
+///
+/// # Panics
+/// Where the result is a refusal.
+pub fn unwrap_or_report<T, E>(result: Result<T, E>) -> T
+where
+    E: IntoIterator,
+    E::Item: Display,
+{
+    match result {
+        Ok(value) => value,
+        Err(errors) => {
+            let errors: Vec<String> = errors.into_iter().map(|error| error.to_string()).collect();
+            panic!("grammar error\n\n{}", errors.join("\n\n"))
+        }
+    }
+}
+
+/// The builtins that a grammar uses, and its optimized rules.
+type UsedBuiltinAndOptimized<'i> = (Vec<&'i str>, Vec<optimizer::OptimizedRule>);
+
+/// Reads, validates and optimizes a grammar: the names of the builtins that it uses, in the order of their
+/// first calls, and its optimized rules; or its errors.
+///
+/// # Panics
+/// Where there is no memory for the grammar.
+pub fn parse_and_optimize(grammar: &str) -> Result<UsedBuiltinAndOptimized<'_>, Vec<Error<parser::Rule>>> {
+    if cfg!(not(feature = "grammar-extras")) && grammar.contains("PUSH_LITERAL") {
+        return step_by_step(grammar);
+    }
+    let (builtins, rules) = answers::parse_and_optimize(grammar)?;
+    let builtins = validator::in_text(grammar, &builtins);
+    Ok((builtins, rules.into_iter().map(optimizer::OptimizedRule::from).collect()))
+}
+
+/// The same by a call a step, where a step may refuse what the library takes.
+fn step_by_step(grammar: &str) -> Result<UsedBuiltinAndOptimized<'_>, Vec<Error<parser::Rule>>> {
+    let pairs = parser::parse(parser::Rule::grammar_rules, grammar).map_err(|error| vec![error])?;
+    let builtins = validator::validate_pairs(pairs.clone())?;
+    let rules = parser::consume_rules(pairs)?;
+    Ok((builtins, optimizer::optimize(rules)))
+}
+
+#[doc(hidden)]
+#[deprecated(note = "use `pest::unicode::unicode_property_names` instead")]
+pub static UNICODE_PROPERTY_NAMES: LazyLock<Vec<&str>> = LazyLock::new(|| unicode_property_names().collect());

@@ -1,0 +1,80 @@
+//! The functions of the proved static library. All `unsafe` code of this crate stands here.
+//!
+//! A function is handed texts and room for its answer, as a pointer and a length each, and keeps none of
+//! them. It answers a status, and leaves in `needed` how many bytes it wrote or, where the room was too
+//! small, wants to write.
+
+extern "C" {
+    fn pest_meta_tokens(
+        text: *const u8,
+        text_len: usize,
+        rule: *const u8,
+        rule_len: usize,
+        out: *mut u8,
+        out_len: usize,
+        needed: *mut usize,
+    ) -> u8;
+    fn pest_meta_names(text: *const u8, len: usize, out: *mut u8, room: usize, needed: *mut usize) -> u8;
+    fn pest_meta_rules(text: *const u8, len: usize, out: *mut u8, room: usize, needed: *mut usize) -> u8;
+    fn pest_meta_nodes(text: *const u8, len: usize, out: *mut u8, room: usize, needed: *mut usize) -> u8;
+    fn pest_meta_optimize(text: *const u8, len: usize, out: *mut u8, room: usize, needed: *mut usize) -> u8;
+    fn pest_meta_parse_and_optimize(
+        text: *const u8,
+        len: usize,
+        out: *mut u8,
+        room: usize,
+        needed: *mut usize,
+    ) -> u8;
+    fn pest_meta_version(out: *mut u8, out_len: usize, needed: *mut usize) -> u8;
+}
+
+/// A function over one text.
+#[derive(Clone, Copy)]
+pub(crate) enum Call {
+    /// The builtins that a grammar uses, or the errors of its names.
+    Names,
+    /// The rules of a grammar, or its errors.
+    Rules,
+    /// The rules of a grammar with their places, or why they can't be read.
+    Nodes,
+    /// The optimized rules of rules in JSON.
+    Optimize,
+    /// The used builtins and the optimized rules of a grammar, or its errors.
+    ParseAndOptimize,
+}
+
+/// Calls a function over one text.
+pub(crate) fn over_text(call: Call, text: &str, out: &mut [u8], needed: &mut usize) -> u8 {
+    let function = match call {
+        Call::Names => pest_meta_names,
+        Call::Rules => pest_meta_rules,
+        Call::Nodes => pest_meta_nodes,
+        Call::Optimize => pest_meta_optimize,
+        Call::ParseAndOptimize => pest_meta_parse_and_optimize,
+    };
+    // SAFETY: each pointer stands before its length, and all are of live values of that many bytes, of which
+    // those that are written are borrowed as such.
+    unsafe { function(text.as_ptr(), text.len(), out.as_mut_ptr(), out.len(), needed) }
+}
+
+/// The entries of the trees that a text has by a rule of that name, or one error.
+pub(crate) fn tokens(text: &str, rule: &str, out: &mut [u8], needed: &mut usize) -> u8 {
+    // SAFETY: as above.
+    unsafe {
+        pest_meta_tokens(
+            text.as_ptr(),
+            text.len(),
+            rule.as_ptr(),
+            rule.len(),
+            out.as_mut_ptr(),
+            out.len(),
+            needed,
+        )
+    }
+}
+
+/// The version of the library, and the number of its format.
+pub(crate) fn version(out: &mut [u8], needed: &mut usize) -> u8 {
+    // SAFETY: as above.
+    unsafe { pest_meta_version(out.as_mut_ptr(), out.len(), needed) }
+}

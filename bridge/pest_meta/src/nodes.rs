@@ -1,0 +1,236 @@
+//! Expressions as flat lists of nodes, each before its operands, and trees of them. All ways between the two
+//! are loops, so that no depth of an expression takes stack.
+use crate::json::{write_list, write_text, Reader, Reading};
+
+/// A form of an expression, without its operands.
+#[derive(Clone, Debug, PartialEq)]
+pub(crate) enum Node {
+    Str(String),
+    Insens(String),
+    Range(String, String),
+    Ident(String),
+    PeekSlice(i32, Option<i32>),
+    PosPred,
+    NegPred,
+    Seq,
+    Choice,
+    Opt,
+    Rep,
+    RepOnce,
+    RepExact(u32),
+    RepMin(u32),
+    RepMax(u32),
+    RepMinMax(u32, u32),
+    Skip(Vec<String>),
+    Push,
+    PushLiteral(String),
+    Tag(String),
+    RestoreOnErr,
+}
+
+impl Node {
+    /// How many operands follow.
+    pub(crate) fn operands(&self) -> usize {
+        match self {
+            Node::Str(_) | Node::Insens(_) | Node::Range(..) | Node::Ident(_) | Node::PeekSlice(..) => 0,
+            Node::Skip(_) | Node::PushLiteral(_) => 0,
+            Node::Seq | Node::Choice => 2,
+            _ => 1,
+        }
+    }
+}
+
+/// Trees of nodes, with something that is known of each node.
+pub(crate) trait Tree: Sized {
+    type Known;
+
+    /// The tree of a node over its operands.
+    fn joined(node: Node, known: Self::Known, operands: &mut Operands<Self>) -> Self;
+
+    /// The node at the root, and what it is over.
+    fn parted(&self) -> (Node, [Option<&Self>; 2]);
+}
+
+/// Trees that wait for the node that is over them, the next operand last.
+pub(crate) struct Operands<T>(Vec<T>);
+
+impl<T> Operands<T> {
+    /// The next operand.
+    pub(crate) fn next(&mut self) -> Box<T> {
+        Box::new(self.0.pop().expect("the library tells each operand"))
+    }
+}
+
+/// The tree of a list of nodes.
+pub(crate) fn tree<T: Tree>(nodes: impl DoubleEndedIterator<Item = (Node, T::Known)>) -> T {
+    let mut operands = Operands(Vec::new());
+    for (node, known) in nodes.rev() {
+        let joined = T::joined(node, known, &mut operands);
+        operands.0.push(joined);
+    }
+    *operands.next()
+}
+
+/// The nodes of a tree.
+pub(crate) fn flat<T: Tree>(tree: &T) -> Vec<Node> {
+    let mut nodes = Vec::new();
+    let mut left = vec![tree];
+    while let Some(tree) = left.pop() {
+        let (node, operands) = tree.parted();
+        nodes.push(node);
+        left.extend(operands.into_iter().rev().flatten());
+    }
+    nodes
+}
+
+/// The number of nodes of each node's tree, in the order of the nodes.
+pub(crate) fn sizes(nodes: &[Node]) -> Vec<usize> {
+    let mut sizes = vec![1; nodes.len()];
+    for at in (0..nodes.len()).rev() {
+        for _ in 0..nodes[at].operands() {
+            sizes[at] += sizes[at + sizes[at]];
+        }
+    }
+    sizes
+}
+
+/// Writes `e ~ e*` for each `e+`. The nodes are copied, from the last one to the first, to a list that grows
+/// by the tree of each node; what is inside a tree stands at its end.
+#[cfg(not(feature = "grammar-extras"))]
+pub(crate) fn written_out(nodes: Vec<Node>) -> Vec<Node> {
+    let mut reversed: Vec<Node> = Vec::with_capacity(nodes.len());
+    let mut starts = Vec::new();
+    for node in nodes.into_iter().rev() {
+        let over = starts.len() - node.operands();
+        let start = starts.drain(over..).next().unwrap_or(reversed.len());
+        if node == Node::RepOnce {
+            let end = reversed.len();
+            reversed.push(Node::Rep);
+            reversed.extend_from_within(start..end);
+            reversed.push(Node::Seq);
+        } else {
+            reversed.push(node);
+        }
+        starts.push(start);
+    }
+    reversed.reverse();
+    reversed
+}
+
+/// Reads a node: a list of its form's name and its arguments.
+pub(crate) fn read(reader: &mut Reader<'_>) -> Reading<Node> {
+    reader.open_list()?;
+    let form = reader.text()?;
+    let node = match form.as_str() {
+        "str" => Node::Str(next_text(reader)?),
+        "insens" => Node::Insens(next_text(reader)?),
+        "range" => Node::Range(next_text(reader)?, next_text(reader)?),
+        "ident" => Node::Ident(next_text(reader)?),
+        "peek_slice" => Node::PeekSlice(next_index(reader)?, next_end(reader)?),
+        "pos_pred" => Node::PosPred,
+        "neg_pred" => Node::NegPred,
+        "seq" => Node::Seq,
+        "choice" => Node::Choice,
+        "opt" => Node::Opt,
+        "rep" => Node::Rep,
+        "rep_once" => Node::RepOnce,
+        "rep_exact" => Node::RepExact(next_count(reader)?),
+        "rep_min" => Node::RepMin(next_count(reader)?),
+        "rep_max" => Node::RepMax(next_count(reader)?),
+        "rep_min_max" => Node::RepMinMax(next_count(reader)?, next_count(reader)?),
+        "skip" => {
+            reader.comma()?;
+            Node::Skip(reader.list(Reader::text)?)
+        }
+        "push" => Node::Push,
+        "push_literal" => Node::PushLiteral(next_text(reader)?),
+        "node_tag" => Node::Tag(next_text(reader)?),
+        "restore_on_err" => Node::RestoreOnErr,
+        _ => return reader.wanted("a form of expressions"),
+    };
+    reader.close_list()?;
+    Ok(node)
+}
+
+fn next_text(reader: &mut Reader<'_>) -> Reading<String> {
+    reader.comma()?;
+    reader.text()
+}
+
+fn next_count(reader: &mut Reader<'_>) -> Reading<u32> {
+    reader.comma()?;
+    reader.fitting(|number| u32::try_from(number).ok())
+}
+
+fn next_index(reader: &mut Reader<'_>) -> Reading<i32> {
+    reader.comma()?;
+    reader.fitting(|number| i32::try_from(number).ok())
+}
+
+fn next_end(reader: &mut Reader<'_>) -> Reading<Option<i32>> {
+    reader.comma()?;
+    if reader.takes_null() {
+        return Ok(None);
+    }
+    reader.fitting(|number| i32::try_from(number).ok()).map(Some)
+}
+
+/// Writes a node.
+pub(crate) fn write(out: &mut String, node: &Node) {
+    let (form, texts, numbers): (_, &[&String], &[i64]) = match node {
+        Node::Str(text) => ("str", &[text], &[]),
+        Node::Insens(text) => ("insens", &[text], &[]),
+        Node::Range(low, high) => ("range", &[low, high], &[]),
+        Node::Ident(name) => ("ident", &[name], &[]),
+        Node::PeekSlice(start, Some(end)) => ("peek_slice", &[], &[i64::from(*start), i64::from(*end)]),
+        Node::PeekSlice(start, None) => return out.push_str(&format!("[\"peek_slice\",{start},null]")),
+        Node::PosPred => ("pos_pred", &[], &[]),
+        Node::NegPred => ("neg_pred", &[], &[]),
+        Node::Seq => ("seq", &[], &[]),
+        Node::Choice => ("choice", &[], &[]),
+        Node::Opt => ("opt", &[], &[]),
+        Node::Rep => ("rep", &[], &[]),
+        Node::RepOnce => ("rep_once", &[], &[]),
+        Node::RepExact(count) => ("rep_exact", &[], &[i64::from(*count)]),
+        Node::RepMin(count) => ("rep_min", &[], &[i64::from(*count)]),
+        Node::RepMax(count) => ("rep_max", &[], &[i64::from(*count)]),
+        Node::RepMinMax(least, most) => ("rep_min_max", &[], &[i64::from(*least), i64::from(*most)]),
+        Node::Skip(texts) => {
+            out.push_str("[\"skip\",");
+            write_list(out, texts, |out, text| write_text(out, text));
+            return out.push(']');
+        }
+        Node::Push => ("push", &[], &[]),
+        Node::PushLiteral(text) => ("push_literal", &[text], &[]),
+        Node::Tag(tag) => ("node_tag", &[tag], &[]),
+        Node::RestoreOnErr => ("restore_on_err", &[], &[]),
+    };
+    out.push_str(&format!("[\"{form}\""));
+    for text in texts {
+        out.push(',');
+        write_text(out, text);
+    }
+    for number in numbers {
+        out.push_str(&format!(",{number}"));
+    }
+    out.push(']');
+}
+
+#[cfg(all(test, not(feature = "grammar-extras")))]
+mod tests {
+    use super::*;
+
+    #[test]
+    fn a_plus_is_written_out_within_another() {
+        let a = || Node::Str("a".to_owned());
+        let b = || Node::Str("b".to_owned());
+        let nodes = vec![Node::Choice, Node::RepOnce, Node::Seq, Node::RepOnce, a(), b(), Node::Opt, b()];
+        let inner = [Node::Seq, Node::Seq, a(), Node::Rep, a(), b()];
+        let mut wanted = vec![Node::Choice, Node::Seq];
+        wanted.extend_from_slice(&inner);
+        wanted.push(Node::Rep);
+        wanted.extend_from_slice(&inner);
+        wanted.extend([Node::Opt, b()]);
+        assert_eq!(written_out(nodes), wanted);
+    }
+}

@@ -1,0 +1,246 @@
+//! Optimized rules, as a code generator wants them.
+use std::fmt;
+
+use crate::answers::{self, FlatRule};
+use crate::ast::{Rule, RuleType};
+use crate::json::{write_list, write_text};
+use crate::nodes::{self, flat, tree, Node, Operands, Tree};
+use crate::printing::{spelled, BareSide};
+
+/// Rules optimized by the proved passes.
+///
+/// # Panics
+/// Where there is no memory for what the rules are written out to.
+pub fn optimize(rules: Vec<Rule>) -> Vec<OptimizedRule> {
+    let mut json = String::new();
+    write_list(&mut json, &rules, write_rule);
+    answers::optimize(&json).into_iter().map(OptimizedRule::from).collect()
+}
+
+/// Writes a rule as JSON.
+fn write_rule(out: &mut String, rule: &Rule) {
+    out.push_str("{\"expr\":");
+    write_list(out, &flat(&rule.expr), nodes::write);
+    out.push_str(",\"name\":");
+    write_text(out, &rule.name);
+    let ty = match rule.ty {
+        RuleType::Normal => "normal",
+        RuleType::Silent => "silent",
+        RuleType::Atomic => "atomic",
+        RuleType::CompoundAtomic => "compound_atomic",
+        RuleType::NonAtomic => "non_atomic",
+    };
+    out.push_str(&format!(",\"type\":\"{ty}\"}}"));
+}
+
+/// An optimized rule.
+#[derive(Clone, Debug, Eq, PartialEq)]
+pub struct OptimizedRule {
+    /// Its name.
+    pub name: String,
+    /// What kind of rule it is.
+    pub ty: RuleType,
+    /// Its body.
+    pub expr: OptimizedExpr,
+}
+
+impl From<FlatRule> for OptimizedRule {
+    fn from(rule: FlatRule) -> OptimizedRule {
+        let nodes = rule.nodes;
+        #[cfg(not(feature = "grammar-extras"))]
+        let nodes = nodes::written_out(nodes);
+        OptimizedRule {
+            name: rule.name,
+            ty: rule.ty.expect("the library tells the type of each rule"),
+            expr: tree(nodes.into_iter().map(|node| (node, ()))),
+        }
+    }
+}
+
+/// An optimized expression.
+#[derive(Clone, Debug, Eq, PartialEq)]
+pub enum OptimizedExpr {
+    /// That text: `"a"`.
+    Str(String),
+    /// That text, with ASCII letters of either case: `^"a"`.
+    Insens(String),
+    /// A character of the range: `'a'..'z'`.
+    Range(String, String),
+    /// The rule or the builtin of that name: `a`.
+    Ident(String),
+    /// Entries of the stack: `PEEK[0..-1]`, or `PEEK[0..]`.
+    PeekSlice(i32, Option<i32>),
+    /// What comes has to match: `&e`.
+    PosPred(Box<OptimizedExpr>),
+    /// What comes may not match: `!e`.
+    NegPred(Box<OptimizedExpr>),
+    /// One and then the other: `a ~ b`.
+    Seq(Box<OptimizedExpr>, Box<OptimizedExpr>),
+    /// One or, where it fails, the other: `a | b`.
+    Choice(Box<OptimizedExpr>, Box<OptimizedExpr>),
+    /// Once or not at all: `e?`.
+    Opt(Box<OptimizedExpr>),
+    /// As often as it matches: `e*`.
+    Rep(Box<OptimizedExpr>),
+    /// As often as it matches, and once at least: `e+`.
+    #[cfg(feature = "grammar-extras")]
+    RepOnce(Box<OptimizedExpr>),
+    /// All up to one of the texts: `(!("a" | "b") ~ ANY)*`.
+    Skip(Vec<String>),
+    /// What matches is pushed on the stack: `PUSH(e)`.
+    Push(Box<OptimizedExpr>),
+    /// The text is pushed on the stack: `PUSH_LITERAL("a")`.
+    #[cfg(feature = "grammar-extras")]
+    PushLiteral(String),
+    /// An expression with a tag: `#tag = e`.
+    #[cfg(feature = "grammar-extras")]
+    NodeTag(Box<OptimizedExpr>, String),
+    /// The expression; where it fails, the stack is as it was before.
+    RestoreOnErr(Box<OptimizedExpr>),
+}
+
+impl OptimizedExpr {
+    /// The expression and all that stands in it, each before what stands in it, the left side before the
+    /// right. What stands in a [`OptimizedExpr::RestoreOnErr`] is not met.
+    pub fn iter_top_down(&self) -> OptimizedExprTopDownIterator {
+        OptimizedExprTopDownIterator::new(self)
+    }
+
+    /// The expression with `f` done at it, then at each operand of its answer, and so on down. What stands
+    /// in a [`OptimizedExpr::RestoreOnErr`] stays.
+    pub fn map_top_down<F>(self, mut f: F) -> OptimizedExpr
+    where
+        F: FnMut(OptimizedExpr) -> OptimizedExpr,
+    {
+        fn go(expr: OptimizedExpr, f: &mut dyn FnMut(OptimizedExpr) -> OptimizedExpr) -> OptimizedExpr {
+            f(expr).map_operands(&mut |operand| go(operand, f))
+        }
+        go(self, &mut f)
+    }
+
+    /// The expression with `f` done at what stands in each node, and then at the node with what that gives.
+    /// What stands in a [`OptimizedExpr::RestoreOnErr`] stays.
+    pub fn map_bottom_up<F>(self, mut f: F) -> OptimizedExpr
+    where
+        F: FnMut(OptimizedExpr) -> OptimizedExpr,
+    {
+        fn go(expr: OptimizedExpr, f: &mut dyn FnMut(OptimizedExpr) -> OptimizedExpr) -> OptimizedExpr {
+            let mapped = expr.map_operands(&mut |operand| go(operand, f));
+            f(mapped)
+        }
+        go(self, &mut f)
+    }
+
+    /// The expression with `f` done at its operands, the left one first.
+    fn map_operands(self, f: &mut dyn FnMut(OptimizedExpr) -> OptimizedExpr) -> OptimizedExpr {
+        let mut map = |operand: Box<OptimizedExpr>| Box::new(f(*operand));
+        match self {
+            OptimizedExpr::PosPred(inner) => OptimizedExpr::PosPred(map(inner)),
+            OptimizedExpr::NegPred(inner) => OptimizedExpr::NegPred(map(inner)),
+            OptimizedExpr::Seq(left, right) => {
+                let left = map(left);
+                OptimizedExpr::Seq(left, map(right))
+            }
+            OptimizedExpr::Choice(left, right) => {
+                let left = map(left);
+                OptimizedExpr::Choice(left, map(right))
+            }
+            OptimizedExpr::Opt(inner) => OptimizedExpr::Opt(map(inner)),
+            OptimizedExpr::Rep(inner) => OptimizedExpr::Rep(map(inner)),
+            #[cfg(feature = "grammar-extras")]
+            OptimizedExpr::RepOnce(inner) => OptimizedExpr::RepOnce(map(inner)),
+            OptimizedExpr::Push(inner) => OptimizedExpr::Push(map(inner)),
+            #[cfg(feature = "grammar-extras")]
+            OptimizedExpr::NodeTag(inner, tag) => OptimizedExpr::NodeTag(map(inner), tag),
+            leaf => leaf,
+        }
+    }
+}
+
+impl Tree for OptimizedExpr {
+    type Known = ();
+
+    fn joined(node: Node, (): (), over: &mut Operands<OptimizedExpr>) -> OptimizedExpr {
+        match node {
+            Node::Str(text) => OptimizedExpr::Str(text),
+            Node::Insens(text) => OptimizedExpr::Insens(text),
+            Node::Range(low, high) => OptimizedExpr::Range(low, high),
+            Node::Ident(name) => OptimizedExpr::Ident(name),
+            Node::PeekSlice(start, end) => OptimizedExpr::PeekSlice(start, end),
+            Node::PosPred => OptimizedExpr::PosPred(over.next()),
+            Node::NegPred => OptimizedExpr::NegPred(over.next()),
+            Node::Seq => OptimizedExpr::Seq(over.next(), over.next()),
+            Node::Choice => OptimizedExpr::Choice(over.next(), over.next()),
+            Node::Opt => OptimizedExpr::Opt(over.next()),
+            Node::Rep => OptimizedExpr::Rep(over.next()),
+            #[cfg(feature = "grammar-extras")]
+            Node::RepOnce => OptimizedExpr::RepOnce(over.next()),
+            Node::Skip(texts) => OptimizedExpr::Skip(texts),
+            Node::Push => OptimizedExpr::Push(over.next()),
+            #[cfg(feature = "grammar-extras")]
+            Node::PushLiteral(text) => OptimizedExpr::PushLiteral(text),
+            #[cfg(feature = "grammar-extras")]
+            Node::Tag(tag) => OptimizedExpr::NodeTag(over.next(), tag),
+            Node::RestoreOnErr => OptimizedExpr::RestoreOnErr(over.next()),
+            other => unreachable!("the library tells no {other:?} of optimized rules"),
+        }
+    }
+
+    fn parted(&self) -> (Node, [Option<&OptimizedExpr>; 2]) {
+        match self {
+            OptimizedExpr::Str(text) => (Node::Str(text.clone()), [None, None]),
+            OptimizedExpr::Insens(text) => (Node::Insens(text.clone()), [None, None]),
+            OptimizedExpr::Range(low, high) => (Node::Range(low.clone(), high.clone()), [None, None]),
+            OptimizedExpr::Ident(name) => (Node::Ident(name.clone()), [None, None]),
+            OptimizedExpr::PeekSlice(start, end) => (Node::PeekSlice(*start, *end), [None, None]),
+            OptimizedExpr::PosPred(inner) => (Node::PosPred, [Some(inner), None]),
+            OptimizedExpr::NegPred(inner) => (Node::NegPred, [Some(inner), None]),
+            OptimizedExpr::Seq(left, right) => (Node::Seq, [Some(left), Some(right)]),
+            OptimizedExpr::Choice(left, right) => (Node::Choice, [Some(left), Some(right)]),
+            OptimizedExpr::Opt(inner) => (Node::Opt, [Some(inner), None]),
+            OptimizedExpr::Rep(inner) => (Node::Rep, [Some(inner), None]),
+            #[cfg(feature = "grammar-extras")]
+            OptimizedExpr::RepOnce(inner) => (Node::RepOnce, [Some(inner), None]),
+            OptimizedExpr::Skip(texts) => (Node::Skip(texts.clone()), [None, None]),
+            OptimizedExpr::Push(inner) => (Node::Push, [Some(inner), None]),
+            #[cfg(feature = "grammar-extras")]
+            OptimizedExpr::PushLiteral(text) => (Node::PushLiteral(text.clone()), [None, None]),
+            #[cfg(feature = "grammar-extras")]
+            OptimizedExpr::NodeTag(inner, tag) => (Node::Tag(tag.clone()), [Some(inner), None]),
+            OptimizedExpr::RestoreOnErr(inner) => (Node::RestoreOnErr, [Some(inner), None]),
+        }
+    }
+}
+
+/// The expression as the text of a grammar; a [`OptimizedExpr::RestoreOnErr`] is written as what it is over.
+impl fmt::Display for OptimizedExpr {
+    fn fmt(&self, f: &mut fmt::Formatter<'_>) -> fmt::Result {
+        f.write_str(&spelled(&flat(self), BareSide::Right))
+    }
+}
+
+/// What [`OptimizedExpr::iter_top_down`] goes through.
+pub struct OptimizedExprTopDownIterator {
+    /// Those whose turn is still to come, with what stands in them. The last comes first.
+    left: Vec<OptimizedExpr>,
+}
+
+impl OptimizedExprTopDownIterator {
+    /// The expression and all that stands in it.
+    pub fn new(expr: &OptimizedExpr) -> Self {
+        OptimizedExprTopDownIterator { left: vec![expr.clone()] }
+    }
+}
+
+impl Iterator for OptimizedExprTopDownIterator {
+    type Item = OptimizedExpr;
+
+    fn next(&mut self) -> Option<OptimizedExpr> {
+        let expr = self.left.pop()?;
+        let (node, operands) = expr.parted();
+        if node != Node::RestoreOnErr {
+            self.left.extend(operands.into_iter().rev().flatten().cloned());
+        }
+        Some(expr)
+    }
+}

@@ -1,0 +1,310 @@
+//! Grammars as token trees, and as rules with the place of each node.
+use pest::error::Error;
+#[cfg(not(feature = "grammar-extras"))]
+use pest::error::ErrorVariant;
+use pest::iterators::Pairs;
+use pest::{ParseResult, ParserState, Span};
+
+use crate::answers::{self, part, Entry, FlatRule};
+use crate::ast::{Rule as AstRule, RuleType};
+use crate::nodes::{tree, Node, Operands, Tree};
+
+mod rules;
+
+pub use self::rules::Rule;
+
+/// The parser of grammars.
+pub struct PestParser;
+
+impl pest::Parser<Rule> for PestParser {
+    fn parse(rule: Rule, input: &str) -> Result<Pairs<'_, Rule>, Error<Rule>> {
+        parse(rule, input)
+    }
+}
+
+/// The token trees of a text by a rule of the meta-grammar; a grammar is read by [`Rule::grammar_rules`].
+///
+/// The trees are those that the proved front end tells, and the only ones that the text has. A refusal stands
+/// at the furthest place where a rule failed, and has the rules that were expected there.
+pub fn parse(rule: Rule, data: &str) -> Result<Pairs<'_, Rule>, Error<Rule>> {
+    let entries = answers::tokens(data, rule)?;
+    pest::state(data, |state| replayed(state, data, &entries, 0..entries.len()))
+}
+
+type State<'i> = Box<ParserState<'i, Rule>>;
+
+/// Gives the tokens of some of the entries to a parser's state. It calls itself within each tree.
+fn replayed<'i>(
+    mut state: State<'i>,
+    text: &str,
+    entries: &[Entry],
+    mut range: std::ops::Range<usize>,
+) -> ParseResult<State<'i>> {
+    while let Some(at) = range.next() {
+        let Entry::Start { rule, place, partner } = entries[at] else {
+            unreachable!("the library ends each tree where it says")
+        };
+        let Some(Entry::End { place: end }) = entries.get(partner) else {
+            unreachable!("the library ends each tree where it says")
+        };
+        state = moved(state, text, place)?.rule(rule, |state| {
+            let state = replayed(state, text, entries, at + 1..partner)?;
+            moved(state, text, *end)
+        })?;
+        range.start = partner + 1;
+    }
+    Ok(state)
+}
+
+/// Moves a state on to a place.
+fn moved<'i>(state: State<'i>, text: &str, place: usize) -> ParseResult<State<'i>> {
+    let from = state.position().pos();
+    state.match_string(&text[from..place])
+}
+
+/// A rule of a grammar with its places.
+#[derive(Clone, Debug, Eq, PartialEq)]
+pub struct ParserRule<'i> {
+    /// Its name.
+    pub name: String,
+    /// Where its name stands.
+    pub span: Span<'i>,
+    /// What kind of rule it is.
+    pub ty: RuleType,
+    /// Its body.
+    pub node: ParserNode<'i>,
+}
+
+/// An expression with its place.
+#[derive(Clone, Debug, Eq, PartialEq)]
+pub struct ParserNode<'i> {
+    /// The expression.
+    pub expr: ParserExpr<'i>,
+    /// Where it stands.
+    pub span: Span<'i>,
+}
+
+impl<'i> ParserNode<'i> {
+    /// What `f` answers of the node and of all that stand in it, each before what stands in it, the left side
+    /// before the right.
+    pub fn filter_map_top_down<F, T>(self, mut f: F) -> Vec<T>
+    where
+        F: FnMut(ParserNode<'i>) -> Option<T>,
+    {
+        let mut found = Vec::new();
+        let mut left = vec![&self];
+        while let Some(node) = left.pop() {
+            found.extend(f(node.clone()));
+            let (_, operands) = node.parted();
+            left.extend(operands.into_iter().rev().flatten());
+        }
+        found
+    }
+}
+
+/// An expression whose operands have their places.
+#[derive(Clone, Debug, Eq, PartialEq)]
+pub enum ParserExpr<'i> {
+    /// That text: `"a"`.
+    Str(String),
+    /// That text, with ASCII letters of either case: `^"a"`.
+    Insens(String),
+    /// A character of the range: `'a'..'z'`.
+    Range(String, String),
+    /// The rule or the builtin of that name: `a`.
+    Ident(String),
+    /// Entries of the stack: `PEEK[0..-1]`, or `PEEK[0..]`.
+    PeekSlice(i32, Option<i32>),
+    /// What comes has to match: `&e`.
+    PosPred(Box<ParserNode<'i>>),
+    /// What comes may not match: `!e`.
+    NegPred(Box<ParserNode<'i>>),
+    /// One and then the other: `a ~ b`.
+    Seq(Box<ParserNode<'i>>, Box<ParserNode<'i>>),
+    /// One or, where it fails, the other: `a | b`.
+    Choice(Box<ParserNode<'i>>, Box<ParserNode<'i>>),
+    /// Once or not at all: `e?`.
+    Opt(Box<ParserNode<'i>>),
+    /// As often as it matches: `e*`.
+    Rep(Box<ParserNode<'i>>),
+    /// As often as it matches, and once at least: `e+`.
+    RepOnce(Box<ParserNode<'i>>),
+    /// So often: `e{2}`.
+    RepExact(Box<ParserNode<'i>>, u32),
+    /// So often at least: `e{2,}`.
+    RepMin(Box<ParserNode<'i>>, u32),
+    /// So often at most: `e{,2}`.
+    RepMax(Box<ParserNode<'i>>, u32),
+    /// From so often to so often: `e{2, 3}`.
+    RepMinMax(Box<ParserNode<'i>>, u32, u32),
+    /// What matches is pushed on the stack: `PUSH(e)`.
+    Push(Box<ParserNode<'i>>),
+    /// The text is pushed on the stack: `PUSH_LITERAL("a")`.
+    #[cfg(feature = "grammar-extras")]
+    PushLiteral(String),
+    /// An expression with a tag: `#tag = e`.
+    #[cfg(feature = "grammar-extras")]
+    NodeTag(Box<ParserNode<'i>>, String),
+}
+
+impl<'i> Tree for ParserNode<'i> {
+    type Known = Span<'i>;
+
+    fn joined(node: Node, span: Span<'i>, over: &mut Operands<ParserNode<'i>>) -> ParserNode<'i> {
+        let expr = match node {
+            Node::Str(text) => ParserExpr::Str(text),
+            Node::Insens(text) => ParserExpr::Insens(text),
+            Node::Range(low, high) => ParserExpr::Range(low, high),
+            Node::Ident(name) => ParserExpr::Ident(name),
+            Node::PeekSlice(start, end) => ParserExpr::PeekSlice(start, end),
+            Node::PosPred => ParserExpr::PosPred(over.next()),
+            Node::NegPred => ParserExpr::NegPred(over.next()),
+            Node::Seq => ParserExpr::Seq(over.next(), over.next()),
+            Node::Choice => ParserExpr::Choice(over.next(), over.next()),
+            Node::Opt => ParserExpr::Opt(over.next()),
+            Node::Rep => ParserExpr::Rep(over.next()),
+            Node::RepOnce => ParserExpr::RepOnce(over.next()),
+            Node::RepExact(count) => ParserExpr::RepExact(over.next(), count),
+            Node::RepMin(least) => ParserExpr::RepMin(over.next(), least),
+            Node::RepMax(most) => ParserExpr::RepMax(over.next(), most),
+            Node::RepMinMax(least, most) => ParserExpr::RepMinMax(over.next(), least, most),
+            Node::Push => ParserExpr::Push(over.next()),
+            #[cfg(feature = "grammar-extras")]
+            Node::PushLiteral(text) => ParserExpr::PushLiteral(text),
+            #[cfg(feature = "grammar-extras")]
+            Node::Tag(tag) => ParserExpr::NodeTag(over.next(), tag),
+            other => unreachable!("the library tells no {other:?} of a grammar's text"),
+        };
+        ParserNode { expr, span }
+    }
+
+    fn parted(&self) -> (Node, [Option<&ParserNode<'i>>; 2]) {
+        match &self.expr {
+            ParserExpr::Str(text) => (Node::Str(text.clone()), [None, None]),
+            ParserExpr::Insens(text) => (Node::Insens(text.clone()), [None, None]),
+            ParserExpr::Range(low, high) => (Node::Range(low.clone(), high.clone()), [None, None]),
+            ParserExpr::Ident(name) => (Node::Ident(name.clone()), [None, None]),
+            ParserExpr::PeekSlice(start, end) => (Node::PeekSlice(*start, *end), [None, None]),
+            ParserExpr::PosPred(inner) => (Node::PosPred, [Some(inner), None]),
+            ParserExpr::NegPred(inner) => (Node::NegPred, [Some(inner), None]),
+            ParserExpr::Seq(left, right) => (Node::Seq, [Some(left), Some(right)]),
+            ParserExpr::Choice(left, right) => (Node::Choice, [Some(left), Some(right)]),
+            ParserExpr::Opt(inner) => (Node::Opt, [Some(inner), None]),
+            ParserExpr::Rep(inner) => (Node::Rep, [Some(inner), None]),
+            ParserExpr::RepOnce(inner) => (Node::RepOnce, [Some(inner), None]),
+            ParserExpr::RepExact(inner, count) => (Node::RepExact(*count), [Some(inner), None]),
+            ParserExpr::RepMin(inner, least) => (Node::RepMin(*least), [Some(inner), None]),
+            ParserExpr::RepMax(inner, most) => (Node::RepMax(*most), [Some(inner), None]),
+            ParserExpr::RepMinMax(inner, least, most) => {
+                (Node::RepMinMax(*least, *most), [Some(inner), None])
+            }
+            ParserExpr::Push(inner) => (Node::Push, [Some(inner), None]),
+            #[cfg(feature = "grammar-extras")]
+            ParserExpr::PushLiteral(text) => (Node::PushLiteral(text.clone()), [None, None]),
+            #[cfg(feature = "grammar-extras")]
+            ParserExpr::NodeTag(inner, tag) => (Node::Tag(tag.clone()), [Some(inner), None]),
+        }
+    }
+}
+
+/// The rules of a grammar's pairs, or what is wrong with them.
+pub fn consume_rules(pairs: Pairs<'_, Rule>) -> Result<Vec<AstRule>, Vec<Error<Rule>>> {
+    let Some(grammar) = readable(pairs)? else {
+        return Ok(Vec::new());
+    };
+    Ok(answers::rules(grammar)?.into_iter().map(AstRule::from).collect())
+}
+
+/// The rules of a grammar's pairs with the place of each node, or the first flaw for which they can't be
+/// read. [`crate::validator::validate_ast`] tells what is wrong with rules that are read.
+pub fn consume_rules_with_spans(pairs: Pairs<'_, Rule>) -> Result<Vec<ParserRule<'_>>, Vec<Error<Rule>>> {
+    let Some(grammar) = readable(pairs)? else {
+        return Ok(Vec::new());
+    };
+    let rules = answers::nodes(grammar)?;
+    Ok(rules.into_iter().map(|rule| placed(grammar, rule)).collect())
+}
+
+impl From<FlatRule> for AstRule {
+    fn from(rule: FlatRule) -> AstRule {
+        AstRule {
+            name: rule.name,
+            ty: rule.ty.expect("the library tells the type of each rule"),
+            expr: tree(rule.nodes.into_iter().map(|node| (node, ()))),
+        }
+    }
+}
+
+/// A rule with its places, which are told within a piece of a text.
+fn placed(grammar: Span<'_>, rule: FlatRule) -> ParserRule<'_> {
+    assert_eq!(rule.nodes.len(), rule.spans.len(), "the library tells a span for each node");
+    let spans = rule.spans.into_iter().map(|span| part(grammar, span));
+    ParserRule {
+        name: rule.name,
+        span: part(grammar, rule.name_span),
+        ty: rule.ty.expect("the library tells the type of each rule"),
+        node: tree(rule.nodes.into_iter().zip(spans)),
+    }
+}
+
+/// The grammar behind pairs: the text from the start of the first pair to the end of the last one. So what
+/// was taken from the pairs before is not part of it. There is none where no pair is that of a rule.
+pub(crate) fn grammar_of<'i>(pairs: &Pairs<'i, Rule>) -> Option<Span<'i>> {
+    pairs.clone().find(|pair| pair.as_rule() == Rule::grammar_rule)?;
+    let first = pairs.peek()?.as_span();
+    let last = pairs.clone().next_back()?.as_span();
+    Some(first.start_pos().span(&last.end_pos()))
+}
+
+/// The grammar behind pairs, if it has none of what this configuration does not read.
+#[cfg(not(feature = "grammar-extras"))]
+fn readable(pairs: Pairs<'_, Rule>) -> Result<Option<Span<'_>>, Vec<Error<Rule>>> {
+    let grammar = grammar_of(&pairs);
+    match pairs.flatten().find(|pair| pair.as_rule() == Rule::_push_literal) {
+        Some(pair) => {
+            let message = "PUSH_LITERAL requires feature grammar-extras".to_owned();
+            Err(vec![Error::new_from_span(ErrorVariant::CustomError { message }, pair.as_span())])
+        }
+        None => Ok(grammar),
+    }
+}
+
+/// The grammar behind pairs. All of it is read in this configuration.
+#[cfg(feature = "grammar-extras")]
+fn readable(pairs: Pairs<'_, Rule>) -> Result<Option<Span<'_>>, Vec<Error<Rule>>> {
+    Ok(grammar_of(&pairs))
+}
+
+/// What errors call a rule: a sign between grave accents, a word for a few, and its own name for any other.
+pub fn rename_meta_rule(rule: &Rule) -> String {
+    let name = match rule {
+        Rule::grammar_rule => "rule",
+        Rule::_push => "PUSH",
+        Rule::_push_literal => "PUSH_LITERAL",
+        Rule::assignment_operator => "`=`",
+        Rule::opening_brace => "`{`",
+        Rule::closing_brace => "`}`",
+        Rule::opening_brack => "`[`",
+        Rule::closing_brack => "`]`",
+        Rule::opening_paren => "`(`",
+        Rule::closing_paren => "`)`",
+        Rule::silent_modifier => "`_`",
+        Rule::atomic_modifier => "`@`",
+        Rule::compound_atomic_modifier => "`$`",
+        Rule::non_atomic_modifier | Rule::negative_predicate_operator => "`!`",
+        Rule::positive_predicate_operator | Rule::sequence_operator => "`&`",
+        Rule::choice_operator => "`|`",
+        Rule::optional_operator => "`?`",
+        Rule::repeat_operator => "`*`",
+        Rule::repeat_once_operator => "`+`",
+        Rule::comma => "`,`",
+        Rule::insensitive_string => "`^`",
+        Rule::range_operator => "`..`",
+        Rule::quote => "`\"`",
+        Rule::single_quote => "`'`",
+        Rule::grammar_doc => "//!",
+        Rule::line_doc => "///",
+        other => other.name(),
+    };
+    name.to_owned()
+}

@@ -1,0 +1,62 @@
+-- What is read from the pairs of a text is answered for the text.
+use Rattle.std.proofs.Common.{◌≡◌, ℕ, List, [], None, Result, Ok, Err, IfOk, Bor, String, Global, string_bytes, subst}
+use Rattle.std.specs.declared.alloc.AllocError.{AllocError}
+use Rattle.serde_json.specs.Data.{Data}
+use Rattle.serde_json.specs.Written.{compact_text}
+use Rattle.meta_ast.specs.Ast.{rules_of}
+use Rattle.meta_ast.specs.declared.ast.Rule as plain_rule
+use Rattle.meta_base.specs.Language.WellFormed.{HasReadableCounts}
+use Rattle.meta_base.specs.Pieces.NamedTrees.{named}
+use Rattle.meta_base.specs.Pieces.Pairs.{pairs_text, pairs_trees}
+use Rattle.meta_base.specs.declared.grammar.Rule.{Rule}
+use Rattle.meta_base.specs.declared.runtime.tokens.Pairs.{Pairs}
+use Rattle.meta_json.specs.Errors.{names_data}
+use Rattle.meta_json.specs.Format.{rules_data}
+use Rattle.meta_json.specs.Placed.{placed_rules_data}
+use Rattle.meta_names.specs.GrammarNames.{AreWrittenAt, complaints_of, first_calls_of}
+use Rattle.meta_nodes.specs.Nodes.{rule_views}
+use Rattle.meta_nodes.specs.declared.node.ParserRule.{ParserRule}
+use Rattle.meta_reader.specs.Refusals.{AreReadAs, first_flaw_of}
+use Rattle.meta_syntax.specs.Parses.{AreOfAGrammar}
+use Rattle.pest_meta.specs.Spelling.{AreAccepted}
+use Rattle.pest_meta_c.specs.declared.outcome.Unanswered as why
+use Rattle.pest_meta_c.specs.Answers.{AreNames, AreNodes, AreRules}
+
+pub names_answered : (text json : List ℕ) (pairs : Pairs Rule) (names : List (Bor (List ℕ))) → pairs_text pairs ≡ text → AreOfAGrammar pairs → complaints_of pairs ≡ [] → AreWrittenAt (first_calls_of pairs) names
+    → json ≡ compact_text (names_data names) → AreNames text json
+names_answered text json pairs names same h none uses written = subst (λ v. AreNames v json) same (record {
+  trees = named (pairs_trees pairs);
+  of_text = h;
+  well_named = none;
+  names = names;
+  uses = uses;
+  written = written;
+})
+
+pub rules_answered : (text json : List ℕ) (pairs : Pairs Rule) (rules : List plain_rule.Rule) → pairs_text pairs ≡ text → AreOfAGrammar pairs → AreAccepted (pairs_text pairs) (named (pairs_trees pairs)) (rules_of rules) → HasReadableCounts (rules_of rules)
+    → json ≡ compact_text (rules_data rules) → AreRules text json
+rules_answered text json pairs rules same h accepted counts written = subst (λ v. AreRules v json) same (record {
+  trees = named (pairs_trees pairs);
+  of_text = h;
+  rules = rules;
+  accepted = accepted;
+  counts = counts;
+  written = written;
+})
+
+pub nodes_answered : (text json : List ℕ) (pairs : Pairs Rule) (rules : List ParserRule) → pairs_text pairs ≡ text → AreOfAGrammar pairs → first_flaw_of pairs ≡ None → AreReadAs pairs (rule_views rules)
+    → json ≡ compact_text (placed_rules_data rules) → AreNodes text json
+nodes_answered text json pairs rules same h flawless read written = subst (λ v. AreNodes v json) same (record {
+  trees = named (pairs_trees pairs);
+  of_text = h;
+  flawless = flawless;
+  rules = rules;
+  read = read;
+  written = written;
+})
+
+-- JSON of which this holds is answered, unless memory is wanting
+pub answered_from : (P : List ℕ → Type 0) (d : Data) (json : Result (String Global) AllocError) (outcome : Result (String Global) why.Unanswered) → IfOk json (λ text. string_bytes text ≡ compact_text d) → ((bytes : List ℕ) → bytes ≡ compact_text d → P bytes)
+    → IfOk outcome (λ text. json ≡ Ok text) → IfOk outcome (λ text. P (string_bytes text))
+answered_from P d json (Ok text) h f same = f (string_bytes text) (subst (λ r. IfOk r (λ t. string_bytes t ≡ compact_text d)) same h)
+answered_from P d json (Err reason) h f same = tt

@@ -1,0 +1,107 @@
+-- A fault of a text is told as what is wrong with it.
+use Rattle.std.proofs.Common.{◌≡◌, ◌≢◌, ◌⊎◌, ℕ, List, Option, Some, None, MatchOption, false, inl, inr, refl, subst, sym}
+use Rattle.meta_base.proofs.OneOutcome.{same}
+use Rattle.meta_base.specs.Language.State.{Classes, Failure, State, Success, Trees}
+use Rattle.meta_base.specs.Pieces.MetaRules.{name_of}
+use Rattle.meta_base.specs.Pieces.NamedTrees.{named}
+use Rattle.meta_base.specs.Pieces.Pairs.{pairs_text, pairs_trees}
+use Rattle.meta_base.specs.declared.grammar.Rule.{Rule}
+use Rattle.meta_base.specs.declared.grammar.Rule.TheVariants as rule_is
+use Rattle.meta_base.specs.declared.runtime.errors.Error.{Error}
+use Rattle.meta_base.specs.declared.runtime.faults.Fault as code
+use Rattle.meta_base.specs.declared.runtime.faults.Fault.TheVariants as fault_is
+use Rattle.meta_base.specs.declared.runtime.tokens.Pairs.{Pairs}
+use Rattle.meta_json.specs.declared.refusal.Place.{Place}
+use Rattle.meta_json.specs.declared.refusal.Place.TheVariants as place_is
+use Rattle.meta_json.specs.declared.refusal.Why.{Why}
+use Rattle.meta_json.specs.declared.refusal.Why.TheVariants as json_why
+use Rattle.meta_names.specs.GrammarNames.{IsNameRefusal, complaints_of}
+use Rattle.meta_reader.specs.Flaws.{Flaw, first_flaw}
+use Rattle.meta_reader.specs.Refusals.{first_flaw_of, IsReadRefusal, TellsOf}
+use Rattle.meta_syntax.specs.MetaGrammar.{meta_grammar}
+use Rattle.meta_syntax.specs.Parses.{AreOfAGrammar, FailsAt, ParseRefuses}
+use Rattle.pest_meta.specs.Spelling.{AreFlawed, AreRejected, HasTrees, HaveFindings, IsMisnamed, IsRefusal, IsRefusedWith}
+use Rattle.pest_meta_c.specs.Outcomes.{IsRefusalOf, IsTold, Says}
+use Rattle.pest_meta_c.specs.Refusals.{HasNoTokens, IsNoJson, OfTrees, TellSuch}
+use Rattle.pest_meta_c.specs.declared.outcome.Unanswered as why
+use Rattle.pest_meta_c.specs.declared.outcome.Unanswered.TheVariants as why_is
+
+-- this holds of a fault's errors, if it has some
+abbrev pub OfErrors : (List (Error Rule) → Type 0) → code.Fault → Type 0
+OfErrors Such (fault_is.Memory e) = Unit {0}
+OfErrors Such (fault_is.Grammar errors) = Such errors.items
+
+pub told_such : (text : List ℕ) (Such : List (Error Rule) → Type 0) (fault : code.Fault) (told : why.Unanswered) → OfErrors Such fault → IsTold rule_is.grammar_rules text fault told → Says (TellSuch text Such) told
+told_such text Such (fault_is.Memory e) told h t = subst (Says (TellSuch text Such)) (sym t) tt
+told_such text Such (fault_is.Grammar errors) why_is.Memory h t = tt
+told_such text Such (fault_is.Grammar errors) (why_is.Refused json) h t = record { errors = errors.items; such = h; told = t }
+
+-- where the text fails, it has no trees
+no_classes : Classes
+no_classes n c = false
+
+failure_is_none : {t : State} {us : Trees} → Failure ≡ Success t us → ⊥
+failure_is_none h = cc
+
+fails_so : (text : List ℕ) (place : ℕ) (us : Trees) → FailsAt rule_is.grammar_rules text place → HasTrees text us → ⊥
+fails_so text place us f h = failure_is_none (same meta_grammar no_classes (f no_classes).0 (h no_classes).1)
+
+-- a text that is no grammar
+pub no_grammar : (text : List ℕ) (Refused : Trees → List (Error Rule) → Type 0) (fault : code.Fault) → ParseRefuses rule_is.grammar_rules text fault → OfErrors (OfTrees Refused text) fault
+no_grammar text Refused (fault_is.Memory e) h = tt
+no_grammar text Refused (fault_is.Grammar errors) h =
+    inl (record { says = h; none = λ rules s. fails_so text h.place s.trees h.fails s.of_text })
+
+-- what is to be said of its names
+named_wrong : (pairs : Pairs Rule) (fault : code.Fault) → AreOfAGrammar pairs → IsNameRefusal (complaints_of pairs) fault → OfErrors (OfTrees (IsMisnamed (pairs_text pairs)) (pairs_text pairs)) fault
+named_wrong pairs (fault_is.Memory e) h k = tt
+named_wrong pairs (fault_is.Grammar errors) h k = inr (named (pairs_trees pairs), h, record { some = k.0; tell = k.1 })
+
+pub misnamed : (text : List ℕ) (pairs : Pairs Rule) (fault : code.Fault) → pairs_text pairs ≡ text → AreOfAGrammar pairs → IsNameRefusal (complaints_of pairs) fault → OfErrors (OfTrees (IsMisnamed text) text) fault
+misnamed text pairs fault same h k = subst (λ v. OfErrors (OfTrees (IsMisnamed v) v) fault) same (named_wrong pairs fault h k)
+
+-- what is wrong with its rules
+abbrev pub HaveWrongRules : List ℕ → Trees → List (Error Rule) → Type 0
+HaveWrongRules text trees errors = AreFlawed text trees errors ⊎ HaveFindings text trees errors
+
+read_wrong : (pairs : Pairs Rule) (fault : code.Fault) → AreOfAGrammar pairs → AreRejected (pairs_text pairs) (named (pairs_trees pairs)) fault → OfErrors (OfTrees (HaveWrongRules (pairs_text pairs)) (pairs_text pairs)) fault
+read_wrong pairs (fault_is.Memory e) h k = tt
+read_wrong pairs (fault_is.Grammar errors) h k = inr (named (pairs_trees pairs), h, k)
+
+pub rejected : (text : List ℕ) (pairs : Pairs Rule) (fault : code.Fault) → pairs_text pairs ≡ text → AreOfAGrammar pairs → AreRejected (pairs_text pairs) (named (pairs_trees pairs)) fault → OfErrors (OfTrees (HaveWrongRules text) text) fault
+rejected text pairs fault same h k = subst (λ v. OfErrors (OfTrees (HaveWrongRules v) v) fault) same (read_wrong pairs fault h k)
+
+-- the first flaw in its trees
+flawed : (text : List ℕ) (us : Trees) (errors : List (Error Rule)) (o : Option Flaw) → first_flaw text us ≡ o → MatchOption o ⊥ (λ flaw. TellsOf flaw errors) → AreFlawed text us errors
+flawed text us errors None e k = absurd k
+flawed text us errors (Some flaw) e k = record { flaw = flaw; first = e; tells = k }
+
+unread : (pairs : Pairs Rule) (fault : code.Fault) → AreOfAGrammar pairs → IsReadRefusal (first_flaw_of pairs) fault → OfErrors (OfTrees (AreFlawed (pairs_text pairs)) (pairs_text pairs)) fault
+unread pairs (fault_is.Memory e) h k = tt
+unread pairs (fault_is.Grammar errors) h k =
+    inr (named (pairs_trees pairs), h, flawed (pairs_text pairs) (named (pairs_trees pairs)) errors.items (first_flaw_of pairs) refl k)
+
+pub not_read : (text : List ℕ) (pairs : Pairs Rule) (fault : code.Fault) → pairs_text pairs ≡ text → AreOfAGrammar pairs → IsReadRefusal (first_flaw_of pairs) fault → OfErrors (OfTrees (AreFlawed text) text) fault
+not_read text pairs fault same h k = subst (λ v. OfErrors (OfTrees (AreFlawed v) v) fault) same (unread pairs fault h k)
+
+-- why there is no whole answer
+pub refused : (text : List ℕ) (fault : code.Fault) → IsRefusal text fault → OfErrors (IsRefusedWith text) fault
+refused text (fault_is.Memory e) h = tt
+refused text (fault_is.Grammar errors) h = h
+
+-- a text that doesn't begin with what a rule matches
+pub no_match : (text name : List ℕ) (rule : Rule) (fault : code.Fault) (told : why.Unanswered) → name_of rule ≡ name → ParseRefuses rule text fault → IsTold rule text fault told → Says (HasNoTokens text name) told
+no_match text name rule (fault_is.Memory e) told n h t = subst (Says (HasNoTokens text name)) (sym t) tt
+no_match text name rule (fault_is.Grammar errors) why_is.Memory n h t = tt
+no_match text name rule (fault_is.Grammar errors) (why_is.Refused json) n h t =
+    inr (record { rule = rule; named = n; errors = errors.items; refused = h; told = t })
+
+-- a name that no rule has
+pub unknown : (text name : List ℕ) (told : why.Unanswered) → IsRefusalOf place_is.Whole json_why.UnknownRule told → Says (HasNoTokens text name) told
+unknown text name why_is.Memory t = tt
+unknown text name (why_is.Refused json) t = inl t
+
+-- JSON that has no rules
+pub no_json : (place : Place) (reason : Why) (told : why.Unanswered) → IsRefusalOf place reason told → Says IsNoJson told
+no_json place reason why_is.Memory t = tt
+no_json place reason (why_is.Refused json) t = (place, reason, t)

@@ -1,0 +1,103 @@
+-- What each call answers, as bytes of JSON.
+use Rattle.std.specs.Prelude.{◌≡◌, ℕ, List, [], None}
+use Rattle.std.specs.Borrow.{Bor}
+use Rattle.serde_json.specs.Written.{compact_text}
+use Rattle.meta_ast.specs.Ast.{rules_of}
+use Rattle.meta_ast.specs.Optimized.{optimized_rules_of}
+use Rattle.meta_ast.specs.declared.ast.Rule as plain_rule
+use Rattle.meta_ast.specs.declared.optimized.OptimizedRule.{OptimizedRule}
+use Rattle.meta_base.specs.Language.State.{Trees}
+use Rattle.meta_base.specs.Language.WellFormed.{HasReadableCounts, IsPlain}
+use Rattle.meta_base.specs.Pieces.MetaRules.{name_of}
+use Rattle.meta_base.specs.declared.grammar.Rule.{Rule}
+use Rattle.meta_json.specs.Errors.{answer_data, names_data}
+use Rattle.meta_json.specs.Format.{optimized_rules_data, rules_data}
+use Rattle.meta_json.specs.Placed.{placed_rules_data}
+use Rattle.meta_json.specs.Reading as reading
+use Rattle.meta_json.specs.Tokens.{tokens_data}
+use Rattle.meta_json.specs.Versions.{version_data}
+use Rattle.meta_names.specs.GrammarNames.{AreWrittenAt, calls, definitions, first_calls}
+use Rattle.meta_nodes.specs.Nodes.{rule_views}
+use Rattle.meta_nodes.specs.declared.node.ParserRule.{ParserRule}
+use Rattle.meta_optimizer.specs.Passes.{IsOptimized}
+use Rattle.meta_reader.specs.Flaws.{first_flaw}
+use Rattle.meta_reader.specs.Reading.{ReadsRules}
+use Rattle.meta_restorer.specs.Agreeing.{AgreesLoosely, WrappersSuffice}
+use Rattle.meta_stack.specs.Certain.{AreReports}
+use Rattle.meta_syntax.specs.Entries as entries
+use Rattle.meta_syntax.specs.Parses.{TokensGive}
+use Rattle.meta_syntax.specs.declared.entries.Entry.{Entry}
+use Rattle.pest_meta.specs.Promises.{AreBuiltinsOf, EndsFromEverywhere, HasOutcomesOf, IsWellFormedGrammar, OfRead, OfSpelled}
+use Rattle.pest_meta.specs.Spelling.{AreAccepted, HasRefusal, HasTrees, IsAnswer, complaints_in}
+
+-- the bytes are the tokens that a text gives for the rule of that name
+pub record AreTokens (text name json : List ℕ) : Type 0 where
+  pub rule : Rule
+  pub named : name_of rule ≡ name
+  pub tokens : List Entry
+  pub given : TokensGive rule text tokens
+  pub whole : entries.IsWhole 0 (entries.named_entries tokens)
+  pub written : json ≡ compact_text (tokens_data tokens)
+
+-- the bytes are the builtins that a grammar uses: its names are in order, and these are those that it calls and
+-- doesn't define, each once, in the order of their first calls
+pub record AreNames (text json : List ℕ) : Type 0 where
+  pub trees : Trees
+  pub of_text : HasTrees text trees
+  pub well_named : complaints_in text trees ≡ []
+  pub names : List (Bor (List ℕ))
+  pub uses : AreWrittenAt (first_calls (definitions text trees) (calls text trees)) names
+  pub written : json ≡ compact_text (names_data names)
+
+-- the bytes are the rules that a grammar's text spells: nothing is wrong with them
+pub record AreRules (text json : List ℕ) : Type 0 where
+  pub trees : Trees
+  pub of_text : HasTrees text trees
+  pub rules : List plain_rule.Rule
+  pub accepted : AreAccepted text trees (rules_of rules)
+  pub counts : HasReadableCounts (rules_of rules)
+  pub written : json ≡ compact_text (rules_data rules)
+
+-- the bytes are the rules that a grammar's text spells, with the places of their names and nodes
+pub record AreNodes (text json : List ℕ) : Type 0 where
+  pub trees : Trees
+  pub of_text : HasTrees text trees
+  pub flawless : first_flaw text trees ≡ None
+  pub rules : List ParserRule
+  pub read : ReadsRules text trees (rule_views rules)
+  pub written : json ≡ compact_text (placed_rules_data rules)
+
+-- the bytes are the rules of a text in JSON, optimized
+pub record AreOptimized (text json : List ℕ) : Type 0 where
+  pub rules : List plain_rule.Rule
+  pub read : reading.AreRules text rules
+  pub answer : List OptimizedRule
+  pub optimized : IsOptimized (rules_of rules) (optimized_rules_of answer)
+  pub agrees : WrappersSuffice (optimized_rules_of answer) → AgreesLoosely (optimized_rules_of answer)
+  pub written : json ≡ compact_text (optimized_rules_data answer)
+
+-- what is promised of the builtins and the optimized rules that are answered for a grammar's text
+pub record ArePromised (text : List ℕ) (builtins : List (Bor (List ℕ))) (rules : List OptimizedRule)
+    : Type 0 where
+  pub answer : IsAnswer text builtins rules
+  pub builtins_of : OfSpelled text (λ spelled. AreBuiltinsOf spelled builtins)
+  pub sound : OfSpelled text IsWellFormedGrammar
+  pub outcomes : OfSpelled text (λ spelled. HasOutcomesOf spelled (optimized_rules_of rules))
+  pub ends : OfSpelled text (λ spelled. IsPlain spelled → EndsFromEverywhere spelled)
+  pub answer_ends : OfSpelled text
+      (λ spelled. IsPlain spelled → EndsFromEverywhere (optimized_rules_of rules))
+  pub no_reports : OfRead text (λ read. AreReports read [])
+  pub agrees : OfSpelled text
+      (λ spelled. WrappersSuffice spelled → AgreesLoosely (optimized_rules_of rules))
+  pub no_refusal : HasRefusal text → ⊥
+
+-- the bytes are the whole answer for a grammar's text
+pub record IsWhole (text json : List ℕ) : Type 0 where
+  pub builtins : List (Bor (List ℕ))
+  pub rules : List OptimizedRule
+  pub promised : ArePromised text builtins rules
+  pub written : json ≡ compact_text (answer_data builtins rules)
+
+-- the bytes are the versions
+abbrev pub IsVersion : List ℕ → Type 0
+IsVersion json = json ≡ compact_text version_data

@@ -1,0 +1,4 @@
+pub mod Answers
+pub mod Handing
+pub mod Outcomes
+pub mod Refusals
