@@ -34,8 +34,8 @@ pub struct Noted {
     pub shares: Vec<Share>,
 }
 
-/// Whether a `PUSH`, `PUSH_LITERAL`, `POP`, `POP_ALL` or `DROP` is met in an expression, not below a wrapper. The number of
-/// each name that is met goes behind the others.
+/// Whether a `PUSH`, `PUSH_LITERAL`, `POP`, `POP_ALL` or `DROP` is met in an expression, not below a wrapper.
+/// The number of each name that is met goes behind the others.
 #[tactic(auto, using(crate::proofs::Turns::changes_in_turn_last, crate::proofs::Turns::names_in_turn_last, crate::proofs::Turns::work_in_turn_last, crate::proofs::Turns::some_size))]
 fn look(
     alloc: Global,
