@@ -7,10 +7,25 @@ use std::alloc::{AllocError, Global};
 use std::rc::Rc;
 
 /// A stack: its top, and those below it.
-#[derive(Drop)]
 pub enum Stack<'a> {
     Empty,
     Pushed(&'a str, Rc<Stack<'a>>),
+}
+
+/// Goes by a loop, down to what is still shared.
+impl Drop for Stack<'_> {
+    #[inline]
+    fn drop(mut self) {
+        loop {
+            match self {
+                Stack::Empty => return,
+                Stack::Pushed(_, below) => match Rc::into_inner(below) {
+                    Some(next) => self = next,
+                    None => return,
+                },
+            }
+        }
+    }
 }
 
 /// The same stack again.
