@@ -1,9 +1,8 @@
 -- From places on characters to places on bytes.
-use Rattle.std.proofs.Common.{◌≡◌, refl, sym, ap, ◌∙◌, ℕ, ◌+◌, ◌≤◌, List, [], ◌∷◌, ◌++◌, length, Bool, true, false, ◌&&◌, arith}
+use Rattle.std.proofs.Common.{◌≡◌, refl, sym, ap, ◌∙◌, ℕ, ◌≤◌, List, [], ◌∷◌, ◌++◌, length, Bool, true, false, ◌&&◌, arith}
 use lib.Utf8.{scalar, scalars}
 use Rattle.std.specs.Prelude.{IsUtf8, encode_utf8, encode_utf8_all}
 use Rattle.std.specs.Str.{chars, IsCharBoundary}
-use Rattle.std.specs.List.{sum_by}
 use Rattle.std.specs.Char.{len_utf8}
 use Rattle.std.proofs.Math.Utf8.{encodes}
 use Rattle.std.proofs.lemmas.List.{length-append}

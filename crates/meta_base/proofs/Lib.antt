@@ -27,6 +27,7 @@ pub mod Replacing
 pub mod Lines
 pub mod Surveys
 pub mod PairLemmas
+pub mod LettingGo
 pub mod FailuresStand
 pub mod InBytes
 mod Comparisons

@@ -1,7 +1,7 @@
 -- The listing, and the wrappers of the restorer, keep a grammar well-formed and plain, and keep it a grammar.
-use Rattle.std.proofs.Common.{◌≡◌, ℕ, Bool, true, false, if◌then◌else◌, Some, sym, subst, refl}
+use Rattle.std.proofs.Common.{◌≡◌, ℕ, Bool, true, false, if◌then◌else◌, sym, subst, refl}
 use Rattle.meta_base.specs.Language.Text.{Text}
-use Rattle.meta_base.specs.Language.Expression.{Grammar, Expression, Str, Insens, Range, Ident, PeekSlice, Skip, PosPred, NegPred, Seq, Choice, Opt, Rep, RepOnce, RepExact, RepMin, RepMax, RepMinMax, Push, RestoreOnErr, RuleType, Rule, rule_of, Part, PushLiteral, NodeTag}
+use Rattle.meta_base.specs.Language.Expression.{Grammar, Expression, Str, Insens, Range, Ident, PeekSlice, Skip, PosPred, NegPred, Seq, Choice, Opt, Rep, RepOnce, RepExact, RepMin, RepMax, RepMinMax, Push, RestoreOnErr, RuleType, PushLiteral, NodeTag}
 use Rattle.meta_base.specs.Rewritings.Equality.{expression_eq, expression_eq-Decides}
 use Rattle.meta_base.specs.Rewritings.Rewriting.{here, in_pos_pred, in_neg_pred, in_seq_left, in_seq_right, in_choice_left, in_choice_right, in_opt, in_rep, in_rep_once, in_rep_exact, in_rep_min, in_rep_max, in_rep_min_max, in_push, in_restore, Many, no_step, one_step, EachBody, in_tag}
 use Rattle.meta_base.specs.Language.Grammar.{IsGrammar}

@@ -9,19 +9,14 @@ use Rattle.meta_base.specs.declared.runtime.trees.TokenTree.{TokenTree}
 use Rattle.meta_base.specs.declared.runtime.trees.TokenTree.TheViews.{out-TokenTree}
 use Rattle.meta_base.specs.declared.runtime.trees.TokenTree.TheFolds.{fold_out-TokenTree}
 
--- the code's tree before other trees
-abbrev pub before : {R : Type 0} → TokenTree R → TokenTrees R → TokenTrees R
-before {R} tree others = let t = out-TokenTree R tree in Token t.rule t.start t.end (trees_of t.inner.items) others
-
-pub tree_of_out : {R : Type 0} (tree : TokenTree R) → tree_of tree ≡ before tree NoTokens
+pub tree_of_out : {R : Type 0} (tree : TokenTree R) → let t = out-TokenTree R tree in tree_of tree ≡ Token t.rule t.start t.end (trees_of t.inner.items) NoTokens
 tree_of_out {R} tree = fold_out-TokenTree R (TokenTrees R) tree_step tree
 
 -- the last of the list is the first tree
-pub trees_of_push : {R : Type 0} (trees : List (TokenTree R)) (tree : TokenTree R) → trees_of (trees ++ tree ∷ []) ≡ before tree (trees_of trees)
+pub trees_of_push : {R : Type 0} (trees : List (TokenTree R)) (tree : TokenTree R) → trees_of (trees ++ tree ∷ []) ≡ followed_by (tree_of tree) (trees_of trees)
 trees_of_push trees tree =
     ap in_order (map_push tree_of trees tree)
     ∙ fold_push (λ others t. followed_by t others) NoTokens (map tree_of trees) (tree_of tree)
-    ∙ ap (λ t. followed_by t (trees_of trees)) (tree_of_out tree)
 
 pub AreNested-le : {R : Type 0} (text : List ℕ) (trees : TokenTrees R) (from to : ℕ) → AreNested text trees from to → from ≤ to
 AreNested-le text NoTokens from to nested = nested
@@ -34,19 +29,23 @@ AreNested-wider text NoTokens from to from' to' nested low high = omega arith
 AreNested-wider text (Token rule start end_ inner others) from to from' to' nested low high =
     ((omega arith, nested.0.1), (nested.1.0, AreNested-wider text others end_ to end_ to' nested.1.1 (omega arith) high))
 
--- the trees before the first tree was taken
-pub trees_of_popped : {R : Type 0} (old new : List (TokenTree R)) (tree : TokenTree R) → old ≡ new ++ tree ∷ [] → trees_of old ≡ before tree (trees_of new)
-trees_of_popped old new tree split = ap trees_of split ∙ trees_of_push new tree
+-- the trees before the first tree was taken and taken apart
+pub trees_of_popped : {R : Type 0} (old new : List (TokenTree R)) (tree : TokenTree R) (rule : R) (start end_ : ℕ) (inner : TokenTrees R) → old ≡ new ++ tree ∷ []
+    → tree_of tree ≡ Token rule start end_ inner NoTokens → trees_of old ≡ Token rule start end_ inner (trees_of new)
+trees_of_popped old new tree rule start end_ inner split apart =
+    ap trees_of split ∙ trees_of_push new tree ∙ ap (λ t. followed_by t (trees_of new)) apart
 
-pub AreNested-first : {R : Type 0} (text : List ℕ) (old new : List (TokenTree R)) (tree : TokenTree R) (to : ℕ) → old ≡ new ++ tree ∷ [] → AreNested text (trees_of old) 0 to → AreNested text (before tree (trees_of new)) 0 to
-AreNested-first text old new tree to split nested = subst (λ ts. AreNested text ts 0 to) (trees_of_popped old new tree split) nested
+pub AreNested-first : {R : Type 0} (text : List ℕ) (old new : List (TokenTree R)) (tree : TokenTree R) (rule : R) (start end_ : ℕ) (inner : TokenTrees R) (to : ℕ)
+    → old ≡ new ++ tree ∷ [] → tree_of tree ≡ Token rule start end_ inner NoTokens → AreNested text (trees_of old) 0 to → AreNested text (Token rule start end_ inner (trees_of new)) 0 to
+AreNested-first text old new tree rule start end_ inner to split apart nested =
+    subst (λ ts. AreNested text ts 0 to) (trees_of_popped old new tree rule start end_ inner split apart) nested
 
 -- what is left when the first tree is taken
 pub AreNested-popped : {R : Type 0} (text : List ℕ) (old new : List (TokenTree R)) (taken : Option (TokenTree R)) (to : ℕ) → old ≡ new ++ option_to_list taken → AreNested text (trees_of old) 0 to → AreNested text (trees_of new) 0 to
 AreNested-popped text old new None to split nested = subst (λ ts. AreNested text (trees_of ts) 0 to) (split ∙ append-nil new) nested
 AreNested-popped text old new (Some tree) to split nested =
     let t = out-TokenTree _ tree in
-    let parts = AreNested-first text old new tree to split nested in
+    let parts = AreNested-first text old new tree t.rule t.start t.end (trees_of t.inner.items) to split (tree_of_out tree) nested in
     AreNested-wider text (trees_of new) t.end to 0 to parts.1.1 (omega arith) (omega arith)
 
 -- copies stand where the trees stand
@@ -87,30 +86,28 @@ AreNested-followed_by text (Token rule start end_ inner others) b from middle to
     (first.0, (first.1.0, AreNested-followed_by text others b end_ middle to first.1.1 second))
 
 -- the first tree was taken, and the trees inside it put in its place, where there was memory for them
-pub AreNested-opened : {R : Type 0} (text : List ℕ) (old new after : List (TokenTree R)) (tree : TokenTree R) (opened : Bool) (to : ℕ) → old ≡ new ++ tree ∷ []
-    → after ≡ cond opened (new ++ (out-TokenTree R tree).inner.items) new → AreNested text (trees_of old) 0 to → AreNested text (trees_of after) 0 to
-AreNested-opened text old new after tree false to split left nested =
+pub AreNested-opened : {R : Type 0} (text : List ℕ) (old new after inner : List (TokenTree R)) (tree : TokenTree R) (rule : R) (start end_ : ℕ) (opened : Bool) (to : ℕ)
+    → old ≡ new ++ tree ∷ [] → tree_of tree ≡ Token rule start end_ (trees_of inner) NoTokens
+    → after ≡ cond opened (new ++ inner) new → AreNested text (trees_of old) 0 to → AreNested text (trees_of after) 0 to
+AreNested-opened text old new after inner tree rule start end_ false to split apart left nested =
     subst (λ ts. AreNested text (trees_of ts) 0 to) (sym left) (AreNested-popped text old new (Some tree) to split nested)
-AreNested-opened text old new after tree true to split left nested =
-    let t = out-TokenTree _ tree in
-    let parts = AreNested-first text old new tree to split nested in
-    let inside = AreNested-wider text (trees_of t.inner.items) t.start t.end 0 t.end parts.1.0 (omega arith) (omega arith) in
-    subst (λ ts. AreNested text ts 0 to) (sym (ap trees_of left ∙ trees_of-append new t.inner.items))
-    (AreNested-followed_by text (trees_of t.inner.items) (trees_of new) 0 t.end to inside parts.1.1)
+AreNested-opened text old new after inner tree rule start end_ true to split apart left nested =
+    let parts = AreNested-first text old new tree rule start end_ (trees_of inner) to split apart nested in
+    let inside = AreNested-wider text (trees_of inner) start end_ 0 end_ parts.1.0 (omega arith) (omega arith) in
+    subst (λ ts. AreNested text ts 0 to) (sym (ap trees_of left ∙ trees_of-append new inner))
+    (AreNested-followed_by text (trees_of inner) (trees_of new) 0 end_ to inside parts.1.1)
 
-pub preorder_opened : {R : Type 0} (old new after : List (TokenTree R)) (tree : TokenTree R) (copies : List (TokenTree R)) → old ≡ new ++ tree ∷ []
-    → after ≡ new ++ (out-TokenTree R tree).inner.items → map tree_of copies ≡ map tree_of (out-TokenTree R tree).inner.items
-    → preorder (trees_of old) ≡ Token (out-TokenTree R tree).rule (out-TokenTree R tree).start (out-TokenTree R tree).end (trees_of copies) NoTokens ∷ preorder (trees_of after)
-preorder_opened old new after tree copies split left copied =
-    let t = out-TokenTree _ tree in
-    let inner = trees_of t.inner.items in
-    ap preorder (trees_of_popped old new tree split)
-    ∙ ap (λ ts. Token t.rule t.start t.end inner NoTokens ∷ ts) (sym (ap preorder (ap trees_of left ∙ trees_of-append new t.inner.items) ∙ preorder-followed_by inner (trees_of new)))
-    ∙ ap (λ i. Token t.rule t.start t.end i NoTokens ∷ preorder (trees_of after)) (sym (ap in_order copied))
+pub preorder_opened : {R : Type 0} (old new after inner copies : List (TokenTree R)) (tree : TokenTree R) (rule : R) (start end_ : ℕ) → old ≡ new ++ tree ∷ []
+    → tree_of tree ≡ Token rule start end_ (trees_of inner) NoTokens → after ≡ new ++ inner → map tree_of copies ≡ map tree_of inner
+    → preorder (trees_of old) ≡ Token rule start end_ (trees_of copies) NoTokens ∷ preorder (trees_of after)
+preorder_opened old new after inner copies tree rule start end_ split apart left copied =
+    ap preorder (trees_of_popped old new tree rule start end_ (trees_of inner) split apart)
+    ∙ ap (λ ts. Token rule start end_ (trees_of inner) NoTokens ∷ ts) (sym (ap preorder (ap trees_of left ∙ trees_of-append new inner) ∙ preorder-followed_by (trees_of inner) (trees_of new)))
+    ∙ ap (λ i. Token rule start end_ i NoTokens ∷ preorder (trees_of after)) (sym (ap in_order copied))
 
 -- where a tree was taken there are pairs
 pub some_pairs : {R : Type 0} (old new : List (TokenTree R)) (tree : TokenTree R) → old ≡ new ++ tree ∷ [] → 0 < length (preorder (trees_of old))
-some_pairs old new tree split = subst (λ ts. 0 < length (preorder ts)) (sym (trees_of_popped old new tree split)) (omega arith)
+some_pairs old new tree split = subst (λ ts. 0 < length (preorder ts)) (sym (trees_of_popped old new tree _ _ _ _ split (tree_of_out tree))) (omega arith)
 
 pub on_err : {A E C : Type 0} (r : Result A E) → C → OnErr r C
 on_err (Ok x) h = tt

@@ -9,7 +9,7 @@ use Rattle.meta_base.specs.Language.State.{Classes, Mode, AtomicMode, CompoundAt
 use Rattle.meta_base.specs.Language.Text.{Text}
 use Rattle.meta_base.specs.Language.Matching.{begins, any_begins, distance, text_outcome, character_outcome}
 use Rattle.meta_base.specs.Language.Builtins.{builtins}
-use Rattle.meta_base.specs.Language.Meaning.{Does, Task, Run, Turns, Skipping, str, insens, skip, call, other, neg_pred, seq, seq_first, seq_second, left, right, opt, opt_none, rep_none, turn, turn_none, rep_exact, rep_max, rep_min_max, atomic, compound_atomic, with_token, body_mode, mode_in, rep, rep_once, rep_min}
+use Rattle.meta_base.specs.Language.Meaning.{Does, Task, Run, Turns, Skipping, str, insens, skip, call, other, neg_pred, seq, seq_first, seq_second, left, right, opt, opt_none, rep_none, turn, turn_none, rep_exact, rep_max, rep_min_max, atomic, compound_atomic, with_token, body_mode, mode_in, rep, rep_min}
 use Rattle.meta_base.specs.Rewritings.Rewriting.{by_rotating, by_unrolling, by_skipping, by_joining, by_factoring, Strings, one, named, more, Rewrites, rotate_sequence, rotate_choice, unroll_exact, unroll_min, unroll_max, unroll_min_max, skip_until, join_literals, join_insensitive, factor_prefix, factor_optional, factor_optional_compound, factor_absorbed, KeepsAny, Rotates, Unrolls, Joins, Factors}
 use Rattle.meta_base.proofs.OneOutcome.{same, same_state, same_trees, from}
 use Rattle.meta_base.proofs.Congruence.{Implies}

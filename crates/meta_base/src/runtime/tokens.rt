@@ -6,7 +6,7 @@ ghost use Rattle.meta_base.specs.Pieces.TreeViews.{trees_of, AreNestedIn, AreNes
 
 use super::faults::Fault;
 use super::places::Span;
-use super::trees::{TokenTree, copies};
+use super::trees::{TokenTree, TreeParts, copies};
 use std::alloc::{AllocError, Global};
 
 /// A rule with the part of a text that it matched, and the pairs of the rules inside it.
@@ -142,12 +142,12 @@ impl<'i, R: Copy> Iterator for Pairs<'i, R> {
     ghost remaining = { λ pairs. at_most (pairs_left pairs) };
 
     fn next(&mut self) -> Option<Pair<'i, R>> {
-        let TokenTree {
+        let TreeParts {
             rule,
             start,
             end,
             inner,
-        } = self.rest.pop()?;
+        } = self.rest.pop()?.into_parts();
         Some(Pair {
             text: self.text,
             rule,
@@ -182,12 +182,12 @@ impl<'i, R: Copy> FlatPairs<'i, R> {
         let Some(tree) = self.rest.pop() else {
             return Ok(None);
         };
-        let TokenTree {
+        let TreeParts {
             rule,
             start,
             end,
             mut inner,
-        } = tree;
+        } = tree.into_parts();
         let copies = copies(self.alloc, &inner)?;
         self.rest.append(&mut inner)?;
         Ok(Some(Pair {

@@ -4,9 +4,11 @@ ghost use Rattle.meta_base.specs.Pieces.TokenTrees.{NoTokens, Token};
 ghost use Rattle.meta_base.specs.Pieces.TreeViews.{tree_of, trees_of};
 
 use std::alloc::{AllocError, Global};
+use std::mem::swap;
 
 /// A rule with the part of a text that it matched, in bytes, and the trees of the rules inside it.
-#[derive(Drop)]
+///
+/// However deep it is, it is let go by a loop wherever it goes out of scope, without memory.
 pub struct TokenTree<R> {
     pub(crate) rule: R,
     pub(crate) start: usize,
@@ -26,6 +28,60 @@ impl<R> TokenTree<R> {
             start,
             end,
             inner,
+        }
+    }
+}
+
+/// What a tree is made of.
+#[derive(Drop)]
+pub(crate) struct TreeParts<R> {
+    pub(crate) rule: R,
+    pub(crate) start: usize,
+    pub(crate) end: usize,
+    /// The last tree comes first.
+    pub(crate) inner: Vec<TokenTree<R>>,
+}
+
+impl<R> TokenTree<R> {
+    /// The parts of the tree, which is taken apart.
+    pub(crate) fn into_parts(self) -> TreeParts<R>
+        ensures { tree_of self ≡ Token result.rule result.start result.end (trees_of result.inner.items) NoTokens }
+    {
+        let TokenTree {
+            rule,
+            start,
+            end,
+            inner,
+        } = self;
+        TreeParts {
+            rule,
+            start,
+            end,
+            inner,
+        }
+    }
+}
+
+impl<R: Drop> Drop for TokenTree<R> {
+    /// Lets the trees go from the last to the first of each list. A tree that is gone into keeps the list
+    /// above its own in the place of the trees inside it: so the way back up takes no memory.
+    fn drop(self) {
+        let mut trees = self.into_parts().inner;
+        let mut above = Vec::new(*trees.allocator());
+        loop {
+            match trees.last_mut() {
+                Some(last) => {
+                    swap(&mut last.inner, &mut above);
+                    swap(&mut trees, &mut above);
+                }
+                None => {
+                    swap(&mut trees, &mut above);
+                    let Some(emptied) = trees.pop() else {
+                        return;
+                    };
+                    above = emptied.into_parts().inner;
+                }
+            }
         }
     }
 }

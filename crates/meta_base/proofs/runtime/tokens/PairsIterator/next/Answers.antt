@@ -8,7 +8,7 @@ invariant_of-self g c =
 
 pub invariant_of-result : goal.invariant_of-result
 invariant_of-result g c =
-    let first = AreNested-first _ _ _ c.in_ok-rule.field-0 _ c.in_ok-rule.ensures.items c.args.self.now.nested in
+    let first = AreNested-first _ _ _ c.in_ok-pop.field-0 _ _ _ _ _ c.in_ok-pop.ensures.items c.into_parts-rule.ensures c.args.self.now.nested in
     record {
       ordered = AreNested-le _ _ _ _ first.1.0;
       starts_at_character = first.0.1.0;
@@ -17,4 +17,4 @@ invariant_of-result g c =
     }
 
 pub returns-clause-steps : goal.returns-clause-steps
-returns-clause-steps g c = (refl, (refl, trees_of_popped _ _ _ c.in_ok-rule.ensures.items))
+returns-clause-steps g c = (refl, (refl, trees_of_popped _ _ _ _ _ _ _ c.in_ok-pop.ensures.items c.into_parts-rule.ensures))
