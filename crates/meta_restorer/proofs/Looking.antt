@@ -1,5 +1,6 @@
 -- What is noted of expressions, piece by piece.
-use Rattle.std.proofs.Common.{◌≡◌, ◌<◌, ◌≤◌, ◌-◌, ℕ, zero, suc, subst, map, take, drop, ◌⊎◌, inl, inr, length, slice_get, slice_range, arith, List, [], ◌∷◌, ◌++◌, Some, None, Bool, true, false, ◌||◌, refl, sym, ◌∙◌, ap, ap₂}
+use Rattle.std.proofs.Common.{◌≡◌, ◌<◌, ◌≤◌, ◌-◌, ℕ, zero, suc, subst, map, take, drop, ◌⊎◌, inl, inr, length, slice_get, slice_range, arith, List, [], ◌∷◌, ◌++◌, Option, Some, None, Bool, true, false, ◌||◌, refl, sym, ◌∙◌, ap, ap₂}
+use Rattle.std.specs.Borrow.{Bor}
 use Rattle.std.specs.List.{list_any}
 use Rattle.std.proofs.lemmas.List.{length_push, length-append, length-drop, length-map, map-append, take_all, take-append-le, drop-append-le}
 use Rattle.std.proofs.Math.Seq.{drop-append_seam}
@@ -15,7 +16,7 @@ use Rattle.meta_restorer.specs.Bodies.{NamedBody, named_body}
 use Rattle.meta_restorer.specs.Calls.{name_changes, names_in, number_changes}
 use Rattle.meta_restorer.specs.Changing.{changes_by, is_changer}
 use Rattle.meta_restorer.specs.Names.{Numbers, numbers_of}
-use Rattle.meta_restorer.specs.Noted.{AreNotedOf, AreWithin, IsNotedAs, IsWithin, shows, shows_at}
+use Rattle.meta_restorer.specs.Noted.{AreNotedOf, AreWithin, IsNotedAs, IsWithin, noted_by, shows, shows_at}
 use Rattle.meta_restorer.specs.declared.names.Names.{Names}
 use Rattle.meta_restorer.specs.declared.noted.Noted.{Noted}
 use Rattle.meta_restorer.specs.declared.noted.Share.{Share}
@@ -31,6 +32,11 @@ or_false false = refl
 pub or_true : (a : Bool) → (a || true) ≡ true
 or_true true = refl
 or_true false = refl
+
+-- what is noted of a name, and then of others
+pub noted_first : (names : Option (Bor Names)) (n : Text) (ns : List Text) → noted_by names (n ∷ []) ++ noted_by names ns ≡ noted_by names (n ∷ ns)
+noted_first (Some names) n ns = refl
+noted_first None n ns = refl
 
 module _ (names : Names) (marks : List Bool) where
   abbrev marked : List Text → Bool

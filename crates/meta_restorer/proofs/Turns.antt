@@ -42,3 +42,6 @@ some_size (Push e) = omega arith
 some_size (NodeTag e t) = omega arith
 some_size (RestoreOnErr e) = omega arith
 some_size _ = omega arith
+
+-- what the walk needs to know of one more
+pub ruleset one_more = (changes_in_turn_last, names_in_turn_last, work_in_turn_last, some_size)

@@ -1,6 +1,8 @@
 -- What is noted of expressions, and which rules change the stack by what is noted of their bodies.
-use Rattle.std.specs.Prelude.{◌≡◌, ◌≤◌, ◌||◌, ℕ, List, Some, None, Bool, true, false, slice_get, slice_range, length}
+use Rattle.std.specs.Prelude.{◌≡◌, ◌≤◌, ◌||◌, ℕ, List, [], Option, Some, None, Bool, true, false, slice_get, slice_range, length}
+use Rattle.std.specs.Borrow.{Bor}
 use Rattle.std.specs.List.{list_any}
+use Rattle.meta_base.specs.Language.Text.{Text}
 use Rattle.meta_base.specs.Language.Expression.{Expression}
 use Rattle.meta_ast.specs.Optimized.{optimized_expression_of}
 use Rattle.meta_restorer.specs.Bodies.{NamedBody}
@@ -29,6 +31,11 @@ shows_at marks n i = elim (slice_get n.shares.items i) [
   | Some s ↦ shows marks n.numbers.items s
   | None ↦ false
 ]
+
+-- what is noted of names that are met: their numbers, if names are known
+abbrev pub noted_by : Option (Bor Names) → List Text → Numbers
+noted_by (Some names) ns = numbers_of names.now ns
+noted_by None ns = []
 
 -- what is met in an expression is noted: whether it changes the stack by itself, and the numbers of its names
 pub record IsNotedAs (names : Names) (e : Expression) (qs : Numbers) (s : Share) : Type 0 where

@@ -1,13 +1,11 @@
-//! What an expression does to the stack by itself, and marks of the rules that are called.
-ghost use Rattle.std.specs.Prelude.{◌≡◌, [], Bool, IfOk, true, false};
+//! Marks of the rules that are called, and expressions that nothing is met in.
+ghost use Rattle.std.specs.Prelude.{◌≡◌, [], Bool, true, false};
 ghost use Rattle.meta_base.specs.Language.Text.{Text};
 ghost use Rattle.meta_ast.specs.Optimized.{optimized_expression_of};
-ghost use Rattle.meta_restorer.specs.Changing.{changes_by, is_changer, restored_by};
+ghost use Rattle.meta_restorer.specs.Changing.{changes_by, restored_by};
 ghost use Rattle.meta_restorer.specs.Calls.{is_set_at, names_in, number_changes};
 
-use crate::names::is_changer_name;
 use meta_ast::optimized::OptimizedExpr;
-use std::alloc::{AllocError, Global};
 
 /// Whether a flag is set.
 pub(crate) fn is_set(flags: &[bool], place: usize) -> bool
@@ -26,35 +24,6 @@ pub(crate) fn is_marked(marks: &[bool], rule: Option<usize>) -> bool
     match rule {
         Some(rule) => is_set(marks, rule),
         None => false,
-    }
-}
-
-/// Whether a `PUSH`, `PUSH_LITERAL`, `POP`, `POP_ALL` or `DROP` is met in an expression, not below a wrapper.
-#[tactic(auto, using(crate::proofs::Turns::changes_in_turn_last, crate::proofs::Turns::work_in_turn_last, crate::proofs::Turns::some_size))]
-pub(crate) fn changes_itself(alloc: Global, expr: &OptimizedExpr) -> Result<bool, AllocError>
-    ensures { IfOk result (λ yes. yes ≡ changes_by is_changer (optimized_expression_of expr.now)) }
-{
-    let mut waiting: Vec<&OptimizedExpr> = Vec::new(alloc);
-    let mut here = expr;
-    'parts: loop {
-        match here {
-            OptimizedExpr::Push(_) | OptimizedExpr::PushLiteral(_) => return Ok(true),
-            OptimizedExpr::NodeTag(inner, _) => here = inner,
-            OptimizedExpr::PosPred(inner) => here = inner,
-            OptimizedExpr::NegPred(inner) => here = inner,
-            OptimizedExpr::Opt(inner) => here = inner,
-            OptimizedExpr::Rep(inner) => here = inner,
-            OptimizedExpr::RepOnce(inner) => here = inner,
-            OptimizedExpr::Seq(left, right) | OptimizedExpr::Choice(left, right) => {
-                waiting.push(right)?;
-                here = left;
-            }
-            OptimizedExpr::Ident(name) if is_changer_name(name) => return Ok(true),
-            _ => match waiting.pop() {
-                Some(next) => here = next,
-                None => return Ok(false),
-            },
-        }
     }
 }
 

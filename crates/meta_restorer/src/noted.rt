@@ -1,13 +1,13 @@
 //! What the bodies of rules do to the stack by themselves, and the numbers of the rules that they call, in
 //! one list.
-ghost use Rattle.std.specs.Prelude.{◌≡◌, ◌++◌, IfOk, OnOk, map};
+ghost use Rattle.std.specs.Prelude.{◌≡◌, ◌++◌, ◌∷◌, [], IfOk, OnOk, map};
 ghost use Rattle.meta_base.specs.Language.Expression.{Expression};
+ghost use Rattle.meta_ast.specs.Ast.{text_of};
 ghost use Rattle.meta_ast.specs.Optimized.{optimized_expression_of};
 ghost use Rattle.meta_restorer.specs.Bodies.{said_by};
 ghost use Rattle.meta_restorer.specs.Calls.{names_in};
 ghost use Rattle.meta_restorer.specs.Changing.{changes_by, is_changer};
-ghost use Rattle.meta_restorer.specs.Names.{numbers_of};
-ghost use Rattle.meta_restorer.specs.Noted.{AreNotedOf, AreWithin, IsNotedAs, IsWithin, shows, shows_at};
+ghost use Rattle.meta_restorer.specs.Noted.{AreNotedOf, AreWithin, IsNotedAs, IsWithin, noted_by, shows, shows_at};
 
 use crate::bodies::Body;
 use crate::calls::{is_marked, is_plain};
@@ -34,19 +34,34 @@ pub struct Noted {
     pub shares: Vec<Share>,
 }
 
+/// The number of a name goes behind the others, if names are known.
+fn note_name(
+    names: Option<&Names>,
+    name: &String,
+    numbers: &mut Vec<Option<usize>>,
+) -> Result<(), AllocError>
+    ensures { OnOk result (numbers.new.items
+        ≡ numbers.old.items ++ noted_by names.entry (text_of name.now ∷ [])) }
+{
+    if let Some(names) = names {
+        numbers.push(number_of_name(names, name))?;
+    }
+    Ok(())
+}
+
 /// Whether a `PUSH`, `PUSH_LITERAL`, `POP`, `POP_ALL` or `DROP` is met in an expression, not below a wrapper.
-/// The number of each name that is met goes behind the others.
-#[tactic(auto, using(crate::proofs::Turns::changes_in_turn_last, crate::proofs::Turns::names_in_turn_last, crate::proofs::Turns::work_in_turn_last, crate::proofs::Turns::some_size))]
+/// The number of each name that is met goes behind the others, if names are known.
+#[tactic(auto, using(crate::proofs::Turns::one_more))]
 fn look(
     alloc: Global,
-    names: &Names,
+    names: Option<&Names>,
     expr: &OptimizedExpr,
     numbers: &mut Vec<Option<usize>>,
 ) -> Result<bool, AllocError>
     ensures changes { IfOk result
         (λ yes. yes ≡ changes_by is_changer (optimized_expression_of expr.now)) }
     ensures numbers { OnOk result (numbers.new.items
-        ≡ numbers.old.items ++ numbers_of names.now (names_in (optimized_expression_of expr.now))) }
+        ≡ numbers.old.items ++ noted_by names.entry (names_in (optimized_expression_of expr.now))) }
 {
     let mut is_changing = false;
     let mut waiting: Vec<&OptimizedExpr> = Vec::new(alloc);
@@ -76,7 +91,7 @@ fn look(
                 }
             }
             OptimizedExpr::Ident(name) => {
-                numbers.push(number_of_name(names, name))?;
+                note_name(names, name, numbers)?;
                 is_changing = is_changing || is_changer_name(name);
                 match waiting.pop() {
                     Some(next) => here = next,
@@ -98,6 +113,14 @@ fn look(
     }
 }
 
+/// Whether one of these is met in an expression, not below a wrapper.
+pub(crate) fn changes_itself(alloc: Global, expr: &OptimizedExpr) -> Result<bool, AllocError>
+    ensures { IfOk result (λ yes. yes ≡ changes_by is_changer (optimized_expression_of expr.now)) }
+{
+    let mut numbers = Vec::new(alloc);
+    look(alloc, None, expr, &mut numbers)
+}
+
 /// Notes what is met in an expression.
 pub(crate) fn note(
     alloc: Global,
@@ -111,7 +134,7 @@ pub(crate) fn note(
         → IsNotedAs names.now e numbers.old.items s → IsNotedAs names.now e numbers.new.items s) }
 {
     let start = numbers.len();
-    let changes = look(alloc, names, expr, numbers)?;
+    let changes = look(alloc, Some(names), expr, numbers)?;
     Ok(Share {
         changes,
         start,

@@ -14,9 +14,8 @@ ghost use Rattle.meta_restorer.specs.Restoring.{AreQuiet, AreSameErased, HaveNoW
 ghost use Rattle.meta_restorer.specs.Telling.{Tells, told};
 
 use crate::bodies::{bodies_of_map, bodies_of_rules};
-use crate::calls::changes_itself;
 use crate::changes::{Changes, changes_of};
-use crate::noted::{Share, is_shown, note};
+use crate::noted::{Share, changes_itself, is_shown, note};
 use crate::restored::{LEVELS, restore};
 use meta_ast::deep::Deep;
 use meta_ast::optimized::{OptimizedExpr, OptimizedRule};

@@ -6,9 +6,9 @@ use Rattle.meta_ast.specs.declared.optimized.OptimizedExpr.{OptimizedExpr}
 use Rattle.meta_ast.specs.declared.optimized.OptimizedExpr as code
 use Rattle.meta_restorer.specs.Calls.{names_in}
 use Rattle.meta_restorer.specs.Changing.{changes_by, is_changer}
-use Rattle.meta_restorer.specs.Names.{number_of, numbers_of}
+use Rattle.meta_restorer.specs.Noted.{noted_by}
 use Rattle.meta_restorer.specs.Turns.{changes_in_turn, names_in_turn}
-use Rattle.meta_restorer.proofs.Looking.{or_assoc}
+use Rattle.meta_restorer.proofs.Looking.{noted_first, or_assoc}
 use Rattle.meta_restorer.proofs.Turns.{changes_in_turn_last, names_in_turn_last}
 use Rattle.meta_restorer.proofs.noted.look.Goals.{then-is_changing, else-is_changing}
 use Rattle.meta_restorer.proofs.noted.look.Goals as goal
@@ -37,15 +37,16 @@ parts-preserved-in-Ident-1 c =
     ] in
     let turn : changes_in_turn c.parts.waiting.items ≡ (changes_by is_changer next || changes_in_turn rest) = ap changes_in_turn c.in-Some.ensures.items ∙ changes_in_turn_last rest c.in-Some.next in
     let names : names_in_turn c.parts.waiting.items ≡ names_in next ++ names_in_turn rest = ap names_in_turn c.in-Some.ensures.items ∙ names_in_turn_last rest c.in-Some.next in
-    let numbers = numbers_of c.args.names.now in
+    let numbers = noted_by c.args.names in
+    let own_names = names_in next ++ names_in_turn rest in
     record {
       changes = ap (λ b. b || (changes_by is_changer next || changes_in_turn rest)) flag
           ∙ (or_assoc was own (changes_by is_changer next || changes_in_turn rest)
           ∙ (ap (λ b. was || (own || b)) (sym turn) ∙ (rw c.in-Ident.is at c.parts.invariant.changes)));
-      numbers = ap (λ xs. xs ++ numbers (names_in next ++ names_in_turn rest)) c.in_ok-push-in-Ident.ensures.items
-          ∙ (append_assoc c.parts.numbers.items (c.number_of_name.result ∷ []) (numbers (names_in next ++ names_in_turn rest))
-          ∙ (ap (λ q. c.parts.numbers.items ++ (q ∷ numbers (names_in next ++ names_in_turn rest))) c.number_of_name.ensures
-          ∙ (ap (λ ns. c.parts.numbers.items ++ (number_of c.args.names.now (text_of c.in-Ident.name) ∷ numbers ns)) (sym names) ∙ (rw c.in-Ident.is at c.parts.invariant.numbers))));
+      numbers = ap (λ xs. xs ++ numbers own_names) c.in_ok-note_name-in-Ident.ensures
+          ∙ (append_assoc c.parts.numbers.items (numbers (text_of c.in-Ident.name ∷ [])) (numbers own_names)
+          ∙ (ap (λ ns. c.parts.numbers.items ++ ns) (noted_first c.args.names (text_of c.in-Ident.name) own_names)
+          ∙ (ap (λ ns. c.parts.numbers.items ++ numbers (text_of c.in-Ident.name ∷ ns)) (sym names) ∙ (rw c.in-Ident.is at c.parts.invariant.numbers))));
     }
 
 pub parts-preserved : goal.parts-preserved
@@ -55,21 +56,21 @@ parts-preserved c =
     let right = c.in-Seq.right.value in
     let rest = c.parts.waiting.items in
     let numbers = c.parts.numbers.items in
-    let of = numbers_of c.args.names.now in
+    let of = noted_by c.args.names in
     let pair = both c.parts.here.now c.in-Seq.left c.in-Seq.right c.in-Seq.is in
     let first = c.deref-here-else-is_right_plain.ensures in
     let second = c.deref-else-is_right_plain.ensures in
     let items = c.in_ok-push-in-Seq.ensures.items in
-    let changes : changes_in_turn c.push-else-is_right_plain.new.self.items ≡ (changes_of right || changes_in_turn rest)
+    let changes : changes_in_turn c.push.new.self.items ≡ (changes_of right || changes_in_turn rest)
     = ap changes_in_turn items ∙ (changes_in_turn_last rest c.deref-else-is_right_plain.result ∙ ap (λ x. changes_of x || changes_in_turn rest) second) in
-    let names : names_in_turn c.push-else-is_right_plain.new.self.items ≡ names_of right ++ names_in_turn rest
+    let names : names_in_turn c.push.new.self.items ≡ names_of right ++ names_in_turn rest
     = ap names_in_turn items ∙ (names_in_turn_last rest c.deref-else-is_right_plain.result ∙ ap (λ x. names_of x ++ names_in_turn rest) second) in
     record {
-      changes = ap (λ x. was || (changes_of x || changes_in_turn c.push-else-is_right_plain.new.self.items)) first
+      changes = ap (λ x. was || (changes_of x || changes_in_turn c.push.new.self.items)) first
           ∙ (ap (λ b. was || (changes_of left || b)) changes
           ∙ (ap (λ b. was || b) (sym (or_assoc (changes_of left) (changes_of right) (changes_in_turn rest)))
           ∙ (ap (λ b. was || (b || changes_in_turn rest)) (sym pair.1) ∙ c.parts.invariant.changes)));
-      numbers = ap (λ x. numbers ++ of (names_of x ++ names_in_turn c.push-else-is_right_plain.new.self.items)) first
+      numbers = ap (λ x. numbers ++ of (names_of x ++ names_in_turn c.push.new.self.items)) first
           ∙ (ap (λ ns. numbers ++ of (names_of left ++ ns)) names
           ∙ (ap (λ ns. numbers ++ of ns) (sym (append_assoc (names_of left) (names_of right) (names_in_turn rest)))
           ∙ (ap (λ ns. numbers ++ of (ns ++ names_in_turn rest)) (sym pair.0) ∙ c.parts.invariant.numbers)));
