@@ -36,6 +36,8 @@ int main(void)
     show("tokens of an unknown rule", status, needed);
     status = pest_meta_names(text, length, out, sizeof out, &needed);
     show("names", status, needed);
+    status = pest_meta_rust_keyword((const uint8_t *)"while", 5, out, sizeof out, &needed);
+    show("rust_keyword", status, needed);
     status = pest_meta_rules(text, length, out, sizeof out, &needed);
     show("rules", status, needed);
     status = pest_meta_rules(loop, strlen((const char *)loop), out, sizeof out, &needed);

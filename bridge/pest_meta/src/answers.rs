@@ -46,6 +46,14 @@ pub(crate) fn names(grammar: Span<'_>) -> Result<Vec<String>, Errors> {
     Ok(json::read(&answer, |reader| reader.list(Reader::text)))
 }
 
+/// The errors of a name as a keyword of Rust: one or none.
+pub(crate) fn rust_keyword(name: Span<'_>) -> Errors {
+    match call(Call::RustKeyword, name.as_str()) {
+        Ok(errors) => errors_of(name, &errors),
+        Err(why) => panic!("pest_meta: a name is refused: {why}"),
+    }
+}
+
 /// The rules of a grammar.
 pub(crate) fn rules(grammar: Span<'_>) -> Result<Vec<FlatRule>, Errors> {
     rules_by(Call::Rules, grammar)

@@ -15,6 +15,13 @@ extern "C" {
         needed: *mut usize,
     ) -> u8;
     fn pest_meta_names(text: *const u8, len: usize, out: *mut u8, room: usize, needed: *mut usize) -> u8;
+    fn pest_meta_rust_keyword(
+        name: *const u8,
+        len: usize,
+        out: *mut u8,
+        room: usize,
+        needed: *mut usize,
+    ) -> u8;
     fn pest_meta_rules(text: *const u8, len: usize, out: *mut u8, room: usize, needed: *mut usize) -> u8;
     fn pest_meta_nodes(text: *const u8, len: usize, out: *mut u8, room: usize, needed: *mut usize) -> u8;
     fn pest_meta_optimize(text: *const u8, len: usize, out: *mut u8, room: usize, needed: *mut usize) -> u8;
@@ -33,6 +40,8 @@ extern "C" {
 pub(crate) enum Call {
     /// The builtins that a grammar uses, or the errors of its names.
     Names,
+    /// The errors of a name as a keyword of Rust.
+    RustKeyword,
     /// The rules of a grammar, or its errors.
     Rules,
     /// The rules of a grammar with their places, or why they can't be read.
@@ -47,6 +56,7 @@ pub(crate) enum Call {
 pub(crate) fn over_text(call: Call, text: &str, out: &mut [u8], needed: &mut usize) -> u8 {
     let function = match call {
         Call::Names => pest_meta_names,
+        Call::RustKeyword => pest_meta_rust_keyword,
         Call::Rules => pest_meta_rules,
         Call::Nodes => pest_meta_nodes,
         Call::Optimize => pest_meta_optimize,

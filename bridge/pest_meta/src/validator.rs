@@ -32,17 +32,11 @@ pub(crate) fn in_text<'i>(text: &'i str, names: &[String]) -> Vec<&'i str> {
 
 /// Tells which of the names are keywords of Rust.
 ///
-/// They are allowed, so the proved front end does not tell them; these words alone stand in this crate.
+/// They are allowed, so no other call tells them.
 #[allow(clippy::ptr_arg)]
 #[deprecated = "keywords of Rust are allowed as names of rules"]
 pub fn validate_rust_keywords(definitions: &Vec<Span<'_>>) -> Vec<Error<Rule>> {
-    const KEYWORDS: &str = "abstract alignof as become box break const continue crate do else enum extern \
-        false final fn for if impl in let loop macro match mod move mut offsetof override priv proc pub pure \
-        ref return Self self sizeof static struct super trait true type typeof unsafe unsized use virtual \
-        where while yield";
-    let is_keyword = |name: &Span<'_>| KEYWORDS.split(' ').any(|word| word == name.as_str());
-    let keywords = definitions.iter().filter(|name| is_keyword(name));
-    keywords.map(|name| custom(format!("{} is a rust keyword", name.as_str()), *name)).collect()
+    definitions.iter().flat_map(|name| answers::rust_keyword(*name)).collect()
 }
 
 /// Tells which of the names are keywords of pest.

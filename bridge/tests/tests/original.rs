@@ -7,6 +7,7 @@
 use std::{env, fs};
 
 use original::{parser as original_parser, validator as original_validator};
+use pest::Span;
 use pest_meta::{optimizer, parser, validator};
 
 /// Grammars of packages, with their names.
@@ -167,4 +168,30 @@ fn errors_are_the_same() {
             "{text}"
         );
     }
+}
+
+/// Words of Rust, words that only look like them, and what is no name, as spans of two texts.
+#[test]
+#[allow(deprecated)]
+fn keywords_of_rust_are_the_same() {
+    let words = "abstract alignof as become box break const continue crate do else enum extern false final fn \
+        for if impl in let loop macro match mod move mut offsetof override priv proc pub pure ref return Self \
+        self sizeof static struct super trait true type typeof unsafe unsized use virtual where while yield \
+        async await dyn try union gen SELF whiles whil ANY _ ä fn1 \u{1f600} \" r#fn";
+    let other = "ä\nlet x";
+    let at = |text, piece: &str| {
+        let start = str::find(text, piece).unwrap();
+        Span::new(text, start, start + piece.len()).unwrap()
+    };
+    let mut names: Vec<Span<'_>> = words.split(' ').map(|word| at(words, word)).collect();
+    names.extend([at(other, "let"), at(other, "let x"), at(other, ""), at(other, "\nlet")]);
+    let here = validator::validate_rust_keywords(&names);
+    let there = original_validator::validate_rust_keywords(&names);
+    let places = |location: &pest::error::InputLocation| format!("{location:?}");
+    assert_eq!(here.len(), 53);
+    assert_eq!(
+        here.iter().map(|error| (places(&error.location), error.to_string())).collect::<Vec<_>>(),
+        there.iter().map(|error| (places(&error.location), error.to_string())).collect::<Vec<_>>(),
+    );
+    assert_eq!(validator::validate_rust_keywords(&vec![]), []);
 }

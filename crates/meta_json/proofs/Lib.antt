@@ -1,5 +1,6 @@
 pub mod Floats
 pub mod Lists
 pub mod PlacedFloats
+pub mod RuleNames
 pub mod Spans
 pub mod Turns

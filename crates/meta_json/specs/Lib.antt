@@ -4,5 +4,6 @@ pub mod Nodes
 pub mod Placed
 pub mod Reading
 pub mod Refusals
+pub mod RuleNames
 pub mod Tokens
 pub mod Versions

@@ -1,12 +1,14 @@
 //! The names of the meta-grammar's rules.
-ghost use Rattle.std.specs.Prelude.{◌≡◌, IfSome};
+ghost use Rattle.std.specs.Prelude.{◌≡◌, IfNone, IfSome};
 ghost use Rattle.meta_base.specs.Pieces.MetaRules.{name_of};
+ghost use Rattle.meta_json.specs.RuleNames.{IsOfNoRule};
 
 use meta_base::grammar::Rule;
 
 /// The rule of that name, if there is one.
 pub fn rule_named(name: &str) -> Option<Rule>
-    ensures { IfSome result (λ rule. name_of rule ≡ name.now) }
+    ensures found { IfSome result (λ rule. name_of rule ≡ name.now) }
+    ensures none { IfNone result (IsOfNoRule name.now) }
 {
     if name == "EOI" {
         return Some(Rule::EOI);
@@ -14,7 +16,7 @@ pub fn rule_named(name: &str) -> Option<Rule>
     Rule::all_rules()
         .iter()
         .copied()
-        .find(|rule| rule_name(*rule) == name)
+        .find(|rule| name == rule_name(*rule))
 }
 
 /// A rule's own name.

@@ -48,6 +48,12 @@ uint8_t pest_meta_tokens(const uint8_t *text, size_t text_len, const uint8_t *ru
 uint8_t pest_meta_names(const uint8_t *text, size_t text_len, uint8_t *out, size_t out_len,
                         size_t *needed);
 
+/* The errors of a name, which is any text, as a keyword of Rust ("Errors"): one,
+ * at the whole of it, where it is one, and else none. Rules may have such names,
+ * so no other call tells them. It is never refused. */
+uint8_t pest_meta_rust_keyword(const uint8_t *name, size_t name_len, uint8_t *out, size_t out_len,
+                               size_t *needed);
+
 /* The rules that a grammar spells ("Rules"); its names are not asked. Refused
  * with a list of errors: of syntax, of the first flaw, or of all that is found
  * in the rules. */

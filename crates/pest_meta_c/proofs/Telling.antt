@@ -1,7 +1,6 @@
 -- A fault of a text is told as what is wrong with it.
-use Rattle.std.proofs.Common.{◌≡◌, ◌≢◌, ◌⊎◌, ℕ, List, Option, Some, None, MatchOption, false, inl, inr, refl, subst, sym}
-use Rattle.meta_base.proofs.OneOutcome.{same}
-use Rattle.meta_base.specs.Language.State.{Classes, Failure, State, Success, Trees}
+use Rattle.std.proofs.Common.{◌≡◌, ◌≢◌, ◌⊎◌, ℕ, List, Option, Some, None, MatchOption, inl, inr, refl, subst, sym}
+use Rattle.meta_base.specs.Language.State.{Trees}
 use Rattle.meta_base.specs.Pieces.MetaRules.{name_of}
 use Rattle.meta_base.specs.Pieces.NamedTrees.{named}
 use Rattle.meta_base.specs.Pieces.Pairs.{pairs_text, pairs_trees}
@@ -11,6 +10,7 @@ use Rattle.meta_base.specs.declared.runtime.errors.Error.{Error}
 use Rattle.meta_base.specs.declared.runtime.faults.Fault as code
 use Rattle.meta_base.specs.declared.runtime.faults.Fault.TheVariants as fault_is
 use Rattle.meta_base.specs.declared.runtime.tokens.Pairs.{Pairs}
+use Rattle.meta_json.specs.RuleNames.{IsOfNoRule}
 use Rattle.meta_json.specs.declared.refusal.Place.{Place}
 use Rattle.meta_json.specs.declared.refusal.Place.TheVariants as place_is
 use Rattle.meta_json.specs.declared.refusal.Why.{Why}
@@ -18,9 +18,9 @@ use Rattle.meta_json.specs.declared.refusal.Why.TheVariants as json_why
 use Rattle.meta_names.specs.GrammarNames.{IsNameRefusal, complaints_of}
 use Rattle.meta_reader.specs.Flaws.{Flaw, first_flaw}
 use Rattle.meta_reader.specs.Refusals.{first_flaw_of, IsReadRefusal, TellsOf}
-use Rattle.meta_syntax.specs.MetaGrammar.{meta_grammar}
-use Rattle.meta_syntax.specs.Parses.{AreOfAGrammar, FailsAt, ParseRefuses}
-use Rattle.pest_meta.specs.Spelling.{AreFlawed, AreRejected, HasTrees, HaveFindings, IsMisnamed, IsRefusal, IsRefusedWith}
+use Rattle.meta_syntax.specs.Parses.{AreOfAGrammar, ParseRefuses}
+use Rattle.pest_meta.proofs.Spelled.{fails_so}
+use Rattle.pest_meta.specs.Spelling.{AreFlawed, AreRejected, HaveFindings, IsMisnamed, IsNoGrammar, IsRefusal, IsRefusedWith}
 use Rattle.pest_meta_c.specs.Outcomes.{IsRefusalOf, IsTold, Says}
 use Rattle.pest_meta_c.specs.Refusals.{HasNoTokens, IsNoJson, OfTrees, TellSuch}
 use Rattle.pest_meta_c.specs.declared.outcome.Unanswered as why
@@ -36,21 +36,18 @@ told_such text Such (fault_is.Memory e) told h t = subst (Says (TellSuch text Su
 told_such text Such (fault_is.Grammar errors) why_is.Memory h t = tt
 told_such text Such (fault_is.Grammar errors) (why_is.Refused json) h t = record { errors = errors.items; such = h; told = t }
 
--- where the text fails, it has no trees
-no_classes : Classes
-no_classes n c = false
-
-failure_is_none : {t : State} {us : Trees} → Failure ≡ Success t us → ⊥
-failure_is_none h = cc
-
-fails_so : (text : List ℕ) (place : ℕ) (us : Trees) → FailsAt rule_is.grammar_rules text place → HasTrees text us → ⊥
-fails_so text place us f h = failure_is_none (same meta_grammar no_classes (f no_classes).0 (h no_classes).1)
-
 -- a text that is no grammar
-pub no_grammar : (text : List ℕ) (Refused : Trees → List (Error Rule) → Type 0) (fault : code.Fault) → ParseRefuses rule_is.grammar_rules text fault → OfErrors (OfTrees Refused text) fault
-no_grammar text Refused (fault_is.Memory e) h = tt
-no_grammar text Refused (fault_is.Grammar errors) h =
-    inl (record { says = h; none = λ rules s. fails_so text h.place s.trees h.fails s.of_text })
+no_trees : (text : List ℕ) (fault : code.Fault) → ParseRefuses rule_is.grammar_rules text fault → OfErrors (IsNoGrammar text) fault
+no_trees text (fault_is.Memory e) h = tt
+no_trees text (fault_is.Grammar errors) h = record { says = h; none = λ rules s. fails_so text h.place s.trees h.fails s.of_text }
+
+pub no_grammar : (text : List ℕ) (fault : code.Fault) (told : why.Unanswered) → ParseRefuses rule_is.grammar_rules text fault → IsTold rule_is.grammar_rules text fault told → Says (TellSuch text (IsNoGrammar text)) told
+no_grammar text fault told h t = told_such text (IsNoGrammar text) fault told (no_trees text fault h) t
+
+-- which is one way to be refused, whatever would be said of its trees
+pub without_trees : (text : List ℕ) (Refused : Trees → List (Error Rule) → Type 0) (told : why.Unanswered) → Says (TellSuch text (IsNoGrammar text)) told → Says (TellSuch text (OfTrees Refused text)) told
+without_trees text Refused why_is.Memory t = tt
+without_trees text Refused (why_is.Refused json) t = record { errors = t.errors; such = inl t.such; told = t.told }
 
 -- what is to be said of its names
 named_wrong : (pairs : Pairs Rule) (fault : code.Fault) → AreOfAGrammar pairs → IsNameRefusal (complaints_of pairs) fault → OfErrors (OfTrees (IsMisnamed (pairs_text pairs)) (pairs_text pairs)) fault
@@ -97,9 +94,9 @@ no_match text name rule (fault_is.Grammar errors) (why_is.Refused json) n h t =
     inr (record { rule = rule; named = n; errors = errors.items; refused = h; told = t })
 
 -- a name that no rule has
-pub unknown : (text name : List ℕ) (told : why.Unanswered) → IsRefusalOf place_is.Whole json_why.UnknownRule told → Says (HasNoTokens text name) told
-unknown text name why_is.Memory t = tt
-unknown text name (why_is.Refused json) t = inl t
+pub unknown : (text name : List ℕ) (told : why.Unanswered) → IsOfNoRule name → IsRefusalOf place_is.Whole json_why.UnknownRule told → Says (HasNoTokens text name) told
+unknown text name why_is.Memory none t = tt
+unknown text name (why_is.Refused json) none t = inl (record { none = none; written = t })
 
 -- JSON that has no rules
 pub no_json : (place : Place) (reason : Why) (told : why.Unanswered) → IsRefusalOf place reason told → Says IsNoJson told

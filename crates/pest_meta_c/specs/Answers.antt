@@ -1,5 +1,5 @@
 -- What each call answers, as bytes of JSON.
-use Rattle.std.specs.Prelude.{◌≡◌, ℕ, List, [], None}
+use Rattle.std.specs.Prelude.{◌≡◌, ℕ, List, [], ◌∷◌, None, length}
 use Rattle.std.specs.Borrow.{Bor}
 use Rattle.serde_json.specs.Written.{compact_text}
 use Rattle.meta_ast.specs.Ast.{rules_of}
@@ -9,14 +9,17 @@ use Rattle.meta_ast.specs.declared.optimized.OptimizedRule.{OptimizedRule}
 use Rattle.meta_base.specs.Language.State.{Trees}
 use Rattle.meta_base.specs.Language.WellFormed.{HasReadableCounts, IsPlain}
 use Rattle.meta_base.specs.Pieces.MetaRules.{name_of}
+use Rattle.meta_base.specs.Pieces.Saying.{Tell, piece}
 use Rattle.meta_base.specs.declared.grammar.Rule.{Rule}
-use Rattle.meta_json.specs.Errors.{answer_data, names_data}
+use Rattle.meta_base.specs.declared.runtime.errors.Error.{Error}
+use Rattle.meta_json.specs.Errors.{answer_data, errors_data, names_data}
 use Rattle.meta_json.specs.Format.{optimized_rules_data, rules_data}
 use Rattle.meta_json.specs.Placed.{placed_rules_data}
 use Rattle.meta_json.specs.Reading as reading
 use Rattle.meta_json.specs.Tokens.{tokens_data}
 use Rattle.meta_json.specs.Versions.{version_data}
 use Rattle.meta_names.specs.GrammarNames.{AreWrittenAt, calls, definitions, first_calls}
+use Rattle.meta_names.specs.Names.{rust_keyword_complaints}
 use Rattle.meta_nodes.specs.Nodes.{rule_views}
 use Rattle.meta_nodes.specs.declared.node.ParserRule.{ParserRule}
 use Rattle.meta_optimizer.specs.Passes.{IsOptimized}
@@ -48,6 +51,12 @@ pub record AreNames (text json : List ℕ) : Type 0 where
   pub names : List (Bor (List ℕ))
   pub uses : AreWrittenAt (first_calls (definitions text trees) (calls text trees)) names
   pub written : json ≡ compact_text (names_data names)
+
+-- the bytes are the errors of a name as a keyword of Rust: one, at the whole of it, where it is one, and else none
+pub record AreKeywordErrors (name json : List ℕ) : Type 0 where
+  pub errors : List (Error Rule)
+  pub tell : Tell (rust_keyword_complaints (piece name 0 (length name) ∷ [])) errors
+  pub written : json ≡ compact_text (errors_data [] errors)
 
 -- the bytes are the rules that a grammar's text spells: nothing is wrong with them
 pub record AreRules (text json : List ℕ) : Type 0 where

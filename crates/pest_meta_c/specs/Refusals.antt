@@ -7,6 +7,7 @@ use Rattle.meta_base.specs.declared.grammar.Rule.{Rule}
 use Rattle.meta_base.specs.declared.grammar.Rule.TheVariants as rule_is
 use Rattle.meta_base.specs.declared.runtime.errors.Error.{Error}
 use Rattle.meta_json.specs.Refusals.{refusal_data}
+use Rattle.meta_json.specs.RuleNames.{IsOfNoRule}
 use Rattle.meta_json.specs.declared.refusal.Place.{Place}
 use Rattle.meta_json.specs.declared.refusal.Place.TheVariants as place_is
 use Rattle.meta_json.specs.declared.refusal.Why.{Why}
@@ -26,9 +27,10 @@ abbrev pub OfTrees : (Trees → List (Error Rule) → Type 0) → List ℕ → L
 OfTrees Refused text errors =
     IsNoGrammar text errors ⊎ ((trees : Trees) × HasTrees text trees × Refused trees errors)
 
--- the bytes say that no rule has the name
-abbrev pub SaysUnknown : List ℕ → Type 0
-SaysUnknown json = json ≡ compact_text (refusal_data place_is.Whole why_is.UnknownRule)
+-- no rule has the name, and the bytes say so
+pub record IsUnknown (name json : List ℕ) : Type 0 where
+  pub none : IsOfNoRule name
+  pub written : json ≡ compact_text (refusal_data place_is.Whole why_is.UnknownRule)
 
 -- the text doesn't begin with what the rule of that name matches, and the bytes are the syntax error
 pub record IsNoMatch (text name json : List ℕ) : Type 0 where
@@ -40,7 +42,7 @@ pub record IsNoMatch (text name json : List ℕ) : Type 0 where
 
 -- why there are no tokens
 abbrev pub HasNoTokens : List ℕ → List ℕ → List ℕ → Type 0
-HasNoTokens text name json = SaysUnknown json ⊎ IsNoMatch text name json
+HasNoTokens text name json = IsUnknown name json ⊎ IsNoMatch text name json
 
 -- why there are no names: the text is no grammar, or something is to be said of its names
 abbrev pub HasNoNames : List ℕ → List ℕ → Type 0

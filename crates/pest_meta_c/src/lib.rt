@@ -13,7 +13,7 @@ mod outcome;
 
 ghost use Rattle.std.specs.Prelude.{◌≡◌, ◌≢◌};
 ghost use Rattle.std.specs.Str.{IsUtf8};
-ghost use Rattle.pest_meta_c.specs.Answers.{AreNames, AreNodes, AreOptimized, AreRules, AreTokens, IsVersion, IsWhole};
+ghost use Rattle.pest_meta_c.specs.Answers.{AreKeywordErrors, AreNames, AreNodes, AreOptimized, AreRules, AreTokens, IsVersion, IsWhole};
 ghost use Rattle.pest_meta_c.specs.Handing.{Hands};
 ghost use Rattle.pest_meta_c.specs.Refusals.{HasNoNames, HasNoNodes, HasNoRules, HasNoTokens, IsNoJson, IsRefused, Never};
 
@@ -54,6 +54,24 @@ pub extern "C" fn pest_meta_names(
 {
     match str::from_utf8(text) {
         Ok(text) => handed(out, needed, calls::names(alloc, text)),
+        Err(_) => no_text(needed),
+    }
+}
+
+/// The errors of a name as a keyword of Rust: one, at the whole of it, where it is one, and else none.
+#[unsafe(no_mangle)]
+pub extern "C" fn pest_meta_rust_keyword(
+    alloc: Global,
+    name: &[u8],
+    out: &mut [u8],
+    needed: &mut usize,
+) -> u8
+    ensures hands { Hands (AreKeywordErrors name.now) Never out.old out.new needed.new result }
+    ensures text { result ≢ 3 → IsUtf8 name.now }
+    ensures no_text { result ≡ 3 → IsUtf8 name.now → ⊥ }
+{
+    match str::from_utf8(name) {
+        Ok(name) => handed(out, needed, calls::rust_keyword(alloc, name)),
         Err(_) => no_text(needed),
     }
 }

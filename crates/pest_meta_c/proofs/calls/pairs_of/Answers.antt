@@ -1,0 +1,6 @@
+use Rattle.pest_meta_c.proofs.Telling.{no_grammar}
+use Rattle.pest_meta_c.proofs.calls.pairs_of.Goals as goal
+
+pub returns-in-Err-clause-refused : goal.returns-in-Err-clause-refused
+returns-in-Err-clause-refused c =
+    no_grammar c.args.text.now c.in-Err.fault c.told.result c.in-Err.ensures.spelled c.told.ensures
