@@ -18,7 +18,7 @@ use Rattle.meta_syntax.specs.declared.table.Form.{Form}
 use Rattle.meta_syntax.specs.declared.table.Kind.{Kind}
 use Rattle.meta_syntax.specs.Entries.{Entry as NamedEntry}
 use Rattle.meta_syntax.specs.Entries.{AddsEntries, entry_of, named_entries, open_start}
-use Rattle.meta_syntax.specs.Forms.{AreParts, IsGood, IsRunnable, IsRunnableTurn, IsSpelled, all_take, choice_among, cost, expression_of, followed, good, greatest_rank, kind_of, null, nullable, rank_of}
+use Rattle.meta_syntax.specs.Forms.{AreParts, IsGood, IsRunnable, IsRunnableTurn, IsSpelled, all_take, calls_cost, choice_among, cost, expression_of, followed, good, kind_of, null, nullable, rank_of}
 use Rattle.meta_syntax.specs.MetaGrammar.{rule_at}
 use Rattle.meta_syntax.specs.Nesting.{Follows, GoesOnBehind, HasTurned, IsAnswered, IsAsked, IsPartWay, IsTried, IsWaiting, Question, Serves, effort, steps, work_aside}
 use Rattle.meta_syntax.specs.Rows.{IsRow}
@@ -68,15 +68,15 @@ module _ (text : List ℕ) (rule : Rule) (kind : Kind) (m inner : mode.Mode) (ma
   }
 
 -- what has to take input took some
-took : {A : Type 0} (b : Bool) → b ≡ false → A ⊎ (b ≡ true) → A
+pub took : {A : Type 0} (b : Bool) → b ≡ false → A ⊎ (b ≡ true) → A
 took b f (inl a) = a
 took b f (inr t) = absurd (let e = sym f ∙ t in cc)
 
 -- the first alternative is run
-or_first : (a b : Bool) → a ≡ true → (a || b) ≡ true
+pub or_first : (a b : Bool) → a ≡ true → (a || b) ≡ true
 or_first a b e = rw e refl
 
-or_second : (a b : Bool) → b ≡ true → (a || b) ≡ true
+pub or_second : (a b : Bool) → b ≡ true → (a || b) ≡ true
 or_second true b e = refl
 or_second false b e = e
 
@@ -332,8 +332,8 @@ pub taken_rest : (rs : List Rule) (n : ℕ) → take (length rs - n) (drop n rs)
 taken_rest rs n = let e = length-drop n rs in take_all (length rs - n) (drop n rs) (omega (arith, e))
 
 -- one of some rules costs less than the choice among them
-pub rule_work : (first : Rule) (others : List Rule) (i : ℕ) (d : Rule) (gs hs : List Frame) (rest : List ℕ) (work : ℕ) → work_aside hs ≡ work_aside gs + 1 → i < length others → work_aside gs + steps (effort rest (4 + greatest_rank (first ∷ others))) ≤ work → work_aside hs + steps (effort rest (rank_of (get_or others i d) + 3)) ≤ work
+pub rule_work : (first : Rule) (others : List Rule) (i : ℕ) (d : Rule) (gs hs : List Frame) (rest : List ℕ) (work : ℕ) → work_aside hs ≡ work_aside gs + 1 → i < length others → work_aside gs + steps (effort rest (calls_cost (first ∷ others))) ≤ work → work_aside hs + steps (effort rest (rank_of (get_or others i d) + 3)) ≤ work
 rule_work first others i d gs hs rest work e b l =
     let below = rank_at others i d b in
-    let less = one_step (effort rest (rank_of (get_or others i d) + 3)) (effort rest (4 + greatest_rank (first ∷ others))) (omega (arith, below)) in
+    let less = one_step (effort rest (rank_of (get_or others i d) + 3)) (effort rest (calls_cost (first ∷ others))) (omega (arith, below)) in
     omega (arith, e, less, l)

@@ -16,6 +16,7 @@ pub mod Parsing
 pub mod Quiet
 pub mod Quoted
 pub mod Sequences
+pub mod SecondReading
 pub mod SetCharacters
 pub mod ShapeOfTrees
 pub mod SingleCharacters

@@ -21,6 +21,7 @@ use Rattle.meta_syntax.specs.Forms.{AreParts, choice_among, expression_of, follo
 use Rattle.meta_syntax.specs.MetaGrammar.{meta_grammar, rule_at, type_of_rule, body_of}
 use Rattle.meta_syntax.specs.Rows.{is_defined}
 use Rattle.meta_syntax.specs.Runs.{IsLeft, at, leaving, mode_of}
+use Rattle.meta_syntax.specs.SecondReading.{FoundSoFar}
 use Rattle.meta_syntax.proofs.Choices.{among_more, among_parts}
 use Rattle.meta_syntax.proofs.Lookup.{defined_rule, no_any, no_soi, no_eoi, any_builtin, soi_builtin, eoi_builtin}
 use Rattle.meta_syntax.proofs.Steps.{by_builtin}
@@ -184,22 +185,14 @@ module _ {m : Mode} {a b : Expression} {text rest : List ℕ} where
   failed_right x y = record { ran = λ classes. noted_right (x.ran classes) (y.ran classes) }
 
 -- the answer of the second alternative
-gives_right : (m : Mode) (a b : Expression) (text rest : List ℕ) (p q r : Sought) (o : Option (Bor (List ℕ))) → FailsNoting (Run m a) text rest p q → FailsOrFindsNoting (Run m b) text rest q r o → FailsOrFindsNoting (Run m (Choice a b)) text rest p r o
+pub gives_right : (m : Mode) (a b : Expression) (text rest : List ℕ) (p q r : Sought) (o : Option (Bor (List ℕ))) → FailsNoting (Run m a) text rest p q → FailsOrFindsNoting (Run m b) text rest q r o → FailsOrFindsNoting (Run m (Choice a b)) text rest p r o
 gives_right m a b text rest p q r None x y = failed_right x y
 gives_right m a b text rest p q r (Some s) x y = found_right x y
 
-pub right_answer : (m : Mode) (a b : Expression) (text rest : List ℕ) (p q r : Sought) (answer : Result (Option (Bor (List ℕ))) AllocError) → FailsNoting (Run m a) text rest p q → IfOk answer (λ o. FailsOrFindsNoting (Run m b) text rest q r o) → IfOk answer (λ o. FailsOrFindsNoting (Run m (Choice a b)) text rest p r o)
-right_answer m a b text rest p q r (Ok o) x y = gives_right m a b text rest p q r o x y
-right_answer m a b text rest p q r (Err e) x y = tt
-
 -- the answer of the copies that a count means
-copies_give : (m : Mode) (e : Expression) (i j : ℕ) (text rest : List ℕ) (p q : Sought) (o : Option (Bor (List ℕ))) → FailsOrFindsNoting (Run m (from_to e i j)) text rest p q o → FailsOrFindsNoting (Run m (RepMinMax e i j)) text rest p q o
+pub copies_give : (m : Mode) (e : Expression) (i j : ℕ) (text rest : List ℕ) (p q : Sought) (o : Option (Bor (List ℕ))) → FailsOrFindsNoting (Run m (from_to e i j)) text rest p q o → FailsOrFindsNoting (Run m (RepMinMax e i j)) text rest p q o
 copies_give m e i j text rest p q None x = fails_as (λ classes o r. noted_rep_min_max r) x
 copies_give m e i j text rest p q (Some s) x = finds_as (λ classes o r. noted_rep_min_max r) x
-
-pub copies_answer : (m : Mode) (e copies : Expression) (i j : ℕ) (text rest : List ℕ) (p q : Sought) (answer : Result (Option (Bor (List ℕ))) AllocError) → copies ≡ from_to e i j → IfOk answer (λ o. FailsOrFindsNoting (Run m copies) text rest p q o) → IfOk answer (λ o. FailsOrFindsNoting (Run m (RepMinMax e i j)) text rest p q o)
-copies_answer m e copies i j text rest p q (Ok o) h x = let y = rw h at x in copies_give m e i j text rest p q o y
-copies_answer m e copies i j text rest p q (Err d) h x = tt
 
 module _ {m : Mode} {a : Expression} {text rest : List ℕ} where
   pub found_opt : {p q : Sought} {s : List ℕ} → FindsNoting (Run m a) text rest p q s → FindsNoting (Run m (Opt a)) text rest p q s
@@ -225,33 +218,6 @@ module _ {m : Mode} {a : Expression} {text rest : List ℕ} where
 
   pub failed_once : {p q : Sought} → FailsNoting (Run m (Seq a (Rep a))) text rest p q → FailsNoting (Run m (RepOnce a)) text rest p q
   failed_once x = fails_as (λ classes o r. noted_rep_once r) x
-
--- what the turns of a loop have done so far
-pub record SoFarNoting (k : Task) (text from : List ℕ) (p : Sought) (rest : List ℕ) (q : Sought) : Type 0 where
-  pub trees : Trees
-  pub goes_on : (classes : Classes) (o : Outcome) (z : Sought) → Noted meta_grammar classes k (at text rest) o q z → Noted meta_grammar classes k (at text from) (after_trees trees o) p z
-
-pub nothing_so_far : (k : Task) (text from : List ℕ) (p : Sought) → SoFarNoting k text from p from p
-nothing_so_far k text from p = record { trees = None'; goes_on = λ classes o z r. rw after_none r }
-
-module _ {m : Mode} {a : Expression} {text from rest : List ℕ} {p q : Sought} (x : SoFarNoting (Turns m a) text from p rest q) where
-  pub one_turn : {r z : Sought} {s t : List ℕ} → FindsNoting (Skipping m) text rest q r s → FindsNoting (Run m a) text s r z t → SoFarNoting (Turns m a) text from p t z
-  one_turn y w = record {
-    trees = joined x.trees (joined y.trees w.trees);
-    goes_on = λ classes o z r. rw (← after_assoc, ← after_assoc) (x.goes_on classes _ _ (noted_turns_more (y.ran classes) (w.ran classes) r));
-  }
-
-  pub all_turns : {r z : Sought} {s : List ℕ} → FindsNoting (Skipping m) text rest q r s → FailsNoting (Run m a) text s r z → FindsNoting (Turns m a) text from p z rest
-  all_turns y w = record {
-    trees = x.trees;
-    ran = λ classes. let r = x.goes_on classes _ _ (noted_turns_end (y.ran classes) (w.ran classes)) in rw joined_nil at r;
-  }
-
--- what was found of a sequence, and the form that is still to be run behind it
-pub record FoundSoFar (m : Mode) (whole : Expression) (text from : List ℕ) (p : Sought) (left : Form) (rest : List ℕ) (q : Sought) : Type 0 where
-  pub done : Expression
-  pub found : FindsNoting (Run m done) text from p q rest
-  pub goes_on : followed (Some done) left ≡ whole
 
 module _ {m : Mode} {text from : List ℕ} where
   -- a sequence fails where a beginning of it does

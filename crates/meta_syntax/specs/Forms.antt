@@ -100,16 +100,16 @@ null (form.RepMinMax' p a i j q b) = null b
 abbrev pub rank_of : Rule → ℕ
 rank_of is.grammar_rules = 47
 rank_of is.grammar_rule = 33
-rank_of is.modifier = 4
+rank_of is.modifier = 7
 rank_of is.tag_id = 6
 rank_of is.node_tag = 12
-rank_of is.expression = 48
-rank_of is.term = 39
-rank_of is.node = 27
-rank_of is.terminal = 22
-rank_of is.prefix_operator = 4
-rank_of is.infix_operator = 4
-rank_of is.postfix_operator = 19
+rank_of is.expression = 54
+rank_of is.term = 45
+rank_of is.node = 33
+rank_of is.terminal = 28
+rank_of is.prefix_operator = 5
+rank_of is.infix_operator = 5
+rank_of is.postfix_operator = 25
 rank_of is.repeat_exact = 9
 rank_of is.repeat_min = 12
 rank_of is.repeat_max = 12
@@ -136,7 +136,7 @@ rank_of is.newline = 2
 rank_of is.WHITESPACE = 7
 rank_of is.line_comment = 6
 rank_of is.block_comment = 6
-rank_of is.COMMENT = 10
+rank_of is.COMMENT = 11
 rank_of is.space = 2
 rank_of is.grammar_doc = 6
 rank_of is.line_doc = 6
@@ -148,6 +148,10 @@ abbrev pub greatest_rank : List Rule → ℕ
 greatest_rank [] = 0
 greatest_rank (r ∷ rs) = max (rank_of r) (greatest_rank rs)
 
+-- a bound on the calls that nest where these rules are called one after another
+abbrev pub calls_cost : List Rule → ℕ
+calls_cost rs = 3 + greatest_rank rs + length rs
+
 -- a bound on the calls that nest before input is taken
 abbrev pub cost : Form → ℕ
 cost (form.Str t) = 0
@@ -158,7 +162,7 @@ cost (form.Call r) = rank_of r + 3
 cost (form.Seq' p a q b) = 3 + max (cost a) (if null a then cost b else 0)
 cost (form.Group' p a) = 2 + cost a
 cost (form.Choice' p a q b) = 2 + max (cost a) (cost b)
-cost (form.FirstOf r rs) = 4 + greatest_rank (r ∷ rs.now)
+cost (form.FirstOf r rs) = calls_cost (r ∷ rs.now)
 cost (form.Opt' p a) = 2 + cost a
 cost (form.Rep' p a) = 2 + cost a
 cost (form.Characters' s p a) = 3 + cost a

@@ -11,5 +11,6 @@ pub mod Parses
 pub mod Remembering
 pub mod Rows
 pub mod Runs
+pub mod SecondReading
 pub mod Sets
 pub mod Shape

@@ -1,28 +1,71 @@
 //! What is expected at a place: a second reading of a text, for which the place is known. It walks the table
-//! plainly, and leaves to the recognizer what tells no name: the skipping, and rules within which no call is
-//! told.
-ghost use Rattle.std.specs.Prelude.{◌≡◌, ◌<◌, ◌∷◌, ◌++◌, ◌&&◌, ◌||◌, ℕ, List, filter, IfOk, OnOk, Some, [], length, false, true, codes};
-ghost use Rattle.meta_base.specs.Language.Expression.{Choice, Ident, NegPred, Opt, Rep, RepOnce};
-ghost use Rattle.meta_base.specs.Language.Meaning.{Run, Skipping, Turns};
+//! plainly, with a list of what waits for an answer, so that no text takes the machine's stack; and it leaves to
+//! the recognizer what tells no name: the skipping, and rules within which no call is told.
+ghost use Rattle.std.specs.Prelude.{◌≡◌, ◌+◌, ◌<◌, ◌≤◌, ◌∷◌, ◌++◌, ◌&&◌, ℕ, List, filter, IfOk, OnOk, Some, [], length, true, codes};
+ghost use Rattle.meta_base.specs.Language.Expression.{Ident};
+ghost use Rattle.meta_base.specs.Language.Meaning.{Run, Skipping};
 ghost use Rattle.meta_base.specs.Pieces.MetaRules.{name_of};
 ghost use Rattle.meta_syntax.specs.Expecting.{IsReadyAgain, IsTruly, Tells, TellsTo, is_settled, names_of, sought_of, telling};
 ghost use Rattle.meta_syntax.specs.ExpectedRules.{AreToldAt, is_named, rules_named};
-ghost use Rattle.meta_syntax.specs.Forms.{IsRunnable, IsRunnableTurn, all_take, choice_among, cost, expression_of, followed, kind_of, null, nullable};
+ghost use Rattle.meta_syntax.specs.Forms.{IsRunnable, calls_cost, cost, expression_of, kind_of, null, nullable, rank_of};
 ghost use Rattle.meta_syntax.specs.MetaGrammar.{type_of_rule};
+ghost use Rattle.meta_syntax.specs.Nesting.{effort, steps};
 ghost use Rattle.meta_syntax.specs.Rows.{is_defined};
 ghost use Rattle.meta_syntax.specs.Runs.{GoesOn, GoesOnIfFound, mode_of};
+ghost use Rattle.meta_syntax.specs.SecondReading.{Follows, FrameFollows, GoesOnFailed, GoesOnFound, HasBegun, HasTurned, IsAnswered, IsAsked, IsNext, IsPartWay, IsTrying, IsWaiting, Question, question_of, work_aside, work_of, work_of_wait};
 
 use crate::entries::cut;
 use crate::leaves::{any, character, literal};
 use crate::modes::{Mode, body_mode, call_counts, is_seen_from};
+use crate::nesting::Step;
 use crate::recognize::Recognizer;
 use crate::table::{Form, Kind, parts_of, row_of};
 use meta_base::grammar::Rule;
 use std::alloc::{AllocError, Global};
 
+/// What is to be done once the answer is there.
+#[derive(Clone, Copy)]
+pub enum Wait {
+    /// A call of a rule of a kind ends.
+    Call(Rule, Kind),
+    /// A sequence goes on: of this part the answer is awaited, and these parts are behind it.
+    Sequence(&'static Form, &'static Form),
+    /// This is tried where the first alternative fails.
+    Choice(&'static Form),
+    /// These rules are tried where the rules before them fail.
+    FirstOf(&'static [Rule]),
+    /// Nothing is matched where it fails.
+    Option,
+    /// There may be one more turn of this.
+    Repetition(&'static Form),
+    /// There may be turns of this behind the first one.
+    OnceOrMore(&'static Form),
+    /// Nothing is matched where it fails, and what was told in it is forgotten.
+    Negation,
+}
+
+/// What it was like where a part was begun.
+#[derive(Clone, Copy)]
+pub struct Start<'i> {
+    pub mode: Mode,
+    /// How many rules were told.
+    pub mark: usize,
+    /// What was left of the text; of a repetition, behind its last turn.
+    pub rest: &'i str,
+}
+
+/// What waits for the answer of what it has begun.
+#[derive(Clone, Copy)]
+pub struct Frame<'i> {
+    pub wait: Wait,
+    pub start: Start<'i>,
+}
+
 /// A second reading, and what it was told so far.
 #[derive(Drop)]
 pub struct Expecting {
+    /// The memory for what waits.
+    alloc: Global,
     /// What matches the parts that tell nothing.
     recognizer: Recognizer,
     /// The place, in bytes.
@@ -104,6 +147,28 @@ pub fn expected_rules(
     in_order(alloc, &told)
 }
 
+/// Begins a part, and what waits for its answer goes on the list.
+fn begin_part<'i>(
+    frames: &mut Vec<Frame<'i>>,
+    wait: Wait,
+    start: Start<'i>,
+    part: &'static Form,
+) -> Result<Step<'i>, AllocError>
+    ensures next { (text : List ℕ) (e : Expecting) (q top : Question) (n work : ℕ)
+        → IsRunnable part.now → IsReadyAgain text start.entry.rest.now e
+        → Follows text wait start.entry
+        (question_of (Run (mode_of start.entry.mode) (expression_of part.now))
+        start.entry.rest.now (null part.now) e) q
+        → IsWaiting text frames.old.items q top
+        → work_of_wait wait start.entry.rest.now
+        + steps (effort start.entry.rest.now (cost part.now)) < n
+        → work_aside frames.old.items + n ≤ work
+        → IfOk result (λ step. IsNext text frames.new.items e step top work) }
+{
+    frames.push(Frame { wait, start })?;
+    Ok(Step::Begin(part, start.mode, start.rest))
+}
+
 impl Expecting {
     /// A reading for a place, in bytes.
     pub fn new(alloc: Global, place: usize) -> Expecting
@@ -112,6 +177,7 @@ impl Expecting {
         ensures truly { (text : List ℕ) → IsTruly text result }
     {
         Expecting {
+            alloc,
             recognizer: Recognizer::new(alloc),
             place,
             told: Vec::new(alloc),
@@ -123,6 +189,7 @@ impl Expecting {
         ensures { result ≡ self.told }
     {
         let Expecting {
+            alloc: _,
             recognizer: _,
             place: _,
             told,
@@ -157,7 +224,6 @@ impl Expecting {
     }
 
     /// A call within which nothing is told.
-    #[inline(never)]
     fn settled<'i>(
         &mut self,
         text: &str,
@@ -176,7 +242,9 @@ impl Expecting {
             (Tells (Run (mode_of mode) (Ident (name_of rule)))
             text.now rest.entry.now self.old self.new) }
     {
-        let answer = self.recognizer.call(text, rule, mode, rest)?;
+        let answer = self
+            .recognizer
+            .recognize(self.alloc, text, rule, mode, rest)?;
         cut(&mut self.recognizer.entries, 0);
         match answer {
             Some(after) => Ok(Some(after)),
@@ -223,308 +291,8 @@ impl Expecting {
         Ok(after)
     }
 
-    /// Runs a form on what is left of the text. The answer is what is left after it, or `None` where it fails.
-    #[inline(always)]
-    #[cycle(expect)]
-    fn run<'i>(
-        &mut self,
-        text: &str,
-        form: &'static Form,
-        mode: Mode,
-        rest: &'i str,
-    ) -> Result<Option<&'i str>, AllocError>
-        requires form { IsRunnable form.now }
-        requires ready { IsReadyAgain text.now rest.now self.old }
-        ensures goes_on { IfOk result (GoesOnIfFound text.now rest.entry.now (null form.now)) }
-        ensures truly { OnOk result (IsTruly text.now self.new) }
-        ensures means { IfOk result
-            (Tells (Run (mode_of mode) (expression_of form.now))
-            text.now rest.entry.now self.old self.new) }
-    {
-        match form {
-            Form::Str(literally) => Ok(literal(literally, rest)),
-            Form::Range(low, high) => Ok(character(*low, *high, rest)),
-            Form::Any => Ok(any(rest)),
-            Form::Start => {
-                if rest.len() == text.len() {
-                    Ok(Some(rest))
-                } else {
-                    Ok(None)
-                }
-            }
-            Form::Call(rule) => self.call(text, *rule, mode, rest),
-            Form::Seq(first, others) => self.sequence(text, first, others, mode, rest),
-            Form::Group(inside) => self.copies(text, inside, mode, rest),
-            Form::Choice(first, second) => self.choice(text, first, second, mode, rest),
-            Form::FirstOf(first, others) => self.first_of(text, *first, others, mode, rest),
-            Form::Opt(body) => self.option(text, body, mode, rest),
-            Form::Rep(body) | Form::Characters(_, body) => {
-                let after = self.repetition(text, body, mode, rest)?;
-                Ok(Some(after))
-            }
-            Form::Quoted(_, spelled) => self.copies(text, spelled, mode, rest),
-            Form::Comment(spelled) => self.copies(text, spelled, mode, rest),
-            Form::RepOnce(body) => self.once_or_more(text, body, mode, rest),
-            Form::NegPred(body) => self.negation(text, body, mode, rest),
-            Form::RepMinMax(_, _, _, spelled) => self.copies(text, spelled, mode, rest),
-        }
-    }
-
-    /// A form that is spelled out beside another: what `run` calls in place of itself.
-    #[inline(never)]
-    #[cycle(expect)]
-    fn copies<'i>(
-        &mut self,
-        text: &str,
-        spelled: &'static Form,
-        mode: Mode,
-        rest: &'i str,
-    ) -> Result<Option<&'i str>, AllocError>
-        requires spelled { IsRunnable spelled.now }
-        requires ready { IsReadyAgain text.now rest.now self.old }
-        ensures goes_on { IfOk result (GoesOnIfFound text.now rest.entry.now (null spelled.now)) }
-        ensures truly { OnOk result (IsTruly text.now self.new) }
-        ensures means { IfOk result
-            (Tells (Run (mode_of mode) (expression_of spelled.now))
-            text.now rest.entry.now self.old self.new) }
-    {
-        self.run(text, spelled, mode, rest)
-    }
-
-    /// One form, or the other.
-    #[inline(never)]
-    #[cycle(expect)]
-    fn choice<'i>(
-        &mut self,
-        text: &str,
-        first: &'static Form,
-        second: &'static Form,
-        mode: Mode,
-        rest: &'i str,
-    ) -> Result<Option<&'i str>, AllocError>
-        requires first { IsRunnable first.now }
-        requires second { IsRunnable second.now }
-        requires ready { IsReadyAgain text.now rest.now self.old }
-        ensures goes_on { IfOk result
-            (GoesOnIfFound text.now rest.entry.now (null first.now || null second.now)) }
-        ensures truly { OnOk result (IsTruly text.now self.new) }
-        ensures means { IfOk result
-            (Tells (Run (mode_of mode) (Choice (expression_of first.now) (expression_of second.now)))
-            text.now rest.entry.now self.old self.new) }
-    {
-        match self.run(text, first, mode, rest)? {
-            Some(after) => Ok(Some(after)),
-            None => self.run(text, second, mode, rest),
-        }
-    }
-
-    /// A call of the first of some rules that matches.
-    #[inline(never)]
-    #[cycle(expect)]
-    #[tactic(auto, using(crate::proofs::Choices::rank_at))]
-    fn first_of<'i>(
-        &mut self,
-        text: &str,
-        first: Rule,
-        others: &'static [Rule],
-        mode: Mode,
-        rest: &'i str,
-    ) -> Result<Option<&'i str>, AllocError>
-        requires takes { nullable first ≡ false }
-        requires others_take { all_take others.now ≡ true }
-        requires ready { IsReadyAgain text.now rest.now self.old }
-        ensures goes_on { IfOk result (GoesOnIfFound text.now rest.entry.now false) }
-        ensures truly { OnOk result (IsTruly text.now self.new) }
-        ensures means { IfOk result
-            (Tells (Run (mode_of mode) (choice_among (Ident (name_of first)) others.now))
-            text.now rest.entry.now self.old self.new) }
-    {
-        if let Some(after) = self.call(text, first, mode, rest)? {
-            return Ok(Some(after));
-        }
-        for rule in others {
-            if let Some(after) = self.call(text, *rule, mode, rest)? {
-                return Ok(Some(after));
-            }
-        }
-        Ok(None)
-    }
-
-    /// A form, or nothing.
-    #[inline(never)]
-    #[cycle(expect)]
-    fn option<'i>(
-        &mut self,
-        text: &str,
-        body: &'static Form,
-        mode: Mode,
-        rest: &'i str,
-    ) -> Result<Option<&'i str>, AllocError>
-        requires body { IsRunnable body.now }
-        requires ready { IsReadyAgain text.now rest.now self.old }
-        ensures goes_on { IfOk result (GoesOnIfFound text.now rest.entry.now true) }
-        ensures truly { OnOk result (IsTruly text.now self.new) }
-        ensures means { IfOk result
-            (Tells (Run (mode_of mode) (Opt (expression_of body.now)))
-            text.now rest.entry.now self.old self.new) }
-    {
-        match self.run(text, body, mode, rest)? {
-            Some(after) => Ok(Some(after)),
-            None => Ok(Some(rest)),
-        }
-    }
-
-    /// Nothing, where a form fails. What is told below it is forgotten.
-    #[inline(never)]
-    #[cycle(expect)]
-    fn negation<'i>(
-        &mut self,
-        text: &str,
-        body: &'static Form,
-        mode: Mode,
-        rest: &'i str,
-    ) -> Result<Option<&'i str>, AllocError>
-        requires body { IsRunnable body.now }
-        requires ready { IsReadyAgain text.now rest.now self.old }
-        ensures goes_on { IfOk result (GoesOnIfFound text.now rest.entry.now true) }
-        ensures truly { OnOk result (IsTruly text.now self.new) }
-        ensures means { IfOk result
-            (Tells (Run (mode_of mode) (NegPred (expression_of body.now)))
-            text.now rest.entry.now self.old self.new) }
-    {
-        let mark = self.count();
-        let answer = self.run(text, body, mode, rest)?;
-        self.told.truncate(mark);
-        match answer {
-            Some(_) => Ok(None),
-            None => Ok(Some(rest)),
-        }
-    }
-
-    /// One turn, the skipping, and as many more as there are.
-    #[inline(never)]
-    #[cycle(expect)]
-    fn once_or_more<'i>(
-        &mut self,
-        text: &str,
-        body: &'static Form,
-        mode: Mode,
-        rest: &'i str,
-    ) -> Result<Option<&'i str>, AllocError>
-        requires turn { IsRunnableTurn body.now }
-        requires ready { IsReadyAgain text.now rest.now self.old }
-        ensures goes_on { IfOk result (GoesOnIfFound text.now rest.entry.now (null body.now)) }
-        ensures truly { OnOk result (IsTruly text.now self.new) }
-        ensures means { IfOk result
-            (Tells (Run (mode_of mode) (RepOnce (expression_of body.now)))
-            text.now rest.entry.now self.old self.new) }
-    {
-        let Some(after) = self.run(text, body, mode, rest)? else {
-            return Ok(None);
-        };
-        let next = self.skip(text, mode, after)?;
-        let last = self.repetition(text, body, mode, next)?;
-        Ok(Some(last))
-    }
-
-    /// One form and those behind it, each after the skipping.
-    #[inline(never)]
-    #[cycle(expect)]
-    fn sequence<'i>(
-        &mut self,
-        text: &str,
-        first: &'static Form,
-        others: &'static Form,
-        mode: Mode,
-        from: &'i str,
-    ) -> Result<Option<&'i str>, AllocError>
-        requires first { IsRunnable first.now }
-        requires others { IsRunnable others.now }
-        requires below { cost others.now < 1000 }
-        requires ready { IsReadyAgain text.now from.now self.old }
-        ensures goes_on { IfOk result
-            (GoesOnIfFound text.now from.entry.now (null first.now && null others.now)) }
-        ensures truly { OnOk result (IsTruly text.now self.new) }
-        ensures means { IfOk result
-            (Tells (Run (mode_of mode) (followed (Some (expression_of first.now)) others.now))
-            text.now from.entry.now self.old self.new) }
-    {
-        let Some(mut rest) = self.run(text, first, mode, from)? else {
-            return Ok(None);
-        };
-        let mut left = others;
-        loop {
-            let next = self.skip(text, mode, rest)?;
-            let parts = parts_of(left);
-            let Some(after) = self.run(text, parts.first, mode, next)? else {
-                return Ok(None);
-            };
-            let Some(others) = parts.others else {
-                return Ok(Some(after));
-            };
-            left = others;
-            rest = after;
-        }
-    }
-
-    /// As many turns as there are.
-    #[inline(never)]
-    #[cycle(expect)]
-    fn repetition<'i>(
-        &mut self,
-        text: &str,
-        body: &'static Form,
-        mode: Mode,
-        rest: &'i str,
-    ) -> Result<&'i str, AllocError>
-        requires turn { IsRunnableTurn body.now }
-        requires ready { IsReadyAgain text.now rest.now self.old }
-        ensures goes_on { IfOk result (λ after. GoesOn text.now rest.entry.now true after.now) }
-        ensures truly { OnOk result (IsTruly text.now self.new) }
-        ensures means { IfOk result
-            (λ after. TellsTo (Run (mode_of mode) (Rep (expression_of body.now)))
-            text.now rest.entry.now self.old self.new after.now) }
-    {
-        match self.run(text, body, mode, rest)? {
-            Some(after) => {
-                let last = self.turns(text, body, mode, after)?;
-                Ok(last)
-            }
-            None => Ok(rest),
-        }
-    }
-
-    /// The turns of a repetition after its first.
-    #[inline(never)]
-    #[cycle(expect)]
-    fn turns<'i>(
-        &mut self,
-        text: &str,
-        body: &'static Form,
-        mode: Mode,
-        from: &'i str,
-    ) -> Result<&'i str, AllocError>
-        requires turn { IsRunnableTurn body.now }
-        requires ready { IsReadyAgain text.now from.now self.old }
-        ensures goes_on { IfOk result (λ after. GoesOn text.now from.entry.now true after.now) }
-        ensures truly { OnOk result (IsTruly text.now self.new) }
-        ensures means { IfOk result
-            (λ after. TellsTo (Turns (mode_of mode) (expression_of body.now))
-            text.now from.entry.now self.old self.new after.now) }
-    {
-        let mut rest = from;
-        loop {
-            let next = self.skip(text, mode, rest)?;
-            match self.run(text, body, mode, next)? {
-                Some(after) => rest = after,
-                None => return Ok(rest),
-            }
-        }
-    }
-
-    /// A call of a rule, or of `EOI`.
-    #[inline(never)]
-    #[cycle(expect)]
+    /// What a rule, or `EOI`, matches. No text takes the machine's stack for it: what waits for an answer lies on a
+    /// list.
     pub fn call<'i>(
         &mut self,
         text: &str,
@@ -533,31 +301,301 @@ impl Expecting {
         rest: &'i str,
     ) -> Result<Option<&'i str>, AllocError>
         requires ready { IsReadyAgain text.now rest.now self.old }
-        ensures goes_on { IfOk result (GoesOnIfFound text.now rest.entry.now (nullable rule)) }
-        ensures truly { OnOk result (IsTruly text.now self.new) }
         ensures means { IfOk result
             (Tells (Run (mode_of mode) (Ident (name_of rule)))
             text.now rest.entry.now self.old self.new) }
     {
-        let Some(row) = row_of(rule) else {
-            return self.end_of_input(text, mode, rest);
-        };
-        if is_settled(rule) {
-            return self.settled(text, rule, row.kind, mode, rest);
-        }
-        let mark = self.count();
-        let inner_mode = body_mode(rule, row.kind, mode);
-        match self.run(text, row.body, inner_mode, rest)? {
-            Some(after) => Ok(Some(after)),
-            None => {
-                self.tell(
-                    call_counts(row.kind, mode),
-                    rule,
-                    mark,
-                    text.len() - rest.len(),
-                )?;
-                Ok(None)
+        let mut frames = Vec::new(self.alloc);
+        let mut step = self.enter(text, &mut frames, rule, mode, rest)?;
+        loop {
+            match step {
+                Step::Begin(form, inner, from) => {
+                    step = self.begin(text, &mut frames, form, inner, from)?;
+                }
+                Step::Answer(answer) => {
+                    let Some(frame) = frames.pop() else {
+                        return Ok(answer);
+                    };
+                    step = self.resume(text, &mut frames, frame, answer)?;
+                }
             }
         }
+    }
+
+    /// Begins a form.
+    fn begin<'i>(
+        &mut self,
+        text: &str,
+        frames: &mut Vec<Frame<'i>>,
+        form: &'static Form,
+        mode: Mode,
+        rest: &'i str,
+    ) -> Result<Step<'i>, AllocError>
+        requires form { IsRunnable form.now }
+        requires ready { IsReadyAgain text.now rest.now self.old }
+        ensures next { (top : Question) (work : ℕ) → IsAsked text.now frames.old.items
+            (question_of (Run (mode_of mode) (expression_of form.now))
+            rest.entry.now (null form.now) self.old)
+            top → work_aside frames.old.items + steps (effort rest.entry.now (cost form.now)) ≤ work
+            → IfOk result (λ step. IsNext text.now frames.new.items self.new step top work) }
+    {
+        let mark = self.count();
+        let start = Start { mode, mark, rest };
+        match form {
+            Form::Str(literally) => Ok(Step::Answer(literal(literally, rest))),
+            Form::Range(low, high) => Ok(Step::Answer(character(*low, *high, rest))),
+            Form::Any => Ok(Step::Answer(any(rest))),
+            Form::Start => {
+                if rest.len() == text.len() {
+                    Ok(Step::Answer(Some(rest)))
+                } else {
+                    Ok(Step::Answer(None))
+                }
+            }
+            Form::Call(rule) => self.enter(text, frames, *rule, mode, rest),
+            Form::Seq(first, others) => {
+                begin_part(frames, Wait::Sequence(*first, *others), start, *first)
+            }
+            Form::Choice(first, second) => {
+                begin_part(frames, Wait::Choice(*second), start, *first)
+            }
+            Form::FirstOf(first, others) => self.enter_first(text, frames, *first, others, start),
+            Form::Opt(body) => begin_part(frames, Wait::Option, start, *body),
+            Form::Rep(body) => begin_part(frames, Wait::Repetition(*body), start, *body),
+            Form::Characters(_, body) => {
+                begin_part(frames, Wait::Repetition(*body), start, *body)
+            }
+            Form::RepOnce(body) => begin_part(frames, Wait::OnceOrMore(*body), start, *body),
+            Form::NegPred(body) => begin_part(frames, Wait::Negation, start, *body),
+            Form::Group(spelled) => Ok(Step::Begin(*spelled, mode, rest)),
+            Form::Quoted(_, spelled) => Ok(Step::Begin(*spelled, mode, rest)),
+            Form::Comment(spelled) => Ok(Step::Begin(*spelled, mode, rest)),
+            Form::RepMinMax(_, _, _, spelled) => Ok(Step::Begin(*spelled, mode, rest)),
+        }
+    }
+
+    /// Begins a call of a rule, or of `EOI`.
+    fn enter<'i>(
+        &mut self,
+        text: &str,
+        frames: &mut Vec<Frame<'i>>,
+        rule: Rule,
+        mode: Mode,
+        rest: &'i str,
+    ) -> Result<Step<'i>, AllocError>
+        requires ready { IsReadyAgain text.now rest.now self.old }
+        ensures next { (top : Question) (work : ℕ) → IsAsked text.now frames.old.items
+            (question_of (Run (mode_of mode) (Ident (name_of rule))) rest.entry.now (nullable rule) self.old)
+            top → work_aside frames.old.items + steps (effort rest.entry.now (rank_of rule + 3)) ≤ work
+            → IfOk result (λ step. IsNext text.now frames.new.items self.new step top work) }
+    {
+        let Some(row) = row_of(rule) else {
+            return Ok(Step::Answer(self.end_of_input(text, mode, rest)?));
+        };
+        if is_settled(rule) {
+            let answer = self.settled(text, rule, row.kind, mode, rest)?;
+            return Ok(Step::Answer(answer));
+        }
+        let mark = self.count();
+        let start = Start { mode, mark, rest };
+        let wait = Wait::Call(rule, row.kind);
+        frames.push(Frame { wait, start })?;
+        Ok(Step::Begin(row.body, body_mode(rule, row.kind, mode), rest))
+    }
+
+    /// Begins a call of the first of some rules, and the others wait.
+    fn enter_first<'i>(
+        &mut self,
+        text: &str,
+        frames: &mut Vec<Frame<'i>>,
+        first: Rule,
+        others: &'static [Rule],
+        start: Start<'i>,
+    ) -> Result<Step<'i>, AllocError>
+        requires ready { IsReadyAgain text.now start.rest.now self.old }
+        ensures next { (k top : Question) (work : ℕ)
+            → IsTrying text.now first others.now start.entry.mode (sought_of self.old)
+            start.entry.rest.now k
+            → IsAsked text.now frames.old.items k top
+            → work_aside frames.old.items
+            + steps (effort start.entry.rest.now (calls_cost (first ∷ others.now))) ≤ work
+            → IfOk result (λ step. IsNext text.now frames.new.items self.new step top work) }
+    {
+        let wait = Wait::FirstOf(others);
+        frames.push(Frame { wait, start })?;
+        let step = self.enter(text, frames, first, start.mode, start.rest)?;
+        Ok(step)
+    }
+
+    /// Goes on with what waits.
+    fn resume<'i>(
+        &mut self,
+        text: &str,
+        frames: &mut Vec<Frame<'i>>,
+        frame: Frame<'i>,
+        answer: Option<&'i str>,
+    ) -> Result<Step<'i>, AllocError>
+        requires truly { IsTruly text.now self.old }
+        requires follows { (k : Question) × (q : Question) × FrameFollows text.now frame k q
+            × IsAnswered text.now k (sought_of self.old) answer }
+        ensures next { (k q top : Question) (work : ℕ) → FrameFollows text.now frame.entry k q
+            → IsAnswered text.now k (sought_of self.old) answer.entry
+            → IsWaiting text.now frames.old.items q top
+            → work_aside frames.old.items + work_of frame.entry ≤ work
+            → IfOk result (λ step. IsNext text.now frames.new.items self.new step top work) }
+    {
+        match answer {
+            Some(after) => self.found(text, frames, frame, after),
+            None => self.failed(text, frames, frame),
+        }
+    }
+
+    /// Goes on where what was begun is found.
+    fn found<'i>(
+        &mut self,
+        text: &str,
+        frames: &mut Vec<Frame<'i>>,
+        frame: Frame<'i>,
+        after: &'i str,
+    ) -> Result<Step<'i>, AllocError>
+        requires ready { IsReadyAgain text.now after.now self.old }
+        ensures next { (q top : Question) (work : ℕ)
+            → GoesOnFound text.now frame.entry.wait frame.entry.start q (sought_of self.old) after.entry
+            → IsWaiting text.now frames.old.items q top
+            → work_aside frames.old.items + work_of frame.entry ≤ work
+            → IfOk result (λ step. IsNext text.now frames.new.items self.new step top work) }
+    {
+        match frame.wait {
+            Wait::Call(_, _) => Ok(Step::Answer(Some(after))),
+            Wait::Choice(_) => Ok(Step::Answer(Some(after))),
+            Wait::FirstOf(_) => Ok(Step::Answer(Some(after))),
+            Wait::Option => Ok(Step::Answer(Some(after))),
+            Wait::Sequence(_, others) => {
+                self.next_part(text, frames, others, frame.start.mode, after)
+            }
+            Wait::Repetition(body) => self.turn(text, frames, body, frame.start.mode, after),
+            Wait::OnceOrMore(body) => self.more(text, frames, body, frame.start.mode, after),
+            Wait::Negation => {
+                self.told.truncate(frame.start.mark);
+                Ok(Step::Answer(None))
+            }
+        }
+    }
+
+    /// Goes on where what was begun fails.
+    fn failed<'i>(
+        &mut self,
+        text: &str,
+        frames: &mut Vec<Frame<'i>>,
+        frame: Frame<'i>,
+    ) -> Result<Step<'i>, AllocError>
+        requires ready { IsReadyAgain text.now frame.start.rest.now self.old }
+        ensures next { (q top : Question) (work : ℕ)
+            → GoesOnFailed text.now frame.entry.wait frame.entry.start q (sought_of self.old)
+            → IsWaiting text.now frames.old.items q top
+            → work_aside frames.old.items + work_of frame.entry ≤ work
+            → IfOk result (λ step. IsNext text.now frames.new.items self.new step top work) }
+    {
+        let start = frame.start;
+        match frame.wait {
+            Wait::Call(rule, kind) => {
+                let position = text.len() - start.rest.len();
+                self.tell(call_counts(kind, start.mode), rule, start.mark, position)?;
+                Ok(Step::Answer(None))
+            }
+            Wait::Sequence(_, _) => Ok(Step::Answer(None)),
+            Wait::OnceOrMore(_) => Ok(Step::Answer(None)),
+            Wait::Choice(second) => Ok(Step::Begin(second, start.mode, start.rest)),
+            Wait::FirstOf(rules) => match rules.split_first() {
+                Some((first, others)) => self.enter_first(text, frames, *first, others, start),
+                None => Ok(Step::Answer(None)),
+            },
+            Wait::Option => Ok(Step::Answer(Some(start.rest))),
+            Wait::Repetition(_) => Ok(Step::Answer(Some(start.rest))),
+            Wait::Negation => {
+                self.told.truncate(start.mark);
+                Ok(Step::Answer(Some(start.rest)))
+            }
+        }
+    }
+
+    /// Begins the next part of a sequence, behind the skipping.
+    fn next_part<'i>(
+        &mut self,
+        text: &str,
+        frames: &mut Vec<Frame<'i>>,
+        left: &'static Form,
+        mode: Mode,
+        after: &'i str,
+    ) -> Result<Step<'i>, AllocError>
+        requires ready { IsReadyAgain text.now after.now self.old }
+        ensures next { (k top : Question) (n work : ℕ)
+            → IsPartWay text.now left.now mode (sought_of self.old) after.entry.now k
+            → IsAsked text.now frames.old.items k top → effort after.entry.now (cost left.now) < n
+            → work_aside frames.old.items + steps n ≤ work
+            → IfOk result (λ step. IsNext text.now frames.new.items self.new step top work) }
+    {
+        let next = self.skip(text, mode, after)?;
+        let parts = parts_of(left);
+        let Some(others) = parts.others else {
+            return Ok(Step::Begin(parts.first, mode, next));
+        };
+        let mark = self.count();
+        let rest = next;
+        let start = Start { mode, mark, rest };
+        begin_part(
+            frames,
+            Wait::Sequence(parts.first, others),
+            start,
+            parts.first,
+        )
+    }
+
+    /// Begins one more turn of a repetition, behind the skipping.
+    fn turn<'i>(
+        &mut self,
+        text: &str,
+        frames: &mut Vec<Frame<'i>>,
+        body: &'static Form,
+        mode: Mode,
+        after: &'i str,
+    ) -> Result<Step<'i>, AllocError>
+        requires ready { IsReadyAgain text.now after.now self.old }
+        ensures next { (k top : Question) (n work : ℕ)
+            → HasTurned text.now body.now mode (sought_of self.old) after.entry.now k
+            → IsAsked text.now frames.old.items k top → effort after.entry.now 999 < n
+            → work_aside frames.old.items + steps n ≤ work
+            → IfOk result (λ step. IsNext text.now frames.new.items self.new step top work) }
+    {
+        let next = self.skip(text, mode, after)?;
+        let mark = self.count();
+        let rest = after;
+        let start = Start { mode, mark, rest };
+        let wait = Wait::Repetition(body);
+        frames.push(Frame { wait, start })?;
+        Ok(Step::Begin(body, mode, next))
+    }
+
+    /// Begins as many turns as there are behind the first one, and behind the skipping.
+    fn more<'i>(
+        &mut self,
+        text: &str,
+        frames: &mut Vec<Frame<'i>>,
+        body: &'static Form,
+        mode: Mode,
+        after: &'i str,
+    ) -> Result<Step<'i>, AllocError>
+        requires ready { IsReadyAgain text.now after.now self.old }
+        ensures next { (q top : Question) (n work : ℕ)
+            → HasBegun text.now body.now mode (sought_of self.old) after.entry.now q
+            → IsWaiting text.now frames.old.items q top → effort after.entry.now 999 < n
+            → work_aside frames.old.items + steps n ≤ work
+            → IfOk result (λ step. IsNext text.now frames.new.items self.new step top work) }
+    {
+        let next = self.skip(text, mode, after)?;
+        let mark = self.count();
+        let rest = next;
+        let start = Start { mode, mark, rest };
+        begin_part(frames, Wait::Repetition(body), start, body)
     }
 }

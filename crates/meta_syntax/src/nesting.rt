@@ -9,7 +9,7 @@ ghost use Rattle.std.specs.Prelude.{◌≡◌, ◌+◌, ◌<◌, ◌≤◌, ◌�
 ghost use Rattle.meta_base.specs.Language.Expression.{Ident};
 ghost use Rattle.meta_base.specs.Language.Meaning.{Run};
 ghost use Rattle.meta_base.specs.Pieces.MetaRules.{name_of};
-ghost use Rattle.meta_syntax.specs.Forms.{IsGood, IsRunnable, IsSpelled, all_take, choice_among, cost, expression_of, followed, greatest_rank, null, nullable, rank_of};
+ghost use Rattle.meta_syntax.specs.Forms.{IsGood, IsRunnable, IsSpelled, all_take, calls_cost, choice_among, cost, expression_of, followed, null, nullable, rank_of};
 ghost use Rattle.meta_syntax.specs.Nesting.{Follows, FrameFollows, HasTurned, IsAnswered, IsAsked, IsNext, IsPartWay, IsTried, IsWaiting, Question, effort, question_of, steps, work_aside, work_of};
 ghost use Rattle.meta_syntax.specs.Remembering.{IsReady, RemembersTruly};
 ghost use Rattle.meta_syntax.specs.Runs.{GoesOnIfFound, Runs, mode_of};
@@ -386,7 +386,7 @@ impl Recognizer {
             (question_of (Run (mode_of mode) (choice_among (Ident (name_of first)) others.now))
             rest.entry.now false self.old) top
             → work_aside frames.old.items
-            + steps (effort rest.entry.now (4 + greatest_rank (first ∷ others.now))) ≤ work
+            + steps (effort rest.entry.now (calls_cost (first ∷ others.now))) ≤ work
             → IfOk result (λ step. IsNext text.now frames.new.items self.new step top work) }
     {
         let Some(place) = nesting_among(others, rest) else {

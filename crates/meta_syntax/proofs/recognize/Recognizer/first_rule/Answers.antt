@@ -4,7 +4,7 @@ use Rattle.meta_base.specs.Language.Meaning.{Run}
 use Rattle.meta_base.specs.Pieces.MetaRules.{name_of}
 use Rattle.std.proofs.Common.{false}
 use Rattle.meta_syntax.specs.declared.nesting.Wait.TheVariants as wait
-use Rattle.meta_syntax.specs.Forms.{choice_among, greatest_rank}
+use Rattle.meta_syntax.specs.Forms.{calls_cost, choice_among}
 use Rattle.meta_syntax.specs.Nesting.{effort, question_of}
 use Rattle.meta_syntax.specs.Runs.{mode_of}
 use Rattle.meta_syntax.proofs.Following.{all_take-take, found_early, rule_asked, rule_work, taken_rest}
@@ -16,7 +16,7 @@ returns-in_default c = record {
   next = λ top work h l.
       answer_next c.args.text.now c.args.frames.now.items c.first_of.new.self c.in_ok-first_of.field-0
       (question_of (Run (mode_of c.args.mode) (choice_among (Ident (name_of c.args.first)) c.args.others.now)) c.args.rest.now false c.args.self.now)
-      top (effort c.args.rest.now (4 + greatest_rank (c.args.first ∷ c.args.others.now))) work c.in_ok-first_of.ensures.remembers
+      top (effort c.args.rest.now (calls_cost (c.args.first ∷ c.args.others.now))) work c.in_ok-first_of.ensures.remembers
       (record { means = c.in_ok-first_of.ensures.means; goes_on = c.in_ok-first_of.ensures.goes_on }) h l;
 }
 
@@ -30,7 +30,7 @@ returns-in-Some-2 c = record {
       let g = rw c.in-Some-2.is at c.in_ok-after.ensures.goes_on in
       answer_next c.args.text.now c.args.frames.now.items c.first_of-2.new.self (Some c.in-Some-2.after)
       (question_of (Run (mode_of c.args.mode) (choice_among (Ident (name_of c.args.first)) c.args.others.now)) c.args.rest.now false c.args.self.now)
-      top (effort c.args.rest.now (4 + greatest_rank (c.args.first ∷ c.args.others.now))) work c.in_ok-after.ensures.remembers
+      top (effort c.args.rest.now (calls_cost (c.args.first ∷ c.args.others.now))) work c.in_ok-after.ensures.remembers
       (record { means = found_early (Ident (name_of c.args.first)) c.args.others.now c.in-Some.place x; goes_on = g }) h l;
 }
 

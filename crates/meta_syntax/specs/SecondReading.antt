@@ -1,0 +1,220 @@
+-- What waits for an answer in the second reading, and what the answer makes of it.
+use Rattle.std.specs.Prelude.{◌≡◌, ℕ, ◌+◌, ◌-◌, ◌<◌, ◌≤◌, ◌&&◌, max, List, [], ◌∷◌, Bool, true, Option, Some, None, length, take, if◌then◌else◌, ◌⊎◌}
+use Rattle.std.specs.Borrow.{Bor}
+use Rattle.meta_base.specs.Language.Expression.{Expression, Ident, Rep}
+use Rattle.meta_base.specs.Language.Meaning.{Task, Run, Skipping, Turns, gives_token, seen_from}
+use Rattle.meta_base.specs.Language.State.{Mode, State, Trees, joined, Success, Classes}
+use Rattle.meta_base.specs.Language.Text.{Text}
+use Rattle.meta_base.specs.Pieces.MetaRules.{name_of}
+use Rattle.meta_base.specs.declared.grammar.Rule.{Rule}
+use Rattle.meta_syntax.specs.declared.modes.Mode as mode
+use Rattle.meta_syntax.specs.declared.table.Form.{Form}
+use Rattle.meta_syntax.specs.declared.expecting.Expecting.{Expecting}
+use Rattle.meta_syntax.specs.declared.expecting.Frame.{Frame}
+use Rattle.meta_syntax.specs.declared.expecting.Start.{Start}
+use Rattle.meta_syntax.specs.declared.expecting.Wait.{Wait}
+use Rattle.meta_syntax.specs.declared.expecting.Wait.TheVariants as wait
+use Rattle.meta_syntax.specs.declared.nesting.Step.{Step}
+use Rattle.meta_syntax.specs.declared.nesting.Step.TheVariants as step
+use Rattle.meta_syntax.specs.Expecting.{FailsNoting, FailsOrFindsNoting, FindsNoting, IsReadyAgain, IsTruly, Noted, Sought, sought_of, telling}
+use Rattle.meta_syntax.specs.Forms.{IsGood, IsRunnable, IsRunnableTurn, IsSpelled, all_take, calls_cost, choice_among, cost, expression_of, followed, kind_of, null}
+use Rattle.meta_syntax.specs.MetaGrammar.{meta_grammar}
+use Rattle.meta_syntax.specs.Nesting.{effort, steps}
+use Rattle.meta_syntax.specs.Runs.{GoesOn, GoesOnIfFound, IsLeft, at, mode_of}
+
+-- what a reading is asked: a task, the text that is left, whether it may take nothing of it, and what is sought
+pub record Question : Type 0 where
+  pub task : Task
+  pub rest : List ℕ
+  pub empty : Bool
+  pub sought : Sought
+
+-- what a reading of a task is asked from here on
+abbrev pub question_of : Task → List ℕ → Bool → Expecting → Question
+question_of k rest empty e = record { task = k; rest = rest; empty = empty; sought = sought_of e }
+
+-- this is an answer to the question, and what is sought is now this
+pub record IsAnswered (text : List ℕ) (q : Question) (now : Sought) (o : Option (Bor (List ℕ))) : Type 0 where
+  pub means : FailsOrFindsNoting q.task text q.rest q.sought now o
+  pub goes_on : GoesOnIfFound text q.rest q.empty o
+
+-- whatever answers the one question answers the other
+abbrev pub Serves : List ℕ → Question → Question → Type 0
+Serves text k q = (now : Sought) (o : Option (Bor (List ℕ))) → IsAnswered text k now o → IsAnswered text q now o
+
+-- what was found of a sequence, and the form that is still to be run behind it
+pub record FoundSoFar (m : Mode) (whole : Expression) (text from : List ℕ) (p : Sought) (left : Form)
+    (rest : List ℕ) (q : Sought) : Type 0 where
+  pub done : Expression
+  pub found : FindsNoting (Run m done) text from p q rest
+  pub goes_on : followed (Some done) left ≡ whole
+
+-- a sequence was found up to here, these parts are left, and the question is about the whole of it
+pub record IsPartWay (text : List ℕ) (left : Form) (m : mode.Mode) (now : Sought) (rest : List ℕ)
+    (q : Question) : Type 0 where
+  pub good : IsGood left
+  pub spelled : IsSpelled left
+  pub below : cost left < 1000
+  pub here : IsLeft text rest
+  pub whole : Expression
+  pub task : q.task ≡ Run (mode_of m) whole
+  pub found : FoundSoFar (mode_of m) whole text q.rest q.sought left rest now
+  pub shorter : length rest ≤ length q.rest
+  pub begun : (length rest < length q.rest) ⊎ (null left ≡ true → q.empty ≡ true)
+
+-- a rule is called: its answer is that of the alternatives up to it, others are behind it, and the question is
+-- about the whole choice
+pub record IsTrying (text : List ℕ) (first : Rule) (others : List Rule) (m : mode.Mode) (now : Sought)
+    (rest : List ℕ) (q : Question) : Type 0 where
+  pub takes : all_take (first ∷ others) ≡ true
+  pub here : q.rest ≡ rest
+  pub upto : Expression
+  pub task : q.task ≡ Run (mode_of m) (choice_among upto others)
+  pub answers : (later : Sought) (o : Option (Bor (List ℕ)))
+      → FailsOrFindsNoting (Run (mode_of m) (Ident (name_of first))) text rest now later o
+      → FailsOrFindsNoting (Run (mode_of m) upto) text rest q.sought later o
+
+-- some alternatives have failed, these rules are left, and the question is about the whole choice
+pub record IsTried (text : List ℕ) (others : List Rule) (m : mode.Mode) (now : Sought) (rest : List ℕ)
+    (q : Question) : Type 0 where
+  pub takes : all_take others ≡ true
+  pub here : q.rest ≡ rest
+  pub before : Expression
+  pub task : q.task ≡ Run (mode_of m) (choice_among before others)
+  pub failed : FailsNoting (Run (mode_of m) before) text rest q.sought now
+
+-- there were turns up to here: whatever further turns do, the repetition does, with these trees before it
+pub record HasTurned (text : List ℕ) (body : Form) (m : mode.Mode) (now : Sought) (rest : List ℕ)
+    (q : Question) : Type 0 where
+  pub turn : IsRunnableTurn body
+  pub here : IsLeft text rest
+  pub shorter : length rest ≤ length q.rest
+  pub empty : q.empty ≡ true
+  pub trees : Trees
+  pub goes_on : (classes : Classes) (t : State) (us : Trees) (z : Sought)
+      → Noted meta_grammar classes (Turns (mode_of m) (expression_of body)) (at text rest) (Success t us) now z
+      → Noted meta_grammar classes q.task (at text q.rest) (Success t (joined trees us)) q.sought z
+
+-- there was a first turn up to here: a repetition behind the skipping answers the question
+pub record HasBegun (text : List ℕ) (body : Form) (m : mode.Mode) (now : Sought) (rest : List ℕ)
+    (q : Question) : Type 0 where
+  pub turn : IsRunnableTurn body
+  pub here : IsLeft text rest
+  pub goes_on : (later : Sought) (next : List ℕ)
+      → FindsNoting (Skipping (mode_of m)) text rest now later next → GoesOn text rest true next
+      → Serves text (record {
+        task = Run (mode_of m) (Rep (expression_of body));
+        rest = next;
+        empty = true;
+        sought = later;
+      }) q
+
+-- a bound on the cost of a part and of what is behind it
+abbrev pub parts_cost : Form → Form → ℕ
+parts_cost part others = 1 + max (cost part) (if null part then cost others else 0)
+
+-- what waits makes of what is found: an answer to the question `q`, or what is left to be done for one
+abbrev pub GoesOnFound : List ℕ → Wait → Start → Question → Sought → Bor (List ℕ) → Type 0
+GoesOnFound text (wait.Call rule kind) s q now after = IsAnswered text q now (Some after)
+GoesOnFound text (wait.Sequence part others) s q now after =
+    (k : Question) × IsPartWay text others.now s.mode now after.now k × Serves text k q
+    × (effort after.now (cost others.now) < effort s.rest.now (parts_cost part.now others.now))
+GoesOnFound text (wait.Choice second) s q now after = IsAnswered text q now (Some after)
+GoesOnFound text (wait.FirstOf others) s q now after = IsAnswered text q now (Some after)
+GoesOnFound text wait.Option s q now after = IsAnswered text q now (Some after)
+GoesOnFound text (wait.Repetition body) s q now after =
+    (k : Question) × HasTurned text body.now s.mode now after.now k × Serves text k q
+    × (length after.now < length s.rest.now)
+GoesOnFound text (wait.OnceOrMore body) s q now after =
+    HasBegun text body.now s.mode now after.now q × (length after.now < length s.rest.now)
+GoesOnFound text wait.Negation s q now after =
+    (names : List Text) → names ≡ take s.mark now.names
+    → IsAnswered text q (record { place = now.place; names = names }) None
+
+-- the same of a failure
+abbrev pub GoesOnFailed : List ℕ → Wait → Start → Question → Sought → Type 0
+GoesOnFailed text (wait.Call rule kind) s q now =
+    (later : Sought)
+    → later ≡ telling (seen_from (mode_of s.mode) && gives_token (kind_of kind) (mode_of s.mode)) (name_of rule)
+    s.mark (length text - length s.rest.now) now
+    → IsAnswered text q later None
+GoesOnFailed text (wait.Sequence part others) s q now = IsAnswered text q now None
+GoesOnFailed text (wait.Choice second) s q now =
+    IsRunnable second.now
+    × Serves text (record {
+      task = Run (mode_of s.mode) (expression_of second.now);
+      rest = s.rest.now;
+      empty = null second.now;
+      sought = now;
+    }) q
+GoesOnFailed text (wait.FirstOf others) s q now =
+    (k : Question) × IsTried text others.now s.mode now s.rest.now k × Serves text k q
+GoesOnFailed text wait.Option s q now = IsAnswered text q now (Some s.rest)
+GoesOnFailed text (wait.Repetition body) s q now = IsAnswered text q now (Some s.rest)
+GoesOnFailed text (wait.OnceOrMore body) s q now = IsAnswered text q now None
+GoesOnFailed text wait.Negation s q now =
+    (names : List Text) → names ≡ take s.mark now.names
+    → IsAnswered text q (record { place = now.place; names = names }) (Some s.rest)
+
+-- what an answer to the question `k` makes of what waits for it
+abbrev pub Follows : List ℕ → Wait → Start → Question → Question → Type 0
+Follows text w s k q = record {
+  here : IsLeft text s.rest.now;
+  found : (now : Sought) (after : Bor (List ℕ)) → IsAnswered text k now (Some after)
+      → GoesOnFound text w s q now after;
+  failed : (now : Sought) → IsAnswered text k now None → GoesOnFailed text w s q now;
+}
+
+abbrev pub FrameFollows : List ℕ → Frame → Question → Question → Type 0
+FrameFollows text f k q = Follows text f.wait f.start k q
+
+-- the frames, the last of which waits for an answer to the question `k`, lead to one to the question `top`
+abbrev pub IsWaiting : List ℕ → List Frame → Question → Question → Type 0
+IsWaiting text [] k top = k ≡ top
+IsWaiting text (f ∷ fs) k top = (q : Question) × FrameFollows text f q top × IsWaiting text fs k q
+
+-- so they do with an answer to a question that serves theirs
+abbrev pub IsAsked : List ℕ → List Frame → Question → Question → Type 0
+IsAsked text fs k top = (q : Question) × Serves text k q × IsWaiting text fs q top
+
+-- what is done next leads to an answer to the question `top`
+abbrev pub IsOnTheWay : List ℕ → List Frame → Expecting → Step → Question → Type 0
+IsOnTheWay text fs e (step.Begin form m rest) top = record {
+  runnable : IsRunnable form.now;
+  ready : IsReadyAgain text rest.now e;
+  asked : IsAsked text fs
+      (question_of (Run (mode_of m) (expression_of form.now)) rest.now (null form.now) e) top;
+}
+IsOnTheWay text fs e (step.Answer o) top = record {
+  truly : IsTruly text e;
+  answered : (q : Question) × IsAnswered text q (sought_of e) o × IsWaiting text fs q top;
+}
+
+-- a bound on the steps that are taken for what waits
+abbrev pub work_of_wait : Wait → List ℕ → ℕ
+work_of_wait (wait.Call rule kind) rest = 1
+work_of_wait (wait.Sequence part others) rest = steps (effort rest (parts_cost part.now others.now))
+work_of_wait (wait.Choice second) rest = steps (effort rest (cost second.now)) + 1
+work_of_wait (wait.FirstOf others) rest = steps (effort rest (calls_cost others.now))
+work_of_wait wait.Option rest = 1
+work_of_wait (wait.Repetition body) rest = steps (effort rest 0)
+work_of_wait (wait.OnceOrMore body) rest = steps (effort rest 0)
+work_of_wait wait.Negation rest = 1
+
+abbrev pub work_of : Frame → ℕ
+work_of f = work_of_wait f.wait f.start.rest.now
+
+abbrev pub work_aside : List Frame → ℕ
+work_aside [] = 0
+work_aside (f ∷ fs) = work_of f + work_aside fs
+
+-- and of all that is left
+abbrev pub work_left : List Frame → Step → ℕ
+work_left fs (step.Begin form m rest) = work_aside fs + steps (effort rest.now (cost form.now))
+work_left fs (step.Answer o) = work_aside fs
+
+-- the next step leads to an answer to the question `top`, and less is left to be done than this
+pub record IsNext (text : List ℕ) (fs : List Frame) (e : Expecting) (s : Step) (top : Question)
+    (work : ℕ) : Type 0 where
+  pub on_the_way : IsOnTheWay text fs e s top
+  pub less : work_left fs s < work
