@@ -28,6 +28,7 @@ pub mod Lines
 pub mod Surveys
 pub mod PairLemmas
 pub mod LettingGo
+pub mod Copying
 pub mod FailuresStand
 pub mod InBytes
 mod Comparisons

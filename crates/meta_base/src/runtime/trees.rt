@@ -115,29 +115,47 @@ pub fn first_tree<R: Copy>(trees: &[TokenTree<R>]) -> Option<FirstTree<'_, R>>
     })
 }
 
-/// A copy of `trees`, in the same order.
-#[cycle(copy)]
+/// A tree whose copy is begun, the trees behind it that are still to be copied, and the copies of those
+/// before it.
+#[derive(Drop)]
+struct Begun<'t, R> {
+    tree: &'t TokenTree<R>,
+    others: &'t [TokenTree<R>],
+    copies: Vec<TokenTree<R>>,
+}
+
+/// A copy of `trees`, in the same order. The trees whose copies are begun lie in a list, so what is deep
+/// takes memory and not the machine's stack.
 pub(crate) fn copies<R: Copy>(
     alloc: Global,
     trees: &Vec<TokenTree<R>>,
 ) -> Result<Vec<TokenTree<R>>, AllocError>
     ensures { IfOk result (λ copies. map tree_of copies.items ≡ map tree_of trees.now.items) }
 {
+    let mut begun = Vec::new(alloc);
     let mut copies = Vec::with_capacity(alloc, trees.len())?;
-    for tree in trees {
-        copies.push(copy(alloc, tree)?)?;
+    let mut left = trees.as_slice();
+    loop {
+        match left {
+            [tree, others @ ..] => {
+                begun.push(Begun {
+                    tree,
+                    others,
+                    copies,
+                })?;
+                copies = Vec::with_capacity(alloc, tree.inner.len())?;
+                left = tree.inner.as_slice();
+            }
+            [] => {
+                let Some(last) = begun.pop() else {
+                    return Ok(copies);
+                };
+                let tree = last.tree;
+                let copy = TokenTree::new(tree.rule, tree.start, tree.end, copies);
+                copies = last.copies;
+                copies.push(copy)?;
+                left = last.others;
+            }
+        }
     }
-    Ok(copies)
-}
-
-#[cycle(copy)]
-fn copy<R: Copy>(alloc: Global, tree: &TokenTree<R>) -> Result<TokenTree<R>, AllocError>
-    ensures { IfOk result (λ copy. tree_of copy ≡ tree_of tree.now) }
-{
-    Ok(TokenTree {
-        rule: tree.rule,
-        start: tree.start,
-        end: tree.end,
-        inner: copies(alloc, &tree.inner)?,
-    })
 }
