@@ -1,4 +1,5 @@
 pub mod Leaving
+pub mod Noting
 pub mod Steps
 pub mod Waiting
 pub mod Whole

@@ -17,11 +17,10 @@ use Rattle.meta_base.specs.Language.Builtins.{Builtin, Eoi, Newline, Peek, PeekA
 use Rattle.meta_base.specs.Language.Matching.{builtin_outcome, character_outcome, concatenated, distance, newline_outcome, slice_outcome, text_outcome, with_stack, peek_outcome, pop_outcome, drop_outcome}
 use Rattle.meta_base.specs.Language.Meaning.{Run, insens, push, push_literal, pushed, seen_from, skip, slice}
 use Rattle.meta_base.specs.Language.FurthestFailure.{is_eoi}
-use Rattle.meta_base.specs.Language.Ran.{Ran}
-use Rattle.meta_base.proofs.Steps.{ran_quietly}
 use Rattle.meta_syntax.proofs.EntryLists.{not_grown}
 use Rattle.meta_matcher.specs.declared.modes.Mode as mode
-use Rattle.meta_matcher.specs.Runs.{Fails, Finds, Gives, GoesOn, IsLeft, Now, Setting, leaving, mode_of, standing}
+use Rattle.meta_matcher.specs.Runs.{Fails, Finds, Gives, GoesOn, IsLeft, Notes, Now, Ran, Setting, leaving, mode_of, standing}
+use Rattle.meta_matcher.proofs.Noting.{ran_quietly, ran_silently}
 use Rattle.meta_matcher.proofs.Steps.{by_builtin, eoi_builtin, never, gives_leaving}
 
 peek_builtin : builtin_of (codes "PEEK") ≡ Some Peek
@@ -36,11 +35,11 @@ drop_builtin : builtin_of (codes "DROP") ≡ Some Drop
 unfolding builtins
 drop_builtin = refl
 
-ran_builtin : {g : Grammar} (m : mode.Mode) {classes : Classes} (n : Text) (b : Builtin) {s : State} {o : Outcome} {p : ℕ} → builtin_of n ≡ Some b → is_eoi n ≡ false → rule_of g n ≡ None → builtin_outcome classes (mode_of m) b s ≡ Some o → Ran g classes (Run (mode_of m) (Ident n)) s o p p
+ran_builtin : {g : Grammar} (m : mode.Mode) {classes : Classes} {place : ℕ} (n : Text) (b : Builtin) {s : State} {o : Outcome} {p : Notes} → builtin_of n ≡ Some b → is_eoi n ≡ false → rule_of g n ≡ None → builtin_outcome classes (mode_of m) b s ≡ Some o → Ran g classes place (Run (mode_of m) (Ident n)) s o p p
 ran_builtin m {classes} n b {s} h e u x = ran_quietly u (by_builtin classes m n b s h ∙ x) (rw e (never (seen_from (mode_of m))))
 
-ran_slice : {g : Grammar} {classes : Classes} {m : Mode} {i : ℤ} {j : Option ℤ} {s : State} {o : Outcome} {p : ℕ} → o ≡ slice_outcome i j s → Ran g classes (Run m (PeekSlice i j)) s o p p
-ran_slice e = rw e (record { found = slice; noted = omega arith })
+ran_slice : {g : Grammar} {classes : Classes} {place : ℕ} {m : Mode} {i : ℤ} {j : Option ℤ} {s : State} {o : Outcome} {p : Notes} → o ≡ slice_outcome i j s → Ran g classes place (Run m (PeekSlice i j)) s o p p
+ran_slice e = rw e (ran_silently slice refl refl)
 
 module _ (g : Setting) (m : mode.Mode) (text rest : List ℕ) (a : Now) (t : Text) (ts : List Text) (is : a.stack ≡ t ∷ ts) where
   peeked : peek_outcome a.stack (standing text rest a.stack) ≡ Some (text_outcome nat_eq t (standing text rest a.stack))
@@ -52,7 +51,7 @@ module _ (g : Setting) (m : mode.Mode) (text rest : List ℕ) (a : Now) (t : Tex
   pub gives_peek : (o : Option (Bor (List ℕ))) → rule_of g.grammar (codes "PEEK") ≡ None → leaving text a.stack o ≡ text_outcome nat_eq t (standing text rest a.stack) → Gives g (Run (mode_of m) (Ident (codes "PEEK"))) text rest a a o
   gives_peek o u e = gives_leaving g _ text rest a o (λ classes fits. ran_builtin m (codes "PEEK") Peek peek_builtin refl u (peeked ∙ ap Some (sym e)))
 
-  pub finds_pop : (b : Now) (after : Bor (List ℕ)) → rule_of g.grammar (codes "POP") ≡ None → b.entries ≡ a.entries → b.stack ≡ ts → b.furthest ≡ a.furthest → leaving text a.stack (Some after) ≡ text_outcome nat_eq t (standing text rest a.stack) → Finds g (Run (mode_of m) (Ident (codes "POP"))) text rest a b after.now
+  pub finds_pop : (b : Now) (after : Bor (List ℕ)) → rule_of g.grammar (codes "POP") ≡ None → b.entries ≡ a.entries → b.stack ≡ ts → b.notes ≡ a.notes → leaving text a.stack (Some after) ≡ text_outcome nat_eq t (standing text rest a.stack) → Finds g (Run (mode_of m) (Ident (codes "POP"))) text rest a b after.now
   finds_pop b after u be bs bf e = record {
     trees = None';
     added = be ∙ not_grown a.entries;
@@ -62,7 +61,7 @@ module _ (g : Setting) (m : mode.Mode) (text rest : List ℕ) (a : Now) (t : Tex
   pub fails_pop : rule_of g.grammar (codes "POP") ≡ None → leaving text a.stack None ≡ text_outcome nat_eq t (standing text rest a.stack) → Fails g (Run (mode_of m) (Ident (codes "POP"))) text rest a a
   fails_pop u e = record { kept = refl; same = refl; ran = λ classes fits. ran_builtin m (codes "POP") Pop pop_builtin refl u (popped ∙ ap (λ o. Some (with_stack ts o)) (sym e)) }
 
-  pub finds_drop : (b : Now) → rule_of g.grammar (codes "DROP") ≡ None → b.entries ≡ a.entries → b.stack ≡ ts → b.furthest ≡ a.furthest → Finds g (Run (mode_of m) (Ident (codes "DROP"))) text rest a b rest
+  pub finds_drop : (b : Now) → rule_of g.grammar (codes "DROP") ≡ None → b.entries ≡ a.entries → b.stack ≡ ts → b.notes ≡ a.notes → Finds g (Run (mode_of m) (Ident (codes "DROP"))) text rest a b rest
   finds_drop b u be bs bf = record {
     trees = None';
     added = be ∙ not_grown a.entries;
@@ -95,7 +94,7 @@ module _ (g : Setting) (m : mode.Mode) (text rest : List ℕ) (a : Now) where
     pub gives_peek_all : (o : Option (Bor (List ℕ))) → rule_of g.grammar (codes "PEEK_ALL") ≡ None → leaving text a.stack o ≡ text_outcome nat_eq (concatenated us) (standing text rest a.stack) → Gives g (Run (mode_of m) (Ident (codes "PEEK_ALL"))) text rest a a o
     gives_peek_all o u e = gives_leaving g _ text rest a o (λ classes fits. ran_builtin m (codes "PEEK_ALL") PeekAll peek_all_builtin refl u (ap Some (sym (e ∙ ap (λ ts. text_outcome nat_eq (concatenated ts) (standing text rest a.stack)) is))))
 
-    pub finds_pop_all : (b : Now) (after : Bor (List ℕ)) → rule_of g.grammar (codes "POP_ALL") ≡ None → b.entries ≡ a.entries → b.stack ≡ [] → b.furthest ≡ a.furthest → leaving text a.stack (Some after) ≡ text_outcome nat_eq (concatenated us) (standing text rest a.stack) → Finds g (Run (mode_of m) (Ident (codes "POP_ALL"))) text rest a b after.now
+    pub finds_pop_all : (b : Now) (after : Bor (List ℕ)) → rule_of g.grammar (codes "POP_ALL") ≡ None → b.entries ≡ a.entries → b.stack ≡ [] → b.notes ≡ a.notes → leaving text a.stack (Some after) ≡ text_outcome nat_eq (concatenated us) (standing text rest a.stack) → Finds g (Run (mode_of m) (Ident (codes "POP_ALL"))) text rest a b after.now
     finds_pop_all b after u be bs bf e = record {
       trees = None';
       added = be ∙ not_grown a.entries;
@@ -110,11 +109,11 @@ module _ (g : Setting) (m : mode.Mode) (text rest : List ℕ) (a : Now) where
         let f : leaving text a.stack o ≡ slice_outcome i j (standing text rest a.stack) = subst (λ ts. leaving text ts o ≡ slice_outcome i j (standing text rest ts)) is e in
         gives_leaving g _ text rest a o (λ classes fits. ran_slice f)
 
-ran_insens : {g : Grammar} {classes : Classes} {m : Mode} {t : Text} {s : State} {o : Outcome} {p : ℕ} → o ≡ text_outcome eq_ignore_ascii_case t s → Ran g classes (Run m (Insens t)) s o p p
-ran_insens e = rw e (record { found = insens; noted = omega arith })
+ran_insens : {g : Grammar} {classes : Classes} {place : ℕ} {m : Mode} {t : Text} {s : State} {o : Outcome} {p : Notes} → o ≡ text_outcome eq_ignore_ascii_case t s → Ran g classes place (Run m (Insens t)) s o p p
+ran_insens e = rw e (ran_silently insens refl refl)
 
-ran_skip : {g : Grammar} {classes : Classes} {m : Mode} {ts : List Text} {s t : State} {p : ℕ} → t ≡ moved (distance ts s.rest) s → Ran g classes (Run m (Skip ts)) s (Success t None') p p
-ran_skip e = rw e (record { found = skip; noted = omega arith })
+ran_skip : {g : Grammar} {classes : Classes} {place : ℕ} {m : Mode} {ts : List Text} {s t : State} {p : Notes} → t ≡ moved (distance ts s.rest) s → Ran g classes place (Run m (Skip ts)) s (Success t None') p p
+ran_skip e = rw e (ran_silently skip refl refl)
 
 pub gives_insens : (g : Setting) (m : Mode) (t : Text) (text rest : List ℕ) (a : Now) (o : Option (Bor (List ℕ))) → leaving text a.stack o ≡ text_outcome eq_ignore_ascii_case t (standing text rest a.stack) → Gives g (Run m (Insens t)) text rest a a o
 gives_insens g m t text rest a o e = gives_leaving g _ text rest a o (λ classes fits. ran_insens e)
@@ -152,21 +151,21 @@ taken_chars text rest after taken l k s e u =
     let n : length (chars rest) - length (chars after) ≡ length (chars taken) = let q = ap length c ∙ length-append (chars taken) (chars after) in omega (arith, q) in
     sym (rw (n, c) (take-append_seam (chars taken) (chars after)))
 
-ran_push : {g : Grammar} {classes : Classes} {m : Mode} {e : Expression} {s : State} {o : Outcome} {p q : ℕ} → Ran g classes (Run m e) s o p q → Ran g classes (Run m (Push e)) s (pushed s o) p q
-ran_push x = record { found = push x.found; noted = x.noted }
+ran_push : {g : Grammar} {classes : Classes} {place : ℕ} {m : Mode} {e : Expression} {s : State} {o : Outcome} {p q : Notes} → Ran g classes place (Run m e) s o p q → Ran g classes place (Run m (Push e)) s (pushed s o) p q
+ran_push x = record { found = push x.found; noted = x.noted; told = x.told }
 
 -- a literal push
-pub finds_literal_push : (g : Setting) (m : Mode) (t : Text) (text rest : List ℕ) (a c : Now) → c.entries ≡ a.entries → c.furthest ≡ a.furthest → c.stack ≡ t ∷ a.stack → Finds g (Run m (PushLiteral t)) text rest a c rest
+pub finds_literal_push : (g : Setting) (m : Mode) (t : Text) (text rest : List ℕ) (a c : Now) → c.entries ≡ a.entries → c.notes ≡ a.notes → c.stack ≡ t ∷ a.stack → Finds g (Run m (PushLiteral t)) text rest a c rest
 finds_literal_push g m t text rest a c ce cf cs = record {
   trees = None';
   added = ce ∙ not_grown a.entries;
-  ran = λ classes fits. rw (cf, cs) (record { found = push_literal; noted = omega arith });
+  ran = λ classes fits. rw (cf, cs) (ran_silently push_literal refl refl);
 }
 
 pub fails_push : {g : Setting} {m : Mode} {e : Expression} {text rest : List ℕ} {a b : Now} → Fails g (Run m e) text rest a b → Fails g (Run m (Push e)) text rest a b
 fails_push f = record { kept = f.kept; same = f.same; ran = λ classes fits. ran_push (f.ran classes fits) }
 
-pub finds_push : (g : Setting) (m : Mode) (e : Expression) (text rest after taken : List ℕ) (a b c : Now) → Finds g (Run m e) text rest a b after → IsLeft text rest → GoesOn text rest after → taken ≡ take (length rest - length after) rest → IsUtf8 taken → c.entries ≡ b.entries → c.furthest ≡ b.furthest → c.stack ≡ chars taken ∷ b.stack → Finds g (Run m (Push e)) text rest a c after
+pub finds_push : (g : Setting) (m : Mode) (e : Expression) (text rest after taken : List ℕ) (a b c : Now) → Finds g (Run m e) text rest a b after → IsLeft text rest → GoesOn text rest after → taken ≡ take (length rest - length after) rest → IsUtf8 taken → c.entries ≡ b.entries → c.notes ≡ b.notes → c.stack ≡ chars taken ∷ b.stack → Finds g (Run m (Push e)) text rest a c after
 finds_push g m e text rest after taken a b c f l h t u ce cf cs = record {
   trees = f.trees;
   added = ce ∙ f.added;

@@ -1,5 +1,5 @@
 -- The steps of a run: what is found, and what is written.
-use Rattle.std.proofs.Common.{◌≡◌, refl, sym, ◌∙◌, ap, subst, ℕ, ◌-◌, max, List, [], ◌∷◌, ◌++◌, Bool, true, false, ◌&&◌, Option, Some, None, arith, Result, Ok, Err, IfOk, if◌then◌else◌, ◌⊎◌, inl, inr, eq-eqb, ne_eqb, codes, nat_eq, length, take, get_or, ◌<◌, ◌==◌}
+use Rattle.std.proofs.Common.{◌≡◌, refl, sym, ◌∙◌, ap, subst, ℕ, ◌-◌, max, List, [], ◌∷◌, ◌++◌, Bool, true, false, ◌&&◌, Option, Some, None, arith, if◌then◌else◌, ◌⊎◌, inl, inr, eq-eqb, ne_eqb, codes, nat_eq, length, take, get_or, ◌<◌, ◌==◌}
 use Rattle.std.specs.Prelude.{chars, IsUtf8}
 use Rattle.std.proofs.lemmas.List.{length-drop, length-map, get_or-map}
 use Rattle.std.specs.Borrow.{Bor}
@@ -8,10 +8,10 @@ use Rattle.meta_base.specs.Language.Expression.{Grammar, Expression, Ident, NegP
 use Rattle.meta_base.specs.Language.Text.{Text}
 use Rattle.meta_base.specs.Language.Builtins.{Builtin, One, Soi, Eoi, builtin_of, builtins}
 use Rattle.meta_base.specs.Language.Matching.{character_outcome, other_outcome, builtin_outcome, end_outcome, with_stack}
-use Rattle.meta_base.specs.Language.Meaning.{Does, Task, Run, Turns, Skipping, seq_first, seq_second, skips, restore, tag, body_mode, mode_in, gives_token, seen_from, with_token}
+use Rattle.meta_base.specs.Language.Meaning.{Does, Task, Run, Turns, Skipping, seq_first, seq_second, skips, body_mode, mode_in, gives_token, seen_from}
+use Rattle.meta_base.specs.Language.Expected.{expected_at, told}
 use Rattle.meta_base.specs.Language.FurthestFailure.{place_of, is_eoi}
-use Rattle.meta_base.specs.Language.Ran.{Ran}
-use Rattle.meta_base.proofs.Steps.{after_trees, after_assoc, after_none, joined_nil, ran_other, ran_quietly, ran_call, ran_ahead, ran_not_ahead, ran_opt, ran_opt_none, ran_seq_fails, ran_seq, ran_left, ran_right, ran_rep_none, ran_rep, ran_rep_once, ran_turns_end, ran_turns_more, ran_more, ran_skips, ran_atomic, ran_compound_atomic, ran_between, ran_blank}
+use Rattle.meta_matcher.proofs.Noting.{ran_other, ran_quietly, ran_call, ran_ahead, ran_not_ahead, ran_opt, ran_opt_none, ran_seq_fails, ran_seq, ran_left, ran_right, ran_rep_none, ran_rep, ran_rep_once, ran_turns_end, ran_turns_more, ran_more, ran_skips, ran_atomic, ran_compound_atomic, ran_between, ran_blank, ran_restore, ran_tag, told_failing}
 use Rattle.meta_syntax.specs.Entries.{Entry, token, entries_of, open_start}
 use Rattle.meta_syntax.specs.Runs as bare
 use Rattle.meta_syntax.proofs.EntryLists.{grown, not_grown, cut_back}
@@ -26,7 +26,8 @@ use Rattle.meta_matcher.specs.declared.form.Property.{Property}
 use Rattle.meta_matcher.specs.Programs.{Fits, class_name, expression_of, grammar_of, names_of, rule_of_row, set_of, IsRow, IsRuleOf, IsSound}
 use Rattle.meta_matcher.specs.Machines.{IsBlankName, is_whitespace, is_comment}
 use Rattle.meta_matcher.specs.Frames.{blanks, comments}
-use Rattle.meta_matcher.specs.Runs.{Fails, Finds, Gives, IsLeft, IsReset, Now, Setting, leaving, mode_of, standing}
+use Rattle.meta_matcher.specs.Runs.{Fails, Finds, Gives, IsLeft, IsReset, Notes, Now, Ran, Setting, forgetting, leaving, mode_of, noting, standing}
+use Rattle.meta_matcher.specs.Told.{with_names}
 
 -- what a builtin's name does in a mode of the code
 pub by_builtin : (classes : Classes) (m : mode.Mode) (n : Text) (b : Builtin) (s : State) → builtin_of n ≡ Some b → other_outcome classes (mode_of m) n s ≡ builtin_outcome classes (mode_of m) b s
@@ -85,39 +86,36 @@ module _ {g : Grammar} {classes : Classes} where
   skipping_never_fails (skips (seq_first d)) = rep_never_fails d
   skipping_never_fails (skips (seq_second a b d)) = rep_never_fails d
 
-  pub ran_one : (m : mode.Mode) (k : Class) {s : State} {o : Outcome} {p : ℕ} → rule_of g (class_name k) ≡ None → o ≡ character_outcome (set_of k) s → Ran g classes (Run (mode_of m) (Ident (class_name k))) s o p p
+module _ {g : Grammar} {classes : Classes} {place : ℕ} where
+  pub ran_one : (m : mode.Mode) (k : Class) {s : State} {o : Outcome} {p : Notes} → rule_of g (class_name k) ≡ None → o ≡ character_outcome (set_of k) s → Ran g classes place (Run (mode_of m) (Ident (class_name k))) s o p p
   ran_one m k {s} u e = ran_quietly u (rw (by_builtin classes m _ _ s (class_builtin k), e) refl) (rw (class_is_no_end k) (never (seen_from (mode_of m))))
 
-  pub ran_soi : (m : mode.Mode) {s : State} {o : Outcome} {p : ℕ} → rule_of g (codes "SOI") ≡ None → o ≡ (if nat_eq s.position 0 then Success s None' else Failure) → Ran g classes (Run (mode_of m) (Ident (codes "SOI"))) s o p p
+  pub ran_soi : (m : mode.Mode) {s : State} {o : Outcome} {p : Notes} → rule_of g (codes "SOI") ≡ None → o ≡ (if nat_eq s.position 0 then Success s None' else Failure) → Ran g classes place (Run (mode_of m) (Ident (codes "SOI"))) s o p p
   ran_soi m {s} u e = ran_quietly u (rw (by_builtin classes m _ _ s soi_builtin, e) refl) (never (seen_from (mode_of m)))
 
-  ran_eoi : (m : mode.Mode) {s : State} {o : Outcome} {p q : ℕ} → rule_of g (codes "EOI") ≡ None → o ≡ end_outcome (mode_of m) s.rest s → q ≡ max p (place_of (seen_from (mode_of m)) s o) → Ran g classes (Run (mode_of m) (Ident (codes "EOI"))) s o p q
-  ran_eoi m {s} u e h = ran_other u (rw (by_builtin classes m _ _ s eoi_builtin, e) refl) (rw (always (seen_from (mode_of m))) h)
+  ran_eoi : (m : mode.Mode) {s : State} {o : Outcome} {p q : Notes} → rule_of g (codes "EOI") ≡ None → o ≡ end_outcome (mode_of m) s.rest s → q.furthest ≡ max p.furthest (place_of (seen_from (mode_of m)) s o) → q.told ≡ with_names p.told (told (seen_from (mode_of m)) (codes "EOI") place s o []) → Ran g classes place (Run (mode_of m) (Ident (codes "EOI"))) s o p q
+  ran_eoi m {s} u e h f = ran_other u (rw (by_builtin classes m _ _ s eoi_builtin, e) refl) (rw (always (seen_from (mode_of m))) h) (rw (always (seen_from (mode_of m))) f)
 
-  pub ran_end : (m : mode.Mode) {s t : State} {us : Trees} {p : ℕ} → rule_of g (codes "EOI") ≡ None → Success t us ≡ end_outcome (mode_of m) s.rest s → Ran g classes (Run (mode_of m) (Ident (codes "EOI"))) s (Success t us) p p
-  ran_end m u e = ran_eoi m u e (omega arith)
+  pub ran_end : (m : mode.Mode) {s t : State} {us : Trees} {p : Notes} → rule_of g (codes "EOI") ≡ None → Success t us ≡ end_outcome (mode_of m) s.rest s → Ran g classes place (Run (mode_of m) (Ident (codes "EOI"))) s (Success t us) p p
+  ran_end m u e = ran_eoi m u e (omega arith) refl
 
-  pub ran_not_end : (m : mode.Mode) {s : State} {p q : ℕ} (sees : Bool) → rule_of g (codes "EOI") ≡ None → Failure ≡ end_outcome (mode_of m) s.rest s → sees ≡ seen_from (mode_of m) → q ≡ max p (if sees then s.position else 0) → Ran g classes (Run (mode_of m) (Ident (codes "EOI"))) s Failure p q
-  ran_not_end m sees u e h n = ran_eoi m u e (rw (← h) n)
-
-  ran_tag : {m : Mode} {e : Expression} {t : Text} {s : State} {o : Outcome} {p q : ℕ} → Ran g classes (Run m e) s o p q → Ran g classes (Run m (NodeTag e t)) s o p q
-  ran_tag x = record { found = tag x.found; noted = x.noted }
-
-  ran_restore : {m : Mode} {e : Expression} {s : State} {o : Outcome} {p q : ℕ} → Ran g classes (Run m e) s o p q → Ran g classes (Run m (RestoreOnErr e)) s o p q
-  ran_restore x = record { found = restore x.found; noted = x.noted }
+  pub ran_not_end : (m : mode.Mode) {s : State} {p q : Notes} (sees : Bool) (first : ℕ) → rule_of g (codes "EOI") ≡ None → Failure ≡ end_outcome (mode_of m) s.rest s → sees ≡ seen_from (mode_of m) → first ≡ length p.told → q ≡ noting place sees (codes "EOI") s.position first p → Ran g classes place (Run (mode_of m) (Ident (codes "EOI"))) s Failure p q
+  ran_not_end m {s} {p} sees first u e h k n = ran_eoi m u e (rw (← h) (ap (λ z. z.furthest) n)) (rw (← h) (ap (λ z. z.told) n ∙ told_failing place sees (codes "EOI") first s.position p.told [] p.told refl k))
 
   module _ (r : Rule) (n : Text) (m mode : Mode) (meant : rule_of g n ≡ Some r) (same_mode : mode ≡ body_mode r m) where
-    called : {s : State} {o : Outcome} {p q z : ℕ} → Ran g classes (Run mode r.body) s o p q → z ≡ max q (place_of (seen_from m && gives_token r.type_of m) s o) → Ran g classes (Run m (Ident n)) s (with_token r m s o) p z
-    called {s} {o} {p} {q} x e = ran_call meant (subst (λ k. Ran g classes (Run k r.body) s o p q) same_mode x) e
+    in_its_mode : {s : State} {o : Outcome} {p q : Notes} → Ran g classes place (Run mode r.body) s o p q → Ran g classes place (Run (body_mode r m) r.body) s o p q
+    in_its_mode {s} {o} {p} {q} x = subst (λ k. Ran g classes place (Run k r.body) s o p q) same_mode x
 
-    pub call_found : {s t : State} {us : Trees} {p q : ℕ} (gives : Bool) → Ran g classes (Run mode r.body) s (Success t us) p q → gives ≡ gives_token r.type_of m → Ran g classes (Run m (Ident n)) s (Success t (token gives r.name s.position t.position us)) p q
-    call_found gives x h = rw h (called x (omega arith))
+    pub call_found : {s t : State} {us : Trees} {p q : Notes} (gives : Bool) → Ran g classes place (Run mode r.body) s (Success t us) p q → gives ≡ gives_token r.type_of m → Ran g classes place (Run m (Ident n)) s (Success t (token gives r.name s.position t.position us)) p q
+    call_found gives x h = let y = in_its_mode x in rw h (ran_call meant y (omega arith) y.told)
 
-    pub call_failed : {s : State} {p q z : ℕ} (counts : Bool) → Ran g classes (Run mode r.body) s Failure p q → counts ≡ (seen_from m && gives_token r.type_of m) → z ≡ max q (if counts then s.position else 0) → Ran g classes (Run m (Ident n)) s Failure p z
-    call_failed counts x h e = called x (rw (← h) e)
+    pub call_failed : {s : State} {p q z : Notes} (counts : Bool) (first : ℕ) → Ran g classes place (Run mode r.body) s Failure p q → counts ≡ (seen_from m && gives_token r.type_of m) → first ≡ length p.told → z ≡ noting place counts n s.position first q → Ran g classes place (Run m (Ident n)) s Failure p z
+    call_failed {s} {p} {q} counts first x h k e =
+        let y = in_its_mode x in
+        ran_call meant y (rw (← h) (ap (λ z. z.furthest) e)) (rw (← h) (ap (λ z. z.told) e ∙ told_failing place counts n first s.position p.told (expected_at place y.found) q.told y.told k))
 
 -- forms without tokens
-pub gives_leaving : (g : Setting) (k : Task) (text rest : List ℕ) (a : Now) (o : Option (Bor (List ℕ))) → ((classes : Classes) → Fits g.properties classes → Ran g.grammar classes k (standing text rest a.stack) (leaving text a.stack o) a.furthest a.furthest) → Gives g k text rest a a o
+pub gives_leaving : (g : Setting) (k : Task) (text rest : List ℕ) (a : Now) (o : Option (Bor (List ℕ))) → ((classes : Classes) → Fits g.properties classes → Ran g.grammar classes g.asked k (standing text rest a.stack) (leaving text a.stack o) a.notes a.notes) → Gives g k text rest a a o
 gives_leaving g k text rest a None h = record { kept = refl; same = refl; ran = h }
 gives_leaving g k text rest a (Some after) h = record { trees = None'; added = not_grown a.entries; ran = h }
 
@@ -141,42 +139,35 @@ pub cut_opened : (start begun now cut : List Entry) (n : ℕ) (es : List Entry) 
 cut_opened start begun now cut n es o k c e = c ∙ (ap (take n) (k ∙ o) ∙ cut_back start es n e)
 
 -- a run that begins where the stack is another, but equal
-same_start : {g : Grammar} {classes : Classes} {k : Task} (text rest : List ℕ) {ts us : List Text} {o : Outcome} {p q : ℕ} → ts ≡ us → Ran g classes k (standing text rest ts) o p q → Ran g classes k (standing text rest us) o p q
-same_start {g} {classes} {k} text rest {o = o} {p} {q} e x = subst (λ ts. Ran g classes k (standing text rest ts) o p q) e x
+same_start : {g : Grammar} {classes : Classes} {place : ℕ} {k : Task} (text rest : List ℕ) {ts us : List Text} {o : Outcome} {p q : Notes} → ts ≡ us → Ran g classes place k (standing text rest ts) o p q → Ran g classes place k (standing text rest us) o p q
+same_start {g} {classes} {place} {k} text rest {o = o} {p} {q} e x = subst (λ ts. Ran g classes place k (standing text rest ts) o p q) e x
 
 -- an end where the failure was noted elsewhere, at the same place
-same_noted : {g : Grammar} {classes : Classes} {k : Task} {s : State} {o : Outcome} {p q z : ℕ} → z ≡ q → Ran g classes k s o p q → Ran g classes k s o p z
-same_noted {g} {classes} {k} {s} {o} {p} e x = subst (λ z. Ran g classes k s o p z) (sym e) x
+same_noted : {g : Grammar} {classes : Classes} {place : ℕ} {k : Task} {s : State} {o : Outcome} {p q z : Notes} → z ≡ q → Ran g classes place k s o p q → Ran g classes place k s o p z
+same_noted {g} {classes} {place} {k} {s} {o} {p} e x = subst (λ z. Ran g classes place k s o p z) (sym e) x
 
 module _ {g : Setting} {text rest : List ℕ} {a b : Now} where
   -- another task that does the same
-  pub finds_as : {k l : Task} {t : List ℕ} → ((classes : Classes) (s : State) (o : Outcome) (p q : ℕ) → Ran g.grammar classes k s o p q → Ran g.grammar classes l s o p q) → Finds g k text rest a b t → Finds g l text rest a b t
+  pub finds_as : {k l : Task} {t : List ℕ} → ((classes : Classes) (s : State) (o : Outcome) (p q : Notes) → Ran g.grammar classes g.asked k s o p q → Ran g.grammar classes g.asked l s o p q) → Finds g k text rest a b t → Finds g l text rest a b t
   finds_as h x = record { trees = x.trees; added = x.added; ran = λ classes fits. h classes _ _ _ _ (x.ran classes fits) }
 
-  pub fails_as : {k l : Task} → ((classes : Classes) (s : State) (o : Outcome) (p q : ℕ) → Ran g.grammar classes k s o p q → Ran g.grammar classes l s o p q) → Fails g k text rest a b → Fails g l text rest a b
+  pub fails_as : {k l : Task} → ((classes : Classes) (s : State) (o : Outcome) (p q : Notes) → Ran g.grammar classes g.asked k s o p q → Ran g.grammar classes g.asked l s o p q) → Fails g k text rest a b → Fails g l text rest a b
   fails_as h x = record { kept = x.kept; same = x.same; ran = λ classes fits. h classes _ _ _ _ (x.ran classes fits) }
 
   -- a failure where nothing was taken
-  pub finds_nothing : {k l : Task} → ((classes : Classes) (s : State) (p q : ℕ) → Ran g.grammar classes k s Failure p q → Ran g.grammar classes l s (Success s None') p q) → Fails g k text rest a b → Finds g l text rest a b rest
+  pub finds_nothing : {k l : Task} → ((classes : Classes) (s : State) (p q : Notes) → Ran g.grammar classes g.asked k s Failure p q → Ran g.grammar classes g.asked l s (Success s None') p q) → Fails g k text rest a b → Finds g l text rest a b rest
   finds_nothing {l = l} h x = record {
     trees = None';
     added = adds_on a.entries b.entries b.entries None' x.kept (not_grown b.entries);
-    ran = λ classes fits. subst (λ ts. Ran g.grammar classes l (standing text rest a.stack) (Success (standing text rest ts) None') a.furthest b.furthest) (sym x.same) (h classes _ _ _ (x.ran classes fits));
+    ran = λ classes fits. subst (λ ts. Ran g.grammar classes g.asked l (standing text rest a.stack) (Success (standing text rest ts) None') a.notes b.notes) (sym x.same) (h classes _ _ _ (x.ran classes fits));
   }
 
   -- a success that was taken back
-  pub fails_after : {k l : Task} {c : Now} {n : ℕ} {ts : List Text} {s : List ℕ} → ((classes : Classes) (s t : State) (us : Trees) (p q : ℕ) → Ran g.grammar classes k s (Success t us) p q → Ran g.grammar classes l s Failure p q) → Finds g k text rest a b s → IsReset n ts b c → n ≡ length a.entries → ts ≡ a.stack → Fails g l text rest a c
-  fails_after {c = c} {n} h x r e i = record {
-    kept = cut_to a.entries b.entries c.entries n _ x.added r.entries e;
-    same = r.stack ∙ i;
-    ran = λ classes fits. same_noted r.furthest (h classes _ _ _ _ _ (x.ran classes fits));
-  }
-
-  pub finds_after : {k l : Task} {c : Now} {n : ℕ} {ts : List Text} {s : List ℕ} → ((classes : Classes) (s t : State) (us : Trees) (p q : ℕ) → Ran g.grammar classes k s (Success t us) p q → Ran g.grammar classes l s (Success s None') p q) → Finds g k text rest a b s → IsReset n ts b c → n ≡ length a.entries → ts ≡ a.stack → Finds g l text rest a c rest
+  pub finds_after : {k l : Task} {c : Now} {n : ℕ} {ts : List Text} {s : List ℕ} → ((classes : Classes) (s t : State) (us : Trees) (p q : Notes) → Ran g.grammar classes g.asked k s (Success t us) p q → Ran g.grammar classes g.asked l s (Success s None') p q) → Finds g k text rest a b s → IsReset n ts b c → n ≡ length a.entries → ts ≡ a.stack → Finds g l text rest a c rest
   finds_after {l = l} {c} {n} h x r e i = record {
     trees = None';
     added = adds_on a.entries c.entries c.entries None' (cut_to a.entries b.entries c.entries n _ x.added r.entries e) (not_grown c.entries);
-    ran = λ classes fits. same_noted r.furthest (subst (λ ts. Ran g.grammar classes l (standing text rest a.stack) (Success (standing text rest ts) None') a.furthest b.furthest) (sym (r.stack ∙ i)) (h classes _ _ _ _ _ (x.ran classes fits)));
+    ran = λ classes fits. same_noted r.notes (subst (λ ts. Ran g.grammar classes g.asked l (standing text rest a.stack) (Success (standing text rest ts) None') a.notes b.notes) (sym (r.stack ∙ i)) (h classes _ _ _ _ _ (x.ran classes fits)));
   }
 
 module _ {g : Setting} {m : Mode} {x y : Expression} {text rest : List ℕ} where
@@ -194,7 +185,7 @@ module _ {g : Setting} {m : Mode} {x y : Expression} {text rest : List ℕ} wher
   fails_second {a} {b} {c} {d} {e} {n} f k h r l i = record {
     kept = cut_to a.entries c.entries e.entries n _ (grown a.entries b.entries c.entries _ _ f.added k.added) (r.entries ∙ ap (take n) h.kept) l;
     same = r.stack ∙ i;
-    ran = λ classes fits. same_noted r.furthest (ran_seq (f.ran classes fits) (k.ran classes fits) (h.ran classes fits));
+    ran = λ classes fits. same_noted r.notes (ran_seq (f.ran classes fits) (k.ran classes fits) (h.ran classes fits));
   }
 
   pub finds_left : {a b : Now} {s : List ℕ} → Finds g (Run m x) text rest a b s → Finds g (Run m (Choice x y)) text rest a b s
@@ -230,11 +221,20 @@ module _ {g : Setting} {m : Mode} {x : Expression} {text rest : List ℕ} {a b :
   pub finds_no_opt : Fails g (Run m x) text rest a b → Finds g (Run m (Opt x)) text rest a b rest
   finds_no_opt f = finds_nothing (λ classes s p q r. ran_opt_none r) f
 
-  pub finds_not : Fails g (Run m x) text rest a b → Finds g (Run m (NegPred x)) text rest a b rest
-  finds_not f = finds_nothing (λ classes s p q r. ran_not_ahead r) f
+  -- what is told below a `!` is forgotten
+  pub finds_not : (first : ℕ) → first ≡ length a.notes.told → Fails g (Run m x) text rest a b → Finds g (Run m (NegPred x)) text rest a (forgetting first b) rest
+  finds_not first k f = record {
+    trees = None';
+    added = adds_on a.entries b.entries b.entries None' f.kept (not_grown b.entries);
+    ran = λ classes fits. subst (λ ts. Ran g.grammar classes g.asked (Run m (NegPred x)) (standing text rest a.stack) (Success (standing text rest ts) None') a.notes (forgetting first b).notes) (sym f.same) (ran_not_ahead first k (f.ran classes fits));
+  }
 
-  pub fails_not : {c : Now} {n : ℕ} {ts : List Text} {s : List ℕ} → Finds g (Run m x) text rest a b s → IsReset n ts b c → n ≡ length a.entries → ts ≡ a.stack → Fails g (Run m (NegPred x)) text rest a c
-  fails_not f r e i = fails_after (λ classes s t us p q y. ran_not_ahead y) f r e i
+  pub fails_not : {c : Now} {n : ℕ} {ts : List Text} {s : List ℕ} (first : ℕ) → first ≡ length a.notes.told → Finds g (Run m x) text rest a b s → IsReset n ts (forgetting first b) c → n ≡ length a.entries → ts ≡ a.stack → Fails g (Run m (NegPred x)) text rest a c
+  fails_not {c} {n} first k f r e i = record {
+    kept = cut_to a.entries b.entries c.entries n _ f.added r.entries e;
+    same = r.stack ∙ i;
+    ran = λ classes fits. same_noted r.notes (ran_not_ahead first k (f.ran classes fits));
+  }
 
   pub finds_ahead : {c : Now} {n : ℕ} {ts : List Text} {s : List ℕ} → Finds g (Run m x) text rest a b s → IsReset n ts b c → n ≡ length a.entries → ts ≡ a.stack → Finds g (Run m (PosPred x)) text rest a c rest
   finds_ahead f r e i = finds_after (λ classes s t us p q y. ran_ahead y) f r e i
@@ -283,7 +283,7 @@ module _ {g : Setting} {m : Mode} {x : Expression} {text rest : List ℕ} {a b :
   finds_last_turn {c} {d} {n} k f r l i = record {
     trees = None';
     added = adds_on a.entries d.entries d.entries None' (cut_to a.entries b.entries d.entries n _ k.added (r.entries ∙ ap (take n) f.kept) l) (not_grown d.entries);
-    ran = λ classes fits. same_noted r.furthest (subst (λ ts. Ran g.grammar classes (Turns m x) (standing text rest a.stack) (Success (standing text rest ts) None') a.furthest c.furthest) (sym (r.stack ∙ i)) (ran_turns_end (k.ran classes fits) (f.ran classes fits)));
+    ran = λ classes fits. same_noted r.notes (subst (λ ts. Ran g.grammar classes g.asked (Turns m x) (standing text rest a.stack) (Success (standing text rest ts) None') a.notes c.notes) (sym (r.stack ∙ i)) (ran_turns_end (k.ran classes fits) (f.ran classes fits)));
   }
 
   -- the skipping never fails
@@ -299,7 +299,7 @@ pub fails_reset : {g : Setting} {k : Task} {text rest : List ℕ} {a b c : Now} 
 fails_reset {a = a} {b} {c} {n} f r l i = record {
   kept = cut_to a.entries a.entries c.entries n None' (not_grown a.entries) (r.entries ∙ ap (take n) f.kept) l;
   same = r.stack ∙ i;
-  ran = λ classes fits. same_noted r.furthest (f.ran classes fits);
+  ran = λ classes fits. same_noted r.notes (f.ran classes fits);
 }
 
 -- where nothing is skipped between turns, one more turn
@@ -379,34 +379,34 @@ row_mode g names ps row m inner h e = e ∙ ap (λ b. mode_in (rule_type_of row.
 
 pub found_row : (g : Setting) (m inner : Mode) (names : List Text) (row : Row) (text rest after : List ℕ) (a b c d : Now) (gives : Bool) (name : Text) (place end_ first : ℕ) → name ≡ text_of row.name → rule_of g.grammar (text_of row.name) ≡ Some (rule_of_row names row) → inner ≡ body_mode (rule_of_row names row) m → gives ≡ gives_token (rule_type_of row.kind) m
     → place ≡ length text - length rest → end_ ≡ length text - length after
-    → b.entries ≡ a.entries ++ open_start gives name place → b.stack ≡ a.stack → b.furthest ≡ a.furthest → Finds g (Run inner (expression_of names row.body)) text rest b c after → first ≡ length a.entries
+    → b.entries ≡ a.entries ++ open_start gives name place → b.stack ≡ a.stack → b.notes ≡ a.notes → Finds g (Run inner (expression_of names row.body)) text rest b c after → first ≡ length a.entries
     → ((before : List Entry) (us : Trees) → length before ≡ first → c.entries ≡ (before ++ open_start gives name place) ++ entries_of (length (before ++ open_start gives name place)) us → d.entries ≡ before ++ entries_of first (token gives name place end_ us))
-    → d.stack ≡ c.stack → d.furthest ≡ c.furthest
+    → d.stack ≡ c.stack → d.notes ≡ c.notes
     → Finds g (Run m (Ident (text_of row.name))) text rest a d after
 found_row g m inner names row text rest after a b c d gives name place end_ first n meant same_mode h p q o bs bf x f closed ds df = record {
   trees = token gives name place end_ x.trees;
   added = adds_tree gives name place end_ first a.entries b.entries c.entries d.entries x.trees o x.added f closed;
   ran = λ classes fits.
       let r = x.ran classes fits in
-      let r2 = subst (λ z. Ran g.grammar classes (Run inner (expression_of names row.body)) (standing text rest b.stack) (Success (standing text after c.stack) x.trees) z c.furthest) bf r in
-      let r3 = subst (λ ts. Ran g.grammar classes (Run inner (expression_of names row.body)) (standing text rest ts) (Success (standing text after c.stack) x.trees) a.furthest c.furthest) bs r2 in
+      let r2 = subst (λ z. Ran g.grammar classes g.asked (Run inner (expression_of names row.body)) (standing text rest b.stack) (Success (standing text after c.stack) x.trees) z c.notes) bf r in
+      let r3 = subst (λ ts. Ran g.grammar classes g.asked (Run inner (expression_of names row.body)) (standing text rest ts) (Success (standing text after c.stack) x.trees) a.notes c.notes) bs r2 in
       let y = call_found (rule_of_row names row) (text_of row.name) m inner meant same_mode gives r3 h in
       rw (n, p, q, ds, df) y;
 }
 
-pub failed_row : (g : Setting) (m inner : Mode) (names : List Text) (row : Row) (text rest : List ℕ) (a b c d : Now) (gives counts : Bool) (name : Text) (place first : ℕ) → rule_of g.grammar (text_of row.name) ≡ Some (rule_of_row names row) → inner ≡ body_mode (rule_of_row names row) m → counts ≡ (seen_from m && gives_token (rule_type_of row.kind) m)
+pub failed_row : (g : Setting) (m inner : Mode) (names : List Text) (row : Row) (text rest : List ℕ) (a b c d : Now) (gives counts : Bool) (name : Text) (place first told_before : ℕ) → rule_of g.grammar (text_of row.name) ≡ Some (rule_of_row names row) → inner ≡ body_mode (rule_of_row names row) m → counts ≡ (seen_from m && gives_token (rule_type_of row.kind) m)
     → place ≡ length text - length rest
-    → b.entries ≡ a.entries ++ open_start gives name place → b.stack ≡ a.stack → b.furthest ≡ a.furthest → Fails g (Run inner (expression_of names row.body)) text rest b c → first ≡ length a.entries
-    → d.entries ≡ take first c.entries → d.stack ≡ c.stack → d.furthest ≡ max c.furthest (if counts then place else 0)
+    → b.entries ≡ a.entries ++ open_start gives name place → b.stack ≡ a.stack → b.notes ≡ a.notes → Fails g (Run inner (expression_of names row.body)) text rest b c → first ≡ length a.entries
+    → d.entries ≡ take first c.entries → d.stack ≡ c.stack → told_before ≡ length a.notes.told → d.notes ≡ noting g.asked counts (text_of row.name) place told_before c.notes
     → Fails g (Run m (Ident (text_of row.name))) text rest a d
-failed_row g m inner names row text rest a b c d gives counts name place first meant same_mode h p o bs bf x f cut ds df = record {
+failed_row g m inner names row text rest a b c d gives counts name place first told_before meant same_mode h p o bs bf x f cut ds e df = record {
   kept = cut_opened a.entries b.entries c.entries d.entries first _ o x.kept cut f;
   same = ds ∙ (x.same ∙ bs);
   ran = λ classes fits.
       let r = x.ran classes fits in
-      let r2 = subst (λ z. Ran g.grammar classes (Run inner (expression_of names row.body)) (standing text rest b.stack) Failure z c.furthest) bf r in
-      let r3 = subst (λ ts. Ran g.grammar classes (Run inner (expression_of names row.body)) (standing text rest ts) Failure a.furthest c.furthest) bs r2 in
-      call_failed (rule_of_row names row) (text_of row.name) m inner meant same_mode counts r3 h (rw (← p) df);
+      let r2 = subst (λ z. Ran g.grammar classes g.asked (Run inner (expression_of names row.body)) (standing text rest b.stack) Failure z c.notes) bf r in
+      let r3 = subst (λ ts. Ran g.grammar classes g.asked (Run inner (expression_of names row.body)) (standing text rest ts) Failure a.notes c.notes) bs r2 in
+      call_failed (rule_of_row names row) (text_of row.name) m inner meant same_mode counts told_before r3 h e (rw (← p) df);
 }
 
 pub eoi_chars : chars (69 ∷ 79 ∷ 73 ∷ []) ≡ codes "EOI"

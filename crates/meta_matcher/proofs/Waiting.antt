@@ -1,5 +1,5 @@
 -- What waits once a part of a form is begun.
-use Rattle.std.proofs.Common.{◌≡◌, refl, sym, ◌∙◌, ap, subst, ℕ, ◌-◌, ◌<◌, ◌≤◌, ◌⊎◌, List, [], ◌∷◌, ◌++◌, Bool, true, false, ◌&&◌, Option, Some, None, arith, length, reverse, take}
+use Rattle.std.proofs.Common.{◌≡◌, refl, ◌∙◌, ap, ℕ, ◌-◌, ◌<◌, ◌⊎◌, List, [], ◌∷◌, ◌++◌, true, ◌&&◌, Option, Some, None, arith, length, reverse}
 use Rattle.std.specs.Borrow.{Bor}
 use Rattle.std.proofs.lemmas.List.{length-append, reverse-append}
 use Rattle.meta_ast.specs.Ast.{text_of}
@@ -19,9 +19,9 @@ use Rattle.meta_matcher.specs.declared.machine.Machine.{Machine}
 use Rattle.meta_matcher.specs.declared.machine.Scene.{Scene}
 use Rattle.meta_matcher.specs.declared.modes.Mode as mode
 use Rattle.meta_matcher.specs.declared.modes.Mode.TheVariants as in_mode
-use Rattle.meta_matcher.specs.Frames.{Awaits, Decides, Ends, FailsFrom, FindsFrom, Follows, GivesFrom, IsAhead, IsBlank, IsBoundSecond, IsCall, IsComment, IsFirst, IsGap, IsLeftSide, IsNegated, IsOptional, IsPushed, IsResumed, IsSecond, IsStarting, IsTurn, IsTurnGap, IsWaiting, Skips, Start, blanks, comments, said_second, gives_in, starting, top_of}
+use Rattle.meta_matcher.specs.Frames.{Awaits, Decides, Ends, FailsFrom, FindsFrom, Follows, GivesFrom, IsAhead, IsBlank, IsBoundSecond, IsCall, IsComment, IsFirst, IsLeftSide, IsNegated, IsOptional, IsPushed, IsResumed, IsStarting, IsTurn, IsTurnGap, IsWaiting, Skips, Start, blanks, comments, said_second, gives_in, starting, top_of}
 use Rattle.meta_matcher.specs.Machines.{IsBoundIn, IsMark, grammar_in, names_within, now_of, is_comment, is_whitespace, said, setting_of}
-use Rattle.meta_matcher.specs.Runs.{Fails, Finds, Gives, GoesOn, IsLeft, IsReset, Now, Progress, mode_of}
+use Rattle.meta_matcher.specs.Runs.{Gives, GoesOn, IsLeft, Now, Progress, forgetting, mode_of}
 use Rattle.meta_matcher.proofs.Steps.{failed_row, fails_ahead, fails_blank, fails_first, fails_gap, fails_not, fails_rep_once, fails_reset, fails_restored, fails_right, fails_second, fails_tagged, fails_undefined, finds_ahead, finds_blank, finds_comment, finds_last_turn, finds_left, finds_more, finds_no_opt, finds_no_rep, finds_no_skipping, finds_no_turn, finds_not, finds_opt, finds_rep, finds_rep_once, finds_restored, finds_right, finds_seq, finds_skipped, finds_tagged, finds_turn, found_row}
 use Rattle.meta_matcher.proofs.Stacking.{fails_push, finds_push}
 
@@ -35,10 +35,10 @@ pub gives_from : (scene : Scene) (k : Task) (rest : List ℕ) (a b : Now) (o : O
 gives_from scene k rest a b None x p = x
 gives_from scene k rest a b (Some after) x p = record { found = x; goes_on = p }
 
-pub nothing_yet : (now : Now) → now.entries ≡ [] → now.stack ≡ [] → now.furthest ≡ 0 → now ≡ record { entries = []; stack = []; furthest = 0 }
-nothing_yet now e s f =
-    let start : List Entry → List Text → ℕ → Now = λ es ts p. record { entries = es; stack = ts; furthest = p } in
-    ap (λ es. start es now.stack now.furthest) e ∙ (ap (λ ts. start [] ts now.furthest) s ∙ ap (start [] []) f)
+pub nothing_yet : (now : Now) → now.entries ≡ [] → now.stack ≡ [] → now.notes.furthest ≡ 0 → now.notes.told ≡ [] → now ≡ record { entries = []; stack = []; notes = record { furthest = 0; told = [] } }
+nothing_yet now e s f t =
+    let start : List Entry → List Text → ℕ → List Text → Now = λ es ts p ns. record { entries = es; stack = ts; notes = record { furthest = p; told = ns } } in
+    ap (λ es. start es now.stack now.notes.furthest now.notes.told) e ∙ (ap (λ ts. start [] ts now.notes.furthest now.notes.told) s ∙ (ap (λ p. start [] [] p now.notes.told) f ∙ ap (start [] [] 0) t))
 
 module _ {scene : Scene} where
   -- what comes of a start comes of itself
@@ -124,10 +124,10 @@ module _ {scene : Scene} where
     }
 
   module _ (p : Predicate) {m : Mode} {x : Expression} {a : Now} {whole : Start} (l : IsLeft scene.text.now p.rest.now) (mark : IsMark p.mark a) where
-    pub follows_not : Decides scene (starting (Run m (NegPred x)) p.rest.now a) whole → IsNegated scene p (starting (Run m x) p.rest.now a) whole
-    follows_not d = record {
-      found = λ b c t f z. d.failed c (fails_not f.found z mark.entries mark.stack);
-      failed = λ b f. d.found b p.rest.now (record { found = finds_not f; goes_on = here scene.text.now p.rest.now l });
+    pub follows_not : (first : ℕ) → first ≡ length a.notes.told → Decides scene (starting (Run m (NegPred x)) p.rest.now a) whole → IsNegated scene p first (starting (Run m x) p.rest.now a) whole
+    follows_not first k d = record {
+      found = λ b c t f z. d.failed c (fails_not first k f.found z mark.entries mark.stack);
+      failed = λ b f. d.found (forgetting first b) p.rest.now (record { found = finds_not first k f; goes_on = here scene.text.now p.rest.now l });
     }
 
     pub follows_ahead : Decides scene (starting (Run m (PosPred x)) p.rest.now a) whole → IsAhead scene p (starting (Run m x) p.rest.now a) whole
@@ -137,14 +137,14 @@ module _ {scene : Scene} where
     }
 
   -- a call, whose entry was opened
-  pub follows_call : (k : Called) {inner : Mode} {rest : List ℕ} {a b : Now} {whole : Start} → rule_of (grammar_in scene) (text_of k.row.now.name) ≡ Some (rule_of_row (names_within scene) k.row.now) → inner ≡ body_mode (rule_of_row (names_within scene) k.row.now) (mode_of k.mode) → k.place ≡ length scene.text.now - length rest → b.entries ≡ a.entries ++ open_start (gives_in scene k) (text_of k.row.now.name) k.place → b.stack ≡ a.stack → b.furthest ≡ a.furthest → k.first ≡ length a.entries → Decides scene (starting (Run (mode_of k.mode) (Ident (text_of k.row.now.name))) rest a) whole → IsCall scene k (starting (Run inner (said scene k.row.now.body)) rest b) whole
-  follows_call k {inner} {rest} {a} {b} meant same_mode place opened bs bf first d = record {
+  pub follows_call : (k : Called) {inner : Mode} {rest : List ℕ} {a b : Now} {whole : Start} → rule_of (grammar_in scene) (text_of k.row.now.name) ≡ Some (rule_of_row (names_within scene) k.row.now) → inner ≡ body_mode (rule_of_row (names_within scene) k.row.now) (mode_of k.mode) → k.place ≡ length scene.text.now - length rest → b.entries ≡ a.entries ++ open_start (gives_in scene k) (text_of k.row.now.name) k.place → b.stack ≡ a.stack → b.notes ≡ a.notes → k.first ≡ length a.entries → k.told ≡ length a.notes.told → Decides scene (starting (Run (mode_of k.mode) (Ident (text_of k.row.now.name))) rest a) whole → IsCall scene k (starting (Run inner (said scene k.row.now.body)) rest b) whole
+  follows_call k {inner} {rest} {a} {b} meant same_mode place opened bs bf first told d = record {
     opened = λ e. let o = rw e at opened in let l = ap length o ∙ length-append a.entries _ in omega (arith, l, first);
     found = λ c z after f closes cs cf. d.found z after (record {
       found = found_row (setting_of scene) (mode_of k.mode) inner (names_within scene) k.row.now scene.text.now rest after a b c z (gives_in scene k) (text_of k.row.now.name) k.place (length scene.text.now - length after) k.first refl meant same_mode refl place refl opened bs bf f.found first closes cs cf;
       goes_on = f.goes_on;
     });
-    failed = λ c z f cut cs cf. d.failed z (failed_row (setting_of scene) (mode_of k.mode) inner (names_within scene) k.row.now scene.text.now rest a b c z (gives_in scene k) (seen_from (mode_of k.mode) && gives_in scene k) (text_of k.row.now.name) k.place k.first meant same_mode refl place opened bs bf f first cut cs cf);
+    failed = λ c z f cut cs cf. d.failed z (failed_row (setting_of scene) (mode_of k.mode) inner (names_within scene) k.row.now scene.text.now rest a b c z (gives_in scene k) (seen_from (mode_of k.mode) && gives_in scene k) (text_of k.row.now.name) k.place k.first k.told meant same_mode refl place opened bs bf f first cut cs told cf);
   }
 
   -- the entry that a call opened is there at its end

@@ -1,17 +1,23 @@
 -- A whole run, as an answer.
-use Rattle.std.proofs.Common.{◌≡◌, refl, sym, ◌∙◌, ap, subst, ℕ, ◌-◌, List, [], length, arith, ◌++◌}
+use Rattle.std.proofs.Common.{◌≡◌, refl, sym, ◌∙◌, ap, subst, ℕ, ◌-◌, List, [], Option, Some, None, length, arith, ◌++◌}
+use Rattle.std.specs.Borrow.{Bor}
 use Rattle.meta_base.specs.Language.Text.{Text}
 use Rattle.meta_base.specs.Language.Expression.{Ident}
-use Rattle.meta_base.specs.Language.State.{NonAtomicMode, Success, Failure, Classes}
+use Rattle.meta_base.specs.Language.State.{NonAtomicMode, Outcome, Success, Failure, Classes}
 use Rattle.meta_base.specs.Language.Meaning.{Does, Run}
+use Rattle.meta_base.specs.Language.Expected.{expected_at}
 use Rattle.meta_base.specs.Language.FurthestFailure.{furthest}
-use Rattle.meta_base.specs.Language.Ran.{Ran}
 use Rattle.meta_syntax.specs.Entries.{entries_of}
 use Rattle.meta_matcher.specs.declared.entries.Entry as code
 use Rattle.meta_matcher.specs.Programs.{Fits}
+use Rattle.meta_ast.specs.Ast.{text_of}
+use Rattle.meta_matcher.specs.declared.machine.Scene.{Scene}
+use Rattle.meta_matcher.specs.Frames.{GivesFrom, top_of}
+use Rattle.meta_matcher.specs.Machines.{grammar_in, setting_of}
 use Rattle.meta_matcher.specs.Written.{seen}
-use Rattle.meta_matcher.specs.Runs.{Fails, Finds, Now, Setting, standing}
-use Rattle.meta_matcher.specs.Answers.{Has, IsMatched, start_of}
+use Rattle.meta_matcher.specs.Runs.{Fails, Finds, Gives, Notes, Now, Ran, Setting, standing}
+use Rattle.meta_matcher.specs.Told.{each_once, told_of}
+use Rattle.meta_matcher.specs.Answers.{AreExpectedAt, Has, IsMatched, start_of}
 
 at_start : (text : List ℕ) (ts : List Text) → ts ≡ [] → standing text text ts ≡ start_of text
 at_start text ts e =
@@ -25,9 +31,30 @@ matched g n k text after end_ a b es i x e s f l = record {
   entries = sym f ∙ (x.added ∙ ap (λ xs. xs ++ entries_of (length xs) x.trees) e);
 }
 
-pub failed : (g : Setting) (n k : Text) (text : List ℕ) (a b : Now) → k ≡ n → Fails g (Run NonAtomicMode (Ident k)) text text a b → a.stack ≡ [] → a.furthest ≡ 0 → (classes : Classes) → Fits g.properties classes → (d : Has g.grammar n text classes Failure) × (b.furthest ≡ furthest d)
+pub failed : (g : Setting) (n k : Text) (text : List ℕ) (a b : Now) → k ≡ n → Fails g (Run NonAtomicMode (Ident k)) text text a b → a.stack ≡ [] → a.notes.furthest ≡ 0 → (classes : Classes) → Fits g.properties classes → (d : Has g.grammar n text classes Failure) × (b.notes.furthest ≡ furthest d)
 failed g n k text a b i x s f classes fits =
     let r = x.ran classes fits in
-    let w = subst (λ st. Ran g.grammar classes (Run NonAtomicMode (Ident k)) st Failure a.furthest b.furthest) (at_start text a.stack s) r in
-    let q = subst (λ j. Ran g.grammar classes (Run NonAtomicMode (Ident j)) (start_of text) Failure a.furthest b.furthest) i w in
+    let w = subst (λ st. Ran g.grammar classes g.asked (Run NonAtomicMode (Ident k)) st Failure a.notes b.notes) (at_start text a.stack s) r in
+    let q = subst (λ j. Ran g.grammar classes g.asked (Run NonAtomicMode (Ident j)) (start_of text) Failure a.notes b.notes) i w in
     (q.found, let z = q.noted in omega (arith, z, f))
+
+-- what was told, from the start of the text on
+told_from_start : (g : Setting) (n k : Text) (text : List ℕ) (classes : Classes) (o : Outcome) (a : Now) (q : Notes) (ts : List Text) → k ≡ n → a.stack ≡ [] → a.notes.told ≡ [] → q.told ≡ ts → Ran g.grammar classes g.asked (Run NonAtomicMode (Ident k)) (standing text text a.stack) o a.notes q → (d : Has g.grammar n text classes o) × (ts ≡ each_once (expected_at g.asked d))
+told_from_start g n k text classes o a q ts i s f h r =
+    let w = subst (λ st. Ran g.grammar classes g.asked (Run NonAtomicMode (Ident k)) st o a.notes q) (at_start text a.stack s) r in
+    let x = subst (λ j. Ran g.grammar classes g.asked (Run NonAtomicMode (Ident j)) (start_of text) o a.notes q) i w in
+    (x.found, sym h ∙ rw f at x.told)
+
+expected : (g : Setting) (n k : Text) (text : List ℕ) (a b : Now) (o : Option (Bor (List ℕ))) (names : List (Bor (List ℕ))) → k ≡ n → Gives g (Run NonAtomicMode (Ident k)) text text a b o → a.stack ≡ [] → a.notes.told ≡ [] → b.notes.told ≡ told_of names → AreExpectedAt g.grammar g.properties n text g.asked names
+expected g n k text a b None names i x s f h classes fits =
+    let w = told_from_start g n k text classes Failure a b.notes (told_of names) i s f h (x.ran classes fits) in
+    (Failure, w.0, w.1)
+expected g n k text a b (Some after) names i x s f h classes fits =
+    let o = Success (standing text after.now b.stack) x.trees in
+    let w = told_from_start g n k text classes o a b.notes (told_of names) i s f h (x.ran classes fits) in
+    (o, w.0, w.1)
+
+-- what comes of the rule that is called
+pub expected_of_top : (scene : Scene) (n : Text) (b : Now) (o : Option (Bor (List ℕ))) (names : List (Bor (List ℕ))) → text_of scene.row.now.name ≡ n → GivesFrom scene (top_of scene) b o → b.notes.told ≡ told_of names → AreExpectedAt (grammar_in scene) scene.program.now.properties.items n scene.text.now scene.asked names
+expected_of_top scene n b None names i x h = expected (setting_of scene) n (text_of scene.row.now.name) scene.text.now (top_of scene).now b None names i x refl refl h
+expected_of_top scene n b (Some after) names i x h = expected (setting_of scene) n (text_of scene.row.now.name) scene.text.now (top_of scene).now b (Some after) names i x.found refl refl h

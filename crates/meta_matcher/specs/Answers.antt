@@ -1,9 +1,11 @@
 -- What a text has for a rule.
 use Rattle.std.specs.Prelude.{◌≡◌, List, [], ℕ, None, chars, ⊤}
+use Rattle.std.specs.Borrow.{Bor}
 use Rattle.meta_base.specs.Language.Text.{Text}
 use Rattle.meta_base.specs.Language.Expression.{Grammar, Ident, rule_of}
 use Rattle.meta_base.specs.Language.State.{NonAtomicMode, State, Trees, Outcome, Success, Failure, Classes}
 use Rattle.meta_base.specs.Language.Meaning.{Matches}
+use Rattle.meta_base.specs.Language.Expected.{expected_at}
 use Rattle.meta_base.specs.Language.FurthestFailure.{furthest}
 use Rattle.meta_syntax.specs.Entries.{entries_of}
 use Rattle.meta_matcher.specs.declared.form.Property.{Property}
@@ -12,6 +14,7 @@ use Rattle.meta_matcher.specs.declared.matcher.Refusal.{Refusal}
 use Rattle.meta_matcher.specs.declared.matcher.Refusal.TheVariants as is
 use Rattle.meta_matcher.specs.declared.matcher.Matcher.{Matcher}
 use Rattle.meta_matcher.specs.Programs.{Fits, IsSound}
+use Rattle.meta_matcher.specs.Told.{each_once, told_of}
 use Rattle.meta_matcher.specs.Written.{seen}
 
 -- the names of its rules mean what they are resolved to
@@ -40,3 +43,15 @@ IsRefused g ps n text (is.UnknownRule name) = (rule_of g n ≡ None) × (chars n
 IsRefused g ps n text (is.NoMatch place) =
     (classes : Classes) → Fits ps classes → (d : Has g n text classes Failure) × (place ≡ furthest d)
 IsRefused g ps n text (is.Stopped stop) = ⊤
+
+-- the names are those that are expected at a place, whatever the classes are: each once, in the order of their
+-- calls, where the rule fails or matches
+abbrev pub AreExpectedAt : Grammar → List Property → Text → List ℕ → ℕ → List (Bor (List ℕ)) → Type 0
+AreExpectedAt g ps n text place names = (classes : Classes) → Fits ps classes
+    → (o : Outcome) × (d : Has g n text classes o) × (told_of names ≡ each_once (expected_at place d))
+
+-- no rule has the name; or the run was stopped
+abbrev pub IsUnanswered : Grammar → Text → Refusal → Type 0
+IsUnanswered g n (is.UnknownRule name) = (rule_of g n ≡ None) × (chars name.now ≡ n)
+IsUnanswered g n (is.NoMatch place) = ⊥
+IsUnanswered g n (is.Stopped stop) = ⊤

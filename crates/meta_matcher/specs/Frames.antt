@@ -1,8 +1,7 @@
 -- What waits for an answer, and what the answer makes of it.
-use Rattle.std.specs.Prelude.{◌≡◌, ◌<◌, ◌≤◌, ℕ, ◌-◌, List, [], ◌∷◌, Bool, true, ◌&&◌, IsUtf8, Option, Some, None, chars, length, reverse, take, ⊤}
+use Rattle.std.specs.Prelude.{◌≡◌, ◌<◌, ℕ, ◌-◌, List, [], ◌∷◌, Bool, true, ◌&&◌, IsUtf8, Option, Some, None, chars, length, reverse, take, ⊤}
 use Rattle.std.specs.Borrow.{Bor}
 use Rattle.meta_ast.specs.Ast.{rule_type_of, text_of}
-use Rattle.meta_base.specs.Language.Text.{Text}
 use Rattle.meta_base.specs.Language.Expression.{Expression, Ident, Rep, Seq, comment, whitespace}
 use Rattle.meta_base.specs.Language.Meaning.{Run, Skipping, Task, Turns, gives_token, seen_from}
 use Rattle.meta_base.specs.Language.State.{Between, NonAtomicMode}
@@ -24,8 +23,8 @@ use Rattle.meta_matcher.specs.declared.frames.AtOnce.{AtOnce}
 use Rattle.meta_matcher.specs.declared.frames.AtOnce.TheVariants as at_once
 use Rattle.meta_matcher.specs.declared.machine.Machine.{Machine}
 use Rattle.meta_matcher.specs.declared.machine.Scene.{Scene}
-use Rattle.meta_matcher.specs.Machines.{IsBoundIn, IsRowIn, names_within, now_of, said, setting_of}
-use Rattle.meta_matcher.specs.Runs.{Fails, Finds, GoesOn, IsLeft, IsReset, Now, mode_of, noted}
+use Rattle.meta_matcher.specs.Machines.{IsBoundIn, now_of, said, setting_of}
+use Rattle.meta_matcher.specs.Runs.{Fails, Finds, GoesOn, IsLeft, IsReset, Now, forgetting, mode_of, noting}
 use Rattle.meta_matcher.specs.Stacked.{stack_of}
 use Rattle.meta_matcher.specs.Written.{Closes}
 
@@ -57,7 +56,7 @@ comments = Run Between (Rep (Seq (Ident comment) (Rep (Ident whitespace))))
 -- the rule that is called, at the start of the text, with nothing yet
 abbrev pub top_of : Scene → Start
 top_of scene = starting (Run NonAtomicMode (Ident (text_of scene.row.now.name))) scene.text.now
-    (record { entries = []; stack = []; furthest = 0 })
+    (record { entries = []; stack = []; notes = record { furthest = 0; told = [] } })
 
 -- the form has parts
 abbrev pub IsNested : Form → Type 0
@@ -145,11 +144,11 @@ module _ (scene : Scene) where
     pub failed : (b c : Now) → FailsFrom part b → IsReset r.mark.entries (stack_of r.mark.stack) b c
         → FindsFrom whole c r.rest.now
 
-  -- the form of a predicate is run: all that it did is put back
-  pub record IsNegated (p : Predicate) (part whole : Start) : Type 0 where
+  -- the form of a predicate is run: all that it did is put back, and what is told below a `!` is forgotten
+  pub record IsNegated (p : Predicate) (told : ℕ) (part whole : Start) : Type 0 where
     pub found : (b c : Now) (after : List ℕ) → FindsFrom part b after
-        → IsReset p.mark.entries (stack_of p.mark.stack) b c → FailsFrom whole c
-    pub failed : (b : Now) → FailsFrom part b → FindsFrom whole b p.rest.now
+        → IsReset p.mark.entries (stack_of p.mark.stack) (forgetting told b) c → FailsFrom whole c
+    pub failed : (b : Now) → FailsFrom part b → FindsFrom whole (forgetting told b) p.rest.now
 
   pub record IsAhead (p : Predicate) (part whole : Start) : Type 0 where
     pub found : (b c : Now) (after : List ℕ) → FindsFrom part b after
@@ -161,7 +160,7 @@ module _ (scene : Scene) where
     pub from : part.rest ≡ rest
     pub found : (b c : Now) (after taken : List ℕ) → FindsFrom part b after
         → taken ≡ take (length rest - length after) rest → IsUtf8 taken → c.entries ≡ b.entries
-        → c.furthest ≡ b.furthest → c.stack ≡ chars taken ∷ b.stack → FindsFrom whole c after
+        → c.notes ≡ b.notes → c.stack ≡ chars taken ∷ b.stack → FindsFrom whole c after
     pub failed : (b : Now) → FailsFrom part b → FailsFrom whole b
 
   -- the blanks from here on, and then the comments, end where the whole ends
@@ -190,9 +189,10 @@ module _ (scene : Scene) where
     pub found : (b c : Now) (after : List ℕ) → FindsFrom part b after
         → Closes (gives_in k) (text_of k.row.now.name) k.place (length scene.text.now - length after) k.first
         b.entries c.entries
-        → c.stack ≡ b.stack → c.furthest ≡ b.furthest → FindsFrom whole c after
+        → c.stack ≡ b.stack → c.notes ≡ b.notes → FindsFrom whole c after
     pub failed : (b c : Now) → FailsFrom part b → c.entries ≡ take k.first b.entries → c.stack ≡ b.stack
-        → c.furthest ≡ noted (seen_from (mode_of k.mode) && gives_in k) k.place b.furthest → FailsFrom whole c
+        → c.notes ≡ noting scene.asked (seen_from (mode_of k.mode) && gives_in k) (text_of k.row.now.name)
+        k.place k.told b.notes → FailsFrom whole c
 
   -- the part is run for the sake of the whole, and this frame waits for it
   abbrev pub Follows : Frame → Start → Start → Type 0
@@ -203,7 +203,7 @@ module _ (scene : Scene) where
   Follows (frame.Optional rest) part whole = IsOptional rest.now part whole
   Follows (frame.Turn r) part whole = IsTurn r part whole
   Follows (frame.TurnGap r) part whole = IsTurnGap r part whole
-  Follows (frame.Not p) part whole = IsNegated p part whole
+  Follows (frame.Not p told) part whole = IsNegated p told part whole
   Follows (frame.Ahead p) part whole = IsAhead p part whole
   Follows (frame.Push rest) part whole = IsPushed rest.now part whole
   Follows (frame.Call k) part whole = IsCall k part whole

@@ -11,12 +11,17 @@ use Rattle.meta_matcher.specs.declared.machine.Machine.{Machine}
 use Rattle.meta_matcher.specs.declared.machine.Scene.{Scene}
 use Rattle.meta_matcher.specs.Written.{seen}
 use Rattle.meta_matcher.specs.Stacked.{stack_of}
+use Rattle.meta_matcher.specs.Told.{told_of}
 use Rattle.meta_matcher.specs.Programs.{IsBound, IsRow, IsSound, expression_of, grammar_of, names_of}
 use Rattle.meta_matcher.specs.Runs.{Gives, Now, Setting}
 
 -- what a machine has so far
 abbrev pub now_of : Machine → Now
-now_of m = record { entries = seen m.entries.items; stack = stack_of m.stack; furthest = m.furthest }
+now_of m = record {
+  entries = seen m.entries.items;
+  stack = stack_of m.stack;
+  notes = record { furthest = m.furthest; told = told_of m.told.items };
+}
 
 -- the names of a scene's rules, and the grammar that they are
 abbrev pub names_within : Scene → List Text
@@ -25,9 +30,13 @@ names_within scene = names_of scene.program.now.rows.items
 abbrev pub grammar_in : Scene → Grammar
 grammar_in scene = grammar_of scene.program.now.rows.items
 
--- the grammar, and the sets of the property names that it names
+-- the grammar, the sets of the property names that it names, and the place that is asked for
 abbrev pub setting_of : Scene → Setting
-setting_of scene = record { grammar = grammar_in scene; properties = scene.program.now.properties.items }
+setting_of scene = record {
+  grammar = grammar_in scene;
+  properties = scene.program.now.properties.items;
+  asked = scene.asked;
+}
 
 -- the expression of a form
 abbrev pub said : Scene → Form → Expression

@@ -1,14 +1,16 @@
 -- What a run answers.
-use Rattle.std.specs.Prelude.{◌≡◌, ℕ, ◌-◌, ◌≤◌, max, List, ◌++◌, Bool, Option, Some, None, drop, take, length, chars, if◌then◌else◌, ⊤}
+use Rattle.std.specs.Prelude.{◌≡◌, ℕ, ◌-◌, ◌≤◌, ◌&&◌, max, List, ◌++◌, Bool, Option, Some, None, drop, take, length, chars, if◌then◌else◌, nat_eq, ⊤}
 use Rattle.std.specs.Borrow.{Bor}
 use Rattle.meta_base.specs.Language.Text.{Text}
 use Rattle.meta_base.specs.Language.Expression.{Grammar}
 use Rattle.meta_base.specs.Language.State.{Mode, NonAtomicMode, AtomicMode, CompoundAtomicMode, State, Trees, None', Outcome, Success, Failure, Classes}
-use Rattle.meta_base.specs.Language.Meaning.{Task}
-use Rattle.meta_base.specs.Language.Ran.{Ran}
+use Rattle.meta_base.specs.Language.Meaning.{Does, Task}
+use Rattle.meta_base.specs.Language.Expected.{expected_at}
+use Rattle.meta_base.specs.Language.FurthestFailure.{furthest}
 use Rattle.meta_syntax.specs.Entries.{Entry, entries_of}
 use Rattle.meta_matcher.specs.declared.form.Property.{Property}
 use Rattle.meta_matcher.specs.Programs.{Fits}
+use Rattle.meta_matcher.specs.Told.{with_name, with_names}
 use Rattle.meta_matcher.specs.declared.modes.Mode as mode
 use Rattle.meta_matcher.specs.declared.modes.Mode.TheVariants as in_mode
 
@@ -37,30 +39,44 @@ abbrev pub Progress : List ℕ → List ℕ → Option (Bor (List ℕ)) → Type
 Progress text rest None = ⊤
 Progress text rest (Some after) = GoesOn text rest after.now
 
--- what a run keeps beside the place: the entries so far, the stack, and the furthest failure
+-- what is noted of failures: the furthest place of one, and which names are told at the place that is asked for
+pub record Notes : Type 0 where
+  pub furthest : ℕ
+  pub told : List Text
+
+-- what a run keeps beside the place: the entries so far, the stack, and what is noted of failures
 pub record Now : Type 0 where
   pub entries : List Entry
   pub stack : List Text
-  pub furthest : ℕ
+  pub notes : Notes
 
--- a grammar, and the sets of the property names that it names
+-- a grammar, the sets of the property names that it names, and the place that is asked for
 pub record Setting : Type 0 where
   pub grammar : Grammar
   pub properties : List Property
+  pub asked : ℕ
+
+-- the task k from s was found to have the outcome o; its furthest failure was noted, and what is expected in it
+-- at the place was told
+pub record Ran (g : Grammar) (classes : Classes) (place : ℕ) (k : Task) (s : State) (o : Outcome)
+    (old new : Notes) : Type 0 where
+  pub found : Does g classes k s o
+  pub noted : new.furthest ≡ max old.furthest (furthest found)
+  pub told : new.told ≡ with_names old.told (expected_at place found)
 
 -- the task was found to fail, whatever the classes are; entries and stack are what they were
 pub record Fails (g : Setting) (k : Task) (text rest : List ℕ) (a b : Now) : Type 0 where
   pub kept : b.entries ≡ a.entries
   pub same : b.stack ≡ a.stack
   pub ran : (classes : Classes) → Fits g.properties classes
-      → Ran g.grammar classes k (standing text rest a.stack) Failure a.furthest b.furthest
+      → Ran g.grammar classes g.asked k (standing text rest a.stack) Failure a.notes b.notes
 
 -- the task was found to succeed and to leave these bytes; the entries of its trees were added
 pub record Finds (g : Setting) (k : Task) (text rest : List ℕ) (a b : Now) (after : List ℕ) : Type 0 where
   pub trees : Trees
   pub added : b.entries ≡ a.entries ++ entries_of (length a.entries) trees
   pub ran : (classes : Classes) → Fits g.properties classes
-      → Ran g.grammar classes k (standing text rest a.stack) (Success (standing text after b.stack) trees) a.furthest b.furthest
+      → Ran g.grammar classes g.asked k (standing text rest a.stack) (Success (standing text after b.stack) trees) a.notes b.notes
 
 abbrev pub Gives : Setting → Task → List ℕ → List ℕ → Now → Now → Option (Bor (List ℕ)) → Type 0
 Gives g k text rest a b None = Fails g k text rest a b
@@ -70,8 +86,24 @@ Gives g k text rest a b (Some after) = Finds g k text rest a b after.now
 abbrev pub noted : Bool → ℕ → ℕ → ℕ
 noted counts position old = max old (if counts then position else 0)
 
+-- what is noted of a call of a name that failed at a place, where it counts: the place, and, if it is the one
+-- that is asked for, the name, in place of all that was told but the first names
+abbrev pub noting : ℕ → Bool → Text → ℕ → ℕ → Notes → Notes
+noting asked counts n place first old = record {
+  furthest = noted counts place old.furthest;
+  told = if counts && nat_eq place asked then with_name (take first old.told) n else old.told;
+}
+
+-- all names but the first ones are forgotten
+abbrev pub forgetting : ℕ → Now → Now
+forgetting first a = record {
+  entries = a.entries;
+  stack = a.stack;
+  notes = record { furthest = a.notes.furthest; told = take first a.notes.told };
+}
+
 -- entries cut back to a length, and a stack put in place
 pub record IsReset (n : ℕ) (ts : List Text) (a b : Now) : Type 0 where
   pub entries : b.entries ≡ take n a.entries
   pub stack : b.stack ≡ ts
-  pub furthest : b.furthest ≡ a.furthest
+  pub notes : b.notes ≡ a.notes

@@ -60,6 +60,8 @@ pub struct Called<'a> {
     pub place: usize,
     /// How many entries there were before it.
     pub first: usize,
+    /// How many names were told before it.
+    pub told: usize,
 }
 
 /// What waits for the answer of what is run.
@@ -79,8 +81,8 @@ pub enum Frame<'a> {
     Turn(Repetition<'a>),
     /// What lies before the form of a repetition is skipped.
     TurnGap(Repetition<'a>),
-    /// The form of a negative predicate is run.
-    Not(Predicate<'a>),
+    /// The form of a negative predicate is run, before which so many names were told.
+    Not(Predicate<'a>, usize),
     /// The form of a positive predicate is run.
     Ahead(Predicate<'a>),
     /// A form is run whose text is pushed, with this left of the text.

@@ -12,3 +12,4 @@ mod modes;
 pub mod properties;
 mod running;
 pub mod stack;
+mod told;

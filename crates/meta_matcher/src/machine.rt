@@ -1,11 +1,11 @@
 //! What a machine keeps, and what it matches at once.
-ghost use Rattle.std.specs.Prelude.{◌≡◌, IfOk, [], None, codes};
+ghost use Rattle.std.specs.Prelude.{◌≡◌, IfOk, OnOk, [], None, chars, codes};
 ghost use Rattle.meta_ast.specs.Ast.{text_of};
 ghost use Rattle.meta_base.specs.Language.Expression.{Ident, PeekSlice, PushLiteral, rule_of};
 ghost use Rattle.meta_base.specs.Language.Meaning.{Run};
 ghost use Rattle.meta_matcher.specs.Frames.{ComesAtOnce};
 ghost use Rattle.meta_matcher.specs.Machines.{GivesIn, IsBoundIn, IsMark, IsSoundIn, grammar_in, now_of};
-ghost use Rattle.meta_matcher.specs.Runs.{IsLeft, IsReset, Progress, mode_of};
+ghost use Rattle.meta_matcher.specs.Runs.{IsLeft, IsReset, Progress, forgetting, mode_of, noting};
 ghost use Rattle.meta_matcher.specs.Stacked.{stack_of};
 
 use crate::entries::{Entry, close, cut, open, written};
@@ -14,6 +14,7 @@ use crate::frames::{AtOnce, Frame, Mark};
 use crate::leaves::{ahead_to, character, insens, literal, literals, newline, one, slice, within};
 use crate::modes::{Mode, is_seen_from, noted};
 use crate::stack::{Stack, pushed, shared, texts_of};
+use crate::told::{count, forget, tell};
 use std::alloc::{AllocError, Global};
 
 /// Why a run has no answer.
@@ -41,6 +42,8 @@ pub struct Scene<'a> {
     pub program: &'a Program,
     pub row: &'a Row,
     pub text: &'a str,
+    /// The place, in bytes, at which is told what is expected.
+    pub asked: usize,
 }
 
 /// What a run has written and noted so far, and what waits.
@@ -52,6 +55,8 @@ pub struct Machine<'a> {
     pub stack: Stack<'a>,
     /// The furthest place, in bytes, at which a call that counts has failed.
     pub furthest: usize,
+    /// The names of the calls that failed at the place that is asked for, each once.
+    pub told: Vec<&'a str>,
     /// What waits for answers: the last frame for what is run now.
     pub frames: Vec<Frame<'a>>,
 }
@@ -60,13 +65,15 @@ impl<'a> Machine<'a> {
     pub fn new(alloc: Global) -> Machine<'a>
         ensures entries { (now_of result).entries ≡ [] }
         ensures stack { (now_of result).stack ≡ [] }
-        ensures furthest { (now_of result).furthest ≡ 0 }
+        ensures furthest { (now_of result).notes.furthest ≡ 0 }
+        ensures told { (now_of result).notes.told ≡ [] }
         ensures frames { result.frames.items ≡ [] }
     {
         Machine {
             entries: Vec::new(alloc),
             stack: Stack::Empty,
             furthest: 0,
+            told: Vec::new(alloc),
             frames: Vec::new(alloc),
         }
     }
@@ -79,9 +86,57 @@ impl<'a> Machine<'a> {
             entries,
             stack: _,
             furthest: _,
+            told: _,
             frames: _,
         } = self;
         entries
+    }
+
+    /// The names that were told.
+    pub fn into_told(self) -> Vec<&'a str>
+        ensures { result ≡ self.entry.told }
+    {
+        let Machine {
+            entries: _,
+            stack: _,
+            furthest: _,
+            told,
+            frames: _,
+        } = self;
+        told
+    }
+
+    /// Notes a call that failed at a place, where it counts. If that is the place that is asked for, its name
+    /// is told in place of what was told within it: before it so many names were told.
+    pub fn note(
+        &mut self,
+        scene: &Scene<'a>,
+        counts: bool,
+        name: &'a str,
+        place: usize,
+        told: usize,
+    ) -> Result<(), AllocError>
+        ensures entries { self.new.entries ≡ self.old.entries }
+        ensures stack { self.new.stack ≡ self.old.stack }
+        ensures frames { self.new.frames ≡ self.old.frames }
+        ensures notes { OnOk result ((now_of self.new).notes
+            ≡ noting scene.entry.now.asked counts (chars name.entry.now) place told (now_of self.old).notes) }
+    {
+        self.furthest = noted(counts, place, self.furthest);
+        if counts && place == scene.asked {
+            forget(&mut self.told, told);
+            tell(&mut self.told, name)?;
+        }
+        Ok(())
+    }
+
+    /// Forgets all names that were told but so many of the first.
+    #[inline(always)]
+    pub fn forget(&mut self, told: usize)
+        ensures frames { self.new.frames ≡ self.old.frames }
+        ensures now { now_of self.new ≡ forgetting told (now_of self.old) }
+    {
+        forget(&mut self.told, told);
     }
 
     /// Matches the end of the text, with a token.
@@ -102,7 +157,8 @@ impl<'a> Machine<'a> {
         let seen = is_seen_from(mode);
         let place = scene.text.len() - rest.len();
         if !rest.is_empty() {
-            self.furthest = noted(seen, place, self.furthest);
+            let told = count(&self.told);
+            self.note(scene, seen, "EOI", place, told)?;
             return Ok(None);
         }
         let first = written(&self.entries);

@@ -37,6 +37,9 @@ pub struct Matcher {
     pub program: Program,
 }
 
+/// No place of a text: at it nothing is told.
+const NOWHERE: usize = usize::MAX;
+
 /// The number of the last row of a name.
 fn find_row(rows: &[Row], name: &str) -> Option<usize>
     ensures { IsSkippedRule (grammar_of rows.now) (chars name.now) result }
@@ -52,7 +55,7 @@ fn find_row(rows: &[Row], name: &str) -> Option<usize>
 }
 
 impl Matcher {
-    ghost use Rattle.meta_matcher.specs.Answers.{IsMatched, IsRefused, IsSoundMatcher};
+    ghost use Rattle.meta_matcher.specs.Answers.{AreExpectedAt, IsMatched, IsRefused, IsSoundMatcher, IsUnanswered};
 
     /// The rules, with each name resolved once: to the last rule of that name, or to a builtin where no rule
     /// has it. A name that is neither, and a bound of a range that is not one character, are refused; so is
@@ -95,6 +98,7 @@ impl Matcher {
             program: &self.program,
             row,
             text,
+            asked: NOWHERE,
         };
         let mut machine = Machine::new(alloc);
         match machine.run(&scene, steps) {
@@ -103,6 +107,46 @@ impl Matcher {
                 end: text.len() - after.len(),
             }),
             Ok(None) => Err(Refusal::NoMatch(machine.furthest)),
+            Err(stop) => Err(Refusal::Stopped(stop)),
+        }
+    }
+
+    /// The names that are expected at a place, in bytes, where the rule of a name is run on a text as by
+    /// `parse`: each once, in the order in which they are first called there. Where `parse` refuses a text by
+    /// `NoMatch` of that place, they are what would have let it get further.
+    ///
+    /// A rule is expected at a place if a call of it that began there failed, gives a token, was made in a mode
+    /// other than Atomic and not below a `!`, and is within no other such call. So is `EOI`, where it was asked
+    /// for there. The list is empty where all that failed there stood below a `!`, or was no such call.
+    ///
+    /// It is refused as by `parse`, but a text on which the rule fails has an answer.
+    pub fn expected_at<'a>(
+        &'a self,
+        alloc: Global,
+        rule: &'a str,
+        text: &'a str,
+        place: usize,
+        steps: u64,
+    ) -> Result<Vec<&'a str>, Refusal<'a>>
+        requires sound { IsSoundMatcher self.now }
+        ensures expected { IfOk result (λ names. AreExpectedAt (grammar_of self.entry.now.program.rows.items)
+            self.entry.now.program.properties.items (chars rule.entry.now) text.entry.now place names.items) }
+        ensures refused { IfErr result (IsUnanswered (grammar_of self.entry.now.program.rows.items)
+            (chars rule.entry.now)) }
+    {
+        let Some(number) = find_row(&self.program.rows, rule) else {
+            return Err(Refusal::UnknownRule(rule));
+        };
+        let row = &self.program.rows[number];
+        let scene = Scene {
+            program: &self.program,
+            row,
+            text,
+            asked: place,
+        };
+        let mut machine = Machine::new(alloc);
+        match machine.run(&scene, steps) {
+            Ok(_) => Ok(machine.into_told()),
             Err(stop) => Err(Refusal::Stopped(stop)),
         }
     }

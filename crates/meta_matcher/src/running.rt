@@ -15,8 +15,9 @@ use crate::frames::{
     AtOnce, Called, Control, Frame, Mark, Predicate, Repetition, Second, Sequence,
 };
 use crate::machine::{Machine, Scene, Stop};
-use crate::modes::{Mode, body_mode, call_counts, gives_token, noted};
+use crate::modes::{Mode, body_mode, call_counts, gives_token};
 use crate::stack::{pushed, shared};
+use crate::told::count;
 use std::alloc::AllocError;
 
 /// Whether anything is skipped in a mode.
@@ -97,7 +98,7 @@ impl<'a> Machine<'a> {
             Frame::Optional(rest) => Ok(self.after_optional(scene, rest, answer)),
             Frame::Turn(repetition) => self.after_turn(scene, repetition, answer),
             Frame::TurnGap(repetition) => self.after_turn_gap(scene, repetition, answer),
-            Frame::Not(predicate) => Ok(self.after_not(scene, predicate, answer)),
+            Frame::Not(predicate, told) => Ok(self.after_not(scene, predicate, told, answer)),
             Frame::Ahead(predicate) => Ok(self.after_ahead(scene, predicate, answer)),
             Frame::Push(rest) => self.after_push(scene, rest, answer),
             Frame::Call(called) => self.after_call(scene, called, answer),
@@ -397,21 +398,23 @@ impl<'a> Machine<'a> {
         ensures { IfOk result (IsOnTheWay scene.entry.now self.new) }
     {
         let mark = self.mark()?;
-        let frame = Frame::Not(Predicate { rest, mark });
+        let frame = Frame::Not(Predicate { rest, mark }, count(&self.told));
         self.enter(scene, frame, body, mode, rest)
     }
 
-    /// The form of a negative predicate has an answer.
+    /// The form of a negative predicate has an answer. What was told below it is forgotten.
     #[inline]
     fn after_not(
         &mut self,
         scene: &Scene<'a>,
         predicate: Predicate<'a>,
+        told: usize,
         answer: Option<&'a str>,
     ) -> Control<'a>
-        requires follows { IsResumed scene.now self.old (IsNegated scene.now predicate) answer }
+        requires follows { IsResumed scene.now self.old (IsNegated scene.now predicate told) answer }
         ensures { IsOnTheWay scene.entry.now self.new result }
     {
+        self.forget(told);
         match answer {
             Some(_) => {
                 self.back_to(predicate.mark);
@@ -504,6 +507,7 @@ impl<'a> Machine<'a> {
     {
         let place = scene.text.len() - rest.len();
         let first = written(&self.entries);
+        let told = count(&self.told);
         let gives = gives_token(row.kind, mode);
         open(&mut self.entries, gives, row.name.as_str(), place)?;
         self.wait(Frame::Call(Called {
@@ -511,6 +515,7 @@ impl<'a> Machine<'a> {
             mode,
             place,
             first,
+            told,
         }))?;
         let inner_mode = body_mode(row.kind, row.blank, mode);
         Ok(Control::Run(&row.body, inner_mode, rest))
@@ -532,6 +537,7 @@ impl<'a> Machine<'a> {
             mode,
             place,
             first,
+            told,
         } = called;
         match answer {
             Some(after) => {
@@ -549,7 +555,8 @@ impl<'a> Machine<'a> {
             }
             None => {
                 cut(&mut self.entries, first);
-                self.furthest = noted(call_counts(row.kind, mode), place, self.furthest);
+                let counts = call_counts(row.kind, mode);
+                self.note(scene, counts, row.name.as_str(), place, told)?;
                 Ok(Control::Answer(None))
             }
         }

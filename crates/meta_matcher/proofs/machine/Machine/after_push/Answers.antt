@@ -1,6 +1,5 @@
 use Rattle.std.proofs.Common.{rules, arith, refl, ap, ◌∙◌, ◌∷◌}
 use Rattle.std.specs.Prelude.{chars}
-use Rattle.meta_matcher.specs.Machines.{now_of}
 use Rattle.meta_matcher.proofs.Waiting.{after_none, after_some}
 use Rattle.meta_matcher.proofs.machine.Machine.after_push.Goals as goal
 

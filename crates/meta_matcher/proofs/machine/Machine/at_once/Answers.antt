@@ -1,6 +1,6 @@
-use Rattle.std.proofs.Common.{arith, length}
-use Rattle.meta_base.proofs.Steps.{ran_range, ran_str}
+use Rattle.std.proofs.Common.{arith}
 use Rattle.meta_matcher.specs.Machines.{now_of, setting_of}
+use Rattle.meta_matcher.proofs.Noting.{ran_range, ran_str}
 use Rattle.meta_matcher.proofs.Stacking.{finds_skip, gives_class, gives_insens, gives_newline}
 use Rattle.meta_matcher.proofs.Steps.{fails_start, finds_start, gives_leaving, ran_one}
 use Rattle.meta_matcher.proofs.Waiting.{gives_from}

@@ -1,9 +1,8 @@
-use Rattle.std.proofs.Common.{◌≡◌, refl, sym, arith, subst}
+use Rattle.std.proofs.Common.{refl, arith}
 use Rattle.meta_base.specs.Language.Expression.{Ident}
 use Rattle.meta_base.specs.Language.Meaning.{Run}
 use Rattle.meta_base.specs.Language.State.{NonAtomicMode}
 use Rattle.meta_ast.specs.Ast.{text_of}
-use Rattle.meta_matcher.specs.Machines.{now_of}
 use Rattle.meta_matcher.specs.declared.frames.Frame.TheVariants as frame
 use Rattle.meta_matcher.proofs.Steps.{row_known, row_meant, row_within}
 use Rattle.meta_matcher.proofs.Waiting.{awaits_same, finds_no_comments, follows_comment, pushed}

@@ -1,12 +1,19 @@
-use Rattle.std.proofs.Common.{refl}
+use Rattle.std.proofs.Common.{ap}
 use Rattle.meta_base.specs.Language.State.{None'}
 use Rattle.meta_syntax.proofs.EntryLists.{not_grown}
+use Rattle.meta_matcher.specs.Stacked.{stack_of}
 use Rattle.meta_matcher.specs.Written.{seen}
 use Rattle.meta_matcher.proofs.Steps.{adds_tree, eoi_chars, end_found, end_missing, ran_end, ran_not_end}
 use Rattle.meta_matcher.proofs.machine.Machine.end_of_input.Goals as goal
 
 pub returns-then-not-is_empty-clause-means : goal.returns-then-not-is_empty-clause-means
-returns-then-not-is_empty-clause-means c = record { kept = refl; same = refl; ran = λ classes fits. ran_not_end c.args.mode _ c.requires.unnamed (end_missing _ _ _ _ _ c.utf8.rest c.is_empty.ensures c.if-not-is_empty.true) c.is_seen_from-seen.ensures c.noted-self.ensures.value }
+returns-then-not-is_empty-clause-means c =
+    let n = rw eoi_chars at c.in_ok-note.ensures.notes in
+    record {
+      kept = ap (λ es. seen es.items) c.note.ensures.entries;
+      same = ap stack_of c.note.ensures.stack;
+      ran = λ classes fits. ran_not_end c.args.mode _ _ c.requires.unnamed (end_missing _ _ _ _ _ c.utf8.rest c.is_empty.ensures c.if-not-is_empty.true) c.is_seen_from-seen.ensures c.count-told.ensures n;
+    }
 
 pub returns-clause-means : goal.returns-clause-means
 returns-clause-means c = record {

@@ -4,4 +4,4 @@ use Rattle.meta_matcher.proofs.machine.Machine.negation.Goals as goal
 
 pub enter-requires-clause-follows : goal.enter-requires-clause-follows
 enter-requires-clause-follows c =
-    awaits_same refl (λ whole d. follows_not (record { rest = c.args.rest; mark = c.in_ok-mark.mark }) c.requires.left c.in_ok-mark.ensures d) c.requires.starts
+    awaits_same refl (λ whole d. follows_not (record { rest = c.args.rest; mark = c.in_ok-mark.mark }) c.requires.left c.in_ok-mark.ensures _ c.count.ensures d) c.requires.starts

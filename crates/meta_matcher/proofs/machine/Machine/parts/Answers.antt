@@ -1,4 +1,4 @@
-use Rattle.std.proofs.Common.{◌≡◌, refl, sym, arith}
+use Rattle.std.proofs.Common.{refl, arith}
 use Rattle.meta_matcher.proofs.Steps.{row_known, row_meant, row_within}
 use Rattle.meta_matcher.proofs.Waiting.{awaits_same, decides_rep_once, decides_restored, decides_tagged, follows_left, follows_optional, follows_push}
 use Rattle.meta_matcher.proofs.machine.Machine.parts.Goals as goal

@@ -1,5 +1,4 @@
 use Rattle.std.proofs.Common.{refl, arith}
-use Rattle.meta_matcher.specs.Machines.{now_of}
 use Rattle.meta_matcher.proofs.Waiting.{all_left, at_top, popped, starts_at_top}
 use Rattle.meta_matcher.proofs.machine.Machine.run.Goals as goal
 

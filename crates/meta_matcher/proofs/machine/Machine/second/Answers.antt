@@ -1,4 +1,3 @@
-use Rattle.std.proofs.Common.{refl}
 use Rattle.meta_base.specs.Language.Expression.{Rep}
 use Rattle.meta_base.specs.Language.Meaning.{Run}
 use Rattle.meta_matcher.specs.Frames.{starting}

@@ -1,5 +1,3 @@
-use Rattle.std.proofs.Common.{refl}
-use Rattle.meta_matcher.specs.Machines.{now_of}
 use Rattle.meta_matcher.proofs.Waiting.{awaits_same, gives_whole, starting_same}
 use Rattle.meta_matcher.proofs.machine.Machine.start.Goals as goal
 

@@ -17,7 +17,7 @@ run-requires-clause-meant c =
     (row_meant c.args.self.now.program.rows.items _ _ c.index-row.result.now h c.index-row.ensures).0
 
 pub run-requires-clause-fresh : goal.run-requires-clause-fresh
-run-requires-clause-fresh c = nothing_yet _ c.new-machine.ensures.entries c.new-machine.ensures.stack c.new-machine.ensures.furthest
+run-requires-clause-fresh c = nothing_yet _ c.new-machine.ensures.entries c.new-machine.ensures.stack c.new-machine.ensures.furthest c.new-machine.ensures.told
 
 pub returns-in-Ok-Some-clause-matched : goal.returns-in-Ok-Some-clause-matched
 returns-in-Ok-Some-clause-matched c =

@@ -1,0 +1,45 @@
+//! Names that are told, each once.
+ghost use Rattle.std.specs.Prelude.{◌≡◌, OnOk, chars, length, take};
+ghost use Rattle.meta_matcher.specs.Told.{is_among, told_of, with_name};
+
+use crate::compile::same;
+use std::alloc::AllocError;
+
+/// How many names were told.
+#[inline(always)]
+pub(crate) fn count(told: &Vec<&str>) -> usize
+    ensures { result ≡ length (told_of told.now.items) }
+{
+    told.len()
+}
+
+/// Whether a name is among these.
+fn is_among(told: &[&str], name: &str) -> bool
+    ensures { result ≡ is_among (told_of told.now) (chars name.now) }
+{
+    for other in told {
+        if same(other, name) {
+            return true;
+        }
+    }
+    false
+}
+
+/// Tells a name, unless it is told already.
+pub(crate) fn tell<'a>(told: &mut Vec<&'a str>, name: &'a str) -> Result<(), AllocError>
+    ensures { OnOk result
+        (told_of told.new.items ≡ with_name (told_of told.old.items) (chars name.entry.now)) }
+{
+    if !is_among(told, name) {
+        told.push(name)?;
+    }
+    Ok(())
+}
+
+/// Forgets all names but so many of the first.
+#[inline(always)]
+pub(crate) fn forget(told: &mut Vec<&str>, first: usize)
+    ensures { told_of told.new.items ≡ take first (told_of told.old.items) }
+{
+    told.truncate(first);
+}
