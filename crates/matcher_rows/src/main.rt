@@ -126,6 +126,29 @@ fn write_unfit(out: &mut String, unfit: &Unfit) -> Result<(), AllocError> {
     }
 }
 
+/// Writes where a text fails, and the names that are expected there.
+fn write_failure(
+    alloc: Global,
+    out: &mut String,
+    matcher: &Matcher,
+    rule: &str,
+    text: &str,
+    place: usize,
+) -> Result<(), AllocError> {
+    match matcher.expected_at(alloc, rule, text, place, STEPS) {
+        Ok(names) => {
+            write!(out, "    fails at {place}")?;
+            let mut before = ", expected ";
+            for name in &names {
+                write!(out, "{before}{name}")?;
+                before = ", ";
+            }
+            out.push_str("\n")
+        }
+        Err(refusal) => write_refusal(out, &refusal),
+    }
+}
+
 /// Writes what the rule of a name of a grammar matches in a text.
 fn write_answer(
     alloc: Global,
@@ -142,6 +165,9 @@ fn write_answer(
     match matcher {
         Ok(matcher) => match matcher.parse(alloc, rule, text, STEPS) {
             Ok(found) => write_found(out, &found),
+            Err(Refusal::NoMatch(place)) => {
+                write_failure(alloc, out, &matcher, rule, text, place)
+            }
             Err(refusal) => write_refusal(out, &refusal),
         },
         Err(unfit) => write_unfit(out, &unfit),

@@ -1,3 +1,4 @@
 pub mod Ended
 pub mod Came
+pub mod Names
 pub mod JsonLines

@@ -2,15 +2,19 @@
 use Rattle.std.specs.Prelude.{◌≡◌, ℕ, List, ◌++◌, None, codes, string_bytes, ⊤}
 use Rattle.std.specs.Str.{chars}
 use Rattle.meta_base.specs.Language.Expression.{Grammar, rule_of}
+use Rattle.meta_base.specs.Language.Expected.{expected}
 use Rattle.meta_base.specs.Language.FurthestFailure.{furthest}
 use Rattle.meta_base.specs.Language.State.{State, Trees, Success, Failure}
+use Rattle.meta_base.specs.Language.Text.{Text}
 use Rattle.meta_base.specs.Pieces.LineColumn.{line_column}
 use Rattle.meta_base.specs.Pieces.PrintedError.{printed_error, printed_line}
 use Rattle.meta_base.specs.declared.runtime.errors.LineColLocation.TheVariants.{Pos}
 use Rattle.meta_matcher.specs.Answers.{Has}
+use Rattle.meta_matcher.specs.Told.{each_once}
 use Rattle.meta_properties.specs.Sets.{is_in_property}
 use Rattle.meta_runner.specs.Shown.{shown}
 use Rattle.meta_runner.specs.Values.{answer_data}
+use Rattle.pest_run.specs.Messages.{failure_message}
 use Rattle.pest_run.specs.declared.arguments.Format.{Format}
 use Rattle.pest_run.specs.declared.arguments.Format.TheVariants as format_is
 use Rattle.pest_run.specs.declared.outcomes.Outcome.{Outcome}
@@ -29,15 +33,16 @@ pub record IsShown (g : Grammar) (rule text : List ℕ) (format : Format) (lines
   pub matches : Has g (chars rule) text is_in_property (Success end_ trees)
   pub lines_show : lines ≡ trees_text format text end_.position trees
 
--- what an error prints that stands at a place of a text
-abbrev pub failure_text : List ℕ → ℕ → List ℕ
-failure_text text place =
-    printed_error (codes "unknown parsing error") (Pos (line_column text place)) (printed_line text place)
+-- what an error prints that stands at a place of a text, where these names are expected
+abbrev pub failure_text : List ℕ → ℕ → List Text → List ℕ
+failure_text text place names =
+    printed_error (failure_message names) (Pos (line_column text place)) (printed_line text place)
 
--- the rule, called at the start of the text, fails, and the report shows the furthest place of a failure
+-- the rule, called at the start of the text, fails, and the report shows the furthest place of a failure, and
+-- the names that are expected there, each once
 pub record HasFailed (g : Grammar) (rule text report : List ℕ) : Type 0 where
   pub fails : Has g (chars rule) text is_in_property Failure
-  pub report_shows : report ≡ failure_text text (furthest fails)
+  pub report_shows : report ≡ failure_text text (furthest fails) (each_once (expected fails))
 
 -- no rule has the name
 abbrev pub HasNoRule : Grammar → List ℕ → Type 0
@@ -50,9 +55,9 @@ IsNoAnswer is.Memory = ⊤
 IsNoAnswer _ = ⊥
 
 -- what is told of a failure at a place, unless memory was wanting or the place is none of the text
-abbrev pub TellsOf : List ℕ → ℕ → Outcome → Type 0
-TellsOf text place (is.Failed report) = string_bytes report ≡ failure_text text place
-TellsOf text place o = IsNoAnswer o
+abbrev pub TellsOf : List ℕ → ℕ → List Text → Outcome → Type 0
+TellsOf text place names (is.Failed report) = string_bytes report ≡ failure_text text place names
+TellsOf text place names o = IsNoAnswer o
 
 -- what comes of the rule on the text; of a run that was stopped nothing is said
 abbrev pub IsOutcome : Grammar → List ℕ → List ℕ → Format → Outcome → Type 0

@@ -30,7 +30,8 @@ pub record PrintsTrees (grammar rule text : List ℕ) (format : Format) (old new
   pub gained : Appends old new lines
 
 -- why there are no trees, and the text that says so: the grammar is refused, and its report is the text; or
--- it has an answer, and in that no rule has the name; or the rule fails, and the place of that is shown
+-- it has an answer, and in that no rule has the name; or the rule fails, and the place of that is shown, with
+-- what was expected there
 pub data IsReason (grammar rule text : List ℕ) : List ℕ → Type 0 where
   refused : (errors : List (Error Rule)) → IsRefusedWith grammar errors
       → IsReason grammar rule text (report_text errors)

@@ -2,6 +2,7 @@
 #![tactic(auto)]
 
 mod arguments;
+mod messages;
 mod outcomes;
 mod run;
 

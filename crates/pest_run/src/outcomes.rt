@@ -3,11 +3,13 @@ ghost use Rattle.std.specs.Prelude.{◌≡◌, IfOk, string_bytes};
 ghost use Rattle.meta_ast.specs.Optimized.{optimized_rules_of};
 ghost use Rattle.meta_base.specs.Language.State.{Trees};
 ghost use Rattle.meta_base.specs.Pieces.Span.{position_offset, position_text};
+ghost use Rattle.meta_matcher.specs.Told.{told_of};
 ghost use Rattle.meta_matcher.specs.Written.{seen};
 ghost use Rattle.meta_syntax.specs.Entries.{entries_of};
 ghost use Rattle.pest_run.specs.Outcomes.{IsNoAnswer, IsOutcome, TellsOf, failure_text, trees_text};
 
 use crate::arguments::Format;
+use crate::messages::failure_message;
 use meta_base::grammar::Rule;
 use meta_base::runtime::{Error, ErrorVariant, Fault, Position};
 use meta_matcher::compile::Unfit;
@@ -28,7 +30,7 @@ const STEPS: u64 = u64::MAX;
 pub enum Outcome {
     /// The rule matches, and these lines show the trees.
     Shown(String),
-    /// The rule fails, and this tells where.
+    /// The rule fails, and this tells where, and what was expected there.
     Failed(String),
     /// The grammar has no rule of that name.
     NoRule,
@@ -58,7 +60,14 @@ pub fn outcome_of(
             Err(_) => Outcome::Memory,
         },
         Err(Refusal::UnknownRule(_)) => Outcome::NoRule,
-        Err(Refusal::NoMatch(place)) => failed_outcome(alloc, text, place),
+        Err(Refusal::NoMatch(place)) => {
+            match matcher.expected_at(alloc, rule, text, place, STEPS) {
+                Ok(names) => failed_outcome(alloc, text, place, &names),
+                Err(Refusal::UnknownRule(_)) => Outcome::NoRule,
+                Err(Refusal::NoMatch(_)) => unreachable!(),
+                Err(Refusal::Stopped(stop)) => stopped_outcome(stop),
+            }
+        }
         Err(Refusal::Stopped(stop)) => stopped_outcome(stop),
     }
 }
@@ -95,25 +104,32 @@ fn json_line(
     Ok(line)
 }
 
-/// What comes of a text on which the rule fails, where that is the place of the failure.
-fn failed_outcome(alloc: Global, text: &str, place: usize) -> Outcome
-    ensures { TellsOf text.now place result }
+/// What comes of a text on which the rule fails, where that is the place of the failure, and these names are
+/// expected there.
+fn failed_outcome(alloc: Global, text: &str, place: usize, names: &[&str]) -> Outcome
+    ensures { TellsOf text.now place (told_of names.now) result }
 {
     let Some(position) = Position::new(text, place) else {
         return Outcome::Stopped("the place of the failure is no place of the text");
     };
-    match report_at(alloc, position) {
+    match report_at(alloc, position, names) {
         Ok(report) => Outcome::Failed(report),
         Err(_) => Outcome::Memory,
     }
 }
 
-/// What an error prints that stands at a place. The only error is a want of memory.
-fn report_at(alloc: Global, place: Position<'_>) -> Result<String, Fault>
+/// What an error prints that stands at a place where these names are expected. The only error is a want of
+/// memory.
+fn report_at(alloc: Global, place: Position<'_>, names: &[&str]) -> Result<String, Fault>
     ensures { IfOk result (λ report. string_bytes report
-        ≡ failure_text (position_text place.entry) (position_offset place.entry)) }
+        ≡ failure_text (position_text place.entry) (position_offset place.entry) (told_of names.now)) }
 {
-    let error: Error<Rule> = Error::new_from_pos(alloc, ErrorVariant::ParsingError, place)?;
+    let message = failure_message(alloc, names).map_err(Fault::Memory)?;
+    let error: Error<Rule> = Error::new_from_pos(
+        alloc,
+        ErrorVariant::CustomError { message },
+        place,
+    )?;
     format!(in alloc; "{error}").map_err(Fault::Memory)
 }
 

@@ -80,9 +80,9 @@ pub fn run_files<W: Write, E: Write>(
 /// Matches a text by the rule of a name of a grammar, and prints the trees to `out` (0).
 ///
 /// Otherwise one text with a line break behind it goes to `err`: the report of a grammar that is refused, that
-/// the grammar has no such rule, or the furthest place at which the rule fails (1); `out of memory` (2);
-/// `cannot write` where `out` refuses a write (4); why the run was stopped (5). A write that `err` refuses
-/// changes no status.
+/// the grammar has no such rule, or the furthest place at which the rule fails and what was expected there (1);
+/// `out of memory` (2); `cannot write` where `out` refuses a write (4); why the run was stopped (5). A write
+/// that `err` refuses changes no status.
 pub fn run<W: Write, E: Write>(
     alloc: Global,
     grammar: &str,

@@ -1,0 +1,57 @@
+//! What is said of a text on which a rule fails.
+ghost use Rattle.std.specs.Prelude.{◌≡◌, ◌==◌, ◌++◌, IfOk, OnOk, encode_utf8_all, length, string_bytes};
+ghost use Rattle.std.specs.Str.{chars};
+ghost use Rattle.meta_matcher.specs.Told.{told_of};
+ghost use Rattle.pest_run.specs.Messages.{before_name, failure_message, other_names};
+
+use std::alloc::{AllocError, Global};
+
+/// What is said of a text where these names are expected, in pest's words. The only error is a want of memory.
+pub fn failure_message(alloc: Global, names: &[&str]) -> Result<String, AllocError>
+    ensures { IfOk result (λ message. string_bytes message ≡ failure_message (told_of names.now)) }
+{
+    let mut message = String::new(alloc);
+    match names.split_first() {
+        None => message.push_str("unknown parsing error")?,
+        Some((first, others)) => {
+            message.push_str("expected ")?;
+            add_name(&mut message, "", first)?;
+            add_others(&mut message, others)?;
+        }
+    }
+    Ok(message)
+}
+
+/// Adds a name, and what stands before it.
+fn add_name(message: &mut String, before: &str, name: &str) -> Result<(), AllocError>
+    ensures { OnOk result (string_bytes message.new
+        ≡ string_bytes message.old ++ before.now ++ encode_utf8_all (chars name.now)) }
+{
+    message.push_str(before)?;
+    message.push_str(name)
+}
+
+/// What stands before a name that is not the first.
+fn before_name(of_two: bool, last: bool) -> &'static str
+    ensures { result.now ≡ before_name of_two last }
+{
+    match (of_two, last) {
+        (_, false) => ", ",
+        (true, true) => " or ",
+        (false, true) => ", or ",
+    }
+}
+
+/// Adds the names behind the first one.
+fn add_others(message: &mut String, names: &[&str]) -> Result<(), AllocError>
+    ensures { OnOk result (string_bytes message.new
+        ≡ string_bytes message.old ++ other_names (length names.now == 1) (told_of names.now)) }
+{
+    let of_two = names.len() == 1;
+    let mut following = names.len();
+    for name in names {
+        following -= 1;
+        add_name(message, before_name(of_two, following == 0), name)?;
+    }
+    Ok(())
+}
