@@ -5,6 +5,7 @@
 //! as it stands, and below a row what the rule matches.
 #![tactic(auto)]
 
+ghost use Rattle.meta_matcher.specs.Answers.{IsSoundMatcher};
 ghost use Rattle.std.specs.Prelude.{◌∷◌, []};
 ghost use Rattle.meta_matcher.specs.Programs.{is_in_ranges};
 
@@ -134,7 +135,9 @@ fn write_failure(
     rule: &str,
     text: &str,
     place: usize,
-) -> Result<(), AllocError> {
+) -> Result<(), AllocError>
+    requires { IsSoundMatcher matcher.now }
+{
     match matcher.expected_at(alloc, rule, text, place, STEPS) {
         Ok(names) => {
             write!(out, "    fails at {place}")?;
