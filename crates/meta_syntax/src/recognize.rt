@@ -1,9 +1,10 @@
 //! The recognizer: an interpreter of the table.
 //!
-//! Forms stand within forms, and so do the calls that run them: what each keeps on the stack says how deep
-//! a text may nest. So each kind of form has a function that is built into no other (`inline(never)`).
-//! What only picks one of them is built into whoever asks (`inline(always)`), so that a form within a form
-//! costs one call.
+//! Forms stand within forms, and so do the calls that run them. So that a level of them takes little of the
+//! machine's stack, each kind of form has a function that is built into no other (`inline(never)`). What only
+//! picks one of them is built into whoever asks (`inline(always)`), so that a form within a form costs one call.
+//! Rules stand within one another no deeper than a limit: what would go deeper is refused, and `nesting` reads
+//! it with a list of what waits.
 ghost use Rattle.std.specs.Prelude.{◌≡◌, ◌<◌, ◌&&◌, ◌||◌, ℕ, List, IfOk, IfSome, MatchOption, OnOk, Some, [], true, false, codes};
 ghost use Rattle.meta_base.specs.Language.State.{Between};
 ghost use Rattle.meta_base.specs.Language.Expression.{Choice, Ident, NegPred, Opt, Rep, RepOnce, Seq, comment, whitespace};
@@ -32,6 +33,9 @@ use meta_base::grammar::Rule;
 use std::alloc::{AllocError, Global};
 use std::collections::HashSet;
 
+/// How many calls of rules may stand within one another: they take a megabyte of the machine's stack.
+const LEVELS: usize = 1500;
+
 /// What a run has written and noted so far.
 #[derive(Drop)]
 pub struct Recognizer {
@@ -44,6 +48,8 @@ pub struct Recognizer {
     failed: HashSet<usize>,
     /// Where comments end, by the count of bytes that are left; nothing until one is left open.
     ends: Vec<Option<usize>>,
+    /// How many more calls of rules may stand within those that have begun.
+    levels: usize,
 }
 
 /// Whether a call is that of a comment which is begun there: such a call may be made again and
@@ -66,6 +72,7 @@ impl Recognizer {
             furthest: 0,
             failed: HashSet::new(alloc),
             ends: Vec::new(alloc),
+            levels: LEVELS,
         }
     }
 
@@ -78,8 +85,14 @@ impl Recognizer {
             furthest: _,
             failed: _,
             ends: _,
+            levels: _,
         } = self;
         entries
+    }
+
+    /// Whether a run that was refused stood in so many calls that none may begin within them.
+    pub fn is_too_deep(&self) -> bool {
+        self.levels == 0
     }
 
     /// What a call answers where the next character decides it, or `None` where the call has to be run.
@@ -669,7 +682,8 @@ impl Recognizer {
     }
 
     /// The same, where the character does not decide it. What runs the form is built into it: each form
-    /// within a form keeps as little as it can on the stack.
+    /// within a form keeps as little as it can on the stack. Where so many calls stand within one another that
+    /// no level is left, it is refused as if for want of memory.
     #[inline(never)]
     #[cycle(recognize)]
     fn called<'i>(
@@ -692,12 +706,19 @@ impl Recognizer {
         if self.has_failed(rule, mode, rest) {
             return Ok(None);
         }
+        let levels = self.levels;
+        if levels == 0 {
+            return Err(AllocError);
+        }
+        self.levels = levels - 1;
         let place = text.len() - rest.len();
         let gives = gives_token(row.kind, mode);
         let first = count_of_entries(&self.entries);
         open(&mut self.entries, gives, rule, place)?;
         let inner_mode = body_mode(rule, row.kind, mode);
-        match self.run(text, row.body, inner_mode, rest)? {
+        let answer = self.run(text, row.body, inner_mode, rest)?;
+        self.levels = levels;
+        match answer {
             Some(after) => {
                 let end = text.len() - after.len();
                 close(&mut self.entries, gives, rule, first, place, end)?;
