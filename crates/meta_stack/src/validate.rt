@@ -32,11 +32,14 @@ use meta_nodes::ParserRule;
 use meta_stacks::Stack;
 use std::alloc::{AllocError, Global};
 
-/// How many turns of a repetition are followed at most: more than there are abstract stacks.
-const MOST_STACKS: usize = 3067;
+/// How many abstract stacks there are.
+const ABSTRACT_STACKS: usize = 3066;
+
+/// How many turns of a repetition are followed at most: of so many, one starts from a stack that was seen.
+const MOST_TURNS: usize = ABSTRACT_STACKS + 1;
 
 /// How many turns the loop search follows.
-const MOST_TURNS: usize = 64;
+const SEARCHED_TURNS: usize = 64;
 
 /// Whether the flag of the body of the rule of that name is set.
 fn is_body_set<'i>(
@@ -136,8 +139,8 @@ fn to_visit_in<'i>(
         ranks,
         nullable,
         skips: is_skipping(rules, &names),
-        limit: MOST_STACKS,
-        turns: MOST_TURNS,
+        limit: MOST_TURNS,
+        turns: SEARCHED_TURNS,
     };
     Ok(Some(ToVisit { table, reportable }))
 }

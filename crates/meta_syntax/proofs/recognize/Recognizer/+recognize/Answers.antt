@@ -335,28 +335,28 @@ called-returns-then-has_failed-clause-means t c =
     let s : RemembersTruly c.args.text.now c.args.self.now = assumption in
     fails_again c.args.rule _ _ _ _ _ (c.has_failed.ensures c.args.text.now s l c.if-has_failed.true)
 
-pub called-returns-in_ok-close-in-Some-answer-clause-means : goal.called-returns-in_ok-close-in-Some-answer-clause-means
-called-returns-in_ok-close-in-Some-answer-clause-means t c =
-    let x = rw c.in-Some-answer.is at c.in_ok-answer.ensures.means in
+pub called-returns-in_ok-close-in-Some-2-clause-means : goal.called-returns-in_ok-close-in-Some-2-clause-means
+called-returns-in_ok-close-in-Some-2-clause-means t c =
+    let x = rw c.in-Some-2.is at c.in_ok-after.ensures.means in
     let r = c.in-Some.ensures in
     record {
       trees = _;
-      added = adds_tree _ _ _ _ _ c.args.self.now.entries.items c.open.new.entries.items c.run.new.self.entries.items c.close.new.entries.items x.trees c.in_ok-open.ensures x.added c.count_of_entries-first.ensures c.in_ok-close-in-Some-answer.ensures;
+      added = adds_tree _ _ _ _ _ c.args.self.now.entries.items c.open.new.entries.items c.run.new.self.entries.items c.close.new.entries.items x.trees c.in_ok-open.ensures x.added c.count_of_entries-first.ensures c.in_ok-close-in-Some-2.ensures;
       ran = λ classes. call_found c.args.rule _ _ _ _ r.defined c.body_mode-inner_mode.ensures.means r.body r.kind _ (x.ran classes) c.gives_token-gives.ensures;
     }
 
 pub called-returns-in_ok-remember-in-None-clause-remembers : goal.called-returns-in_ok-remember-in-None-clause-remembers
 called-returns-in_ok-remember-in-None-clause-remembers t c =
-    let x = rw c.in-None.is at c.in_ok-answer.ensures.means in
+    let x = rw c.in-None.is at c.in_ok-after.ensures.means in
     let r = c.in-Some.ensures in
     let l : IsLeft c.args.text.now c.args.rest.now = assumption in
     c.in_ok-remember-in-None.ensures.remembers c.args.text.now
-    (remembers_truly_on c.args.text.now c.run.new.self c.furthest_with-self.result c.in_ok-answer.ensures.remembers c.furthest_with-self.ensures.further) l
+    (remembers_truly_on c.args.text.now c.run.new.self c.furthest_with-self.result c.in_ok-after.ensures.remembers c.furthest_with-self.ensures.further) l
     (failed_within c.args.rule _ _ _ _ _ (λ classes. call_failed c.args.rule _ _ _ _ r.defined c.body_mode-inner_mode.ensures.means r.body r.kind _ (x.ran classes) c.call_counts.ensures c.furthest_with-self.ensures.value))
 
 pub called-returns-in_ok-remember-in-None-clause-means : goal.called-returns-in_ok-remember-in-None-clause-means
 called-returns-in_ok-remember-in-None-clause-means t c =
-    let x = rw c.in-None.is at c.in_ok-answer.ensures.means in
+    let x = rw c.in-None.is at c.in_ok-after.ensures.means in
     let r = c.in-Some.ensures in
     let m = c.in_ok-remember-in-None.ensures in
     record {
