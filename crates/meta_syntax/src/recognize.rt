@@ -3,8 +3,8 @@
 //! Forms stand within forms, and so do the calls that run them. So that a level of them takes little of the
 //! machine's stack, each kind of form has a function that is built into no other (`inline(never)`). What only
 //! picks one of them is built into whoever asks (`inline(always)`), so that a form within a form costs one call.
-//! Rules stand within one another no deeper than a limit: what would go deeper is refused, and `nesting` reads
-//! it with a list of what waits.
+//! Rules that may reach themselves stand within one another no deeper than a limit: what would go deeper is
+//! refused, and `nesting` reads it with a list of what waits.
 ghost use Rattle.std.specs.Prelude.{◌≡◌, ◌<◌, ◌&&◌, ◌||◌, ℕ, List, IfOk, IfSome, MatchOption, OnOk, Some, [], true, false, codes};
 ghost use Rattle.meta_base.specs.Language.State.{Between};
 ghost use Rattle.meta_base.specs.Language.Expression.{Choice, Ident, NegPred, Opt, Rep, RepOnce, Seq, comment, whitespace};
@@ -33,8 +33,9 @@ use meta_base::grammar::Rule;
 use std::alloc::{AllocError, Global};
 use std::collections::HashSet;
 
-/// How many calls of rules may stand within one another: they take a megabyte of the machine's stack.
-const LEVELS: usize = 1500;
+/// How many calls of rules that may reach themselves may stand within one another: they take some megabyte of the
+/// machine's stack.
+const LEVELS: usize = 500;
 
 /// What a run has written and noted so far.
 #[derive(Drop)]
@@ -48,7 +49,7 @@ pub struct Recognizer {
     failed: HashSet<usize>,
     /// Where comments end, by the count of bytes that are left; nothing until one is left open.
     ends: Vec<Option<usize>>,
-    /// How many more calls of rules may stand within those that have begun.
+    /// How many more calls of rules that may reach themselves may stand within those that have begun.
     levels: usize,
 }
 
@@ -59,6 +60,13 @@ fn begins_comment(rule: Rule, rest: &str) -> bool
     ensures { result ≡ true → rule ≡ block_comment }
 {
     rule == Rule::block_comment && rest.starts_with("/*")
+}
+
+/// Whether a rule may reach itself, so that a text says how deep its calls stand within one another: an expression
+/// by way of its parentheses, and a comment.
+#[inline(always)]
+fn reaches_itself(rule: Rule) -> bool {
+    matches!(rule, Rule::expression | Rule::block_comment)
 }
 
 impl Recognizer {
@@ -677,13 +685,46 @@ impl Recognizer {
         }
         match sign_of(rule) {
             Some(character) => self.sign(text, rule, character, mode, rest),
-            None => self.called(text, rule, mode, rest),
+            None => {
+                if reaches_itself(rule) {
+                    self.deeper(text, rule, mode, rest)
+                } else {
+                    self.called(text, rule, mode, rest)
+                }
+            }
         }
     }
 
+    /// A call of a rule that may reach itself takes a level of those that are left, as long as it runs. Where none
+    /// is left, it is refused as if for want of memory.
+    #[inline(never)]
+    #[cycle(recognize)]
+    fn deeper<'i>(
+        &mut self,
+        text: &str,
+        rule: Rule,
+        mode: Mode,
+        rest: &'i str,
+    ) -> Result<Option<&'i str>, AllocError>
+        requires ready { IsReady text.now rest.now self.old }
+        ensures goes_on { IfOk result (GoesOnIfFound text.now rest.entry.now (nullable rule)) }
+        ensures remembers { OnOk result (RemembersTruly text.now self.new) }
+        ensures means { IfOk result
+            (Runs (Run (mode_of mode) (Ident (name_of rule)))
+            text.now rest.entry.now self.old self.new) }
+    {
+        let levels = self.levels;
+        if levels == 0 {
+            return Err(AllocError);
+        }
+        self.levels = levels - 1;
+        let answer = self.called(text, rule, mode, rest)?;
+        self.levels = levels;
+        Ok(answer)
+    }
+
     /// The same, where the character does not decide it. What runs the form is built into it: each form
-    /// within a form keeps as little as it can on the stack. Where so many calls stand within one another that
-    /// no level is left, it is refused as if for want of memory.
+    /// within a form keeps as little as it can on the stack.
     #[inline(never)]
     #[cycle(recognize)]
     fn called<'i>(
@@ -706,19 +747,12 @@ impl Recognizer {
         if self.has_failed(rule, mode, rest) {
             return Ok(None);
         }
-        let levels = self.levels;
-        if levels == 0 {
-            return Err(AllocError);
-        }
-        self.levels = levels - 1;
         let place = text.len() - rest.len();
         let gives = gives_token(row.kind, mode);
         let first = count_of_entries(&self.entries);
         open(&mut self.entries, gives, rule, place)?;
         let inner_mode = body_mode(rule, row.kind, mode);
-        let answer = self.run(text, row.body, inner_mode, rest)?;
-        self.levels = levels;
-        match answer {
+        match self.run(text, row.body, inner_mode, rest)? {
             Some(after) => {
                 let end = text.len() - after.len();
                 close(&mut self.entries, gives, rule, first, place, end)?;
