@@ -388,19 +388,25 @@ fn may_come_back<'i>(
     !falls_from(facts, levels, place)
 }
 
+/// What a search for a chain goes by: the facts of the rules, and which rules it may pass through.
+#[derive(Clone, Copy)]
+struct Guide<'f> {
+    facts: &'f Facts,
+    passing: &'f [bool],
+}
+
 /// What is found of the rule at a place, the last of its name, as one that calls itself.
 fn recursion_at<'i>(
     alloc: Global,
     rules: &[ParserRule<'i>],
-    facts: &Facts,
+    guide: Guide<'_>,
     spans: &[Span<'i>],
-    passing: &[bool],
     place: usize,
     walk: &mut Walk,
 ) -> Result<Option<Finding<'i>>, AllocError>
-    requires facts { AreFacts rules.now facts.now }
+    requires facts { AreFacts rules.now guide.facts.now }
     requires spans { AreSpans rules.now spans.now }
-    requires passing { ArePassing rules.now facts.now.table.roots.items passing.now }
+    requires passing { ArePassing rules.now guide.facts.now.table.roots.items guide.passing.now }
     requires inside { place < length rules.now }
     requires last { (r : SpannedRule) → slice_get (rule_views rules.now) place ≡ Some r
         → Means (rule_views rules.now) r.name place }
@@ -408,11 +414,11 @@ fn recursion_at<'i>(
     ensures idle { OnOk result (IsIdle rules.now walk.new) }
     ensures nothing { IfOk result (λ found. IfNone found (OfRecursion (rule_views rules.now) place [])) }
     ensures never { IfOk result (λ found. IfNone found
-        (NeverComesBack rules.now facts.now.table.roots.items place)) }
+        (NeverComesBack rules.now guide.entry.facts.now.table.roots.items place)) }
     ensures some { IfOk result (λ found. IfSome found
         (λ finding. OfRecursion (rule_views rules.now) place (finding_of finding ∷ []))) }
 {
-    match sought(alloc, rules, facts, passing, place, walk)? {
+    match sought(alloc, rules, guide.facts, guide.passing, place, walk)? {
         None => Ok(None),
         Some(closed) => {
             let span = spans[closed.call];
@@ -438,21 +444,17 @@ fn closed_chains<'i>(
 {
     let levels = left_levels(alloc, facts)?;
     let passing = passing(alloc, rules, facts)?;
+    let guide = Guide {
+        facts,
+        passing: passing.as_slice(),
+    };
     let mut walk = idle(alloc, rules)?;
     let mut found = Vec::new(alloc);
     for place in 0..rules.len() {
         if !may_come_back(rules, facts, levels.as_slice(), place) {
             continue;
         }
-        match recursion_at(
-            alloc,
-            rules,
-            facts,
-            spans,
-            passing.as_slice(),
-            place,
-            &mut walk,
-        )? {
+        match recursion_at(alloc, rules, guide, spans, place, &mut walk)? {
             None => continue,
             Some(finding) => found.push(finding)?,
         }
