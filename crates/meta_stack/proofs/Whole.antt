@@ -7,6 +7,7 @@ use Rattle.std.proofs.lemmas.List.{length-map}
 use Rattle.meta_base.specs.Language.Expression.{Grammar}
 use Rattle.meta_base.specs.Language.Text.{Text}
 use Rattle.meta_base.specs.declared.runtime.places.Span as code_span
+use Rattle.meta_flags.specs.Least.{is_set_at}
 use Rattle.meta_nodes.specs.Erasure.{rules_without_spans, without_spans}
 use Rattle.meta_nodes.specs.Nodes.{piece_of, view, rule_views}
 use Rattle.meta_nodes.specs.Spanned.{Span, Spanned, SpannedRule}
@@ -22,7 +23,6 @@ use Rattle.meta_stacks.proofs.Routes.{reported_is_certain}
 use Rattle.meta_stacks.specs.declared.stack.Stack.{Stack}
 use Rattle.meta_stack.specs.Certain.{AreCertain, ArePlain, IsTableOf}
 use Rattle.meta_stack.specs.Expressions.{may_stay, name_flag}
-use Rattle.meta_stack.specs.Flags.{is_set_at}
 use Rattle.meta_stack.specs.Following.{seen_stacks}
 use Rattle.meta_stack.specs.Memory.{Meaning, IsRight}
 use Rattle.meta_stack.specs.Names.{grammar_of, kind_in}

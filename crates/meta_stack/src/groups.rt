@@ -3,7 +3,8 @@ ghost use Rattle.std.specs.Prelude.{◌≡◌, ℕ, IfOk, Some, false, true, sli
 ghost use Rattle.meta_stack.specs.Leading.{AreLed, AreLinks, IsOnward, LeadsBack, leader_in};
 
 use crate::calls::{Groups, Link, turned};
-use crate::table::{Node, is_set};
+use crate::table::Node;
+use meta_flags::is_set;
 use std::alloc::{AllocError, Global};
 
 /// The leader of a rule.

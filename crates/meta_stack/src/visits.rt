@@ -8,8 +8,9 @@ use crate::copies::is_among;
 use crate::loops::loops;
 use crate::memory::Memory;
 use crate::reader::{follow, read, turn};
-use crate::table::{Parts, Table, is_set};
+use crate::table::{Parts, Table};
 use meta_base::runtime::Span;
+use meta_flags::is_set;
 use meta_stacks::{Stack, Walk};
 use std::alloc::{AllocError, Global};
 

@@ -6,10 +6,10 @@ use Rattle.meta_base.specs.Language.Expression.{Expression, Rule, Grammar, rule_
 use Rattle.meta_base.specs.Language.WellFormed.{IsNullable, InRules, IsSkipped, is_whitespace, is_comment, Leads, IsWellFormed}
 use Rattle.meta_nodes.specs.Nodes.{view}
 use Rattle.meta_nodes.specs.declared.node.ParserRule.{ParserRule}
+use Rattle.meta_flags.specs.Least.{is_set_at}
 use Rattle.meta_validator.specs.Names.{grammar_of, kind_in, rule_said, last_place}
 use Rattle.meta_validator.specs.Numbering.{Says, repeated, wrap_kind}
 use Rattle.meta_validator.specs.Facts.{AreFacts}
-use Rattle.meta_validator.specs.Table.{is_set_at}
 use Rattle.meta_validator.specs.Taking.{RepeatedTakes, AllRepeatedTake, SkippedTake}
 use Rattle.meta_validator.specs.Findings.{is_skipped_name}
 use Rattle.meta_validator.specs.declared.facts.Facts.{Facts}

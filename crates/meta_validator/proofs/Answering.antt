@@ -8,17 +8,18 @@ use Rattle.std.specs.Bool.{Decides}
 use Rattle.meta_base.specs.Language.WellFormed.{IsNullable, nullable_str, nullable_insens, nullable_soi, nullable_eoi, nullable_call, nullable_pos_pred, nullable_neg_pred, nullable_opt, nullable_rep, nullable_rep_max, nullable_seq, nullable_left, nullable_right, nullable_rep_once, nullable_push, nullable_exact_zero, nullable_exact, nullable_min_zero, nullable_min, nullable_min_max_zero, nullable_min_max, nullable_skip, nullable_restore, CannotFail, cannot_fail_str, cannot_fail_insens, cannot_fail_call, cannot_fail_opt, cannot_fail_rep, cannot_fail_rep_max, cannot_fail_seq, cannot_fail_left, cannot_fail_right, cannot_fail_rep_once, cannot_fail_push, cannot_fail_pos_pred, cannot_fail_exact_zero, cannot_fail_exact, cannot_fail_min_zero, cannot_fail_min, cannot_fail_min_max_zero, cannot_fail_min_max, cannot_fail_skip, cannot_fail_restore, nullable_push_literal, nullable_tag, cannot_fail_push_literal, cannot_fail_tag}
 use Rattle.meta_nodes.specs.Nodes.{view}
 use Rattle.meta_nodes.specs.declared.node.ParserRule.{ParserRule}
+use Rattle.meta_flags.specs.Least.{is_set_at}
 use Rattle.meta_validator.specs.Names.{grammar_of, kind_in, rule_said, last_place, name_kind, is_end}
 use Rattle.meta_validator.specs.Numbering.{Says, counted, repeated, wrap_kind}
-use Rattle.meta_validator.specs.Table.{is_set_at, is_of_taking, at_root, fires, Holds, holds}
-use Rattle.meta_validator.specs.Marks.{AreSound, AreClosed}
+use Rattle.meta_validator.specs.Table.{is_of_taking, at_root, fires}
+use Rattle.meta_flags.specs.Least.{follows}
+use Rattle.meta_validator.specs.Marks.{AreSound, AreClosed, Holds}
 use Rattle.meta_validator.specs.Facts.{IsTableOf, Asked, AreAnswers}
 use Rattle.meta_validator.specs.declared.table.Kind.{Kind}
 use Rattle.meta_validator.specs.declared.table.Question.{Question}
 use Rattle.meta_validator.specs.declared.table.Question.TheVariants as asks
 use Rattle.meta_validator.specs.declared.table.Table.{Table}
 use Rattle.meta_validator.specs.declared.numbering.Wrap.TheVariants as wraps
-use Rattle.meta_validator.proofs.MarkLemmas.{either}
 use Rattle.meta_validator.proofs.Tying.{says}
 
 -- 1. names
@@ -43,6 +44,10 @@ got_root [] ys k n e l = cc
 got_root (x ∷ xs) [] k n e l = absurd (omega arith)
 got_root (x ∷ xs) (y ∷ ys) zero n e l = (y, refl)
 got_root (x ∷ xs) (y ∷ ys) (suc k) n e l = got_root xs ys k n e (omega arith)
+
+either : (a b : Bool) → (a || b) ≡ true → (a ≡ true) ⊎ (b ≡ true)
+either true b h = inl refl
+either false b h = inr h
 
 pub end_null : (g : Grammar) (n : Text) → is_end n ≡ true → IsNullable g (Ident n)
 end_null g n h = elim (either (bytes_eq n (codes "SOI")) (bytes_eq n (codes "EOI")) h) [
@@ -208,7 +213,7 @@ module _ (q : Question) (G : Grammar) (place_of : Text → Option ℕ) (t : Tabl
     step i k (RestoreOnErr e) at s f = absurd s
 
   pub asked : {i : ℕ} → Holds q t i → (e : Expression) → Says_ i e → Asked q G e
-  asked (holds {i = i} {k = k} p at f g) e s = step p (λ j d h z. asked (g j h) d z) i k e at s f
+  asked (follows {i = i} {a = k} p at f g) e s = step p (λ j d h z. asked (g j h) d z) i k e at s f
 
 -- 5. what is asked is marked
 end_fires : (roots : List ℕ) (p : ℕ → Bool) (b : Bool) → b ≡ true → (o : Option ℕ) → fires asks.TakesNothing roots p (name_kind b o) ≡ true

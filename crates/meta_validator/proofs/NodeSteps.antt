@@ -11,13 +11,13 @@ use Rattle.meta_nodes.specs.Erasure.{without_spans}
 use Rattle.meta_nodes.specs.Nodes.{rule_views}
 use Rattle.meta_nodes.specs.Spanned.{Span, Spanned, Leaf, One, Two, Seq, Choice, SpannedRule}
 use Rattle.meta_nodes.specs.declared.node.ParserRule.{ParserRule}
+use Rattle.meta_flags.specs.Least.{is_set_at}
 use Rattle.meta_validator.specs.Facts.{AreFacts}
 use Rattle.meta_validator.specs.LeftRecursion.{IsNoName, said, Means, Passes}
 use Rattle.meta_validator.specs.Names.{grammar_of, kind_in, name_kind, last_place, is_end}
 use Rattle.meta_validator.specs.Numbering.{Fits, IsSimple, leaf_kind, wrap_kind, wrap_of, both_kind, nodes_of, size}
 use Rattle.meta_validator.specs.Regions.{IsNodeOf, ArePassing}
 use Rattle.meta_validator.specs.Searching.{ordered, called_in, inside_of, size_at, cost, unentered, name_of, last_name, IsSearch}
-use Rattle.meta_validator.specs.Table.{is_set_at}
 use Rattle.meta_validator.specs.Walk.{without}
 use Rattle.meta_validator.specs.declared.facts.Facts.{Facts}
 use Rattle.meta_validator.specs.declared.numbering.Wrap.{Wrap}

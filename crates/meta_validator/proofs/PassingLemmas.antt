@@ -11,12 +11,12 @@ use Rattle.meta_nodes.specs.Erasure.{without_spans, rule_without_spans}
 use Rattle.meta_nodes.specs.Nodes.{rule_view, rule_views}
 use Rattle.meta_nodes.specs.Spanned.{Spanned, SpannedRule}
 use Rattle.meta_nodes.specs.declared.node.ParserRule.{ParserRule}
+use Rattle.meta_flags.specs.Least.{is_set_at}
 use Rattle.meta_validator.specs.Facts.{AreFacts}
 use Rattle.meta_validator.specs.LeftRecursion.{Means}
 use Rattle.meta_validator.specs.Marks.{AreSound, AreClosed}
 use Rattle.meta_validator.specs.Names.{grammar_of, kind_in, last_place, name_kind, is_end}
 use Rattle.meta_validator.specs.Numbering.{Says, counted, repeated, wrap_kind, text_kind, nodes_of}
-use Rattle.meta_validator.specs.Table.{is_set_at}
 use Rattle.meta_validator.specs.Walk.{without}
 use Rattle.meta_validator.specs.Without.{without_kind, IsWithout}
 use Rattle.meta_validator.specs.declared.facts.Facts.{Facts}

@@ -7,11 +7,11 @@ use Rattle.meta_nodes.specs.Erasure.{without_spans}
 use Rattle.meta_nodes.specs.Nodes.{rule_views}
 use Rattle.meta_nodes.specs.Spanned.{Spanned, SpannedRule}
 use Rattle.meta_nodes.specs.declared.node.ParserRule.{ParserRule}
+use Rattle.meta_flags.specs.Least.{is_set_at}
 use Rattle.meta_validator.specs.Facts.{AreRoots}
 use Rattle.meta_validator.specs.LeftRecursion.{said, Means}
 use Rattle.meta_validator.specs.Numbering.{nodes_of}
 use Rattle.meta_validator.specs.Regions.{root_of, first_of, IsNodeOf, ArePassingSoFar, ArePassingBelow}
-use Rattle.meta_validator.specs.Table.{is_set_at}
 use Rattle.meta_validator.specs.Walk.{without}
 use Rattle.meta_validator.proofs.RegionLemmas.{rises}
 use Rattle.meta_validator.proofs.LayoutLemmas.{some_size}

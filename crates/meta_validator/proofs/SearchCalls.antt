@@ -10,17 +10,16 @@ use Rattle.meta_base.specs.Language.Expression as plain
 use Rattle.meta_nodes.specs.Erasure.{without_spans}
 use Rattle.meta_nodes.specs.Spanned.{Spanned, Leaf, SpannedRule, Span}
 use Rattle.meta_nodes.specs.declared.node.ParserRule.{ParserRule}
+use Rattle.meta_flags.specs.Least.{is_set_at, unset}
 use Rattle.meta_validator.specs.LeftRecursion.{Closed, IsNoName, said, Means, Walks, walks_over, walks_closing, walks_outside, walks_again, walks_into}
-use Rattle.meta_validator.specs.Marks.{unset}
 use Rattle.meta_validator.specs.Names.{last_place}
 use Rattle.meta_validator.specs.Numbering.{nodes_of, IsSimple}
 use Rattle.meta_validator.specs.Regions.{IsNodeOf}
 use Rattle.meta_validator.specs.Searching.{ordered, after, views, Calls, name_of, last_name, Comes, Goes, Owes, IsKnown, AreCovered, AreSettled, IsSought, IsSearch}
-use Rattle.meta_validator.specs.Table.{is_set_at}
 use Rattle.meta_validator.specs.Walk.{Walked, w_name}
 use Rattle.meta_validator.specs.declared.recursions.Task.{Task}
 use Rattle.meta_validator.specs.declared.recursions.Task.TheVariants.{Visit, Leave}
-use Rattle.meta_validator.proofs.MarkLemmas.{set_or_one}
+use Rattle.meta_flags.proofs.LeastLemmas.{set_or_one}
 use Rattle.meta_validator.proofs.NoneWalks.{Flags, flags_more, no_flags, unset_flags, none_walked, at_end, set_keeps, set_sets, in_rules, IsFine}
 use Rattle.meta_validator.proofs.SearchLemmas.{same_rule, one_in, nothing}
 

@@ -11,6 +11,7 @@ use Rattle.meta_nodes.specs.Nodes.{rule_views}
 use Rattle.meta_nodes.specs.Spanned as spanned
 use Rattle.meta_nodes.specs.Spanned.{Span, Spanned, Leaf, One, Two, Unary, SpannedRule}
 use Rattle.meta_nodes.specs.declared.node.ParserRule.{ParserRule}
+use Rattle.meta_flags.specs.Least.{is_set_at}
 use Rattle.meta_validator.specs.Cycles.{rank_at}
 use Rattle.meta_validator.specs.Facts.{AreFacts}
 use Rattle.meta_validator.specs.LeftRecursion.{Means}
@@ -18,7 +19,7 @@ use Rattle.meta_validator.specs.Levels.{Rests, AllRest, IsSettled, AreSettled, o
 use Rattle.meta_validator.specs.Names.{grammar_of, kind_in, last_place, name_kind, is_end}
 use Rattle.meta_validator.specs.Numbering.{Says, IsSimple, Fits, counted, repeated, wrap_of, wrap_kind, leaf_kind, nodes_of}
 use Rattle.meta_validator.specs.Regions.{IsNodeOf, ArePassingSoFar, first_of}
-use Rattle.meta_validator.specs.Table.{is_set_at, at_root}
+use Rattle.meta_validator.specs.Table.{at_root}
 use Rattle.meta_validator.specs.Walk.{without}
 use Rattle.meta_validator.specs.declared.facts.Facts.{Facts}
 use Rattle.meta_validator.specs.declared.numbering.Wrap.TheVariants as wraps

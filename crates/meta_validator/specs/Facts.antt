@@ -6,11 +6,11 @@ use Rattle.meta_base.specs.Language.WellFormed.{IsNullable, CannotFail}
 use Rattle.meta_nodes.specs.Nodes.{view}
 use Rattle.meta_nodes.specs.declared.node.ParserRule.{ParserRule}
 use Rattle.meta_nodes.specs.Spanned.{Spanned}
+use Rattle.meta_flags.specs.Least.{is_set_at}
 use Rattle.meta_validator.specs.NameMaps.{KnowsRules}
 use Rattle.meta_validator.specs.Names.{grammar_of, kind_in}
 use Rattle.meta_validator.specs.Numbering.{Stands, Says, AreNodes, nodes_of, size}
 use Rattle.meta_validator.specs.Regions.{first_of}
-use Rattle.meta_validator.specs.Table.{is_set_at}
 use Rattle.meta_validator.specs.declared.table.Question.{Question}
 use Rattle.meta_validator.specs.declared.table.Question.TheVariants as asks
 use Rattle.meta_validator.specs.declared.table.Table.{Table}

@@ -6,11 +6,11 @@ use Rattle.meta_nodes.specs.Erasure.{without_spans}
 use Rattle.meta_nodes.specs.Nodes.{rule_views}
 use Rattle.meta_nodes.specs.Spanned.{Spanned, span_of, SpannedRule}
 use Rattle.meta_nodes.specs.declared.node.ParserRule.{ParserRule}
+use Rattle.meta_flags.specs.Least.{is_set_at}
 use Rattle.meta_validator.specs.Flags.{NoneSet}
 use Rattle.meta_validator.specs.LeftRecursion.{Closed, said, Means, Walks}
 use Rattle.meta_validator.specs.Numbering.{nodes_of, size}
 use Rattle.meta_validator.specs.Regions.{IsNodeOf}
-use Rattle.meta_validator.specs.Table.{is_set_at}
 use Rattle.meta_validator.specs.Walk.{Walked, WalkLeads}
 use Rattle.meta_validator.specs.declared.recursions.Task.{Task}
 use Rattle.meta_validator.specs.declared.recursions.Walk.{Walk}

@@ -11,8 +11,9 @@ ghost use Rattle.meta_validator.specs.Reporting.{findings_of, AreSpans, repeated
 use crate::facts::Facts;
 use crate::names::is_literal;
 use crate::numbering::push_spans;
-use crate::table::{Kind, is_set};
+use crate::table::Kind;
 use meta_base::runtime::Span;
+use meta_flags::is_set;
 use meta_nodes::ParserRule;
 use std::alloc::{AllocError, Global};
 

@@ -12,14 +12,15 @@ ghost use Rattle.meta_validator.specs.Reported.{AreReported};
 ghost use Rattle.meta_validator.specs.Reporting.{findings_of};
 
 use crate::findings::Finding;
-use crate::marks::{marked, who_listens};
+use crate::marks::marked;
 use crate::names::names_of;
 use crate::numbering::number;
 use crate::reported::{errors_in, errors_of, sorted_findings};
-use crate::table::{Question, is_set};
+use crate::table::Question;
 use crate::tables::tabulated;
 use meta_base::grammar::Rule;
 use meta_base::runtime::{Error, Fault, Span};
+use meta_flags::{is_set, who_listens};
 use meta_nodes::{ParserExpr, ParserRule};
 use std::alloc::{AllocError, Global};
 

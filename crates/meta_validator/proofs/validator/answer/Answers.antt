@@ -2,12 +2,12 @@ use Rattle.std.proofs.Common.{[], ◌∙◌, sym, ap, subst, ◌++◌}
 use Rattle.std.specs.Bool.{Decides}
 use Rattle.meta_nodes.specs.Erasure.{without_spans}
 use Rattle.meta_nodes.specs.Nodes.{unplaced}
+use Rattle.meta_flags.specs.Least.{is_set_at}
 use Rattle.meta_validator.specs.Facts.{Asked}
 use Rattle.meta_validator.specs.Names.{grammar_of, kind_in}
 use Rattle.meta_validator.specs.Numbering.{nodes_of}
 use Rattle.meta_validator.specs.Findings.{postorder}
 use Rattle.meta_validator.specs.declared.table.Table.{Table}
-use Rattle.meta_validator.specs.Table.{is_set_at}
 use Rattle.meta_validator.proofs.Answering.{answers}
 use Rattle.meta_validator.proofs.Roots.{table_of}
 use Rattle.meta_validator.proofs.Tying.{found_last, stands_at, says}
