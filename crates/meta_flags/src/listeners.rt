@@ -5,7 +5,7 @@ use std::alloc::{AllocError, Global};
 /// Items that are known by number, each of which listens to some of them.
 pub trait Listening {
     /// How many items there are.
-    fn items(&self) -> usize;
+    fn count(&self) -> usize;
 
     /// Tells each one to which an item listens.
     fn tell<T: Told>(&self, item: usize, told: &mut T);
@@ -76,9 +76,9 @@ impl Told for Places {
 
 /// How many listen to each item; and one number more.
 fn counts_of<L: Listening>(alloc: Global, listening: &L) -> Result<Vec<usize>, AllocError> {
-    let counts = vec![in alloc; 0; listening.items().saturating_add(1)]?;
+    let counts = vec![in alloc; 0; listening.count().saturating_add(1)]?;
     let mut told = Counts { counts };
-    for item in 0..listening.items() {
+    for item in 0..listening.count() {
         listening.tell(item, &mut told);
     }
     Ok(told.counts)
@@ -104,7 +104,7 @@ pub fn who_listens<L: Listening>(alloc: Global, listening: &L) -> Result<Listene
         all,
         listener: 0,
     };
-    for item in 0..listening.items() {
+    for item in 0..listening.count() {
         told.listener = item;
         listening.tell(item, &mut told);
     }

@@ -8,7 +8,7 @@ use meta_flags::{Inference, Listening, Told, least_flags, who_listens};
 use std::alloc::{AllocError, Global};
 
 impl Listening for Noted {
-    fn items(&self) -> usize {
+    fn count(&self) -> usize {
         self.shares.len()
     }
 

@@ -6,7 +6,8 @@ use Rattle.meta_flags.specs.Least.{is_set_at}
 use Rattle.meta_nodes.specs.declared.node.ParserRule.{ParserRule}
 use Rattle.meta_stacks.specs.Recursion.{ReachesByCalls}
 use Rattle.meta_stack.specs.Answers.{answer, at_place}
-use Rattle.meta_stack.specs.Names.{grammar_of, kind_in, last_place}
+use Rattle.meta_table.specs.Names.{grammar_of, last_place}
+use Rattle.meta_stack.specs.Names.{kind_in}
 use Rattle.meta_stack.specs.Numbering.{AreTabled}
 use Rattle.meta_stack.specs.declared.facts.Question.{Question}
 use Rattle.meta_stack.specs.declared.facts.Question.TheVariants as asks

@@ -5,7 +5,8 @@ use Rattle.meta_nodes.specs.Spanned.{Unary, PosPred, NegPred, Opt, Rep, RepOnce,
 use Rattle.meta_flags.specs.Least.{follows, is_set_at}
 use Rattle.meta_stack.specs.Answers.{answer, at_place, leading, some_part, Holds, AreSound, AreClosed}
 use Rattle.meta_stack.specs.Leading.{IsOperandOf, LeadsToCall, to_call, by_body, by_operand, LeadsBack}
-use Rattle.meta_stack.specs.Numbering.{wrap_of, wrap_kind, both_kind, choice_of}
+use Rattle.meta_table.specs.Nodes.{choice_of}
+use Rattle.meta_stack.specs.Numbering.{wrap_of, wrap_kind, both_kind}
 use Rattle.meta_stack.specs.Table.{called_by, parts_of}
 use Rattle.meta_stack.specs.declared.facts.Question.TheVariants as asks
 use Rattle.meta_stack.specs.declared.table.Kind.{Kind}

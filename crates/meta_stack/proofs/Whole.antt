@@ -25,7 +25,8 @@ use Rattle.meta_stack.specs.Certain.{AreCertain, ArePlain, IsTableOf}
 use Rattle.meta_stack.specs.Expressions.{may_stay, name_flag}
 use Rattle.meta_stack.specs.Following.{seen_stacks}
 use Rattle.meta_stack.specs.Memory.{Meaning, IsRight}
-use Rattle.meta_stack.specs.Names.{grammar_of, kind_in}
+use Rattle.meta_table.specs.Names.{grammar_of}
+use Rattle.meta_stack.specs.Names.{kind_in}
 use Rattle.meta_stack.specs.Numbering.{AreTabled}
 use Rattle.meta_stack.specs.Reportable.{AreReportable, AreSilent, FindsMore}
 use Rattle.meta_stack.specs.Table.{IsMeaning, nodes_of}
@@ -41,7 +42,7 @@ use Rattle.meta_stack.proofs.FlagLemmas.{sound_answers}
 use Rattle.meta_stack.proofs.Least.{may_stay_null}
 use Rattle.meta_stack.proofs.Reached.{flagged_reaches}
 use Rattle.meta_stack.proofs.Reporting.{told_otherwise}
-use Rattle.meta_stack.proofs.Resolved.{got_like}
+use Rattle.meta_table.proofs.Resolved.{got_like}
 use Rattle.meta_stack.proofs.Silence.{silent}
 use Rattle.meta_stack.proofs.Tied as tied
 

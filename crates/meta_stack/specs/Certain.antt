@@ -17,7 +17,8 @@ use Rattle.meta_stacks.specs.Stack.{In}
 use Rattle.meta_stacks.specs.Turns.{most_stacks}
 use Rattle.meta_stack.specs.Answers.{AreAnswers, AreSound}
 use Rattle.meta_stack.specs.Leading.{LeadsBack}
-use Rattle.meta_stack.specs.Names.{grammar_of, kind_in}
+use Rattle.meta_table.specs.Names.{grammar_of}
+use Rattle.meta_stack.specs.Names.{kind_in}
 use Rattle.meta_stack.specs.Numbering.{AreTabled}
 use Rattle.meta_stack.specs.Table.{AreInside, IsOrdered, nodes_of}
 use Rattle.meta_stack.specs.Visiting.{AllReported}

@@ -5,7 +5,6 @@ pub mod Following
 pub mod Searching
 pub mod Visiting
 pub mod Names
-pub mod NameMaps
 pub mod Numbering
 pub mod Answers
 pub mod Told

@@ -13,7 +13,7 @@ use Rattle.meta_stack.specs.Answers.{AreAnswers, some_part}
 use Rattle.meta_stack.specs.Leading.{IsOperandOf}
 use Rattle.meta_stack.specs.Certain.{IsTableOf}
 use Rattle.meta_stack.specs.Memory.{Meaning, IsRight}
-use Rattle.meta_stack.specs.Names.{grammar_of}
+use Rattle.meta_table.specs.Names.{grammar_of}
 use Rattle.meta_stack.specs.Numbering.{is_empty_text}
 use Rattle.meta_stack.specs.Table.{IsMeaning, parts_of}
 use Rattle.meta_stack.specs.Visiting.{FindsAll}

@@ -138,7 +138,7 @@ pub(crate) struct Nodes<'a, 'i> {
 }
 
 impl<'a, 'i> Listening for Nodes<'a, 'i> {
-    fn items(&self) -> usize {
+    fn count(&self) -> usize {
         self.nodes.len()
     }
 

@@ -9,8 +9,8 @@ ghost use Rattle.meta_nodes.specs.Nodes.{rule_views, piece_of};
 ghost use Rattle.meta_stacks.specs.Reports.{skips_in};
 ghost use Rattle.meta_stack.specs.Certain.{ArePlain, AreReports, IsSorted, TellReports, complaint_at};
 ghost use Rattle.meta_stack.specs.Expressions.{body_flag, name_flag};
-ghost use Rattle.meta_stack.specs.NameMaps.{KnowsRules};
-ghost use Rattle.meta_stack.specs.Names.{grammar_of, last_place};
+ghost use Rattle.meta_table.specs.NameMaps.{KnowsRules};
+ghost use Rattle.meta_table.specs.Names.{grammar_of, last_place};
 ghost use Rattle.meta_stack.specs.Table.{AreInside, IsOrdered};
 ghost use Rattle.meta_stack.specs.Reportable.{FindsMore, IsToVisit};
 ghost use Rattle.meta_stack.specs.Visiting.{FindsAll, Keeps};
@@ -19,7 +19,6 @@ use crate::apart::apart_of;
 use crate::calls::numbers;
 use crate::facts::{Question, answers, is_root_set, nodes_of_rule};
 use crate::memory::Memory;
-use crate::names::{Names, names_of};
 use crate::numbering::number_all;
 use crate::reader::read;
 use crate::recursion::{Calls, calls_of};
@@ -31,6 +30,7 @@ use meta_base::runtime::{Error, ErrorVariant, Fault, Span, Survey};
 use meta_flags::is_set;
 use meta_nodes::ParserRule;
 use meta_stacks::Stack;
+use meta_table::{Names, names_of};
 use std::alloc::{AllocError, Global};
 
 /// How many turns of a repetition are followed at most: more than there are abstract stacks.

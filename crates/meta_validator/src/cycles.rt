@@ -7,7 +7,7 @@ ghost use Rattle.meta_base.specs.Language.Text.{Text};
 ghost use Rattle.meta_base.specs.Language.WellFormed.{Leads};
 ghost use Rattle.meta_flags.specs.Least.{unset};
 ghost use Rattle.meta_validator.specs.Facts.{AreFacts};
-ghost use Rattle.meta_validator.specs.Names.{grammar_of};
+ghost use Rattle.meta_table.specs.Names.{grammar_of};
 ghost use Rattle.meta_validator.specs.Cycles.{AllFall, Falls, FallsFrom, IsBelowRoot, NoneRises, rank_at};
 
 use crate::facts::Facts;

@@ -22,7 +22,7 @@ pub(crate) fn listened_to(table: &Table, kind: Kind) -> (Option<usize>, Option<u
 }
 
 impl Listening for Table {
-    fn items(&self) -> usize {
+    fn count(&self) -> usize {
         self.kinds.len()
     }
 

@@ -12,8 +12,8 @@ ghost use Rattle.meta_validator.specs.Facts.{AreFacts};
 ghost use Rattle.meta_validator.specs.Findings.{OfRecursion, Reports, places};
 ghost use Rattle.meta_validator.specs.Flags.{NoneSet};
 ghost use Rattle.meta_validator.specs.LeftRecursion.{Means, arrows, name_at, told_chain};
-ghost use Rattle.meta_validator.specs.Names.{grammar_of};
-ghost use Rattle.meta_validator.specs.Numbering.{nodes_of};
+ghost use Rattle.meta_table.specs.Names.{grammar_of};
+ghost use Rattle.meta_table.specs.Nodes.{all_nodes};
 ghost use Rattle.meta_validator.specs.Regions.{ArePassing};
 ghost use Rattle.meta_validator.specs.Reporting.{AreSpans, finding_of, findings_of};
 ghost use Rattle.meta_validator.specs.Searching.{ordered, called_in, inside_of, cost, unentered, IsSearch, IsGoing, IsIdle, IsSought, IsClosing, NeverComesBack};
@@ -23,12 +23,12 @@ use crate::facts::Facts;
 use crate::findings::{Finding, kind_of_node};
 use crate::flags::Flags;
 use crate::levels::left_levels;
-use crate::names::rule_number;
 use crate::passing::passing;
 use crate::table::Kind;
 use meta_base::runtime::Span;
 use meta_flags::is_set;
 use meta_nodes::ParserRule;
+use meta_table::rule_number;
 use std::alloc::{AllocError, Global};
 use std::mem;
 
@@ -171,9 +171,9 @@ fn walk_node<'i>(
     ensures goes_on { IfOk result (λ closes. closes ≡ false → IsGoing rules.now facts.now.table.roots.items
         start walk.new.entered.all.items walk.new.tasks.items walk.new.chain.items) }
     ensures less { IfOk result (λ closes. closes ≡ false
-        → cost (nodes_of rules.now) walk.new.tasks.items
+        → cost (all_nodes rules.now) walk.new.tasks.items
         + unentered walk.new.entered.all.items (rule_views rules.now)
-        < cost (nodes_of rules.now) (walk.old.tasks.items ++ Task.Visit node ∷ [])
+        < cost (all_nodes rules.now) (walk.old.tasks.items ++ Task.Visit node ∷ [])
         + unentered walk.old.entered.all.items (rule_views rules.now)) }
 {
     let kind = kind_of_node(facts, node);

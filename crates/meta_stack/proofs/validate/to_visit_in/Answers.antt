@@ -5,7 +5,7 @@ use Rattle.meta_stacks.specs.Reports.{SkippingAltersStack}
 use Rattle.meta_stack.specs.Answers.{AreSound, AreClosed}
 use Rattle.meta_stack.specs.Expressions.{name_flag}
 use Rattle.meta_stack.specs.Leading.{AreCalls}
-use Rattle.meta_stack.specs.Names.{grammar_of}
+use Rattle.meta_table.specs.Names.{grammar_of}
 use Rattle.meta_stack.specs.Reportable.{AreBehind, AreReportable}
 use Rattle.meta_stack.specs.declared.facts.Question.{Question}
 use Rattle.meta_stack.specs.declared.facts.Question.TheVariants as asks

@@ -3,7 +3,7 @@ use Rattle.std.proofs.Common.{◌≡◌, ℕ, zero, suc, List, [], ◌∷◌, Op
 use Rattle.meta_base.specs.Language.Text.{Text}
 use Rattle.meta_base.specs.Language.Expression.{rule_of, or_else}
 use Rattle.meta_nodes.specs.declared.node.ParserRule.{ParserRule}
-use Rattle.meta_stack.specs.Names.{grammar_of, rule_said, last_place}
+use Rattle.meta_table.specs.Names.{grammar_of, rule_said, last_place}
 
 -- the rule that a name means, and its place
 pub data Named (rs : List ParserRule) (n : Text) : Option ℕ → Type 0 where
