@@ -1,8 +1,10 @@
 pub mod Leaving
 pub mod Noting
+pub mod Parts
 pub mod Steps
 pub mod Waiting
 pub mod Whole
 pub mod Compiling
 pub mod Stacking
+pub mod Timing
 pub mod Texts

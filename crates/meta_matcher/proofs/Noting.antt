@@ -54,7 +54,7 @@ same_mode_in Atomic b = refl
 same_mode_in CompoundAtomic b = refl
 same_mode_in NonAtomic b = refl
 
-same_body_mode : (r : Rule) → body_mode r Between ≡ body_mode r NonAtomicMode
+pub same_body_mode : (r : Rule) → body_mode r Between ≡ body_mode r NonAtomicMode
 same_body_mode r = same_mode_in r.type_of _
 
 same_gives : (y : RuleType) → gives_token y Between ≡ gives_token y NonAtomicMode
@@ -64,7 +64,7 @@ same_gives Atomic = refl
 same_gives CompoundAtomic = refl
 same_gives NonAtomic = refl
 
-same_with_token : (r : Rule) (s : State) (o : Outcome) → with_token r Between s o ≡ with_token r NonAtomicMode s o
+pub same_with_token : (r : Rule) (s : State) (o : Outcome) → with_token r Between s o ≡ with_token r NonAtomicMode s o
 same_with_token r s Failure = refl
 same_with_token r s (Success t us) = ap (λ b. Success t (if b then Tree r.name s.position t.position us None' else us)) (same_gives r.type_of)
 

@@ -1,5 +1,5 @@
 -- What a text has for a rule.
-use Rattle.std.specs.Prelude.{◌≡◌, List, [], ℕ, None, chars, ⊤}
+use Rattle.std.specs.Prelude.{◌≡◌, ◌<◌, List, [], ℕ, None, chars, ⊤}
 use Rattle.std.specs.Borrow.{Bor}
 use Rattle.meta_base.specs.Language.Text.{Text}
 use Rattle.meta_base.specs.Language.Expression.{Grammar, Ident, rule_of}
@@ -13,7 +13,10 @@ use Rattle.meta_matcher.specs.declared.entries.Entry.{Entry}
 use Rattle.meta_matcher.specs.declared.matcher.Refusal.{Refusal}
 use Rattle.meta_matcher.specs.declared.matcher.Refusal.TheVariants as is
 use Rattle.meta_matcher.specs.declared.matcher.Matcher.{Matcher}
+use Rattle.meta_matcher.specs.declared.machine.Stop.{Stop}
+use Rattle.meta_matcher.specs.declared.machine.Stop.TheVariants as stop
 use Rattle.meta_matcher.specs.Programs.{Fits, IsSound}
+use Rattle.meta_matcher.specs.Sizes.{most_steps}
 use Rattle.meta_matcher.specs.Told.{each_once, told_of}
 use Rattle.meta_matcher.specs.Written.{seen}
 
@@ -36,13 +39,22 @@ pub record IsMatched (g : Grammar) (ps : List Property) (n : Text) (text : List 
       → (t : State) × (t.position ≡ end_) × Has g n text classes (Success t trees)
   pub entries : seen es ≡ entries_of 0 trees
 
+-- memory was wanting; or each outcome of the rule takes more steps than there were; or, where the stack was
+-- empty for `PEEK` or `POP`, the rule has no outcome: whatever the classes are
+abbrev pub IsStopped : Grammar → List Property → Text → List ℕ → ℕ → Stop → Type 0
+IsStopped g ps n text steps stop.Memory = ⊤
+IsStopped g ps n text steps stop.OutOfSteps =
+    (classes : Classes) → Fits ps classes → (o : Outcome) (d : Has g n text classes o) → steps < most_steps d
+IsStopped g ps n text steps stop.EmptyStack =
+    (classes : Classes) → Fits ps classes → (o : Outcome) → Has g n text classes o → ⊥
+
 -- no rule has the name; or the rule fails, whatever the classes are, and this is the place of the failure; or
--- the run was stopped
-abbrev pub IsRefused : Grammar → List Property → Text → List ℕ → Refusal → Type 0
-IsRefused g ps n text (is.UnknownRule name) = (rule_of g n ≡ None) × (chars name.now ≡ n)
-IsRefused g ps n text (is.NoMatch place) =
+-- the run, of so many steps at most, was stopped
+abbrev pub IsRefused : Grammar → List Property → Text → List ℕ → ℕ → Refusal → Type 0
+IsRefused g ps n text steps (is.UnknownRule name) = (rule_of g n ≡ None) × (chars name.now ≡ n)
+IsRefused g ps n text steps (is.NoMatch place) =
     (classes : Classes) → Fits ps classes → (d : Has g n text classes Failure) × (place ≡ furthest d)
-IsRefused g ps n text (is.Stopped stop) = ⊤
+IsRefused g ps n text steps (is.Stopped why) = IsStopped g ps n text steps why
 
 -- the names are those that are expected at a place, whatever the classes are: each once, in the order of their
 -- calls, where the rule fails or matches
@@ -50,8 +62,8 @@ abbrev pub AreExpectedAt : Grammar → List Property → Text → List ℕ → �
 AreExpectedAt g ps n text place names = (classes : Classes) → Fits ps classes
     → (o : Outcome) × (d : Has g n text classes o) × (told_of names ≡ each_once (expected_at place d))
 
--- no rule has the name; or the run was stopped
-abbrev pub IsUnanswered : Grammar → Text → Refusal → Type 0
-IsUnanswered g n (is.UnknownRule name) = (rule_of g n ≡ None) × (chars name.now ≡ n)
-IsUnanswered g n (is.NoMatch place) = ⊥
-IsUnanswered g n (is.Stopped stop) = ⊤
+-- no rule has the name; or the run, of so many steps at most, was stopped
+abbrev pub IsUnanswered : Grammar → List Property → Text → List ℕ → ℕ → Refusal → Type 0
+IsUnanswered g ps n text steps (is.UnknownRule name) = (rule_of g n ≡ None) × (chars name.now ≡ n)
+IsUnanswered g ps n text steps (is.NoMatch place) = ⊥
+IsUnanswered g ps n text steps (is.Stopped why) = IsStopped g ps n text steps why

@@ -1,12 +1,13 @@
 //! What a machine keeps, and what it matches at once.
-ghost use Rattle.std.specs.Prelude.{◌≡◌, IfOk, OnOk, [], None, chars, codes};
+ghost use Rattle.std.specs.Prelude.{◌≡◌, IfErr, IfOk, OnOk, [], None, chars, codes};
 ghost use Rattle.meta_ast.specs.Ast.{text_of};
 ghost use Rattle.meta_base.specs.Language.Expression.{Ident, PeekSlice, PushLiteral, rule_of};
 ghost use Rattle.meta_base.specs.Language.Meaning.{Run};
-ghost use Rattle.meta_matcher.specs.Frames.{ComesAtOnce};
+ghost use Rattle.meta_matcher.specs.Frames.{ComesAtOnce, IsOutOfTexts, IsStuckAtOnce};
 ghost use Rattle.meta_matcher.specs.Machines.{GivesIn, IsBoundIn, IsMark, IsSoundIn, grammar_in, now_of};
 ghost use Rattle.meta_matcher.specs.Runs.{IsLeft, IsReset, Progress, forgetting, mode_of, noting};
 ghost use Rattle.meta_matcher.specs.Stacked.{stack_of};
+ghost use Rattle.meta_matcher.specs.declared.machine.Stop.TheVariants.{Memory};
 
 use crate::entries::{Entry, close, cut, open, written};
 use crate::form::{Form, Program, Row};
@@ -26,11 +27,11 @@ pub enum Stop {
     OutOfSteps,
     /// `PEEK` or `POP` on the empty stack.
     EmptyStack,
-    /// What was matched does not begin and end on characters: this never comes.
-    Unsliced,
 }
 
 impl From<AllocError> for Stop {
+    ghost from_gives = { λ _ stop. stop ≡ Memory };
+
     fn from(_error: AllocError) -> Stop {
         Stop::Memory
     }
@@ -59,6 +60,8 @@ pub struct Machine<'a> {
     pub told: Vec<&'a str>,
     /// What waits for answers: the last frame for what is run now.
     pub frames: Vec<Frame<'a>>,
+    /// How many steps were taken before this one.
+    pub steps: u64,
 }
 
 impl<'a> Machine<'a> {
@@ -68,6 +71,7 @@ impl<'a> Machine<'a> {
         ensures furthest { (now_of result).notes.furthest ≡ 0 }
         ensures told { (now_of result).notes.told ≡ [] }
         ensures frames { result.frames.items ≡ [] }
+        ensures steps { result.steps ≡ 0 }
     {
         Machine {
             entries: Vec::new(alloc),
@@ -75,6 +79,7 @@ impl<'a> Machine<'a> {
             furthest: 0,
             told: Vec::new(alloc),
             frames: Vec::new(alloc),
+            steps: 0,
         }
     }
 
@@ -88,6 +93,7 @@ impl<'a> Machine<'a> {
             furthest: _,
             told: _,
             frames: _,
+            steps: _,
         } = self;
         entries
     }
@@ -102,6 +108,7 @@ impl<'a> Machine<'a> {
             furthest: _,
             told,
             frames: _,
+            steps: _,
         } = self;
         told
     }
@@ -119,6 +126,7 @@ impl<'a> Machine<'a> {
         ensures entries { self.new.entries ≡ self.old.entries }
         ensures stack { self.new.stack ≡ self.old.stack }
         ensures frames { self.new.frames ≡ self.old.frames }
+        ensures steps { self.new.steps ≡ self.old.steps }
         ensures notes { OnOk result ((now_of self.new).notes
             ≡ noting scene.entry.now.asked counts (chars name.entry.now) place told (now_of self.old).notes) }
     {
@@ -134,6 +142,7 @@ impl<'a> Machine<'a> {
     #[inline(always)]
     pub fn forget(&mut self, told: usize)
         ensures frames { self.new.frames ≡ self.old.frames }
+        ensures steps { self.new.steps ≡ self.old.steps }
         ensures now { now_of self.new ≡ forgetting told (now_of self.old) }
     {
         forget(&mut self.told, told);
@@ -145,10 +154,11 @@ impl<'a> Machine<'a> {
         scene: &Scene<'a>,
         mode: Mode,
         rest: &'a str,
-    ) -> Result<Option<&'a str>, Stop>
+    ) -> Result<Option<&'a str>, AllocError>
         requires unnamed { rule_of (grammar_in scene.now) (codes "EOI") ≡ None }
         requires left { IsLeft scene.now.text.now rest.now }
         ensures frames { self.new.frames ≡ self.old.frames }
+        ensures steps { self.new.steps ≡ self.old.steps }
         ensures goes_on { IfOk result (Progress scene.entry.now.text.now rest.entry.now) }
         ensures means { IfOk result
             (GivesIn scene.entry.now (Run (mode_of mode) (Ident (codes "EOI")))
@@ -177,6 +187,8 @@ impl<'a> Machine<'a> {
         requires unnamed { rule_of (grammar_in scene.now) (codes "PEEK") ≡ None }
         requires left { IsLeft scene.now.text.now rest.now }
         ensures frames { self.new.frames ≡ self.old.frames }
+        ensures steps { self.new.steps ≡ self.old.steps }
+        ensures stopped { IfErr result (λ stop. IsOutOfTexts stop self.old) }
         ensures goes_on { IfOk result (Progress scene.entry.now.text.now rest.entry.now) }
         ensures means { IfOk result
             (GivesIn scene.entry.now (Run (mode_of mode) (Ident (codes "PEEK")))
@@ -193,6 +205,8 @@ impl<'a> Machine<'a> {
         requires unnamed { rule_of (grammar_in scene.now) (codes "POP") ≡ None }
         requires left { IsLeft scene.now.text.now rest.now }
         ensures frames { self.new.frames ≡ self.old.frames }
+        ensures steps { self.new.steps ≡ self.old.steps }
+        ensures stopped { IfErr result (λ stop. IsOutOfTexts stop self.old) }
         ensures goes_on { IfOk result (Progress scene.entry.now.text.now rest.entry.now) }
         ensures means { IfOk result
             (GivesIn scene.entry.now (Run (mode_of mode) (Ident (codes "POP")))
@@ -217,10 +231,11 @@ impl<'a> Machine<'a> {
         scene: &Scene<'a>,
         mode: Mode,
         rest: &'a str,
-    ) -> Result<Option<&'a str>, Stop>
+    ) -> Result<Option<&'a str>, AllocError>
         requires unnamed { rule_of (grammar_in scene.now) (codes "DROP") ≡ None }
         requires left { IsLeft scene.now.text.now rest.now }
         ensures frames { self.new.frames ≡ self.old.frames }
+        ensures steps { self.new.steps ≡ self.old.steps }
         ensures goes_on { IfOk result (Progress scene.entry.now.text.now rest.entry.now) }
         ensures means { IfOk result
             (GivesIn scene.entry.now (Run (mode_of mode) (Ident (codes "DROP")))
@@ -242,10 +257,11 @@ impl<'a> Machine<'a> {
         scene: &Scene<'a>,
         mode: Mode,
         rest: &'a str,
-    ) -> Result<Option<&'a str>, Stop>
+    ) -> Result<Option<&'a str>, AllocError>
         requires unnamed { rule_of (grammar_in scene.now) (codes "PEEK_ALL") ≡ None }
         requires left { IsLeft scene.now.text.now rest.now }
         ensures frames { self.new.frames ≡ self.old.frames }
+        ensures steps { self.new.steps ≡ self.old.steps }
         ensures goes_on { IfOk result (Progress scene.entry.now.text.now rest.entry.now) }
         ensures means { IfOk result
             (GivesIn scene.entry.now (Run (mode_of mode) (Ident (codes "PEEK_ALL")))
@@ -261,10 +277,11 @@ impl<'a> Machine<'a> {
         scene: &Scene<'a>,
         mode: Mode,
         rest: &'a str,
-    ) -> Result<Option<&'a str>, Stop>
+    ) -> Result<Option<&'a str>, AllocError>
         requires unnamed { rule_of (grammar_in scene.now) (codes "POP_ALL") ≡ None }
         requires left { IsLeft scene.now.text.now rest.now }
         ensures frames { self.new.frames ≡ self.old.frames }
+        ensures steps { self.new.steps ≡ self.old.steps }
         ensures goes_on { IfOk result (Progress scene.entry.now.text.now rest.entry.now) }
         ensures means { IfOk result
             (GivesIn scene.entry.now (Run (mode_of mode) (Ident (codes "POP_ALL")))
@@ -288,9 +305,10 @@ impl<'a> Machine<'a> {
         to: Option<i32>,
         mode: Mode,
         rest: &'a str,
-    ) -> Result<Option<&'a str>, Stop>
+    ) -> Result<Option<&'a str>, AllocError>
         requires left { IsLeft scene.now.text.now rest.now }
         ensures frames { self.new.frames ≡ self.old.frames }
+        ensures steps { self.new.steps ≡ self.old.steps }
         ensures goes_on { IfOk result (Progress scene.entry.now.text.now rest.entry.now) }
         ensures means { IfOk result
             (GivesIn scene.entry.now (Run (mode_of mode) (PeekSlice from to))
@@ -308,9 +326,10 @@ impl<'a> Machine<'a> {
         pushed_text: &'a String,
         mode: Mode,
         rest: &'a str,
-    ) -> Result<Option<&'a str>, Stop>
+    ) -> Result<Option<&'a str>, AllocError>
         requires left { IsLeft scene.now.text.now rest.now }
         ensures frames { self.new.frames ≡ self.old.frames }
+        ensures steps { self.new.steps ≡ self.old.steps }
         ensures goes_on { IfOk result (Progress scene.entry.now.text.now rest.entry.now) }
         ensures means { IfOk result
             (GivesIn scene.entry.now (Run (mode_of mode) (PushLiteral (text_of pushed_text.entry.now)))
@@ -338,6 +357,7 @@ impl<'a> Machine<'a> {
     #[inline(always)]
     pub fn back_to(&mut self, mark: Mark<'a>)
         ensures frames { self.new.frames ≡ self.old.frames }
+        ensures steps { self.new.steps ≡ self.old.steps }
         ensures reset { IsReset mark.entry.entries (stack_of mark.entry.stack)
             (now_of self.old) (now_of self.new) }
     {
@@ -359,6 +379,8 @@ impl<'a> Machine<'a> {
         requires bound { IsBoundIn scene.now form.now }
         requires left { IsLeft scene.now.text.now rest.now }
         ensures frames { self.new.frames ≡ self.old.frames }
+        ensures steps { self.new.steps ≡ self.old.steps }
+        ensures stopped { IfErr result (IsStuckAtOnce form.entry.now self.old) }
         ensures means { IfOk result
             (ComesAtOnce scene.entry.now form.entry.now mode rest.entry.now self.old self.new) }
     {

@@ -77,6 +77,10 @@ impl Matcher {
     /// What the rule of a name matches in NonAtomic from the start of a text, with the empty stack, found in
     /// so many steps at most: a step begins with a form, or takes an answer. Refused are a name that no rule
     /// has, a text on which the rule fails, and what stops a run.
+    ///
+    /// A run that has an outcome comes to it, but for want of memory, if it may take two steps for each rule
+    /// of the relation of matching that a derivation of the outcome applies. `PEEK` or `POP` on the empty stack
+    /// is met only where there is no outcome.
     pub fn parse<'a>(
         &'a self,
         alloc: Global,
@@ -88,7 +92,7 @@ impl Matcher {
         ensures matched { IfOk result (λ found. IsMatched (grammar_of self.entry.now.program.rows.items)
             self.entry.now.program.properties.items (chars rule.entry.now) text.entry.now found.end found.entries.items) }
         ensures refused { IfErr result (IsRefused (grammar_of self.entry.now.program.rows.items)
-            self.entry.now.program.properties.items (chars rule.entry.now) text.entry.now) }
+            self.entry.now.program.properties.items (chars rule.entry.now) text.entry.now steps) }
     {
         let Some(number) = find_row(&self.program.rows, rule) else {
             return Err(Refusal::UnknownRule(rule));
@@ -132,7 +136,7 @@ impl Matcher {
         ensures expected { IfOk result (λ names. AreExpectedAt (grammar_of self.entry.now.program.rows.items)
             self.entry.now.program.properties.items (chars rule.entry.now) text.entry.now place names.items) }
         ensures refused { IfErr result (IsUnanswered (grammar_of self.entry.now.program.rows.items)
-            (chars rule.entry.now)) }
+            self.entry.now.program.properties.items (chars rule.entry.now) text.entry.now steps) }
     {
         let Some(number) = find_row(&self.program.rows, rule) else {
             return Err(Refusal::UnknownRule(rule));

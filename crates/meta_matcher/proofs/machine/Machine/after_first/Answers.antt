@@ -2,7 +2,10 @@ use Rattle.std.proofs.Common.{refl}
 use Rattle.meta_matcher.specs.Machines.{now_of}
 use Rattle.meta_matcher.specs.Runs.{mode_of}
 use Rattle.meta_matcher.specs.declared.frames.Frame.TheVariants as frame
-use Rattle.meta_matcher.proofs.Waiting.{after_none, after_some, pushed_skip}
+use Rattle.meta_matcher.proofs.Timing.{in_time_before, in_time_now}
+use Rattle.meta_matcher.proofs.Waiting.{after_none, after_some, answers, pushed_skip}
+use Rattle.meta_matcher.specs.declared.machine.Stop.TheVariants as stop
+use Rattle.meta_matcher.proofs.Timing.{led_astray}
 use Rattle.meta_matcher.proofs.machine.Machine.after_first.Goals as goal
 
 pub blanks-requires-clause-left : goal.blanks-requires-clause-left
@@ -10,18 +13,24 @@ blanks-requires-clause-left c = let g = rw c.in-Some.is at c.requires.follows.gi
 
 pub blanks-requires-clause-skips : goal.blanks-requires-clause-skips
 blanks-requires-clause-skips c =
-    pushed_skip {m = c.args.self.now} (frame.Gap c.args.sequence) c.wait.ensures.now c.in_ok-wait-in-Some.ensures.frames (mode_of c.args.sequence.mode) c.in-Some.after.now (c.skips.ensures.anything c.if-skips.true)
-    (after_some c.requires.follows refl c.in-Some.is (λ part whole f g. f.found _ _ g))
+    pushed_skip {m = c.args.self.now} (frame.Gap c.args.sequence) c.wait.ensures.now c.in_ok-wait-in-Some.ensures.frames (mode_of c.args.sequence.mode) c.in-Some.after.now (c.skips.ensures.anything c.if-skips.true) c.wait.ensures.steps
+    (after_some c.requires.follows refl c.in-Some.is (λ part whole f g t. f.found _ _ _ g (in_time_before _ t)))
 
 pub second-requires-clause-bound : goal.second-requires-clause-bound
-second-requires-clause-bound c = let g = rw c.in-Some.is at c.requires.follows.gives in let k = c.requires.follows.follows.found _ _ g in k.bound
+second-requires-clause-bound c = let g = rw c.in-Some.is at c.requires.follows.gives in let k = c.requires.follows.follows.found _ _ _ g c.requires.follows.in_time in k.bound
 
 pub second-requires-clause-left : goal.second-requires-clause-left
 second-requires-clause-left c = let g = rw c.in-Some.is at c.requires.follows.gives in g.goes_on.left
 
 pub second-requires-clause-follows : goal.second-requires-clause-follows
 second-requires-clause-follows c =
-    after_some c.requires.follows refl c.in-Some.is (λ part whole f g. (f.found _ _ g).found _ _ (c.skips.ensures.nothing c.if-skips.false c.in-Some.after.now (now_of c.args.self.now) g.goes_on.left))
+    after_some c.requires.follows refl c.in-Some.is (λ part whole f g t. (f.found _ _ _ g t).found _ _ _ (c.skips.ensures.nothing c.if-skips.false c.in-Some.after.now (now_of c.args.self.now) _ g.goes_on.left) (in_time_now _))
 
 pub returns : goal.returns
-returns c = after_none c.requires.follows refl c.in-None.is (λ part whole f g. f.failed _ g)
+returns c = after_none c.requires.follows refl c.in-None.is (λ part whole f g t. answers _ f.within t (f.failed _ g))
+
+pub returns-in_err-wait-in-Some : goal.returns-in_err-wait-in-Some
+returns-in_err-wait-in-Some c = led_astray _ _ _ c.from_residual.result stop.Memory c.from_residual.ensures.1 tt
+
+pub returns-in_err-blanks-in-Some : goal.returns-in_err-blanks-in-Some
+returns-in_err-blanks-in-Some c = led_astray _ _ _ c.from_residual-in_err-blanks-in-Some.result stop.Memory c.from_residual-in_err-blanks-in-Some.ensures.1 tt
