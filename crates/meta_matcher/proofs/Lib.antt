@@ -8,3 +8,4 @@ pub mod Compiling
 pub mod Stacking
 pub mod Timing
 pub mod Texts
+pub mod Totals

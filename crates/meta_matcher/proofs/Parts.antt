@@ -179,6 +179,95 @@ module _ {g : Grammar} {classes : Classes} where
   body_of_call {m} h (call i d) = let e = in_its_rule m (same_rule (sym h ∙ i)) d in one e.0 (omega (arith, e.1))
   body_of_call h (other i b) = absurd (cc)
 
+  -- all derivations from a state are of one size
+  pub same_size : {k : Task} {s : State} {o p : Outcome} (d : Does g classes k s o) (e : Does g classes k s p) → size d ≡ size e
+  same_size str str = refl
+  same_size insens insens = refl
+  same_size range range = refl
+  same_size slice slice = refl
+  same_size skip skip = refl
+  same_size (call {m = m} h d) (call i e) = let q = in_its_rule m (same_rule (sym h ∙ i)) e in omega (arith, same_size d q.0, q.1)
+  same_size (call h d) (other i c) = absurd (cc)
+  same_size (other h b) (call i d) = absurd (cc)
+  same_size (other h b) (other i c) = refl
+  same_size (pos_pred d) (pos_pred e) = omega (arith, same_size d e)
+  same_size (neg_pred d) (neg_pred e) = omega (arith, same_size d e)
+  same_size (push d) (push e) = omega (arith, same_size d e)
+  same_size push_literal push_literal = refl
+  same_size (tag d) (tag e) = omega (arith, same_size d e)
+  same_size (restore d) (restore e) = omega (arith, same_size d e)
+  same_size (seq a k b) (seq c l d) =
+      let h = same g classes a c in
+      let l2 = from (same_state h) l in
+      let i = same g classes k l2.0 in
+      let d2 = from (same_state i) d in
+      omega (arith, same_size a c, same_size k l2.0, l2.1, same_size b d2.0, d2.1)
+  same_size (seq a k b) (seq_first c) = let h = same g classes a c in absurd (cc)
+  same_size (seq a k b) (seq_second c l d) =
+      let h = same g classes a c in
+      let l2 = from (same_state h) l in
+      let i = same g classes k l2.0 in
+      let d2 = from (same_state i) d in
+      omega (arith, same_size a c, same_size k l2.0, l2.1, same_size b d2.0, d2.1)
+  same_size (seq_first a) (seq c l d) = let h = same g classes a c in absurd (cc)
+  same_size (seq_first a) (seq_first c) = omega (arith, same_size a c)
+  same_size (seq_first a) (seq_second c l d) = let h = same g classes a c in absurd (cc)
+  same_size (seq_second a k b) (seq c l d) =
+      let h = same g classes a c in
+      let l2 = from (same_state h) l in
+      let i = same g classes k l2.0 in
+      let d2 = from (same_state i) d in
+      omega (arith, same_size a c, same_size k l2.0, l2.1, same_size b d2.0, d2.1)
+  same_size (seq_second a k b) (seq_first c) = let h = same g classes a c in absurd (cc)
+  same_size (seq_second a k b) (seq_second c l d) =
+      let h = same g classes a c in
+      let l2 = from (same_state h) l in
+      let i = same g classes k l2.0 in
+      let d2 = from (same_state i) d in
+      omega (arith, same_size a c, same_size k l2.0, l2.1, same_size b d2.0, d2.1)
+  same_size (left a) (left b) = omega (arith, same_size a b)
+  same_size (left a) (right b c) = let h = same g classes a b in absurd (cc)
+  same_size (right a b) (left c) = let h = same g classes a c in absurd (cc)
+  same_size (right a b) (right c d) = omega (arith, same_size a c, same_size b d)
+  same_size (opt a) (opt b) = omega (arith, same_size a b)
+  same_size (opt a) (opt_none b) = let h = same g classes a b in absurd (cc)
+  same_size (opt_none a) (opt b) = let h = same g classes a b in absurd (cc)
+  same_size (opt_none a) (opt_none b) = omega (arith, same_size a b)
+  same_size (rep a b) (rep c d) =
+      let h = same g classes a c in
+      let d2 = from (same_state h) d in
+      omega (arith, same_size a c, same_size b d2.0, d2.1)
+  same_size (rep a b) (rep_none c) = let h = same g classes a c in absurd (cc)
+  same_size (rep_none a) (rep b c) = let h = same g classes a b in absurd (cc)
+  same_size (rep_none a) (rep_none b) = omega (arith, same_size a b)
+  same_size (turn a b c) (turn d e f) =
+      let h = same g classes a d in
+      let e2 = from (same_state h) e in
+      let i = same g classes b e2.0 in
+      let f2 = from (same_state i) f in
+      omega (arith, same_size a d, same_size b e2.0, e2.1, same_size c f2.0, f2.1)
+  same_size (turn a b c) (turn_none d e) =
+      let h = same g classes a d in
+      let e2 = from (same_state h) e in
+      let i = same g classes b e2.0 in absurd (cc)
+  same_size (turn_none a b) (turn c d e) =
+      let h = same g classes a c in
+      let d2 = from (same_state h) d in
+      let i = same g classes b d2.0 in absurd (cc)
+  same_size (turn_none a b) (turn_none c d) =
+      let h = same g classes a c in
+      let d2 = from (same_state h) d in
+      omega (arith, same_size a c, same_size b d2.0, d2.1)
+  same_size (rep_once d) (rep_once e) = omega (arith, same_size d e)
+  same_size (rep_exact d) (rep_exact e) = omega (arith, same_size d e)
+  same_size (rep_min d) (rep_min e) = omega (arith, same_size d e)
+  same_size (rep_max d) (rep_max e) = omega (arith, same_size d e)
+  same_size (rep_min_max d) (rep_min_max e) = omega (arith, same_size d e)
+  same_size (skips d) (skips e) = omega (arith, same_size d e)
+  same_size atomic atomic = refl
+  same_size compound_atomic compound_atomic = refl
+  same_size between between = refl
+
   -- the skipping's calls, as in NonAtomic
   in_mode : {m n : Mode} {e : Expression} {s : State} {o : Outcome} → n ≡ m → (d : Does g classes (Run m e) s o) → (f : Does g classes (Run n e) s o) × (size f ≡ size d)
   in_mode h d = rw h (d, refl)

@@ -10,6 +10,7 @@ use Rattle.meta_base.specs.Language.Matching.{builtin_outcome, peek_outcome, pop
 use Rattle.meta_base.specs.Language.Meaning.{Does, Run, Task, call, other}
 use Rattle.meta_matcher.specs.declared.form.Form.{Form}
 use Rattle.meta_matcher.specs.declared.form.Form.TheVariants as form
+use Rattle.meta_matcher.specs.declared.frames.Came.{Came}
 use Rattle.meta_matcher.specs.declared.frames.Control.{Control}
 use Rattle.meta_matcher.specs.declared.frames.Frame.{Frame}
 use Rattle.meta_matcher.specs.declared.frames.Frame.TheVariants as frame
@@ -18,7 +19,7 @@ use Rattle.meta_matcher.specs.declared.machine.Scene.{Scene}
 use Rattle.meta_matcher.specs.declared.machine.Stop.{Stop}
 use Rattle.meta_matcher.specs.declared.machine.Stop.TheVariants as stop
 use Rattle.meta_matcher.specs.declared.modes.Mode as mode
-use Rattle.meta_matcher.specs.Frames.{FailsFrom, FindsFrom, Follows, IsInTime, IsStuck, IsStuckAtOnce, IsWaiting, IsWithin, Leads, Start, starting, top_of}
+use Rattle.meta_matcher.specs.Frames.{Comes, FailsFrom, FindsFrom, Follows, IsInTime, IsStuck, IsStuckAtOnce, IsWaiting, IsWithin, Leads, Start, starting, top_of}
 use Rattle.meta_matcher.specs.Machines.{IsBoundIn, grammar_in, now_of, said}
 use Rattle.meta_matcher.specs.Runs.{Now, mode_of, standing}
 use Rattle.meta_matcher.specs.Sizes.{size}
@@ -149,6 +150,10 @@ module _ {scene : Scene} where
 pub led_astray : (scene : Scene) (m : Machine) (n : ℕ) (r : Result Control Stop) (why : Stop) → IsErrAnd r (λ e. e ≡ why) → IsStuck scene why → Leads scene m n r
 led_astray scene m n (Ok x) why h s = absurd h
 led_astray scene m n (Err e) why h s = rw h s
+
+pub came_to_nothing : (scene : Scene) (m : Machine) (n : ℕ) (r : Result Came Stop) (why : Stop) → IsErrAnd r (λ e. e ≡ why) → IsStuck scene why → Comes scene m n r
+came_to_nothing scene m n (Ok x) why h s = absurd h
+came_to_nothing scene m n (Err e) why h s = rw h s
 
 -- a builtin that has no outcome there
 no_outcome : {g : Grammar} {classes : Classes} (m : mode.Mode) (n : Text) (b : Builtin) {s : State} {o : Outcome} → builtin_of n ≡ Some b → rule_of g n ≡ None → builtin_outcome classes (mode_of m) b s ≡ None → Does g classes (Run (mode_of m) (Ident n)) s o → ⊥

@@ -24,7 +24,7 @@ use Rattle.meta_matcher.specs.declared.machine.Scene.{Scene}
 use Rattle.meta_matcher.specs.declared.modes.Mode as mode
 use Rattle.meta_matcher.specs.declared.modes.Mode.TheVariants as in_mode
 use Rattle.meta_matcher.specs.Frames.{Awaits, Decides, FailsFrom, FindsFrom, Finishes, Follows, GivesFrom, HasFrom, IsAhead, IsAnswered, IsBlank, IsBoundSecond, IsCall, IsComment, IsFirst, IsInTime, IsLeftSide, IsNegated, IsOnTheWay, IsOptional, IsPushed, IsResumed, IsSecond, IsStarting, IsTurn, IsTurnGap, IsWaiting, IsWithin, Skips, Start, blanks, comments, said_second, gives_in, starting, top_of}
-use Rattle.meta_matcher.specs.Machines.{IsBoundIn, IsMark, grammar_in, names_within, now_of, is_comment, is_whitespace, said, setting_of}
+use Rattle.meta_matcher.specs.Machines.{IsBoundIn, IsMark, grammar_in, names_within, now_of, is_comment, is_whitespace, said, setting_of, steps_of}
 use Rattle.meta_matcher.specs.Runs.{Gives, GoesOn, IsLeft, Now, Progress, forgetting, mode_of}
 use Rattle.meta_matcher.proofs.Steps.{failed_row, fails_ahead, fails_blank, fails_first, fails_gap, fails_not, fails_rep_once, fails_reset, fails_restored, fails_right, fails_second, fails_tagged, fails_undefined, finds_ahead, finds_blank, finds_comment, finds_last_turn, finds_left, finds_more, finds_no_opt, finds_no_rep, finds_no_skipping, finds_no_turn, finds_not, finds_opt, finds_rep, finds_rep_once, finds_restored, finds_right, finds_seq, finds_skipped, finds_tagged, finds_turn, found_row}
 use Rattle.meta_matcher.proofs.Stacking.{fails_push, finds_push}
@@ -294,18 +294,18 @@ module _ {scene : Scene} {m n : Machine} where
     pub pushed : (k : Task) (rest : List ℕ) (i : ℕ) → Awaits scene m (Follows scene f (starting k rest (now_of m) i)) → Awaits scene n (Decides scene (starting k rest (now_of n) i))
     pushed k rest i w = pushed_on (starting k rest (now_of m) i) w (rw now (decides_itself (starting k rest (now_of m) i)))
 
-    pub pushed_skip : (k : Mode) (rest : List ℕ) → k ≡ NonAtomicMode → n.steps ≡ m.steps → Awaits scene m (Follows scene f (starting (Skipping k) rest (now_of m) m.steps)) → Awaits scene n (Skips scene rest (now_of n) n.steps)
-    pushed_skip k rest e steps w = pushed_on (starting (Skipping k) rest (now_of m) m.steps) w (rw (e, now, steps) skips_all)
+    pub pushed_skip : (k : Mode) (rest : List ℕ) → k ≡ NonAtomicMode → n.steps ≡ m.steps → Awaits scene m (Follows scene f (starting (Skipping k) rest (now_of m) (steps_of m))) → Awaits scene n (Skips scene rest (now_of n) (steps_of n))
+    pushed_skip k rest e steps w = pushed_on (starting (Skipping k) rest (now_of m) (steps_of m)) w (rw (e, now, steps) skips_all)
 
   -- a frame gets its answer at once
-  pub resumed : {relation : Start → Start → Type 0} (k : Task) (rest : List ℕ) {answer : Option (Bor (List ℕ))} → n.frames ≡ m.frames → n.steps ≡ m.steps → Awaits scene m (relation (starting k rest (now_of m) (m.steps + 1))) → GivesFrom scene (starting k rest (now_of m) 0) (now_of n) answer → IsResumed scene n relation answer
+  pub resumed : {relation : Start → Start → Type 0} (k : Task) (rest : List ℕ) {answer : Option (Bor (List ℕ))} → n.frames ≡ m.frames → n.steps ≡ m.steps → Awaits scene m (relation (starting k rest (now_of m) (steps_of m + 1))) → GivesFrom scene (starting k rest (now_of m) 0) (now_of n) answer → IsResumed scene n relation answer
   resumed k rest {answer} e steps w g = record {
-    part = starting k rest (now_of m) (m.steps + 1);
+    part = starting k rest (now_of m) (steps_of m + 1);
     whole = w.whole;
     waiting = waiting_same scene m n w.whole e w.waiting;
     follows = w.is;
-    gives = gives_at scene k rest (now_of m) (now_of n) 0 (m.steps + 1) answer g;
-    in_time = rw steps (in_time_now (m.steps + 1));
+    gives = gives_at scene k rest (now_of m) (now_of n) 0 (steps_of m + 1) answer g;
+    in_time = rw steps (in_time_now (steps_of m + 1));
   }
 
   pub starting_same : (k : Task) (rest : List ℕ) → n.frames ≡ m.frames → now_of n ≡ now_of m → n.steps ≡ m.steps → IsStarting scene m k rest → IsStarting scene n k rest
@@ -318,14 +318,14 @@ entered {scene} {n} {o} m f k rest i e now now2 frames w =
 
 -- what comes of an answer
 module _ {scene : Scene} {m n : Machine} {follows : Start → Start → Type 0} {answer : Option (Bor (List ℕ))} (r : IsResumed scene m follows answer) (same : n.frames ≡ m.frames) where
-  pub after_some : {after : Bor (List ℕ)} {known : Start → Type 0} → answer ≡ Some after → ((part whole : Start) → follows part whole → FindsFrom scene part (now_of m) after.now → IsInTime scene part (m.steps + 1) → known whole) → Awaits scene n known
+  pub after_some : {after : Bor (List ℕ)} {known : Start → Type 0} → answer ≡ Some after → ((part whole : Start) → follows part whole → FindsFrom scene part (now_of m) after.now → IsInTime scene part (steps_of m + 1) → known whole) → Awaits scene n known
   after_some e f = record {
     whole = r.whole;
     waiting = waiting_same scene m n r.whole same r.waiting;
     is = f r.part r.whole r.follows (rw e at r.gives) r.in_time;
   }
 
-  pub after_none : {known : Start → Type 0} → answer ≡ None → ((part whole : Start) → follows part whole → FailsFrom scene part (now_of m) → IsInTime scene part (m.steps + 1) → known whole) → Awaits scene n known
+  pub after_none : {known : Start → Type 0} → answer ≡ None → ((part whole : Start) → follows part whole → FailsFrom scene part (now_of m) → IsInTime scene part (steps_of m + 1) → known whole) → Awaits scene n known
   after_none e f = record {
     whole = r.whole;
     waiting = waiting_same scene m n r.whole same r.waiting;
@@ -344,14 +344,14 @@ answers_at_once n w g = record { gives = g; in_time = in_time_same ((n + 1) + 1)
 pub all_left : (text : List ℕ) → IsLeft text text
 all_left text = let z : length text - length text ≡ 0 = omega arith in rw z refl
 
-pub starts_at_top : (scene : Scene) (m : Machine) → m.frames.items ≡ [] → now_of m ≡ (top_of scene).now → m.steps ≡ 0 → IsStarting scene m (top_of scene).task (top_of scene).rest
+pub starts_at_top : (scene : Scene) (m : Machine) → m.frames.items ≡ [] → now_of m ≡ (top_of scene).now → steps_of m ≡ 0 → IsStarting scene m (top_of scene).task (top_of scene).rest
 starts_at_top scene m e now steps = record {
   whole = top_of scene;
   waiting = rw e refl;
   is = rw (now, steps) (decides_itself (top_of scene));
 }
 
-pub popped : (scene : Scene) (m n : Machine) (f : Frame) (answer : Option (Bor (List ℕ))) → m.frames.items ≡ n.frames.items ++ f ∷ [] → now_of n ≡ now_of m → Awaits scene m (IsAnswered scene m n.steps answer) → IsResumed scene n (Follows scene f) answer
+pub popped : (scene : Scene) (m n : Machine) (f : Frame) (answer : Option (Bor (List ℕ))) → m.frames.items ≡ n.frames.items ++ f ∷ [] → now_of n ≡ now_of m → Awaits scene m (IsAnswered scene m (steps_of n) answer) → IsResumed scene n (Follows scene f) answer
 popped scene m n f answer e now w =
     let r : reverse m.frames.items ≡ f ∷ reverse n.frames.items = ap reverse e ∙ reverse-append n.frames.items (f ∷ []) in
     let x : IsWaiting scene (f ∷ reverse n.frames.items) w.whole = rw r at w.waiting in

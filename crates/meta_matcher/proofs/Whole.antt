@@ -1,5 +1,5 @@
 -- A whole run, as an answer.
-use Rattle.std.proofs.Common.{◌≡◌, refl, sym, ◌∙◌, ap, subst, ℕ, ◌-◌, List, [], Option, Some, None, length, arith, ◌++◌}
+use Rattle.std.proofs.Common.{◌≡◌, ◌<◌, refl, sym, ◌∙◌, ap, subst, ℕ, ◌-◌, List, [], Option, Some, None, length, arith, ◌++◌}
 use Rattle.std.specs.Borrow.{Bor}
 use Rattle.std.specs.Prelude.{Err, IfErr, Ok, Result}
 use Rattle.std.specs.Result.{IsErrAnd}
@@ -26,6 +26,9 @@ use Rattle.meta_matcher.specs.Written.{seen}
 use Rattle.meta_matcher.specs.Runs.{Fails, Finds, Gives, Notes, Now, Ran, Setting, standing}
 use Rattle.meta_matcher.specs.Told.{each_once, told_of}
 use Rattle.meta_matcher.proofs.Waiting.{out_of_steps}
+use Rattle.std.proofs.Math.Logic.{∥∥₁_elim}
+use Rattle.meta_matcher.specs.Endings.{HasAnOutcome, classes_in}
+use Rattle.meta_matcher.proofs.Totals.{below_total, total}
 use Rattle.meta_matcher.specs.Answers.{AreExpectedAt, Has, IsMatched, IsStopped, start_of}
 
 at_start : (text : List ℕ) (ts : List Text) → ts ≡ [] → standing text text ts ≡ start_of text
@@ -84,6 +87,18 @@ pub out_at_top : (scene : Scene) (m : Machine) (steps : ℕ) (c : Control) → I
 out_at_top scene m steps c w = λ classes fits o d.
     let e = from_top scene d in
     omega (arith, e.1, out_of_steps scene m steps c w classes fits o e.0)
+
+-- what is on the way takes no more steps than there are for an outcome
+pub below_at_top : (scene : Scene) (ends : ∥ HasAnOutcome scene ∥₁) (m : Machine) (n : ℕ) (c : Control) → Fits scene.program.now.properties.items (classes_in scene.program.now.properties.items) → IsOnTheWay scene m n c → n < total scene ends
+below_at_top scene ends m n c fits w = below_total scene ends n (λ x.
+    let e = from_top scene x.1 in
+    omega (arith, e.1, out_of_steps scene m n c w (classes_in scene.program.now.properties.items) fits x.0 e.0))
+
+-- where there is an outcome, memory is wanting
+pub only_memory : (scene : Scene) (ends : ∥ HasAnOutcome scene ∥₁) (why : Stop) → Fits scene.program.now.properties.items (classes_in scene.program.now.properties.items) → IsStuck scene why → why ≡ stop.Memory
+only_memory scene ends stop.Memory fits x = refl
+only_memory scene ends stop.OutOfSteps fits x = absurd x
+only_memory scene ends stop.EmptyStack fits x = absurd (∥∥₁_elim ends (λ u v. absurd u) (λ y. x (classes_in scene.program.now.properties.items) fits y.0 (from_top scene y.1).0))
 
 -- the same, of a name that is the rule's
 pub stopped_as : (g : Grammar) (ps : List Property) (text : List ℕ) (steps : ℕ) (why : Stop) (k n : Text) → k ≡ n → IsStopped g ps k text steps why → IsStopped g ps n text steps why

@@ -56,6 +56,13 @@ IsRefused g ps n text steps (is.NoMatch place) =
     (classes : Classes) → Fits ps classes → (d : Has g n text classes Failure) × (place ≡ furthest d)
 IsRefused g ps n text steps (is.Stopped why) = IsStopped g ps n text steps why
 
+-- the same where the run ends, so that it was stopped by want of memory alone
+abbrev pub IsRefusedAtTheEnd : Grammar → List Property → Text → List ℕ → Refusal → Type 0
+IsRefusedAtTheEnd g ps n text (is.UnknownRule name) = (rule_of g n ≡ None) × (chars name.now ≡ n)
+IsRefusedAtTheEnd g ps n text (is.NoMatch place) =
+    (classes : Classes) → Fits ps classes → (d : Has g n text classes Failure) × (place ≡ furthest d)
+IsRefusedAtTheEnd g ps n text (is.Stopped why) = why ≡ stop.Memory
+
 -- the names are those that are expected at a place, whatever the classes are: each once, in the order of their
 -- calls, where the rule fails or matches
 abbrev pub AreExpectedAt : Grammar → List Property → Text → List ℕ → ℕ → List (Bor (List ℕ)) → Type 0

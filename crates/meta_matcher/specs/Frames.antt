@@ -20,12 +20,14 @@ use Rattle.meta_matcher.specs.declared.frames.Frame.TheVariants as frame
 use Rattle.meta_matcher.specs.declared.frames.Control.{Control}
 use Rattle.meta_matcher.specs.declared.frames.Control.TheVariants as control
 use Rattle.meta_matcher.specs.declared.frames.AtOnce.{AtOnce}
+use Rattle.meta_matcher.specs.declared.frames.Came.{Came}
+use Rattle.meta_matcher.specs.declared.frames.Came.TheVariants as came
 use Rattle.meta_matcher.specs.declared.frames.AtOnce.TheVariants as at_once
 use Rattle.meta_matcher.specs.declared.machine.Machine.{Machine}
 use Rattle.meta_matcher.specs.declared.machine.Scene.{Scene}
 use Rattle.meta_matcher.specs.declared.machine.Stop.{Stop}
 use Rattle.meta_matcher.specs.declared.machine.Stop.TheVariants as stop
-use Rattle.meta_matcher.specs.Machines.{IsBoundIn, grammar_in, now_of, said, setting_of}
+use Rattle.meta_matcher.specs.Machines.{IsBoundIn, grammar_in, now_of, said, setting_of, steps_of}
 use Rattle.meta_matcher.specs.Programs.{Fits}
 use Rattle.meta_matcher.specs.Runs.{Fails, Finds, GoesOn, IsLeft, IsReset, Now, forgetting, mode_of, noting, standing}
 use Rattle.meta_matcher.specs.Sizes.{most_steps}
@@ -279,7 +281,7 @@ module _ (scene : Scene) where
 
   -- what comes of a task that is begun in this step comes of what is waited for
   abbrev pub IsStarting : Machine → Task → List ℕ → Type 0
-  IsStarting m k rest = Awaits m (Decides (starting k rest (now_of m) m.steps))
+  IsStarting m k rest = Awaits m (Decides (starting k rest (now_of m) (steps_of m)))
 
   -- a frame that was taken off the list gets an answer, which this step takes
   pub record IsResumed (m : Machine) (relation : Start → Start → Type 0)
@@ -289,7 +291,7 @@ module _ (scene : Scene) where
     pub waiting : IsWaiting (reverse m.frames.items) whole
     pub follows : relation part whole
     pub gives : GivesFrom part (now_of m) answer
-    pub in_time : IsInTime part (m.steps + 1)
+    pub in_time : IsInTime part (steps_of m + 1)
 
   -- the form that is run once n steps were taken
   pub record IsRunning (m : Machine) (n : ℕ) (f : Form) (mode : Mode) (rest : List ℕ) : Type 0 where
@@ -318,6 +320,12 @@ module _ (scene : Scene) where
   abbrev pub Leads : Machine → ℕ → Result Control Stop → Type 0
   Leads m n (Ok c) = IsOnTheWay m n c
   Leads m n (Err why) = IsStuck why
+
+  -- what comes of several steps, after which n were taken in all
+  abbrev pub Comes : Machine → ℕ → Result Came Stop → Type 0
+  Comes m n (Ok (came.Ended answer)) = GivesFrom (top_of scene) (now_of m) answer
+  Comes m n (Ok (came.Going c)) = IsOnTheWay m n c
+  Comes m n (Err why) = IsStuck why
 
   -- what comes of a form that is run at once: an answer, or nothing where it has parts
   abbrev pub ComesAtOnce : Form → Mode → List ℕ → Machine → Machine → AtOnce → Type 0

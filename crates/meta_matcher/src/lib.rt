@@ -2,9 +2,11 @@
 #![tactic(auto)]
 
 pub mod compile;
+pub mod ending;
 pub mod entries;
 pub mod form;
 pub mod frames;
+pub mod laws;
 mod leaves;
 pub mod machine;
 pub mod matcher;

@@ -4,7 +4,7 @@ ghost use Rattle.meta_ast.specs.Ast.{text_of};
 ghost use Rattle.meta_base.specs.Language.Expression.{Ident, PeekSlice, PushLiteral, rule_of};
 ghost use Rattle.meta_base.specs.Language.Meaning.{Run};
 ghost use Rattle.meta_matcher.specs.Frames.{ComesAtOnce, IsOutOfTexts, IsStuckAtOnce};
-ghost use Rattle.meta_matcher.specs.Machines.{GivesIn, IsBoundIn, IsMark, IsSoundIn, grammar_in, now_of};
+ghost use Rattle.meta_matcher.specs.Machines.{GivesIn, IsBoundIn, IsMark, IsSoundIn, grammar_in, now_of, steps_of};
 ghost use Rattle.meta_matcher.specs.Runs.{IsLeft, IsReset, Progress, forgetting, mode_of, noting};
 ghost use Rattle.meta_matcher.specs.Stacked.{stack_of};
 ghost use Rattle.meta_matcher.specs.declared.machine.Stop.TheVariants.{Memory};
@@ -47,6 +47,13 @@ pub struct Scene<'a> {
     pub asked: usize,
 }
 
+/// How many steps were taken: in whole rounds, of 2^64 - 2 steps each, and since the last.
+#[derive(Clone, Copy)]
+pub struct Steps {
+    pub rounds: usize,
+    pub since: u64,
+}
+
 /// What a run has written and noted so far, and what waits.
 #[derive(Drop)]
 pub struct Machine<'a> {
@@ -61,7 +68,7 @@ pub struct Machine<'a> {
     /// What waits for answers: the last frame for what is run now.
     pub frames: Vec<Frame<'a>>,
     /// How many steps were taken before this one.
-    pub steps: u64,
+    pub steps: Steps,
 }
 
 impl<'a> Machine<'a> {
@@ -71,7 +78,7 @@ impl<'a> Machine<'a> {
         ensures furthest { (now_of result).notes.furthest ≡ 0 }
         ensures told { (now_of result).notes.told ≡ [] }
         ensures frames { result.frames.items ≡ [] }
-        ensures steps { result.steps ≡ 0 }
+        ensures steps { steps_of result ≡ 0 }
     {
         Machine {
             entries: Vec::new(alloc),
@@ -79,7 +86,10 @@ impl<'a> Machine<'a> {
             furthest: 0,
             told: Vec::new(alloc),
             frames: Vec::new(alloc),
-            steps: 0,
+            steps: Steps {
+                rounds: 0,
+                since: 0,
+            },
         }
     }
 

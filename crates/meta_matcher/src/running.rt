@@ -1,21 +1,23 @@
 //! The steps of a machine: what it does with the form at hand, and with an answer.
-ghost use Rattle.std.specs.Prelude.{◌≡◌, ◌+◌, ◌-◌, ◌≤◌, ℕ, List, IfErr, IfOk, OnOk, [], ◌∷◌, drop, false, length, reverse, take, true};
+ghost use Rattle.std.specs.Prelude.{◌≡◌, ◌+◌, ◌-◌, ◌*◌, ◌≤◌, ℕ, List, IfErr, IfOk, OnOk, [], ◌∷◌, drop, false, length, reverse, take, true};
 ghost use Rattle.meta_ast.specs.Ast.{text_of};
 ghost use Rattle.meta_base.specs.Language.Expression.{Choice, Ident, NegPred, Opt, PosPred, Push, Rep, Seq, rule_of};
 ghost use Rattle.meta_base.specs.Language.Meaning.{Run, Skipping, Turns};
 ghost use Rattle.meta_base.specs.Language.State.{NonAtomicMode};
 ghost use Rattle.meta_matcher.specs.Answers.{IsStopped};
-ghost use Rattle.meta_matcher.specs.Frames.{Awaits, Decides, FindsFrom, Finishes, Follows, GivesFrom, IsAhead, IsBlank, IsBoundSecond, IsCall, IsComment, IsFirst, IsGap, IsLeftSide, IsNegated, IsNested, IsOnTheWay, IsOptional, IsPushed, IsResumed, IsRunning, IsSecond, IsStarting, IsTurn, IsTurnGap, Leads, Skips, comments, said_second, starting, top_of};
-ghost use Rattle.meta_matcher.specs.Machines.{IsBoundIn, IsRowIn, IsSoundIn, grammar_in, names_within, now_of, said};
-ghost use Rattle.meta_matcher.specs.Programs.{rule_of_row};
+ghost use Rattle.meta_matcher.specs.Frames.{Awaits, Comes, Decides, FindsFrom, Finishes, Follows, GivesFrom, IsAhead, IsBlank, IsBoundSecond, IsCall, IsComment, IsFirst, IsGap, IsLeftSide, IsNegated, IsNested, IsOnTheWay, IsOptional, IsPushed, IsResumed, IsRunning, IsSecond, IsStarting, IsTurn, IsTurnGap, Leads, Skips, comments, said_second, starting, top_of};
+ghost use Rattle.meta_matcher.specs.Endings.{classes_in};
+ghost use Rattle.meta_matcher.specs.Machines.{IsBoundIn, IsRowIn, IsSoundIn, grammar_in, names_within, now_of, round, said, steps_of};
+ghost use Rattle.meta_matcher.specs.Programs.{Fits, rule_of_row};
 ghost use Rattle.meta_matcher.specs.Runs.{IsLeft, Now, mode_of};
 
+use crate::ending::Ending;
 use crate::entries::{close, cut, open, written};
 use crate::form::{Form, Row};
 use crate::frames::{
-    AtOnce, Called, Control, Frame, Mark, Predicate, Repetition, Second, Sequence,
+    AtOnce, Called, Came, Control, Frame, Mark, Predicate, Repetition, Second, Sequence,
 };
-use crate::machine::{Machine, Scene, Stop};
+use crate::machine::{Machine, Scene, Steps, Stop};
 use crate::modes::{Mode, body_mode, call_counts, gives_token};
 use crate::stack::{pushed, shared};
 use crate::told::count;
@@ -79,8 +81,8 @@ impl<'a> Machine<'a> {
         requires left { IsLeft scene.now.text.now rest.now }
         requires follows { Awaits scene.now self.old
             (Follows scene.now frame (starting (Run (mode_of mode) (said scene.now form.now))
-            rest.now (now_of self.old) (self.old.steps + 1))) }
-        ensures { Leads scene.entry.now self.new (self.old.steps + 1) result }
+            rest.now (now_of self.old) (steps_of self.old + 1))) }
+        ensures { Leads scene.entry.now self.new (steps_of self.old + 1) result }
     {
         match self.at_once(scene, form, mode, rest)? {
             AtOnce::Answered(answer) => self.resume(scene, frame, answer),
@@ -100,7 +102,7 @@ impl<'a> Machine<'a> {
     ) -> Result<Control<'a>, Stop>
         requires sound { IsSoundIn scene.now }
         requires follows { IsResumed scene.now self.old (Follows scene.now frame) answer }
-        ensures { Leads scene.entry.now self.new (self.old.steps + 1) result }
+        ensures { Leads scene.entry.now self.new (steps_of self.old + 1) result }
     {
         match frame {
             Frame::First(sequence) => self.after_first(scene, sequence, answer),
@@ -134,7 +136,7 @@ impl<'a> Machine<'a> {
         requires left { IsLeft scene.now.text.now rest.now }
         requires starts { IsStarting scene.now self.old
             (Run (mode_of mode) (Seq (said scene.now first.now) (said_second scene.now second))) rest.now }
-        ensures { Leads scene.entry.now self.new (self.old.steps + 1) result }
+        ensures { Leads scene.entry.now self.new (steps_of self.old + 1) result }
     {
         let mark = self.mark()?;
         let frame = Frame::First(Sequence { second, mode, mark });
@@ -151,7 +153,7 @@ impl<'a> Machine<'a> {
     ) -> Result<Control<'a>, Stop>
         requires sound { IsSoundIn scene.now }
         requires follows { IsResumed scene.now self.old (IsFirst scene.now sequence) answer }
-        ensures { Leads scene.entry.now self.new (self.old.steps + 1) result }
+        ensures { Leads scene.entry.now self.new (steps_of self.old + 1) result }
     {
         match answer {
             Some(after) => {
@@ -176,7 +178,7 @@ impl<'a> Machine<'a> {
     ) -> Result<Control<'a>, Stop>
         requires sound { IsSoundIn scene.now }
         requires follows { IsResumed scene.now self.old (IsGap scene.now sequence) answer }
-        ensures { Leads scene.entry.now self.new (self.old.steps + 1) result }
+        ensures { Leads scene.entry.now self.new (steps_of self.old + 1) result }
     {
         match answer {
             Some(after) => self.second(scene, sequence, after),
@@ -200,8 +202,8 @@ impl<'a> Machine<'a> {
         requires left { IsLeft scene.now.text.now rest.now }
         requires follows { Awaits scene.now self.old (IsSecond scene.now sequence.mark
             (starting (Run (mode_of sequence.mode) (said_second scene.now sequence.second))
-            rest.now (now_of self.old) (self.old.steps + 1))) }
-        ensures { Leads scene.entry.now self.new (self.old.steps + 1) result }
+            rest.now (now_of self.old) (steps_of self.old + 1))) }
+        ensures { Leads scene.entry.now self.new (steps_of self.old + 1) result }
     {
         let Sequence { second, mode, mark } = sequence;
         match second {
@@ -228,7 +230,7 @@ impl<'a> Machine<'a> {
         answer: Option<&'a str>,
     ) -> Control<'a>
         requires follows { IsResumed scene.now self.old (IsSecond scene.now mark) answer }
-        ensures { IsOnTheWay scene.entry.now self.new (self.old.steps + 1) result }
+        ensures { IsOnTheWay scene.entry.now self.new (steps_of self.old + 1) result }
     {
         match answer {
             Some(after) => Control::Answer(Some(after)),
@@ -251,7 +253,7 @@ impl<'a> Machine<'a> {
     ) -> Control<'a>
         requires follows { IsResumed scene.now self.old
             (IsLeftSide scene.now right.now mode rest.now) answer }
-        ensures { IsOnTheWay scene.entry.now self.new (self.old.steps + 1) result }
+        ensures { IsOnTheWay scene.entry.now self.new (steps_of self.old + 1) result }
     {
         match answer {
             Some(after) => Control::Answer(Some(after)),
@@ -268,7 +270,7 @@ impl<'a> Machine<'a> {
         answer: Option<&'a str>,
     ) -> Control<'a>
         requires follows { IsResumed scene.now self.old (IsOptional scene.now rest.now) answer }
-        ensures { IsOnTheWay scene.entry.now self.new (self.old.steps + 1) result }
+        ensures { IsOnTheWay scene.entry.now self.new (steps_of self.old + 1) result }
     {
         match answer {
             Some(after) => Control::Answer(Some(after)),
@@ -288,8 +290,8 @@ impl<'a> Machine<'a> {
         requires left { IsLeft scene.now.text.now rest.now }
         requires ends { Awaits scene.now self.old
             (Finishes scene.now (starting (Run (mode_of mode) (Rep (said scene.now body.now)))
-            rest.now (now_of self.old) self.old.steps)) }
-        ensures { IfOk result (IsOnTheWay scene.entry.now self.new (self.old.steps + 1)) }
+            rest.now (now_of self.old) (steps_of self.old))) }
+        ensures { IfOk result (IsOnTheWay scene.entry.now self.new (steps_of self.old + 1)) }
     {
         let mark = self.mark()?;
         let repetition = Repetition {
@@ -312,8 +314,8 @@ impl<'a> Machine<'a> {
         requires left { IsLeft scene.now.text.now rest.now }
         requires follows { Awaits scene.now self.old (IsTurn scene.now repetition
             (starting (Run (mode_of repetition.mode) (said scene.now repetition.body.now))
-            rest.now (now_of self.old) (self.old.steps + 1))) }
-        ensures { IfOk result (IsOnTheWay scene.entry.now self.new (self.old.steps + 1)) }
+            rest.now (now_of self.old) (steps_of self.old + 1))) }
+        ensures { IfOk result (IsOnTheWay scene.entry.now self.new (steps_of self.old + 1)) }
     {
         let body = repetition.body;
         let mode = repetition.mode;
@@ -331,7 +333,7 @@ impl<'a> Machine<'a> {
     ) -> Result<Control<'a>, AllocError>
         requires sound { IsSoundIn scene.now }
         requires follows { IsResumed scene.now self.old (IsTurn scene.now repetition) answer }
-        ensures { IfOk result (IsOnTheWay scene.entry.now self.new (self.old.steps + 1)) }
+        ensures { IfOk result (IsOnTheWay scene.entry.now self.new (steps_of self.old + 1)) }
     {
         match answer {
             Some(after) => self.next_turn(scene, repetition.body, repetition.mode, after),
@@ -356,8 +358,8 @@ impl<'a> Machine<'a> {
         requires left { IsLeft scene.now.text.now rest.now }
         requires ends { Awaits scene.now self.old
             (Finishes scene.now (starting (Turns (mode_of mode) (said scene.now body.now))
-            rest.now (now_of self.old) self.old.steps)) }
-        ensures { IfOk result (IsOnTheWay scene.entry.now self.new (self.old.steps + 1)) }
+            rest.now (now_of self.old) (steps_of self.old))) }
+        ensures { IfOk result (IsOnTheWay scene.entry.now self.new (steps_of self.old + 1)) }
     {
         let mark = self.mark()?;
         let repetition = Repetition {
@@ -383,7 +385,7 @@ impl<'a> Machine<'a> {
         answer: Option<&'a str>,
     ) -> Result<Control<'a>, AllocError>
         requires follows { IsResumed scene.now self.old (IsTurnGap scene.now repetition) answer }
-        ensures { IfOk result (IsOnTheWay scene.entry.now self.new (self.old.steps + 1)) }
+        ensures { IfOk result (IsOnTheWay scene.entry.now self.new (steps_of self.old + 1)) }
     {
         match answer {
             Some(after) => self.turn(scene, repetition, after),
@@ -407,7 +409,7 @@ impl<'a> Machine<'a> {
         requires left { IsLeft scene.now.text.now rest.now }
         requires starts { IsStarting scene.now self.old
             (Run (mode_of mode) (NegPred (said scene.now body.now))) rest.now }
-        ensures { Leads scene.entry.now self.new (self.old.steps + 1) result }
+        ensures { Leads scene.entry.now self.new (steps_of self.old + 1) result }
     {
         let mark = self.mark()?;
         let frame = Frame::Not(Predicate { rest, mark }, count(&self.told));
@@ -424,7 +426,7 @@ impl<'a> Machine<'a> {
         answer: Option<&'a str>,
     ) -> Control<'a>
         requires follows { IsResumed scene.now self.old (IsNegated scene.now predicate told) answer }
-        ensures { IsOnTheWay scene.entry.now self.new (self.old.steps + 1) result }
+        ensures { IsOnTheWay scene.entry.now self.new (steps_of self.old + 1) result }
     {
         self.forget(told);
         match answer {
@@ -449,7 +451,7 @@ impl<'a> Machine<'a> {
         requires left { IsLeft scene.now.text.now rest.now }
         requires starts { IsStarting scene.now self.old
             (Run (mode_of mode) (PosPred (said scene.now body.now))) rest.now }
-        ensures { Leads scene.entry.now self.new (self.old.steps + 1) result }
+        ensures { Leads scene.entry.now self.new (steps_of self.old + 1) result }
     {
         let mark = self.mark()?;
         let frame = Frame::Ahead(Predicate { rest, mark });
@@ -465,7 +467,7 @@ impl<'a> Machine<'a> {
         answer: Option<&'a str>,
     ) -> Control<'a>
         requires follows { IsResumed scene.now self.old (IsAhead scene.now predicate) answer }
-        ensures { IsOnTheWay scene.entry.now self.new (self.old.steps + 1) result }
+        ensures { IsOnTheWay scene.entry.now self.new (steps_of self.old + 1) result }
     {
         match answer {
             Some(_) => {
@@ -484,7 +486,7 @@ impl<'a> Machine<'a> {
         answer: Option<&'a str>,
     ) -> Result<Control<'a>, AllocError>
         requires follows { IsResumed scene.now self.old (IsPushed scene.now rest.now) answer }
-        ensures { IfOk result (IsOnTheWay scene.entry.now self.new (self.old.steps + 1)) }
+        ensures { IfOk result (IsOnTheWay scene.entry.now self.new (steps_of self.old + 1)) }
     {
         match answer {
             Some(after) => {
@@ -513,7 +515,7 @@ impl<'a> Machine<'a> {
         requires left { IsLeft scene.now.text.now rest.now }
         requires starts { IsStarting scene.now self.old
             (Run (mode_of mode) (Ident (text_of row.now.name))) rest.now }
-        ensures { IfOk result (IsOnTheWay scene.entry.now self.new (self.old.steps + 1)) }
+        ensures { IfOk result (IsOnTheWay scene.entry.now self.new (steps_of self.old + 1)) }
     {
         let place = scene.text.len() - rest.len();
         let first = written(&self.entries);
@@ -540,7 +542,7 @@ impl<'a> Machine<'a> {
         answer: Option<&'a str>,
     ) -> Result<Control<'a>, AllocError>
         requires follows { IsResumed scene.now self.old (IsCall scene.now called) answer }
-        ensures { IfOk result (IsOnTheWay scene.entry.now self.new (self.old.steps + 1)) }
+        ensures { IfOk result (IsOnTheWay scene.entry.now self.new (steps_of self.old + 1)) }
     {
         let Called {
             row,
@@ -576,8 +578,9 @@ impl<'a> Machine<'a> {
     fn blanks(&mut self, scene: &Scene<'a>, rest: &'a str) -> Result<Control<'a>, AllocError>
         requires sound { IsSoundIn scene.now }
         requires left { IsLeft scene.now.text.now rest.now }
-        requires skips { Awaits scene.now self.old (Skips scene.now rest.now (now_of self.old) self.old.steps) }
-        ensures { IfOk result (IsOnTheWay scene.entry.now self.new (self.old.steps + 1)) }
+        requires skips { Awaits scene.now self.old
+            (Skips scene.now rest.now (now_of self.old) (steps_of self.old)) }
+        ensures { IfOk result (IsOnTheWay scene.entry.now self.new (steps_of self.old + 1)) }
     {
         match scene.program.whitespace {
             Some(number) => {
@@ -594,8 +597,8 @@ impl<'a> Machine<'a> {
         requires sound { IsSoundIn scene.now }
         requires left { IsLeft scene.now.text.now rest.now }
         requires ends { Awaits scene.now self.old
-            (Finishes scene.now (starting comments rest.now (now_of self.old) self.old.steps)) }
-        ensures { IfOk result (IsOnTheWay scene.entry.now self.new (self.old.steps + 1)) }
+            (Finishes scene.now (starting comments rest.now (now_of self.old) (steps_of self.old))) }
+        ensures { IfOk result (IsOnTheWay scene.entry.now self.new (steps_of self.old + 1)) }
     {
         match scene.program.comment {
             Some(number) => {
@@ -617,7 +620,7 @@ impl<'a> Machine<'a> {
     ) -> Result<Control<'a>, AllocError>
         requires sound { IsSoundIn scene.now }
         requires follows { IsResumed scene.now self.old (IsBlank scene.now rest.now) answer }
-        ensures { IfOk result (IsOnTheWay scene.entry.now self.new (self.old.steps + 1)) }
+        ensures { IfOk result (IsOnTheWay scene.entry.now self.new (steps_of self.old + 1)) }
     {
         match answer {
             Some(after) => self.blanks(scene, after),
@@ -635,7 +638,7 @@ impl<'a> Machine<'a> {
     ) -> Result<Control<'a>, AllocError>
         requires sound { IsSoundIn scene.now }
         requires follows { IsResumed scene.now self.old (IsComment scene.now rest.now) answer }
-        ensures { IfOk result (IsOnTheWay scene.entry.now self.new (self.old.steps + 1)) }
+        ensures { IfOk result (IsOnTheWay scene.entry.now self.new (steps_of self.old + 1)) }
     {
         match answer {
             Some(after) => self.blanks(scene, after),
@@ -652,8 +655,8 @@ impl<'a> Machine<'a> {
         rest: &'a str,
     ) -> Result<Control<'a>, Stop>
         requires sound { IsSoundIn scene.now }
-        requires running { IsRunning scene.now self.old self.old.steps form.now mode rest.now }
-        ensures { Leads scene.entry.now self.new (self.old.steps + 1) result }
+        requires running { IsRunning scene.now self.old (steps_of self.old) form.now mode rest.now }
+        ensures { Leads scene.entry.now self.new (steps_of self.old + 1) result }
     {
         match self.at_once(scene, form, mode, rest)? {
             AtOnce::Answered(answer) => Ok(Control::Answer(answer)),
@@ -670,9 +673,9 @@ impl<'a> Machine<'a> {
         rest: &'a str,
     ) -> Result<Control<'a>, Stop>
         requires sound { IsSoundIn scene.now }
-        requires running { IsRunning scene.now self.old self.old.steps form.now mode rest.now }
+        requires running { IsRunning scene.now self.old (steps_of self.old) form.now mode rest.now }
         requires nested { IsNested form.now }
-        ensures { Leads scene.entry.now self.new (self.old.steps + 1) result }
+        ensures { Leads scene.entry.now self.new (steps_of self.old + 1) result }
     {
         match form {
             Form::Call(number) => {
@@ -699,6 +702,32 @@ impl<'a> Machine<'a> {
         }
     }
 
+    /// Goes on after so many rounds and a step, up to so many steps in all since those rounds.
+    fn go_on(
+        &mut self,
+        scene: &Scene<'a>,
+        first: Control<'a>,
+        rounds: usize,
+        steps: u64,
+    ) -> Result<Came<'a>, Stop>
+        requires sound { IsSoundIn scene.now }
+        requires on_the_way { IsOnTheWay scene.now self.old (rounds * round + 1) first }
+        ensures { Comes scene.entry.now self.new (rounds * round + steps) result }
+    {
+        let mut control = first;
+        'steps: for since in 1..steps {
+            self.steps = Steps { rounds, since };
+            control = match control {
+                Control::Run(form, mode, rest) => self.start(scene, form, mode, rest)?,
+                Control::Answer(answer) => match self.frames.pop() {
+                    Some(frame) => self.resume(scene, frame, answer)?,
+                    None => return Ok(Came::Ended(answer)),
+                },
+            };
+        }
+        Ok(Came::Going(control))
+    }
+
     /// Runs the scene's rule on its text, in NonAtomic, for so many steps at most, of which its call is the
     /// first. The answer is what is left of the text after it, or `None` where it fails. Refused are want of
     /// memory, a run of more steps, and `PEEK` or `POP` on the empty stack, after which there is no outcome.
@@ -709,23 +738,52 @@ impl<'a> Machine<'a> {
             ≡ Some (rule_of_row (names_within scene.now) scene.now.row.now) }
         requires fresh { now_of self.old ≡ (top_of scene.now).now }
         requires no_frames { self.old.frames.items ≡ [] }
-        requires no_steps { self.old.steps ≡ 0 }
+        requires no_steps { steps_of self.old ≡ 0 }
         ensures gives { IfOk result (GivesFrom scene.entry.now (top_of scene.entry.now) (now_of self.new)) }
         ensures stopped { IfErr result (IsStopped (grammar_in scene.entry.now)
             scene.entry.now.program.now.properties.items (text_of scene.entry.now.row.now.name)
             scene.entry.now.text.now steps) }
     {
-        let mut control = self.call(scene, scene.row, Mode::NonAtomic, scene.text)?;
-        'steps: for taken in 1..steps {
-            self.steps = taken;
-            control = match control {
-                Control::Run(form, mode, rest) => self.start(scene, form, mode, rest)?,
-                Control::Answer(answer) => match self.frames.pop() {
-                    Some(frame) => self.resume(scene, frame, answer)?,
-                    None => return Ok(answer),
-                },
-            };
+        let first = self.call(scene, scene.row, Mode::NonAtomic, scene.text)?;
+        match self.go_on(scene, first, 0, steps)? {
+            Came::Ended(answer) => Ok(answer),
+            Came::Going(_) => Err(Stop::OutOfSteps),
         }
-        Err(Stop::OutOfSteps)
+    }
+
+    /// The same for a text that has an outcome: it has no limit, and only want of memory stops it. It counts
+    /// rounds of steps, which takes a byte each.
+    pub fn run_to_the_end(&mut self, ending: &Ending<'a>) -> Result<Option<&'a str>, AllocError>
+        requires sound { IsSoundIn ending.now.scene }
+        requires row { IsRowIn ending.now.scene ending.now.scene.row.now }
+        requires meant { rule_of (grammar_in ending.now.scene) (text_of ending.now.scene.row.now.name)
+            ≡ Some (rule_of_row (names_within ending.now.scene) ending.now.scene.row.now) }
+        requires fits { Fits ending.now.scene.program.now.properties.items
+            (classes_in ending.now.scene.program.now.properties.items) }
+        requires fresh { now_of self.old ≡ (top_of ending.now.scene).now }
+        requires no_frames { self.old.frames.items ≡ [] }
+        requires no_steps { steps_of self.old ≡ 0 }
+        ensures { IfOk result (GivesFrom ending.entry.now.scene (top_of ending.entry.now.scene)
+            (now_of self.new)) }
+    {
+        let mut control = self.call(
+            &ending.scene,
+            ending.scene.row,
+            Mode::NonAtomic,
+            ending.scene.text,
+        )?;
+        let mut rounds = Vec::new(*self.entries.allocator());
+        'rounds: loop {
+            match self.go_on(&ending.scene, control, rounds.len(), u64::MAX) {
+                Ok(Came::Ended(answer)) => return Ok(answer),
+                Ok(Came::Going(next)) => control = next,
+                Err(stop) => match stop {
+                    Stop::Memory => return Err(AllocError),
+                    Stop::OutOfSteps => unreachable!(),
+                    Stop::EmptyStack => unreachable!(),
+                },
+            }
+            rounds.push(0u8)?;
+        }
     }
 }

@@ -1,6 +1,6 @@
 use Rattle.std.proofs.Common.{◌+◌}
 use Rattle.meta_base.specs.Language.Meaning.{Run}
-use Rattle.meta_matcher.specs.Machines.{said}
+use Rattle.meta_matcher.specs.Machines.{said, steps_of}
 use Rattle.meta_matcher.specs.Runs.{mode_of}
 use Rattle.meta_matcher.specs.declared.machine.Stop.TheVariants as stop
 use Rattle.meta_matcher.proofs.Timing.{led_astray, part_within_top, stuck_at_once}
@@ -18,7 +18,7 @@ returns-in_ok-wait-in-Nested c =
     record {
       bound = c.requires.bound;
       left = c.requires.left;
-      starts = entered c.at_once.new.self c.args.frame (Run (mode_of c.args.mode) (said c.args.scene.now c.args.form.now)) c.args.rest.now (c.args.self.now.steps + 1) c.at_once.ensures.frames x.0 c.wait.ensures.now c.in_ok-wait-in-Nested.ensures.frames c.requires.follows;
+      starts = entered c.at_once.new.self c.args.frame (Run (mode_of c.args.mode) (said c.args.scene.now c.args.form.now)) c.args.rest.now (steps_of c.args.self.now + 1) c.at_once.ensures.frames x.0 c.wait.ensures.now c.in_ok-wait-in-Nested.ensures.frames c.requires.follows;
     }
 
 pub returns-in_err-answer : goal.returns-in_err-answer

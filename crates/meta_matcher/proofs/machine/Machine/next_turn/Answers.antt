@@ -1,5 +1,5 @@
 use Rattle.std.proofs.Common.{◌+◌, arith, refl}
-use Rattle.meta_matcher.specs.Machines.{now_of}
+use Rattle.meta_matcher.specs.Machines.{now_of, steps_of}
 use Rattle.meta_matcher.specs.Runs.{mode_of}
 use Rattle.meta_matcher.specs.declared.frames.Frame.TheVariants as frame
 use Rattle.meta_matcher.specs.declared.frames.Repetition.{Repetition}
@@ -16,4 +16,4 @@ blanks-requires-clause-skips c =
 pub turn-requires-clause-follows : goal.turn-requires-clause-follows
 turn-requires-clause-follows c =
     let r : Repetition = record { body = c.args.body; mode = c.args.mode; rest = c.args.rest; mark = c.in_ok-mark.mark } in
-    awaits_same refl (λ whole e. (follows_turn_gap r c.requires.bound c.requires.left c.in_ok-mark.ensures (c.args.self.now.steps + 1) (omega arith) e).found _ _ _ (c.skips.ensures.nothing c.if-skips.false c.args.rest.now (now_of c.args.self.now) _ c.requires.left) (in_time_now _)) c.requires.ends
+    awaits_same refl (λ whole e. (follows_turn_gap r c.requires.bound c.requires.left c.in_ok-mark.ensures (steps_of c.args.self.now + 1) (omega arith) e).found _ _ _ (c.skips.ensures.nothing c.if-skips.false c.args.rest.now (now_of c.args.self.now) _ c.requires.left) (in_time_now _)) c.requires.ends

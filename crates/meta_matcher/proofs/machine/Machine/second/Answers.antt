@@ -2,7 +2,7 @@ use Rattle.std.proofs.Common.{◌+◌, arith, refl}
 use Rattle.meta_base.specs.Language.Expression.{Rep}
 use Rattle.meta_base.specs.Language.Meaning.{Run}
 use Rattle.meta_matcher.specs.Frames.{starting}
-use Rattle.meta_matcher.specs.Machines.{now_of, said}
+use Rattle.meta_matcher.specs.Machines.{now_of, said, steps_of}
 use Rattle.meta_matcher.specs.Runs.{mode_of}
 use Rattle.meta_matcher.specs.declared.frames.Frame.TheVariants as frame
 use Rattle.meta_matcher.proofs.Waiting.{awaits_same, entered, finishes_itself, pushed_on, resumed, second_sooner}
@@ -26,7 +26,7 @@ returns-in_ok-wait-in-Nested c =
     record {
       bound = rw c.in-Once.is at c.requires.bound;
       left = c.requires.left;
-      starts = entered c.at_once.new.self (frame.Second c.args.sequence.mark) (Run (mode_of c.args.sequence.mode) (said c.args.scene.now c.in-Once.form.now)) c.args.rest.now (c.args.self.now.steps + 1) c.at_once.ensures.frames x.0 c.wait.ensures.now c.in_ok-wait-in-Nested.ensures.frames w;
+      starts = entered c.at_once.new.self (frame.Second c.args.sequence.mark) (Run (mode_of c.args.sequence.mode) (said c.args.scene.now c.in-Once.form.now)) c.args.rest.now (steps_of c.args.self.now + 1) c.at_once.ensures.frames x.0 c.wait.ensures.now c.in_ok-wait-in-Nested.ensures.frames w;
     }
 
 pub repetition-requires-clause-bound : goal.repetition-requires-clause-bound
@@ -35,7 +35,7 @@ repetition-requires-clause-bound c = rw c.in-Repeated.is at c.requires.bound
 pub repetition-requires-clause-ends : goal.repetition-requires-clause-ends
 repetition-requires-clause-ends c =
     let w = rw c.in-Repeated.is at c.requires.follows in
-    pushed_on {m = c.args.self.now} (frame.Second c.args.sequence.mark) c.wait-in-Repeated.ensures.now c.in_ok-wait-in-Repeated.ensures.frames (starting (Run (mode_of c.args.sequence.mode) (Rep (said c.args.scene.now c.in-Repeated.body.now))) c.args.rest.now (now_of c.args.self.now) c.args.self.now.steps) (awaits_same refl (λ whole s. second_sooner (c.args.self.now.steps + 1) _ (omega arith) s) w) (rw (c.wait-in-Repeated.ensures.now, c.wait-in-Repeated.ensures.steps) (finishes_itself _))
+    pushed_on {m = c.args.self.now} (frame.Second c.args.sequence.mark) c.wait-in-Repeated.ensures.now c.in_ok-wait-in-Repeated.ensures.frames (starting (Run (mode_of c.args.sequence.mode) (Rep (said c.args.scene.now c.in-Repeated.body.now))) c.args.rest.now (now_of c.args.self.now) (steps_of c.args.self.now)) (awaits_same refl (λ whole s. second_sooner (steps_of c.args.self.now + 1) _ (omega arith) s) w) (rw (c.wait-in-Repeated.ensures.now, c.wait-in-Repeated.ensures.steps) (finishes_itself _))
 
 pub returns-in_err-answer-in-Once : goal.returns-in_err-answer-in-Once
 returns-in_err-answer-in-Once c =
