@@ -1,5 +1,7 @@
 pub mod Leaving
 pub mod Noting
+pub mod Passing
+pub mod Spans
 pub mod Steps
 pub mod Waiting
 pub mod Whole

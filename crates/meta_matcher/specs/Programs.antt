@@ -1,8 +1,9 @@
 -- What compiled rules stand for.
-use Rattle.std.specs.Prelude.{◌≡◌, ◌<◌, ℕ, List, [], ◌∷◌, Option, Some, None, Bool, true, false, ◌||◌, bytes_eq, codes, get_or, length, map, ⊤}
+use Rattle.std.specs.Prelude.{◌≡◌, ◌<◌, ℕ, List, [], ◌∷◌, Option, Some, None, Bool, true, false, ◌&&◌, ◌||◌, ◌==◌, bytes_eq, codes, get_or, length, map, nat_eq, ⊤}
 use Rattle.meta_base.specs.Language.Text.{Text}
 use Rattle.meta_ast.specs.Ast.{rule_type_of, text_of}
 use Rattle.meta_base.specs.Language.Builtins.{Property as PropertyOf, builtin_of, is_between, is_letter, is_lower, is_upper}
+use Rattle.meta_base.specs.Language.Matching.{starts_in}
 use Rattle.meta_base.specs.Language.State.{Classes}
 use Rattle.meta_base.specs.Language.Expression as spec
 use Rattle.meta_base.specs.Language.Expression.{Expression, Rule, Grammar, rule_of, whitespace, comment}
@@ -40,6 +41,27 @@ set_of class.Alpha c = is_letter c
 set_of class.Alphanumeric c = is_letter c || is_between 48 57 c
 set_of class.Ascii c = is_between 0 127 c
 
+-- whether a form matches one character and no more: a character, a range, a builtin's set, a choice of such
+abbrev pub is_set : Form → Bool
+is_set (form.Str t) = length (text_of t) == 1
+is_set (form.Range a b) = true
+is_set (form.One k) = true
+is_set (form.Choice' p a q b) = is_set a && is_set b
+is_set _ = false
+
+-- the characters that such a form matches
+abbrev pub characters_of : Form → ℕ → Bool
+characters_of (form.Str t) = λ c. starts_in (λ d. nat_eq d c) (text_of t)
+characters_of (form.Range a b) = is_between a b
+characters_of (form.One k) = set_of k
+characters_of (form.Choice' p a q b) = λ c. characters_of a c || characters_of b c
+characters_of _ = λ c. false
+
+-- flags tell, of the first characters by number, whether the form matches them
+pub record IsSetOf (flags : List Bool) (f : Form) : Type 0 where
+  pub one : is_set f ≡ true
+  pub told : (c : ℕ) → c < length flags → get_or flags c false ≡ characters_of f c
+
 -- the character is in one of the ranges
 abbrev pub is_in_ranges : List (ℕ × ℕ) → ℕ → Bool
 is_in_ranges [] c = false
@@ -61,6 +83,7 @@ module _ (names : List Text) where
   expression_of (form.Insens t) = spec.Insens (text_of t)
   expression_of (form.Range a b) = spec.Range (a ∷ []) (b ∷ [])
   expression_of (form.One k) = spec.Ident (class_name k)
+  expression_of (form.Set' flags p a) = expression_of a
   expression_of form.Start = spec.Ident (codes "SOI")
   expression_of form.End = spec.Ident (codes "EOI")
   expression_of form.Newline = spec.Ident (codes "NEWLINE")
@@ -121,6 +144,7 @@ IsPropertyOf g ps n i = record {
 -- names mean what the form says
 abbrev pub IsBound : Grammar → List Text → List Property → Form → Type 0
 IsBound g names ps (form.One k) = rule_of g (class_name k) ≡ None
+IsBound g names ps (form.Set' flags p a) = IsSetOf flags.items a × IsBound g names ps a
 IsBound g names ps form.Start = rule_of g (codes "SOI") ≡ None
 IsBound g names ps form.End = rule_of g (codes "EOI") ≡ None
 IsBound g names ps form.Newline = rule_of g (codes "NEWLINE") ≡ None

@@ -1,5 +1,5 @@
 -- What a run answers.
-use Rattle.std.specs.Prelude.{◌≡◌, ℕ, ◌-◌, ◌≤◌, ◌&&◌, max, List, ◌++◌, Bool, Option, Some, None, drop, take, length, chars, if◌then◌else◌, nat_eq, ⊤}
+use Rattle.std.specs.Prelude.{◌≡◌, ℕ, suc, ◌-◌, ◌≤◌, ◌&&◌, max, List, [], ◌∷◌, ◌++◌, Bool, Option, Some, None, drop, take, length, chars, if◌then◌else◌, nat_eq, ⊤}
 use Rattle.std.specs.Borrow.{Bor}
 use Rattle.meta_base.specs.Language.Text.{Text}
 use Rattle.meta_base.specs.Language.Expression.{Grammar}
@@ -38,6 +38,11 @@ GoesOn text rest after = record { left : IsLeft text after; shorter : length aft
 abbrev pub Progress : List ℕ → List ℕ → Option (Bor (List ℕ)) → Type 0
 Progress text rest None = ⊤
 Progress text rest (Some after) = GoesOn text rest after.now
+
+-- how many characters from the start on are in a set
+abbrev pub span : (ℕ → Bool) → Text → ℕ
+span set [] = 0
+span set (c ∷ u) = let n = span set u in if set c then suc n else 0
 
 -- what is noted of failures: the furthest place of one, and which names are told at the place that is asked for
 pub record Notes : Type 0 where

@@ -11,6 +11,7 @@ ghost use Rattle.meta_ast.specs.Ast.{text_of};
 
 use crate::form::{Class, Form, Program, Property, Row};
 use crate::properties::{Properties, properties_in};
+use crate::sets::gathered;
 use meta_ast::optimized::{OptimizedExpr, OptimizedRule};
 use meta_ast::texts::copy_texts;
 use meta_names::unicode_property_names;
@@ -239,11 +240,11 @@ fn form_of(
         }
         OptimizedExpr::Ident(name) => named(rules, properties, name),
         OptimizedExpr::PeekSlice(start, end) => Ok(Form::PeekSlice(*start, *end)),
-        OptimizedExpr::PosPred(inner) => Ok(Form::PosPred(boxed(alloc, rules, properties, inner)?)),
-        OptimizedExpr::NegPred(inner) => Ok(Form::NegPred(boxed(alloc, rules, properties, inner)?)),
+        OptimizedExpr::PosPred(inner) => Ok(Form::PosPred(part(alloc, rules, properties, inner)?)),
+        OptimizedExpr::NegPred(inner) => Ok(Form::NegPred(part(alloc, rules, properties, inner)?)),
         OptimizedExpr::Seq(left, right) => {
-            let first = boxed(alloc, rules, properties, left)?;
-            let second = boxed(alloc, rules, properties, right)?;
+            let first = part(alloc, rules, properties, left)?;
+            let second = part(alloc, rules, properties, right)?;
             Ok(Form::Seq(first, second))
         }
         OptimizedExpr::Choice(left, right) => {
@@ -251,17 +252,17 @@ fn form_of(
             let second = boxed(alloc, rules, properties, right)?;
             Ok(Form::Choice(first, second))
         }
-        OptimizedExpr::Opt(inner) => Ok(Form::Opt(boxed(alloc, rules, properties, inner)?)),
-        OptimizedExpr::Rep(inner) => Ok(Form::Rep(boxed(alloc, rules, properties, inner)?)),
-        OptimizedExpr::RepOnce(inner) => Ok(Form::RepOnce(boxed(alloc, rules, properties, inner)?)),
+        OptimizedExpr::Opt(inner) => Ok(Form::Opt(part(alloc, rules, properties, inner)?)),
+        OptimizedExpr::Rep(inner) => Ok(Form::Rep(part(alloc, rules, properties, inner)?)),
+        OptimizedExpr::RepOnce(inner) => Ok(Form::RepOnce(part(alloc, rules, properties, inner)?)),
         OptimizedExpr::Skip(texts) => Ok(Form::Skip(copy_texts(texts)?)),
-        OptimizedExpr::Push(inner) => Ok(Form::Push(boxed(alloc, rules, properties, inner)?)),
+        OptimizedExpr::Push(inner) => Ok(Form::Push(part(alloc, rules, properties, inner)?)),
         OptimizedExpr::PushLiteral(text) => Ok(Form::PushLiteral(text.clone()?)),
         OptimizedExpr::NodeTag(inner, tag) => {
             let tag = tag.clone()?;
-            Ok(Form::Tag(boxed(alloc, rules, properties, inner)?, tag))
+            Ok(Form::Tag(part(alloc, rules, properties, inner)?, tag))
         }
-        OptimizedExpr::RestoreOnErr(inner) => Ok(Form::Restore(boxed(
+        OptimizedExpr::RestoreOnErr(inner) => Ok(Form::Restore(part(
             alloc, rules, properties, inner,
         )?)),
     }
@@ -280,6 +281,40 @@ fn boxed(
         (optimized_expression_of expr.now) form.value) }
 {
     let form = form_of(alloc, rules, properties, expr)?;
+    match Box::new(alloc, form) {
+        Ok(form) => Ok(form),
+        Err(_) => Err(Unfit::Memory),
+    }
+}
+
+/// The form of an expression: a set where it matches one character and no more.
+#[cycle(compile)]
+fn gathered_form(
+    alloc: Global,
+    rules: &[OptimizedRule],
+    properties: &[Property],
+    expr: &OptimizedExpr,
+) -> Result<Form, Unfit>
+    ensures { IfOk result
+        (Compiles (optimized_rules_of rules.now) properties.now (optimized_expression_of expr.now)) }
+{
+    let form = form_of(alloc, rules, properties, expr)?;
+    Ok(gathered(alloc, form)?)
+}
+
+/// The same, in a box.
+#[cycle(compile)]
+fn part(
+    alloc: Global,
+    rules: &[OptimizedRule],
+    properties: &[Property],
+    expr: &OptimizedExpr,
+) -> Result<Box<Form>, Unfit>
+    ensures { IfOk result
+        (λ form. Compiles (optimized_rules_of rules.now) properties.now
+        (optimized_expression_of expr.now) form.value) }
+{
+    let form = gathered_form(alloc, rules, properties, expr)?;
     match Box::new(alloc, form) {
         Ok(form) => Ok(form),
         Err(_) => Err(Unfit::Memory),
@@ -310,7 +345,7 @@ fn row_of(
 {
     let name = rule.name.clone()?;
     let blank = is_blank(name.as_str());
-    let body = form_of(alloc, rules, properties, &rule.expr)?;
+    let body = gathered_form(alloc, rules, properties, &rule.expr)?;
     Ok(Row {
         name,
         kind: rule.ty,

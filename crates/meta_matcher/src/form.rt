@@ -24,6 +24,8 @@ pub enum Form {
     Insens(String),
     Range(char, char),
     One(Class),
+    /// One of some characters, as the form in the box says; the flags tell it of the first ones by number.
+    Set(Vec<bool>, Box<Form>),
     Start,
     End,
     Newline,

@@ -46,7 +46,7 @@ pub fn character<'i>(low: char, high: char, rest: &'i str) -> Option<&'i str>
 
 /// Whether a character is in the set of a builtin.
 #[inline(always)]
-fn is_in(class: Class, c: char) -> bool
+pub(crate) fn is_in(class: Class, c: char) -> bool
     ensures { result ≡ set_of class c }
 {
     match class {

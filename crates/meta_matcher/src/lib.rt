@@ -11,5 +11,7 @@ pub mod matcher;
 mod modes;
 pub mod properties;
 mod running;
+mod sets;
+mod skipping;
 pub mod stack;
 mod told;

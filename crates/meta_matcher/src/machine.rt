@@ -13,6 +13,8 @@ use crate::form::{Form, Program, Row};
 use crate::frames::{AtOnce, Frame, Mark};
 use crate::leaves::{ahead_to, character, insens, literal, literals, newline, one, slice, within};
 use crate::modes::{Mode, is_seen_from, noted};
+use crate::sets::one_of;
+use crate::skipping::{repeated, repeated_once};
 use crate::stack::{Stack, pushed, shared, texts_of};
 use crate::told::{count, forget, tell};
 use std::alloc::{AllocError, Global};
@@ -346,8 +348,8 @@ impl<'a> Machine<'a> {
         self.stack = stack;
     }
 
-    /// Runs a form that has no parts. The answer is what is left of the text after it, or `None` where it
-    /// fails. A form with parts is left alone.
+    /// Runs a form that has no parts, or is as many of a set as there are. The answer is what is left of the
+    /// text after it, or `None` where it fails. Another form with parts is left alone.
     #[inline]
     pub fn at_once(
         &mut self,
@@ -356,6 +358,7 @@ impl<'a> Machine<'a> {
         mode: Mode,
         rest: &'a str,
     ) -> Result<AtOnce<'a>, Stop>
+        requires sound { IsSoundIn scene.now }
         requires bound { IsBoundIn scene.now form.now }
         requires left { IsLeft scene.now.text.now rest.now }
         ensures frames { self.new.frames ≡ self.old.frames }
@@ -366,6 +369,9 @@ impl<'a> Machine<'a> {
             Form::Str(literally) => Ok(AtOnce::Answered(literal(literally.as_str(), rest))),
             Form::Range(low, high) => Ok(AtOnce::Answered(character(*low, *high, rest))),
             Form::One(class) => Ok(AtOnce::Answered(one(*class, rest))),
+            Form::Set(flags, form) => Ok(AtOnce::Answered(one_of(flags, form, rest))),
+            Form::Rep(body) => Ok(repeated(scene, body, mode, rest)),
+            Form::RepOnce(body) => Ok(repeated_once(scene, body, mode, rest)),
             Form::Start => {
                 if rest.len() == scene.text.len() {
                     Ok(AtOnce::Answered(Some(rest)))

@@ -16,29 +16,10 @@ use crate::frames::{
 };
 use crate::machine::{Machine, Scene, Stop};
 use crate::modes::{Mode, body_mode, call_counts, gives_token};
+use crate::skipping::passed;
 use crate::stack::{pushed, shared};
 use crate::told::count;
 use std::alloc::AllocError;
-
-/// Whether anything is skipped in a mode.
-#[inline(always)]
-fn skips(scene: &Scene<'_>, mode: Mode) -> bool
-    requires sound { IsSoundIn scene.now }
-    ensures anything { result ≡ true → mode_of mode ≡ NonAtomicMode }
-    ensures nothing { result ≡ false → (rest : List ℕ) (now : Now) → IsLeft scene.now.text.now rest
-        → FindsFrom scene.now (starting (Skipping (mode_of mode)) rest now) now rest }
-{
-    match mode {
-        Mode::NonAtomic => match scene.program.whitespace {
-            Some(_) => true,
-            None => match scene.program.comment {
-                Some(_) => true,
-                None => false,
-            },
-        },
-        Mode::Atomic | Mode::CompoundAtomic => false,
-    }
-}
 
 impl<'a> Machine<'a> {
     /// Puts a frame on the list.
@@ -142,14 +123,13 @@ impl<'a> Machine<'a> {
         ensures { IfOk result (IsOnTheWay scene.entry.now self.new) }
     {
         match answer {
-            Some(after) => {
-                if skips(scene, sequence.mode) {
+            Some(after) => match passed(scene, sequence.mode, after) {
+                Some(next) => self.second(scene, sequence, next),
+                None => {
                     self.wait(Frame::Gap(sequence))?;
                     self.blanks(scene, after)
-                } else {
-                    self.second(scene, sequence, after)
                 }
-            }
+            },
             None => Ok(Control::Answer(None)),
         }
     }
@@ -354,11 +334,12 @@ impl<'a> Machine<'a> {
             rest,
             mark,
         };
-        if skips(scene, mode) {
-            self.wait(Frame::TurnGap(repetition))?;
-            self.blanks(scene, rest)
-        } else {
-            self.turn(scene, repetition, rest)
+        match passed(scene, mode, rest) {
+            Some(next) => self.turn(scene, repetition, next),
+            None => {
+                self.wait(Frame::TurnGap(repetition))?;
+                self.blanks(scene, rest)
+            }
         }
     }
 

@@ -1,0 +1,149 @@
+//! Forms that match one character of a set.
+ghost use Rattle.std.specs.Prelude.{◌≡◌, ◌==◌, ℕ, List, IfOk, chars, length, nat_eq, true};
+ghost use Rattle.meta_base.specs.Language.Expression.{Expression, Grammar};
+ghost use Rattle.meta_base.specs.Language.Matching.{character_outcome, starts_in};
+ghost use Rattle.meta_base.specs.Language.State.{moved};
+ghost use Rattle.meta_base.specs.Language.Text.{Text};
+ghost use Rattle.meta_matcher.specs.declared.form.Property.{Property};
+ghost use Rattle.meta_matcher.specs.Compiled.{Compiles};
+ghost use Rattle.meta_matcher.specs.Programs.{IsSetOf, characters_of, is_set};
+ghost use Rattle.meta_matcher.specs.Runs.{GoesOn, IsLeft, Progress, leaving, span, standing};
+
+use crate::form::Form;
+use crate::leaves::is_in;
+use std::alloc::{AllocError, Global};
+
+/// Flags tell of so many characters, which are those of ASCII.
+const FLAGS: u8 = 128;
+
+/// Whether a text is one character.
+fn is_single(text: &str) -> bool
+    ensures { result ≡ true → (length (chars text.now) == 1) ≡ true }
+{
+    let mut characters = text.chars();
+    match characters.next() {
+        Some(_) => characters.as_str().is_empty(),
+        None => false,
+    }
+}
+
+/// Whether a text begins with a character.
+fn begins_with(text: &str, c: char) -> bool
+    ensures { result ≡ starts_in (λ d. nat_eq d c) (chars text.now) }
+{
+    match text.chars().next() {
+        Some(first) => first == c,
+        None => false,
+    }
+}
+
+/// Whether a form matches one character and no more.
+#[cycle(is_set)]
+fn is_set(form: &Form) -> bool
+    ensures { result ≡ true → is_set form.now ≡ true }
+{
+    match form {
+        Form::Str(text) => is_single(text.as_str()),
+        Form::Range(_, _) | Form::One(_) => true,
+        Form::Choice(left, right) => is_set(left) && is_set(right),
+        _ => false,
+    }
+}
+
+/// Whether a form that matches one character matches this one.
+#[cycle(matches_one)]
+fn matches_one(form: &Form, c: char) -> bool
+    ensures { result ≡ characters_of form.now c }
+{
+    match form {
+        Form::Str(text) => begins_with(text.as_str(), c),
+        Form::Range(low, high) => *low <= c && c <= *high,
+        Form::One(class) => is_in(*class, c),
+        Form::Choice(left, right) => matches_one(left, c) || matches_one(right, c),
+        _ => false,
+    }
+}
+
+/// Flags that tell of the first characters by number whether a form matches them.
+fn flags_of(alloc: Global, form: &Form) -> Result<Vec<bool>, AllocError>
+    requires { is_set form.now ≡ true }
+    ensures { IfOk result (λ flags. IsSetOf flags.items form.now) }
+{
+    let mut flags = Vec::new(alloc);
+    for number in 0..FLAGS {
+        flags.push(matches_one(form, number as char))?;
+    }
+    Ok(flags)
+}
+
+/// The form of a set, where a form matches one character and no more, and else the form itself.
+pub(crate) fn gathered(alloc: Global, form: Form) -> Result<Form, AllocError>
+    ensures { IfOk result (λ made. (g : Grammar) (ps : List Property) (e : Expression)
+        → Compiles g ps e form → Compiles g ps e made) }
+{
+    if !is_set(&form) {
+        return Ok(form);
+    }
+    let flags = flags_of(alloc, &form)?;
+    Ok(Form::Set(flags, Box::new(alloc, form)?))
+}
+
+/// Whether a character is in a set.
+#[inline(always)]
+fn has(flags: &Vec<bool>, form: &Form, c: char) -> bool
+    requires { IsSetOf flags.now.items form.now }
+    ensures { result ≡ characters_of form.now c }
+{
+    match flags.get(c as usize) {
+        Some(is) => *is,
+        None => matches_one(form, c),
+    }
+}
+
+/// Matches one character of a set.
+#[inline(always)]
+pub(crate) fn one_of<'i>(flags: &Vec<bool>, form: &Form, rest: &'i str) -> Option<&'i str>
+    requires { IsSetOf flags.now.items form.now }
+    ensures goes_on { (whole : List ℕ) → IsLeft whole rest.entry.now
+        → Progress whole rest.entry.now result }
+    ensures means { (whole : List ℕ) (ts : List Text) → IsLeft whole rest.entry.now
+        → leaving whole ts result
+        ≡ character_outcome (characters_of form.now) (standing whole rest.entry.now ts) }
+{
+    let mut characters = rest.chars();
+    match characters.next() {
+        Some(c) => {
+            if has(flags, form, c) {
+                Some(characters.as_str())
+            } else {
+                None
+            }
+        }
+        None => None,
+    }
+}
+
+/// Goes past all characters of a set that stand here.
+pub(crate) fn past_all<'i>(flags: &Vec<bool>, form: &Form, from: &'i str) -> &'i str
+    requires { IsSetOf flags.now.items form.now }
+    ensures goes_on { (whole : List ℕ) → IsLeft whole from.entry.now
+        → GoesOn whole from.entry.now result.now }
+    ensures means { (whole : List ℕ) (ts : List Text) → IsLeft whole from.entry.now
+        → standing whole result.now ts
+        ≡ moved (span (characters_of form.now) (chars from.entry.now)) (standing whole from.entry.now ts) }
+{
+    let mut rest = from;
+    loop {
+        let mut characters = rest.chars();
+        match characters.next() {
+            Some(c) => {
+                if has(flags, form, c) {
+                    rest = characters.as_str();
+                } else {
+                    return rest;
+                }
+            }
+            None => return rest,
+        }
+    }
+}
