@@ -82,7 +82,7 @@ module _ {g : Grammar} {classes : Classes} {place : ℕ} where
   ran_set names ps m (form.Opt' p a) h b = cc
   ran_set names ps m (form.Rep' p a) h b = cc
   ran_set names ps m (form.RepOnce' p a) h b = cc
-  ran_set names ps m (form.Skip ss) h b = cc
+  ran_set names ps m (form.Skip ss stops) h b = cc
   ran_set names ps m (form.Push' p a) h b = cc
   ran_set names ps m (form.PushLiteral t) h b = cc
   ran_set names ps m (form.Tag' p a t) h b = cc

@@ -3,7 +3,7 @@ use Rattle.std.specs.Prelude.{◌≡◌, ◌<◌, ℕ, List, [], ◌∷◌, Opti
 use Rattle.meta_base.specs.Language.Text.{Text}
 use Rattle.meta_ast.specs.Ast.{rule_type_of, text_of}
 use Rattle.meta_base.specs.Language.Builtins.{Property as PropertyOf, builtin_of, is_between, is_letter, is_lower, is_upper}
-use Rattle.meta_base.specs.Language.Matching.{starts_in}
+use Rattle.meta_base.specs.Language.Matching.{any_begins, starts_in}
 use Rattle.meta_base.specs.Language.State.{Classes}
 use Rattle.meta_base.specs.Language.Expression as spec
 use Rattle.meta_base.specs.Language.Expression.{Expression, Rule, Grammar, rule_of, whitespace, comment}
@@ -62,6 +62,11 @@ pub record IsSetOf (flags : List Bool) (f : Form) : Type 0 where
   pub one : is_set f ≡ true
   pub told : (c : ℕ) → c < length flags → get_or flags c false ≡ characters_of f c
 
+-- none of the texts begins with one of the first characters by number whose flag says that none does
+abbrev pub AreStops : List Bool → List Text → Type 0
+AreStops flags texts = (c : ℕ) (u : Text) → c < length flags → get_or flags c true ≡ false
+    → any_begins texts (c ∷ u) ≡ false
+
 -- the character is in one of the ranges
 abbrev pub is_in_ranges : List (ℕ × ℕ) → ℕ → Bool
 is_in_ranges [] c = false
@@ -96,7 +101,7 @@ module _ (names : List Text) where
   expression_of (form.Opt' p a) = spec.Opt (expression_of a)
   expression_of (form.Rep' p a) = spec.Rep (expression_of a)
   expression_of (form.RepOnce' p a) = spec.RepOnce (expression_of a)
-  expression_of (form.Skip ss) = spec.Skip (map text_of ss.items)
+  expression_of (form.Skip ss stops) = spec.Skip (map text_of ss.items)
   expression_of (form.Push' p a) = spec.Push (expression_of a)
   expression_of (form.PushLiteral s) = spec.PushLiteral (text_of s)
   expression_of (form.Tag' p a t) = spec.NodeTag (expression_of a) (text_of t)
@@ -157,6 +162,7 @@ IsBound g names ps (form.Choice' p a q b) = IsBound g names ps a × IsBound g na
 IsBound g names ps (form.Opt' p a) = IsBound g names ps a
 IsBound g names ps (form.Rep' p a) = IsBound g names ps a
 IsBound g names ps (form.RepOnce' p a) = IsBound g names ps a
+IsBound g names ps (form.Skip ss stops) = AreStops stops.items (map text_of ss.items)
 IsBound g names ps (form.Push' p a) = IsBound g names ps a
 IsBound g names ps (form.Tag' p a t) = IsBound g names ps a
 IsBound g names ps (form.Restore' p a) = IsBound g names ps a

@@ -11,7 +11,7 @@ ghost use Rattle.meta_ast.specs.Ast.{text_of};
 
 use crate::form::{Class, Form, Program, Property, Row};
 use crate::properties::{Properties, properties_in};
-use crate::sets::gathered;
+use crate::sets::{gathered, stops_of};
 use meta_ast::optimized::{OptimizedExpr, OptimizedRule};
 use meta_ast::texts::copy_texts;
 use meta_names::unicode_property_names;
@@ -255,7 +255,11 @@ fn form_of(
         OptimizedExpr::Opt(inner) => Ok(Form::Opt(part(alloc, rules, properties, inner)?)),
         OptimizedExpr::Rep(inner) => Ok(Form::Rep(part(alloc, rules, properties, inner)?)),
         OptimizedExpr::RepOnce(inner) => Ok(Form::RepOnce(part(alloc, rules, properties, inner)?)),
-        OptimizedExpr::Skip(texts) => Ok(Form::Skip(copy_texts(texts)?)),
+        OptimizedExpr::Skip(texts) => {
+            let texts = copy_texts(texts)?;
+            let stops = stops_of(alloc, &texts)?;
+            Ok(Form::Skip(texts, stops))
+        }
         OptimizedExpr::Push(inner) => Ok(Form::Push(part(alloc, rules, properties, inner)?)),
         OptimizedExpr::PushLiteral(text) => Ok(Form::PushLiteral(text.clone()?)),
         OptimizedExpr::NodeTag(inner, tag) => {

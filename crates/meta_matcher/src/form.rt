@@ -40,7 +40,9 @@ pub enum Form {
     Opt(Box<Form>),
     Rep(Box<Form>),
     RepOnce(Box<Form>),
-    Skip(Vec<String>),
+    /// To the first of some texts, or to the end: flags tell of the first characters by number whether one of
+    /// the texts may begin with them.
+    Skip(Vec<String>, Vec<bool>),
     Push(Box<Form>),
     PushLiteral(String),
     /// What is tagged, with its tag.

@@ -389,7 +389,7 @@ impl<'a> Machine<'a> {
                 let property = &scene.program.properties[*number];
                 Ok(AtOnce::Answered(within(&property.ranges, rest)))
             }
-            Form::Skip(texts) => Ok(AtOnce::Answered(Some(ahead_to(texts, rest)))),
+            Form::Skip(texts, stops) => Ok(AtOnce::Answered(Some(ahead_to(texts, stops, rest)))),
             Form::Peek => Ok(AtOnce::Answered(self.peek(scene, mode, rest)?)),
             Form::Pop => Ok(AtOnce::Answered(self.pop(scene, mode, rest)?)),
             Form::Discard => Ok(AtOnce::Answered(self.discard(scene, mode, rest)?)),

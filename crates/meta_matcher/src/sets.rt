@@ -1,12 +1,13 @@
 //! Forms that match one character of a set.
-ghost use Rattle.std.specs.Prelude.{◌≡◌, ◌==◌, ℕ, List, IfOk, chars, length, nat_eq, true};
+ghost use Rattle.std.specs.Prelude.{◌≡◌, ◌==◌, ◌∷◌, ℕ, List, IfOk, chars, false, length, map, nat_eq, true};
+ghost use Rattle.meta_ast.specs.Ast.{text_of};
 ghost use Rattle.meta_base.specs.Language.Expression.{Expression, Grammar};
-ghost use Rattle.meta_base.specs.Language.Matching.{character_outcome, starts_in};
+ghost use Rattle.meta_base.specs.Language.Matching.{any_begins, begins, character_outcome, starts_in};
 ghost use Rattle.meta_base.specs.Language.State.{moved};
 ghost use Rattle.meta_base.specs.Language.Text.{Text};
 ghost use Rattle.meta_matcher.specs.declared.form.Property.{Property};
 ghost use Rattle.meta_matcher.specs.Compiled.{Compiles};
-ghost use Rattle.meta_matcher.specs.Programs.{IsSetOf, characters_of, is_set};
+ghost use Rattle.meta_matcher.specs.Programs.{AreStops, IsSetOf, characters_of, is_set};
 ghost use Rattle.meta_matcher.specs.Runs.{GoesOn, IsLeft, Progress, leaving, span, standing};
 
 use crate::form::Form;
@@ -72,6 +73,39 @@ fn flags_of(alloc: Global, form: &Form) -> Result<Vec<bool>, AllocError>
     let mut flags = Vec::new(alloc);
     for number in 0..FLAGS {
         flags.push(matches_one(form, number as char))?;
+    }
+    Ok(flags)
+}
+
+/// Whether a text may begin with a character, whatever stands behind it.
+fn may_begin_with(text: &str, c: char) -> bool
+    ensures { result ≡ false → (u : Text) → begins nat_eq (chars text.now) (c ∷ u) ≡ false }
+{
+    match text.chars().next() {
+        Some(first) => first == c,
+        None => true,
+    }
+}
+
+/// Whether one of some texts may begin with a character.
+fn any_may_begin_with(texts: &Vec<String>, c: char) -> bool
+    ensures { result ≡ false → (u : Text) → any_begins (map text_of texts.now.items) (c ∷ u) ≡ false }
+{
+    for text in texts {
+        if may_begin_with(text.as_str(), c) {
+            return true;
+        }
+    }
+    false
+}
+
+/// Flags that tell of the first characters by number whether one of some texts may begin with them.
+pub(crate) fn stops_of(alloc: Global, texts: &Vec<String>) -> Result<Vec<bool>, AllocError>
+    ensures { IfOk result (λ flags. AreStops flags.items (map text_of texts.now.items)) }
+{
+    let mut flags = Vec::new(alloc);
+    for number in 0..FLAGS {
+        flags.push(any_may_begin_with(texts, number as char))?;
     }
     Ok(flags)
 }
