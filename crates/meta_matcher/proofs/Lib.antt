@@ -1,4 +1,5 @@
 pub mod Leaving
+pub mod Barring
 pub mod Noting
 pub mod Passing
 pub mod Spans

@@ -151,7 +151,7 @@ taken_chars text rest after taken l k s e u =
     let n : length (chars rest) - length (chars after) ≡ length (chars taken) = let q = ap length c ∙ length-append (chars taken) (chars after) in omega (arith, q) in
     sym (rw (n, c) (take-append_seam (chars taken) (chars after)))
 
-ran_push : {g : Grammar} {classes : Classes} {place : ℕ} {m : Mode} {e : Expression} {s : State} {o : Outcome} {p q : Notes} → Ran g classes place (Run m e) s o p q → Ran g classes place (Run m (Push e)) s (pushed s o) p q
+pub ran_push : {g : Grammar} {classes : Classes} {place : ℕ} {m : Mode} {e : Expression} {s : State} {o : Outcome} {p q : Notes} → Ran g classes place (Run m e) s o p q → Ran g classes place (Run m (Push e)) s (pushed s o) p q
 ran_push x = record { found = push x.found; noted = x.noted; told = x.told }
 
 -- a literal push

@@ -62,6 +62,31 @@ pub record IsSetOf (flags : List Bool) (f : Form) : Type 0 where
   pub one : is_set f ≡ true
   pub told : (c : ℕ) → c < length flags → get_or flags c false ≡ characters_of f c
 
+-- whether a text may begin with a character, whatever stands behind it
+abbrev pub may_start : Text → ℕ → Bool
+may_start [] c = true
+may_start (d ∷ t) c = nat_eq d c
+
+-- whether a form may begin with a character; where not, it fails at once, and calls no rule before
+abbrev pub may_begin : Form → ℕ → Bool
+may_begin (form.Str t) = may_start (text_of t)
+may_begin (form.Range a b) = is_between a b
+may_begin (form.One k) = set_of k
+may_begin (form.Set' flags p a) = characters_of a
+may_begin (form.PosPred' p a) = may_begin a
+may_begin (form.Seq' p a q b) = may_begin a
+may_begin (form.Choice' p a q b) = λ c. may_begin a c || may_begin b c
+may_begin (form.RepOnce' p a) = may_begin a
+may_begin (form.Push' p a) = may_begin a
+may_begin (form.Tag' p a t) = may_begin a
+may_begin (form.Restore' p a) = may_begin a
+may_begin _ = λ c. true
+
+-- the text begins with a character that has a flag, which says no
+abbrev pub IsBarred : List Bool → Text → Type 0
+IsBarred flags [] = ⊥
+IsBarred flags (c ∷ t) = (c < length flags) × (get_or flags c true ≡ false)
+
 -- none of the texts begins with one of the first characters by number whose flag says that none does
 abbrev pub AreStops : List Bool → List Text → Type 0
 AreStops flags texts = (c : ℕ) (u : Text) → c < length flags → get_or flags c true ≡ false
@@ -185,6 +210,7 @@ pub record IsKnown (g : Grammar) (number : Option ℕ) : Type 0 where
 abbrev pub IsRow : Grammar → List Text → List Property → Row → Type 0
 IsRow g names ps r = record {
   bound : IsBound g names ps r.body;
+  firsts : (c : ℕ) → c < length r.firsts.items → get_or r.firsts.items c true ≡ may_begin r.body c;
   blank : r.blank ≡ (bytes_eq (text_of r.name) whitespace || bytes_eq (text_of r.name) comment);
 }
 

@@ -11,7 +11,7 @@ ghost use Rattle.meta_ast.specs.Ast.{text_of};
 
 use crate::form::{Class, Form, Program, Property, Row};
 use crate::properties::{Properties, properties_in};
-use crate::sets::{gathered, stops_of};
+use crate::sets::{firsts_of, gathered, stops_of};
 use meta_ast::optimized::{OptimizedExpr, OptimizedRule};
 use meta_ast::texts::copy_texts;
 use meta_names::unicode_property_names;
@@ -350,10 +350,12 @@ fn row_of(
     let name = rule.name.clone()?;
     let blank = is_blank(name.as_str());
     let body = gathered_form(alloc, rules, properties, &rule.expr)?;
+    let firsts = firsts_of(alloc, &body)?;
     Ok(Row {
         name,
         kind: rule.ty,
         blank,
+        firsts,
         body,
     })
 }

@@ -56,12 +56,14 @@ pub enum Form {
     PeekSlice(i32, Option<i32>),
 }
 
-/// A rule: `blank` if it has one of the two names that are skipped.
+/// A rule: `blank` if it has one of the two names that are skipped. The flags `firsts` tell of the first
+/// characters by number whether the body may begin with them.
 #[derive(Drop)]
 pub struct Row {
     pub name: String,
     pub kind: RuleType,
     pub blank: bool,
+    pub firsts: Vec<bool>,
     pub body: Form,
 }
 

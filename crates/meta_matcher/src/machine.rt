@@ -1,10 +1,11 @@
 //! What a machine keeps, and what it matches at once.
-ghost use Rattle.std.specs.Prelude.{◌≡◌, IfOk, OnOk, [], None, chars, codes};
+ghost use Rattle.std.specs.Prelude.{◌≡◌, false, true, IfOk, OnOk, [], None, chars, codes};
 ghost use Rattle.meta_ast.specs.Ast.{text_of};
 ghost use Rattle.meta_base.specs.Language.Expression.{Ident, PeekSlice, PushLiteral, rule_of};
 ghost use Rattle.meta_base.specs.Language.Meaning.{Run};
-ghost use Rattle.meta_matcher.specs.Frames.{ComesAtOnce};
-ghost use Rattle.meta_matcher.specs.Machines.{GivesIn, IsBoundIn, IsMark, IsSoundIn, grammar_in, now_of};
+ghost use Rattle.meta_matcher.specs.declared.form.Form.TheVariants.{Call};
+ghost use Rattle.meta_matcher.specs.Frames.{ComesAtOnce, FailsFrom, starting};
+ghost use Rattle.meta_matcher.specs.Machines.{GivesIn, IsBoundIn, IsMark, IsSoundIn, grammar_in, now_of, said};
 ghost use Rattle.meta_matcher.specs.Runs.{IsLeft, IsReset, Progress, forgetting, mode_of, noting};
 ghost use Rattle.meta_matcher.specs.Stacked.{stack_of};
 
@@ -12,8 +13,8 @@ use crate::entries::{Entry, close, cut, open, written};
 use crate::form::{Form, Program, Row};
 use crate::frames::{AtOnce, Frame, Mark};
 use crate::leaves::{ahead_to, character, insens, literal, literals, newline, one, slice, within};
-use crate::modes::{Mode, is_seen_from, noted};
-use crate::sets::one_of;
+use crate::modes::{Mode, call_counts, is_seen_from, noted};
+use crate::sets::{is_barred, one_of};
 use crate::skipping::{repeated, repeated_once};
 use crate::stack::{Stack, pushed, shared, texts_of};
 use crate::told::{count, forget, tell};
@@ -348,8 +349,39 @@ impl<'a> Machine<'a> {
         self.stack = stack;
     }
 
-    /// Runs a form that has no parts, or is as many of a set as there are. The answer is what is left of the
-    /// text after it, or `None` where it fails. Another form with parts is left alone.
+    /// Whether a call of a rule is refused at once, since its body cannot begin with the character that stands
+    /// here. Its failure is then noted.
+    #[inline(always)]
+    fn is_refused(
+        &mut self,
+        scene: &Scene<'a>,
+        number: usize,
+        mode: Mode,
+        rest: &'a str,
+    ) -> Result<bool, AllocError>
+        requires sound { IsSoundIn scene.now }
+        requires bound { IsBoundIn scene.now (Call number) }
+        requires left { IsLeft scene.now.text.now rest.now }
+        ensures frames { self.new.frames ≡ self.old.frames }
+        ensures fails { IfOk result (λ refused. refused ≡ true → FailsFrom scene.entry.now
+            (starting (Run (mode_of mode) (said scene.entry.now (Call number))) rest.entry.now (now_of self.old))
+            (now_of self.new)) }
+        ensures kept { IfOk result (λ refused. refused ≡ false → now_of self.new ≡ now_of self.old) }
+    {
+        let row = &scene.program.rows[number];
+        if !is_barred(&row.firsts, rest) {
+            return Ok(false);
+        }
+        let place = scene.text.len() - rest.len();
+        let told = count(&self.told);
+        let counts = call_counts(row.kind, mode);
+        self.note(scene, counts, row.name.as_str(), place, told)?;
+        Ok(true)
+    }
+
+    /// Runs a form that has no parts, or is as many of a set as there are, and refuses a call where its rule
+    /// cannot begin here, at the front of a sequence too. The answer is what is left of the text after it, or
+    /// `None` where it fails. Another form with parts is left alone.
     #[inline]
     pub fn at_once(
         &mut self,
@@ -370,6 +402,23 @@ impl<'a> Machine<'a> {
             Form::Range(low, high) => Ok(AtOnce::Answered(character(*low, *high, rest))),
             Form::One(class) => Ok(AtOnce::Answered(one(*class, rest))),
             Form::Set(flags, form) => Ok(AtOnce::Answered(one_of(flags, form, rest))),
+            Form::Call(number) => {
+                if self.is_refused(scene, *number, mode, rest)? {
+                    Ok(AtOnce::Answered(None))
+                } else {
+                    Ok(AtOnce::Nested)
+                }
+            }
+            Form::Seq(first, _) => match &**first {
+                Form::Call(number) => {
+                    if self.is_refused(scene, *number, mode, rest)? {
+                        Ok(AtOnce::Answered(None))
+                    } else {
+                        Ok(AtOnce::Nested)
+                    }
+                }
+                _ => Ok(AtOnce::Nested),
+            },
             Form::Rep(body) => Ok(repeated(scene, body, mode, rest)),
             Form::RepOnce(body) => Ok(repeated_once(scene, body, mode, rest)),
             Form::Start => {

@@ -21,6 +21,25 @@ use crate::stack::{pushed, shared};
 use crate::told::count;
 use std::alloc::AllocError;
 
+/// Whether a form has parts, and is not tried at once before its first part is begun with.
+#[inline(always)]
+fn has_parts(form: &Form) -> bool
+    ensures { result ≡ true → IsNested form.now }
+{
+    match form {
+        Form::Call(_)
+        | Form::PosPred(_)
+        | Form::NegPred(_)
+        | Form::Seq(_, _)
+        | Form::Choice(_, _)
+        | Form::Opt(_)
+        | Form::Push(_)
+        | Form::Tag(_, _)
+        | Form::Restore(_) => true,
+        _ => false,
+    }
+}
+
 impl<'a> Machine<'a> {
     /// Puts a frame on the list.
     #[inline(always)]
@@ -106,8 +125,14 @@ impl<'a> Machine<'a> {
         ensures { IfOk result (IsOnTheWay scene.entry.now self.new) }
     {
         let mark = self.mark()?;
-        let frame = Frame::First(Sequence { second, mode, mark });
-        self.enter(scene, frame, first, mode, rest)
+        let sequence = Sequence { second, mode, mark };
+        match self.at_once(scene, first, mode, rest)? {
+            AtOnce::Answered(answer) => self.after_first(scene, sequence, answer),
+            AtOnce::Nested => {
+                self.wait(Frame::First(sequence))?;
+                Ok(Control::Run(first, mode, rest))
+            }
+        }
     }
 
     /// The first form of a sequence has an answer.
@@ -626,6 +651,9 @@ impl<'a> Machine<'a> {
         requires running { IsRunning scene.now self.old form.now mode rest.now }
         ensures { IfOk result (IsOnTheWay scene.entry.now self.new) }
     {
+        if has_parts(form) {
+            return self.parts(scene, form, mode, rest);
+        }
         match self.at_once(scene, form, mode, rest)? {
             AtOnce::Answered(answer) => Ok(Control::Answer(answer)),
             AtOnce::Nested => self.parts(scene, form, mode, rest),

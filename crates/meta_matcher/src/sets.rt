@@ -1,5 +1,5 @@
 //! Forms that match one character of a set.
-ghost use Rattle.std.specs.Prelude.{◌≡◌, ◌==◌, ◌∷◌, ℕ, List, IfOk, chars, false, length, map, nat_eq, true};
+ghost use Rattle.std.specs.Prelude.{◌≡◌, ◌==◌, ◌<◌, ◌∷◌, ℕ, List, IfOk, chars, false, get_or, length, map, nat_eq, true};
 ghost use Rattle.meta_ast.specs.Ast.{text_of};
 ghost use Rattle.meta_base.specs.Language.Expression.{Expression, Grammar};
 ghost use Rattle.meta_base.specs.Language.Matching.{any_begins, begins, character_outcome, starts_in};
@@ -7,7 +7,7 @@ ghost use Rattle.meta_base.specs.Language.State.{moved};
 ghost use Rattle.meta_base.specs.Language.Text.{Text};
 ghost use Rattle.meta_matcher.specs.declared.form.Property.{Property};
 ghost use Rattle.meta_matcher.specs.Compiled.{Compiles};
-ghost use Rattle.meta_matcher.specs.Programs.{AreStops, IsSetOf, characters_of, is_set};
+ghost use Rattle.meta_matcher.specs.Programs.{AreStops, IsBarred, IsSetOf, characters_of, is_set, may_begin, may_start};
 ghost use Rattle.meta_matcher.specs.Runs.{GoesOn, IsLeft, Progress, leaving, span, standing};
 
 use crate::form::Form;
@@ -78,8 +78,8 @@ fn flags_of(alloc: Global, form: &Form) -> Result<Vec<bool>, AllocError>
 }
 
 /// Whether a text may begin with a character, whatever stands behind it.
-fn may_begin_with(text: &str, c: char) -> bool
-    ensures { result ≡ false → (u : Text) → begins nat_eq (chars text.now) (c ∷ u) ≡ false }
+fn may_start(text: &str, c: char) -> bool
+    ensures { result ≡ may_start (chars text.now) c }
 {
     match text.chars().next() {
         Some(first) => first == c,
@@ -88,11 +88,12 @@ fn may_begin_with(text: &str, c: char) -> bool
 }
 
 /// Whether one of some texts may begin with a character.
+#[tactic(auto, using(crate::proofs::Barring::not_begun))]
 fn any_may_begin_with(texts: &Vec<String>, c: char) -> bool
     ensures { result ≡ false → (u : Text) → any_begins (map text_of texts.now.items) (c ∷ u) ≡ false }
 {
     for text in texts {
-        if may_begin_with(text.as_str(), c) {
+        if may_start(text.as_str(), c) {
             return true;
         }
     }
@@ -108,6 +109,53 @@ pub(crate) fn stops_of(alloc: Global, texts: &Vec<String>) -> Result<Vec<bool>, 
         flags.push(any_may_begin_with(texts, number as char))?;
     }
     Ok(flags)
+}
+
+/// Whether a form may begin with a character. Where not, it fails at once, and calls no rule before.
+#[cycle(may_begin)]
+fn may_begin(form: &Form, c: char) -> bool
+    ensures { result ≡ may_begin form.now c }
+{
+    match form {
+        Form::Str(text) => may_start(text.as_str(), c),
+        Form::Range(low, high) => *low <= c && c <= *high,
+        Form::One(class) => is_in(*class, c),
+        Form::Set(_, inner) => matches_one(inner, c),
+        Form::Choice(left, right) => may_begin(left, c) || may_begin(right, c),
+        Form::Seq(inner, _)
+        | Form::PosPred(inner)
+        | Form::RepOnce(inner)
+        | Form::Push(inner)
+        | Form::Tag(inner, _)
+        | Form::Restore(inner) => may_begin(inner, c),
+        _ => true,
+    }
+}
+
+/// Flags that tell of the first characters by number whether a form may begin with them.
+pub(crate) fn firsts_of(alloc: Global, form: &Form) -> Result<Vec<bool>, AllocError>
+    ensures { IfOk result (λ flags. (c : ℕ) → c < length flags.items
+        → get_or flags.items c true ≡ may_begin form.now c) }
+{
+    let mut flags = Vec::new(alloc);
+    for number in 0..FLAGS {
+        flags.push(may_begin(form, number as char))?;
+    }
+    Ok(flags)
+}
+
+/// Whether it is told that what is left begins with none of some first characters.
+#[inline(always)]
+pub(crate) fn is_barred(firsts: &Vec<bool>, rest: &str) -> bool
+    ensures { result ≡ true → IsBarred firsts.now.items (chars rest.now) }
+{
+    match rest.chars().next() {
+        Some(c) => match firsts.get(c as usize) {
+            Some(may) => !*may,
+            None => false,
+        },
+        None => false,
+    }
 }
 
 /// The form of a set, where a form matches one character and no more, and else the form itself.

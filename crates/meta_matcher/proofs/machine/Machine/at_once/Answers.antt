@@ -1,10 +1,13 @@
-use Rattle.std.proofs.Common.{arith}
-use Rattle.meta_matcher.specs.Machines.{now_of, setting_of}
+use Rattle.std.proofs.Common.{◌∙◌, arith, subst, sym}
+use Rattle.meta_matcher.specs.Machines.{now_of, said, setting_of}
+use Rattle.meta_base.specs.Language.Meaning.{Run}
+use Rattle.meta_matcher.specs.Frames.{FailsFrom, starting}
+use Rattle.meta_matcher.specs.Runs.{mode_of}
 use Rattle.meta_matcher.proofs.Noting.{ran_range, ran_str}
 use Rattle.meta_matcher.specs.declared.form.Form.TheVariants as form
 use Rattle.meta_matcher.proofs.Passing.{comes_at_once, gives_one}
 use Rattle.meta_matcher.proofs.Stacking.{finds_skip, gives_class, gives_insens, gives_newline}
-use Rattle.meta_matcher.proofs.Steps.{fails_start, finds_start, gives_leaving, ran_one}
+use Rattle.meta_matcher.proofs.Steps.{fails_first, fails_start, finds_start, gives_leaving, ran_one}
 use Rattle.meta_matcher.proofs.Waiting.{gives_from}
 use Rattle.meta_matcher.proofs.machine.Machine.at_once.Goals as goal
 
@@ -74,3 +77,9 @@ pub returns-in-RepOnce-clause-means : goal.returns-in-RepOnce-clause-means
 returns-in-RepOnce-clause-means c =
     let h = rw c.deref-in-RepOnce.ensures at c.repeated_once.ensures in
     rw c.in-RepOnce.is (comes_at_once c.args.scene.now (form.RepOnce c.in-RepOnce.body) c.args.mode c.args.rest.now c.args.self.now c.repeated_once.result tt h)
+
+pub returns-then-branch-2-clause-means : goal.returns-then-branch-2-clause-means
+returns-then-branch-2-clause-means c =
+    let e = sym c.deref-in-Seq.ensures ∙ c.in-Call-deref.is in
+    let f = c.in_ok-is_refused-in-Call-deref.ensures.fails c.if-branch-2.true in
+    rw c.in-Seq.is (fails_first (subst (λ x. FailsFrom c.args.scene.now (starting (Run (mode_of c.args.mode) (said c.args.scene.now x)) c.args.rest.now (now_of c.args.self.now)) (now_of c.is_refused-in-Call-deref.new.self)) (sym e) f))

@@ -13,7 +13,13 @@ returns-in-Answered c =
     awaits_same c.at_once.ensures.frames (λ whole d. gives_whole _ c.in-Answered.answer d g) c.requires.running.starts
 
 pub parts-requires-clause-running : goal.parts-requires-clause-running
-parts-requires-clause-running c =
+parts-requires-clause-running c = c.requires.running
+
+pub parts-requires-clause-nested : goal.parts-requires-clause-nested
+parts-requires-clause-nested c = c.has_parts.ensures c.if-has_parts.true
+
+pub parts-requires-in-Nested-clause-running : goal.parts-requires-in-Nested-clause-running
+parts-requires-in-Nested-clause-running c =
     let x = rw c.in-Nested.is at c.in_ok-answer.ensures.means in
     record {
       bound = c.requires.running.bound;
@@ -21,5 +27,5 @@ parts-requires-clause-running c =
       starts = starting_same _ _ c.at_once.ensures.frames x.0 c.requires.running.starts;
     }
 
-pub parts-requires-clause-nested : goal.parts-requires-clause-nested
-parts-requires-clause-nested c = let x = rw c.in-Nested.is at c.in_ok-answer.ensures.means in x.1
+pub parts-requires-in-Nested-clause-nested : goal.parts-requires-in-Nested-clause-nested
+parts-requires-in-Nested-clause-nested c = let x = rw c.in-Nested.is at c.in_ok-answer.ensures.means in x.1
