@@ -53,7 +53,7 @@ impl<'a> Machine<'a> {
     }
 
     /// Runs a form for a frame that waits for its answer, at once where the form has no parts.
-    #[inline]
+    #[inline(always)]
     fn enter(
         &mut self,
         scene: &Scene<'a>,
@@ -136,7 +136,7 @@ impl<'a> Machine<'a> {
     }
 
     /// The first form of a sequence has an answer.
-    #[inline]
+    #[inline(always)]
     fn after_first(
         &mut self,
         scene: &Scene<'a>,
@@ -181,7 +181,7 @@ impl<'a> Machine<'a> {
     }
 
     /// Runs the second form of a sequence, at once where it has no parts.
-    #[inline]
+    #[inline(always)]
     fn second(
         &mut self,
         scene: &Scene<'a>,
@@ -213,7 +213,7 @@ impl<'a> Machine<'a> {
     }
 
     /// The second form of a sequence has an answer.
-    #[inline]
+    #[inline(always)]
     fn after_second(
         &mut self,
         scene: &Scene<'a>,
@@ -233,7 +233,7 @@ impl<'a> Machine<'a> {
     }
 
     /// The left side of a choice has an answer.
-    #[inline]
+    #[inline(always)]
     fn after_left(
         &mut self,
         scene: &Scene<'a>,
@@ -495,7 +495,7 @@ impl<'a> Machine<'a> {
     }
 
     /// A call of a rule.
-    #[inline]
+    #[inline(always)]
     fn call(
         &mut self,
         scene: &Scene<'a>,
@@ -528,7 +528,7 @@ impl<'a> Machine<'a> {
     }
 
     /// The body of a rule has an answer.
-    #[inline]
+    #[inline(always)]
     fn after_call(
         &mut self,
         scene: &Scene<'a>,
