@@ -113,7 +113,6 @@ fn write_refusal(out: &mut String, refusal: &Refusal) -> Result<(), AllocError> 
             Stop::Memory => "    out of memory\n",
             Stop::OutOfSteps => "    out of steps\n",
             Stop::EmptyStack => "    no outcome\n",
-            Stop::Unsliced => "    no slice\n",
         }),
     }
 }

@@ -25,6 +25,9 @@ pub heft_now_last : {E : Type 0} (heft : E → ℕ) (es : List (Bor E)) (e : Bor
 heft_now_last heft [] e = refl
 heft_now_last heft (x ∷ es) e = let rest = heft_now_last heft es e in omega (arith, rest)
 
+-- what a list of them goes by to which some are added
+pub ruleset put_last = (now_in_turn_last, now_in_turn_last_two, heft_now_last)
+
 -- one expression that waits is written: its node, with its operands in its place
 pub written_on : (values : List Value) (v : Value) (all next ops rest waiting new : List Data) → map view values ++ waiting ≡ all → waiting ≡ next ++ rest → (view v ∷ ops) ≡ next → new ≡ ops ++ rest → map view (values ++ (v ∷ [])) ++ new ≡ all
 written_on values v all next ops rest waiting new h i j k =

@@ -44,7 +44,8 @@ line_col_data (line_col.Span start end) = list_data (pair_data start ∷ pair_da
 
 -- what an error says, with the line of the text, its lines and columns, and its places
 abbrev pub said_members : List ℕ → Data → Data → List ℕ → Members
-said_members line places location message = member (codes "line") (string line) (member (codes "line_col") places
+said_members line places location message =
+    member (codes "line") (string line) (member (codes "line_col") places
     (member (codes "location") location (member (codes "message") (string message) no_members)))
 
 -- what an error is of, syntax or not, and what it says; one of syntax says which rules were expected

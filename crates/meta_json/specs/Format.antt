@@ -56,7 +56,8 @@ nodes_of (plain.RepOnce' p x) = form (codes "rep_once") ∷ nodes_of x
 nodes_of (plain.RepExact' p x n) = form_with (codes "rep_exact") (count_data n) ∷ nodes_of x
 nodes_of (plain.RepMin' p x m) = form_with (codes "rep_min") (count_data m) ∷ nodes_of x
 nodes_of (plain.RepMax' p x n) = form_with (codes "rep_max") (count_data n) ∷ nodes_of x
-nodes_of (plain.RepMinMax' p x m n) = form_with_two (codes "rep_min_max") (count_data m) (count_data n) ∷ nodes_of x
+nodes_of (plain.RepMinMax' p x m n) =
+    form_with_two (codes "rep_min_max") (count_data m) (count_data n) ∷ nodes_of x
 nodes_of (plain.Skip ss) = form_with (codes "skip") (texts_data ss.items) ∷ []
 nodes_of (plain.Push' p x) = form (codes "push") ∷ nodes_of x
 nodes_of (plain.PushLiteral s) = form_with (codes "push_literal") (text_data s) ∷ []
@@ -68,18 +69,22 @@ optimized_nodes_of (optimized.Str s) = form_with (codes "str") (text_data s) ∷
 optimized_nodes_of (optimized.Insens s) = form_with (codes "insens") (text_data s) ∷ []
 optimized_nodes_of (optimized.Range s t) = form_with_two (codes "range") (text_data s) (text_data t) ∷ []
 optimized_nodes_of (optimized.Ident s) = form_with (codes "ident") (text_data s) ∷ []
-optimized_nodes_of (optimized.PeekSlice i j) = form_with_two (codes "peek_slice") (place_data i) (end_data j) ∷ []
+optimized_nodes_of (optimized.PeekSlice i j) =
+    form_with_two (codes "peek_slice") (place_data i) (end_data j) ∷ []
 optimized_nodes_of (optimized.PosPred' p x) = form (codes "pos_pred") ∷ optimized_nodes_of x
 optimized_nodes_of (optimized.NegPred' p x) = form (codes "neg_pred") ∷ optimized_nodes_of x
-optimized_nodes_of (optimized.Seq' p x q y) = form (codes "seq") ∷ optimized_nodes_of x ++ optimized_nodes_of y
-optimized_nodes_of (optimized.Choice' p x q y) = form (codes "choice") ∷ optimized_nodes_of x ++ optimized_nodes_of y
+optimized_nodes_of (optimized.Seq' p x q y) =
+    form (codes "seq") ∷ optimized_nodes_of x ++ optimized_nodes_of y
+optimized_nodes_of (optimized.Choice' p x q y) =
+    form (codes "choice") ∷ optimized_nodes_of x ++ optimized_nodes_of y
 optimized_nodes_of (optimized.Opt' p x) = form (codes "opt") ∷ optimized_nodes_of x
 optimized_nodes_of (optimized.Rep' p x) = form (codes "rep") ∷ optimized_nodes_of x
 optimized_nodes_of (optimized.RepOnce' p x) = form (codes "rep_once") ∷ optimized_nodes_of x
 optimized_nodes_of (optimized.Skip ss) = form_with (codes "skip") (texts_data ss.items) ∷ []
 optimized_nodes_of (optimized.Push' p x) = form (codes "push") ∷ optimized_nodes_of x
 optimized_nodes_of (optimized.PushLiteral s) = form_with (codes "push_literal") (text_data s) ∷ []
-optimized_nodes_of (optimized.NodeTag' p x s) = form_with (codes "node_tag") (text_data s) ∷ optimized_nodes_of x
+optimized_nodes_of (optimized.NodeTag' p x s) =
+    form_with (codes "node_tag") (text_data s) ∷ optimized_nodes_of x
 optimized_nodes_of (optimized.RestoreOnErr' p x) = form (codes "restore_on_err") ∷ optimized_nodes_of x
 
 -- a type's name

@@ -45,7 +45,8 @@ spans_data x = list_data (map (λ y. span_data (span_of y)) (preorder x))
 -- a rule with its places
 abbrev pub placed_rule_data : ParserRule → Data
 placed_rule_data r = object (member (codes "expr") (list_data (nodes_of_placed r.node.expr))
-    (member (codes "name") (string (string_bytes r.name)) (member (codes "name_span") (span_data (piece_of r.span))
+    (member (codes "name") (string (string_bytes r.name))
+    (member (codes "name_span") (span_data (piece_of r.span))
     (member (codes "spans") (spans_data (view r.node)) (member (codes "type") (string (type_name r.ty))
     no_members)))))
 

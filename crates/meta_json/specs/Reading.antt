@@ -16,7 +16,11 @@ pub record Members : Type 0 where
   pub body : Option Data
 
 abbrev pub members_of : Data → Members
-members_of d = record { name = get (codes "name") d; type_of = get (codes "type") d; body = get (codes "expr") d }
+members_of d = record {
+  name = get (codes "name") d;
+  type_of = get (codes "type") d;
+  body = get (codes "expr") d;
+}
 
 -- those of a rule of that name and type, whose body has these nodes
 abbrev pub rule_members : List ℕ → RuleType → List Data → Members

@@ -6,4 +6,5 @@ use Rattle.meta_json.specs.Errors.{size_data}
 -- the number of the format, and the version of the original crate that is ported
 abbrev pub version_data : Data
 version_data =
-    object (member (codes "format") (size_data 1) (member (codes "version") (string (codes "2.9.5")) no_members))
+    object (member (codes "format") (size_data 1)
+    (member (codes "version") (string (codes "2.9.5")) no_members))

@@ -63,7 +63,7 @@ pub(crate) fn nodes_of<E: AsNodes>(alloc: Global, expr: &E) -> Result<Vec<Value>
 }
 
 /// Puts operands on a list, the first of them last.
-#[tactic(auto, using(crate::proofs::Turns::now_in_turn_last, crate::proofs::Turns::now_in_turn_last_two, crate::proofs::Turns::heft_now_last))]
+#[tactic(auto, using(crate::proofs::Turns::put_last))]
 fn put<'a, E: AsNodes>(
     waiting: &mut Vec<&'a E>,
     operands: Operands<'a, E>,

@@ -1,8 +1,16 @@
 pub mod Leaving
+pub mod Barring
 pub mod Noting
+pub mod Passing
+pub mod Spans
+pub mod Parts
 pub mod Steps
 pub mod Waiting
 pub mod Whole
 pub mod Compiling
+pub mod Indexing
+pub mod Forming
 pub mod Stacking
+pub mod Timing
 pub mod Texts
+pub mod Totals

@@ -1,5 +1,5 @@
 -- What each step of a run makes of what was found, of the furthest failure, and of the names that are told.
-use Rattle.std.proofs.Common.{◌≡◌, refl, sym, ◌∙◌, ap, ℕ, nat_eq, max, List, [], ◌∷◌, ◌++◌, Bool, true, false, ◌&&◌, Some, None, arith, if◌then◌else◌, length, take, append_assoc, append-nil}
+use Rattle.std.proofs.Common.{◌≡◌, refl, sym, ◌∙◌, ap, subst, ℕ, nat_eq, max, List, [], ◌∷◌, ◌++◌, Bool, true, false, ◌&&◌, Some, None, arith, if◌then◌else◌, length, take, append_assoc, append-nil}
 use Rattle.std.proofs.Math.Seq.{take-append_seam}
 use Rattle.meta_base.specs.Language.Expression.{Grammar, Expression, Str, Range, Ident, PosPred, NegPred, Seq, Choice, Opt, Rep, RepOnce, NodeTag, RestoreOnErr, RuleType, Normal, Silent, Atomic, CompoundAtomic, NonAtomic, Rule, rule_of}
 use Rattle.meta_base.specs.Language.State.{Classes, Mode, NonAtomicMode, AtomicMode, CompoundAtomicMode, Between, State, Trees, None', Tree, Outcome, Success, Failure}
@@ -54,7 +54,7 @@ same_mode_in Atomic b = refl
 same_mode_in CompoundAtomic b = refl
 same_mode_in NonAtomic b = refl
 
-same_body_mode : (r : Rule) → body_mode r Between ≡ body_mode r NonAtomicMode
+pub same_body_mode : (r : Rule) → body_mode r Between ≡ body_mode r NonAtomicMode
 same_body_mode r = same_mode_in r.type_of _
 
 same_gives : (y : RuleType) → gives_token y Between ≡ gives_token y NonAtomicMode
@@ -64,9 +64,13 @@ same_gives Atomic = refl
 same_gives CompoundAtomic = refl
 same_gives NonAtomic = refl
 
-same_with_token : (r : Rule) (s : State) (o : Outcome) → with_token r Between s o ≡ with_token r NonAtomicMode s o
+pub same_with_token : (r : Rule) (s : State) (o : Outcome) → with_token r Between s o ≡ with_token r NonAtomicMode s o
 same_with_token r s Failure = refl
 same_with_token r s (Success t us) = ap (λ b. Success t (if b then Tree r.name s.position t.position us None' else us)) (same_gives r.type_of)
+
+without_token : (r : Rule) (s : State) (o : Outcome) → r.type_of ≡ Silent → with_token r Between s o ≡ o
+without_token r s Failure e = refl
+without_token r s (Success t us) e = rw e refl
 
 module _ {g : Grammar} {classes : Classes} {place : ℕ} where
   -- what runs that follow one another tell
@@ -96,6 +100,15 @@ module _ {g : Grammar} {classes : Classes} {place : ℕ} where
   -- a rule's name
   pub ran_call : {m : Mode} {n : Text} {s : State} {o : Outcome} {r : Rule} {p q z : Notes} → rule_of g n ≡ Some r → (x : Ran g classes place (Run (body_mode r m) r.body) s o p q) → z.furthest ≡ max q.furthest (place_of (seen_from m && gives_token r.type_of m) s o) → z.told ≡ with_names p.told (told (seen_from m && gives_token r.type_of m) n place s o (expected_at place x.found)) → Ran g classes place (Run m (Ident n)) s (with_token r m s o) p z
   ran_call h x e f = record { found = call h x.found; noted = omega (arith, x.noted, e); told = f }
+
+  -- a silent rule's name in the skipping
+  pub ran_silent : {n : Text} {r : Rule} {s : State} {o : Outcome} {p : Notes} → rule_of g n ≡ Some r → r.type_of ≡ Silent → Ran g classes place (Run (body_mode r Between) r.body) s o p p → Ran g classes place (Run Between (Ident n)) s o p p
+  ran_silent {n} {r} {s} {o} {p} h e x =
+      let gives : gives_token r.type_of Between ≡ false = ap (λ y. gives_token y Between) e in
+      let noted : p.furthest ≡ max p.furthest (place_of (gives_token r.type_of Between) s o) = rw (gives, nowhere s o) (omega arith) in
+      let names = subst (λ l. p.told ≡ with_names p.told l) (sym (quiet n place s o (expected_at place x.found))) x.told in
+      let same = subst (λ b. p.told ≡ with_names p.told (told b n place s o (expected_at place x.found))) (sym gives) names in
+      subst (λ t. Ran g classes place (Run Between (Ident n)) s t p p) (without_token r s o e) (ran_call h x noted same)
 
   pub ran_ahead : {m : Mode} {e : Expression} {s : State} {o : Outcome} {p q : Notes} → Ran g classes place (Run m e) s o p q → Ran g classes place (Run m (PosPred e)) s (ahead s o) p q
   ran_ahead x = record { found = pos_pred x.found; noted = x.noted; told = x.told }

@@ -23,11 +23,11 @@ use Rattle.meta_matcher.specs.Runs.{Fails, Finds, Gives, GoesOn, IsLeft, Notes, 
 use Rattle.meta_matcher.proofs.Noting.{ran_quietly, ran_silently}
 use Rattle.meta_matcher.proofs.Steps.{by_builtin, eoi_builtin, never, gives_leaving}
 
-peek_builtin : builtin_of (codes "PEEK") ≡ Some Peek
+pub peek_builtin : builtin_of (codes "PEEK") ≡ Some Peek
 unfolding builtins
 peek_builtin = refl
 
-pop_builtin : builtin_of (codes "POP") ≡ Some Pop
+pub pop_builtin : builtin_of (codes "POP") ≡ Some Pop
 unfolding builtins
 pop_builtin = refl
 
@@ -139,19 +139,24 @@ pub gives_class : (g : Setting) (m : mode.Mode) (text rest : List ℕ) (a : Now)
     → ((set : ℕ → Bool) → ((c : ℕ) → c < 1114112 → is_in_ranges rs c ≡ set c) → leaving text a.stack o ≡ character_outcome set (standing text rest a.stack)) → Gives g (Run (mode_of m) (Ident n)) text rest a a o
 gives_class g m text rest a o n i p rs h e r f = gives_property g m text rest a o n h.is (property_is_no_end n h.is) h.unnamed (λ classes fits. f (classes n) (in_class g.properties n i p rs classes fits h.number e r))
 
--- what was taken, in characters
-pub taken_chars : (text rest after taken : List ℕ) → IsLeft text rest → IsLeft text after → length after ≤ length rest → taken ≡ take (length rest - length after) rest → IsUtf8 taken → chars taken ≡ take (length (chars rest) - length (chars after)) (chars rest)
-taken_chars text rest after taken l k s e u =
+-- what is left after more was taken
+pub left_between : (text rest after : List ℕ) → IsLeft text rest → IsLeft text after → length after ≤ length rest → after ≡ drop (length rest - length after) rest
+left_between text rest after l k s =
     let r = ap length l ∙ length-drop (length text - length rest) text in
     let z = ap length k ∙ length-drop (length text - length after) text in
     let y : (length text - length rest) + (length rest - length after) ≡ length text - length after = omega (arith, r, z, s) in
-    let d : after ≡ drop (length rest - length after) rest = k ∙ (sym (ap (λ n. drop n text) y) ∙ (sym (drop-drop (length rest - length after) (length text - length rest) text) ∙ ap (drop (length rest - length after)) (sym l))) in
+    k ∙ (sym (ap (λ n. drop n text) y) ∙ (sym (drop-drop (length rest - length after) (length text - length rest) text) ∙ ap (drop (length rest - length after)) (sym l)))
+
+-- what was taken, in characters
+pub taken_chars : (text rest after taken : List ℕ) → IsLeft text rest → IsLeft text after → length after ≤ length rest → taken ≡ take (length rest - length after) rest → IsUtf8 taken → chars taken ≡ take (length (chars rest) - length (chars after)) (chars rest)
+taken_chars text rest after taken l k s e u =
+    let d = left_between text rest after l k s in
     let w : rest ≡ taken ++ after = sym (take-append-drop (length rest - length after) rest) ∙ rw (← e, ← d) refl in
     let c : chars rest ≡ chars taken ++ chars after = ap chars w ∙ chars-append taken after u in
     let n : length (chars rest) - length (chars after) ≡ length (chars taken) = let q = ap length c ∙ length-append (chars taken) (chars after) in omega (arith, q) in
     sym (rw (n, c) (take-append_seam (chars taken) (chars after)))
 
-ran_push : {g : Grammar} {classes : Classes} {place : ℕ} {m : Mode} {e : Expression} {s : State} {o : Outcome} {p q : Notes} → Ran g classes place (Run m e) s o p q → Ran g classes place (Run m (Push e)) s (pushed s o) p q
+pub ran_push : {g : Grammar} {classes : Classes} {place : ℕ} {m : Mode} {e : Expression} {s : State} {o : Outcome} {p q : Notes} → Ran g classes place (Run m e) s o p q → Ran g classes place (Run m (Push e)) s (pushed s o) p q
 ran_push x = record { found = push x.found; noted = x.noted; told = x.told }
 
 -- a literal push

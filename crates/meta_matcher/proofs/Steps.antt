@@ -332,7 +332,7 @@ module _ {g : Setting} {n : Text} {r : Rule} {text rest : List ℕ} {a b : Now} 
   pub fails_blank : Fails g (Run NonAtomicMode (Ident n)) text rest a b → Fails g (Run Between (Ident n)) text rest a b
   fails_blank x = fails_as (λ classes s o p q y. ran_blank meant y) x
 
-blank_is_no_end : (n : Text) → IsBlankName n → is_eoi n ≡ false
+pub blank_is_no_end : (n : Text) → IsBlankName n → is_eoi n ≡ false
 unfolding whitespace comment
 blank_is_no_end _ is_whitespace = refl
 blank_is_no_end _ is_comment = refl

@@ -43,7 +43,7 @@ pub moved_none : (p : ℕ) (cs : Text) (ts : List Text) → moved 0 (here p cs t
 moved_none p [] ts = ap (λ q. here q [] ts) (add-zero p)
 moved_none p (c ∷ cs) ts = ap (λ q. here q (c ∷ cs) ts) (add-zero p)
 
-moved_on : (n p c : ℕ) (cs : Text) (ts : List Text) → moved (suc n) (here p (c ∷ cs) ts) ≡ moved n (moved 1 (here p (c ∷ cs) ts))
+pub moved_on : (n p c : ℕ) (cs : Text) (ts : List Text) → moved (suc n) (here p (c ∷ cs) ts) ≡ moved n (moved 1 (here p (c ∷ cs) ts))
 moved_on n p c cs ts =
     let a = sum_by-cons len_utf8 c (take n cs) in
     let b = sum_by-cons len_utf8 c [] in

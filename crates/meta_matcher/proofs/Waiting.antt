@@ -1,16 +1,20 @@
 -- What waits once a part of a form is begun.
-use Rattle.std.proofs.Common.{◌≡◌, refl, ◌∙◌, ap, ℕ, ◌-◌, ◌<◌, ◌⊎◌, List, [], ◌∷◌, ◌++◌, true, ◌&&◌, Option, Some, None, arith, length, reverse}
+use Rattle.std.proofs.Common.{◌≡◌, refl, ◌∙◌, ap, ℕ, ◌+◌, ◌-◌, ◌≤◌, ◌<◌, ◌⊎◌, List, [], ◌∷◌, ◌++◌, true, ◌&&◌, Option, Some, None, arith, length, reverse}
 use Rattle.std.specs.Borrow.{Bor}
 use Rattle.std.proofs.lemmas.List.{length-append, reverse-append}
 use Rattle.meta_ast.specs.Ast.{text_of}
 use Rattle.meta_syntax.specs.Entries.{Entry, open_start}
-use Rattle.meta_matcher.specs.Programs.{rule_of_row}
+use Rattle.meta_matcher.specs.Programs.{Fits, rule_of_row}
+use Rattle.meta_matcher.specs.Sizes.{most_steps}
 use Rattle.meta_base.specs.Language.Text.{Text}
 use Rattle.meta_base.specs.Language.Expression.{Choice, Expression, Ident, NegPred, NodeTag, Opt, PosPred, Push, Rep, RepOnce, RestoreOnErr, Seq, Rule, rule_of, whitespace, comment}
 use Rattle.meta_base.specs.Language.Meaning.{Run, Skipping, Task, Turns, body_mode, seen_from}
-use Rattle.meta_base.specs.Language.State.{Mode, NonAtomicMode}
+use Rattle.meta_base.specs.Language.State.{Classes, Mode, NonAtomicMode, Outcome}
 use Rattle.meta_matcher.specs.declared.frames.Called.{Called}
+use Rattle.meta_matcher.specs.declared.frames.Control.{Control}
+use Rattle.meta_matcher.specs.declared.frames.Control.TheVariants as control
 use Rattle.meta_matcher.specs.declared.frames.Frame.{Frame}
+use Rattle.meta_matcher.specs.declared.frames.Mark.{Mark}
 use Rattle.meta_matcher.specs.declared.frames.Predicate.{Predicate}
 use Rattle.meta_matcher.specs.declared.frames.Repetition.{Repetition}
 use Rattle.meta_matcher.specs.declared.frames.Sequence.{Sequence}
@@ -19,11 +23,13 @@ use Rattle.meta_matcher.specs.declared.machine.Machine.{Machine}
 use Rattle.meta_matcher.specs.declared.machine.Scene.{Scene}
 use Rattle.meta_matcher.specs.declared.modes.Mode as mode
 use Rattle.meta_matcher.specs.declared.modes.Mode.TheVariants as in_mode
-use Rattle.meta_matcher.specs.Frames.{Awaits, Decides, Ends, FailsFrom, FindsFrom, Follows, GivesFrom, IsAhead, IsBlank, IsBoundSecond, IsCall, IsComment, IsFirst, IsLeftSide, IsNegated, IsOptional, IsPushed, IsResumed, IsStarting, IsTurn, IsTurnGap, IsWaiting, Skips, Start, blanks, comments, said_second, gives_in, starting, top_of}
-use Rattle.meta_matcher.specs.Machines.{IsBoundIn, IsMark, grammar_in, names_within, now_of, is_comment, is_whitespace, said, setting_of}
+use Rattle.meta_matcher.specs.Frames.{Awaits, Decides, FailsFrom, FindsFrom, Finishes, Follows, GivesFrom, HasFrom, IsAhead, IsAnswered, IsBlank, IsBoundSecond, IsCall, IsComment, IsFirst, IsInTime, IsLeftSide, IsNegated, IsOnTheWay, IsOptional, IsPushed, IsResumed, IsSecond, IsStarting, IsTurn, IsTurnGap, IsWaiting, IsWithin, Skips, Start, blanks, comments, said_second, gives_in, starting, top_of}
+use Rattle.meta_matcher.specs.Machines.{IsBoundIn, IsMark, grammar_in, names_within, now_of, is_comment, is_whitespace, said, setting_of, steps_of}
 use Rattle.meta_matcher.specs.Runs.{Gives, GoesOn, IsLeft, Now, Progress, forgetting, mode_of}
 use Rattle.meta_matcher.proofs.Steps.{failed_row, fails_ahead, fails_blank, fails_first, fails_gap, fails_not, fails_rep_once, fails_reset, fails_restored, fails_right, fails_second, fails_tagged, fails_undefined, finds_ahead, finds_blank, finds_comment, finds_last_turn, finds_left, finds_more, finds_no_opt, finds_no_rep, finds_no_skipping, finds_no_turn, finds_not, finds_opt, finds_rep, finds_rep_once, finds_restored, finds_right, finds_seq, finds_skipped, finds_tagged, finds_turn, found_row}
 use Rattle.meta_matcher.proofs.Stacking.{fails_push, finds_push}
+use Rattle.meta_matcher.proofs.Parts.{blank_of_blanks, blanks_of_blanks, blanks_of_comments, blanks_of_skipping, body_of_call, comment_of_comments, comments_of_comments, comments_of_skipping, first_of_seq, form_of_ahead, form_of_not, form_of_opt, form_of_push, form_of_rep, form_of_rep_once, form_of_restore, form_of_tag, form_of_turns, gap_of_seq, gap_of_turns, left_of_choice, positive, right_of_choice, second_of_seq, turns_of_rep, turns_of_turns}
+use Rattle.meta_matcher.proofs.Timing.{in_time_less, in_time_now, in_time_same, in_time_soon, in_time_whole, within_failed, within_itself, within_less, within_one, within_sooner, within_then, within_three, within_top, within_two}
 
 more : (text r s t : List ℕ) → GoesOn text r s → GoesOn text s t → GoesOn text r t
 more text r s t x y = record { left = y.left; shorter = omega (arith, x.shorter, y.shorter) }
@@ -31,7 +37,7 @@ more text r s t x y = record { left = y.left; shorter = omega (arith, x.shorter,
 here : (text r : List ℕ) → IsLeft text r → GoesOn text r r
 here text r l = record { left = l; shorter = omega arith }
 
-pub gives_from : (scene : Scene) (k : Task) (rest : List ℕ) (a b : Now) (o : Option (Bor (List ℕ))) → Gives (setting_of scene) k scene.text.now rest a b o → Progress scene.text.now rest o → GivesFrom scene (starting k rest a) b o
+pub gives_from : (scene : Scene) (k : Task) (rest : List ℕ) (a b : Now) (o : Option (Bor (List ℕ))) → Gives (setting_of scene) k scene.text.now rest a b o → Progress scene.text.now rest o → GivesFrom scene (starting k rest a 0) b o
 gives_from scene k rest a b None x p = x
 gives_from scene k rest a b (Some after) x p = record { found = x; goes_on = p }
 
@@ -43,50 +49,72 @@ nothing_yet now e s f t =
 module _ {scene : Scene} where
   -- what comes of a start comes of itself
   pub decides_itself : (s : Start) → Decides scene s s
-  decides_itself s = record { found = λ b t f. f; failed = λ b f. f }
+  decides_itself s = record { within = within_itself s; found = λ b t f. f; failed = λ b f. f }
+
+  pub finishes_itself : (s : Start) → Finishes scene s s
+  finishes_itself s = record { within = within_itself s; found = λ b t f. f }
 
   pub gives_whole : {part whole : Start} (b : Now) (o : Option (Bor (List ℕ))) → Decides scene part whole → GivesFrom scene part b o → GivesFrom scene whole b o
   gives_whole b None d x = d.failed b x
   gives_whole b (Some after) d x = d.found b after.now x
 
-  module _ {m : Mode} {x : Expression} {rest : List ℕ} {a : Now} {whole : Start} where
-    pub decides_tagged : {t : Text} → Decides scene (starting (Run m (NodeTag x t)) rest a) whole → Decides scene (starting (Run m x) rest a) whole
+  -- the same task, begun sooner
+  pub decides_sooner : {k : Task} {rest : List ℕ} {a : Now} (n j : ℕ) {whole : Start} → j ≤ n → Decides scene (starting k rest a n) whole → Decides scene (starting k rest a j) whole
+  decides_sooner n j l d = record { within = within_sooner n j l d.within; found = λ b t f. d.found b t (record { found = f.found; goes_on = f.goes_on }); failed = d.failed }
+
+  pub second_sooner : {mark : Mark} {k : Task} {rest : List ℕ} {a : Now} (n j : ℕ) {whole : Start} → j ≤ n → IsSecond scene mark (starting k rest a n) whole → IsSecond scene mark (starting k rest a j) whole
+  second_sooner n j l d = record { within = within_sooner n j l d.within; found = λ b t f. d.found b t (record { found = f.found; goes_on = f.goes_on }); failed = d.failed }
+
+  module _ {m : Mode} {x : Expression} {rest : List ℕ} {a : Now} {n : ℕ} {whole : Start} where
+    pub decides_tagged : {t : Text} → Decides scene (starting (Run m (NodeTag x t)) rest a n) whole → Decides scene (starting (Run m x) rest a (n + 1)) whole
     decides_tagged d = record {
+      within = within_then (within_less 0 (omega arith) (within_one (n + 1) (omega arith) refl (λ classes o d. form_of_tag d))) d.within;
       found = λ b t f. d.found b t (record { found = finds_tagged f.found; goes_on = f.goes_on });
       failed = λ b f. d.failed b (fails_tagged f);
     }
 
-    pub decides_restored : Decides scene (starting (Run m (RestoreOnErr x)) rest a) whole → Decides scene (starting (Run m x) rest a) whole
+    pub decides_restored : Decides scene (starting (Run m (RestoreOnErr x)) rest a n) whole → Decides scene (starting (Run m x) rest a (n + 1)) whole
     decides_restored d = record {
+      within = within_then (within_less 0 (omega arith) (within_one (n + 1) (omega arith) refl (λ classes o d. form_of_restore d))) d.within;
       found = λ b t f. d.found b t (record { found = finds_restored f.found; goes_on = f.goes_on });
       failed = λ b f. d.failed b (fails_restored f);
     }
 
-    pub decides_rep_once : Decides scene (starting (Run m (RepOnce x)) rest a) whole → Decides scene (starting (Run m (Seq x (Rep x))) rest a) whole
+    pub decides_rep_once : Decides scene (starting (Run m (RepOnce x)) rest a n) whole → Decides scene (starting (Run m (Seq x (Rep x))) rest a n) whole
     decides_rep_once d = record {
+      within = within_then (within_less 0 (omega arith) (within_one n (omega arith) refl (λ classes o d. form_of_rep_once d))) d.within;
       found = λ b t f. d.found b t (record { found = finds_rep_once f.found; goes_on = f.goes_on });
       failed = λ b f. d.failed b (fails_rep_once f);
     }
 
-    pub follows_optional : IsLeft scene.text.now rest → Decides scene (starting (Run m (Opt x)) rest a) whole → IsOptional scene rest (starting (Run m x) rest a) whole
+    pub finishes_rep : Decides scene (starting (Run m (Rep x)) rest a n) whole → Finishes scene (starting (Run m (Rep x)) rest a n) whole
+    finishes_rep d = record { within = d.within; found = d.found }
+
+    pub follows_optional : IsLeft scene.text.now rest → Decides scene (starting (Run m (Opt x)) rest a n) whole → IsOptional scene rest (starting (Run m x) rest a (n + 1)) whole
     follows_optional l d = record {
+      within = within_then (within_one (n + 1) (omega arith) refl (λ classes o d. form_of_opt d)) d.within;
       found = λ b t f. d.found b t (record { found = finds_opt f.found; goes_on = f.goes_on });
       failed = λ b f. d.found b rest (record { found = finds_no_opt f; goes_on = here scene.text.now rest l });
     }
 
-    pub follows_push : IsLeft scene.text.now rest → Decides scene (starting (Run m (Push x)) rest a) whole → IsPushed scene rest (starting (Run m x) rest a) whole
+    pub follows_push : IsLeft scene.text.now rest → Decides scene (starting (Run m (Push x)) rest a n) whole → IsPushed scene rest (starting (Run m x) rest a (n + 1)) whole
     follows_push l d = record {
       from = refl;
+      left = l;
+      within = within_then (within_one (n + 1) (omega arith) refl (λ classes o d. form_of_push d)) d.within;
       found = λ b c t taken f e u ce cf cs. d.found c t (record { found = finds_push _ _ _ _ _ _ taken _ b c f.found l f.goes_on e u ce cf cs; goes_on = f.goes_on });
       failed = λ b f. d.failed b (fails_push f);
     }
 
-  pub follows_first : (s : Sequence) {x : Expression} {rest : List ℕ} {a : Now} {whole : Start} → IsBoundSecond scene s.second → IsMark s.mark a → Decides scene (starting (Run (mode_of s.mode) (Seq x (said_second scene s.second))) rest a) whole → IsFirst scene s (starting (Run (mode_of s.mode) x) rest a) whole
-  follows_first s {x} {rest} bound mark d = record {
-    found = λ b t f. record {
+  pub follows_first : (s : Sequence) {x : Expression} {rest : List ℕ} {a : Now} {n : ℕ} {whole : Start} → IsBoundSecond scene s.second → IsMark s.mark a → Decides scene (starting (Run (mode_of s.mode) (Seq x (said_second scene s.second))) rest a n) whole → IsFirst scene s (starting (Run (mode_of s.mode) x) rest a (n + 1)) whole
+  follows_first s {x} {rest} {n = n} bound mark d = record {
+    within = within_then (within_one (n + 1) (omega arith) refl (λ classes o d. first_of_seq d)) d.within;
+    found = λ b t i f u. record {
       bound = bound;
-      found = λ c u k. record {
-        found = λ e v h. d.found e v (record { found = finds_seq f.found k.found h.found; goes_on = more scene.text.now rest u v (more scene.text.now rest t u f.goes_on k.goes_on) h.goes_on });
+      within = within_then (within_two (omega arith) i f u (λ classes t us o f d. gap_of_seq f d)) d.within;
+      found = λ c w j k v. record {
+        within = within_then (within_three (omega arith) i j f u k v (λ classes t u us vs o f k d. second_of_seq f k d)) d.within;
+        found = λ e z h. d.found e z (record { found = finds_seq f.found k.found h.found; goes_on = more scene.text.now rest w z (more scene.text.now rest t w f.goes_on k.goes_on) h.goes_on });
         failed = λ e z h r. d.failed z (fails_second f.found k.found h r mark.entries mark.stack);
       };
       failed = λ c e k r. d.failed e (fails_gap f.found k r mark.entries mark.stack);
@@ -94,52 +122,71 @@ module _ {scene : Scene} where
     failed = λ b f. d.failed b (fails_first f);
   }
 
-  pub follows_left : {m : mode.Mode} {right : Form} {x : Expression} {rest : List ℕ} {a : Now} {whole : Start} → IsBoundIn scene right → IsLeft scene.text.now rest → Decides scene (starting (Run (mode_of m) (Choice x (said scene right))) rest a) whole → IsLeftSide scene right m rest (starting (Run (mode_of m) x) rest a) whole
-  follows_left bound l d = record {
+  pub follows_left : {m : mode.Mode} {right : Form} {x : Expression} {rest : List ℕ} {a : Now} {n : ℕ} {whole : Start} → IsBoundIn scene right → IsLeft scene.text.now rest → Decides scene (starting (Run (mode_of m) (Choice x (said scene right))) rest a n) whole → IsLeftSide scene right m rest (starting (Run (mode_of m) x) rest a (n + 1)) whole
+  follows_left {n = n} bound l d = record {
     bound = bound;
     left = l;
+    within = within_then (within_one (n + 1) (omega arith) refl (λ classes o d. left_of_choice d)) d.within;
     found = λ b t f. d.found b t (record { found = finds_left f.found; goes_on = f.goes_on });
-    failed = λ b f. record {
+    failed = λ b i f u. record {
+      within = within_then (within_less 0 (omega arith) (within_failed (omega arith) i f u (λ classes o f d. right_of_choice f d))) d.within;
       found = λ c t h. d.found c t (record { found = finds_right f h.found; goes_on = h.goes_on });
       failed = λ c h. d.failed c (fails_right f h);
     };
   }
 
-  module _ (r : Repetition) {a : Now} {whole : Start} (bound : IsBoundIn scene r.body.now) (l : IsLeft scene.text.now r.rest.now) (mark : IsMark r.mark a) where
-    pub follows_turn : Ends scene (starting (Run (mode_of r.mode) (Rep (said scene r.body.now))) r.rest.now a) whole → IsTurn scene r (starting (Run (mode_of r.mode) (said scene r.body.now)) r.rest.now a) whole
+  module _ (r : Repetition) {a : Now} {n : ℕ} {whole : Start} (bound : IsBoundIn scene r.body.now) (l : IsLeft scene.text.now r.rest.now) (mark : IsMark r.mark a) where
+    pub follows_turn : Finishes scene (starting (Run (mode_of r.mode) (Rep (said scene r.body.now))) r.rest.now a n) whole → IsTurn scene r (starting (Run (mode_of r.mode) (said scene r.body.now)) r.rest.now a (n + 1)) whole
     follows_turn ends = record {
       bound = bound;
-      found = λ b t f c u h. ends c u (record { found = finds_rep f.found h.found; goes_on = more scene.text.now r.rest.now t u f.goes_on h.goes_on });
-      failed = λ b c f z. ends c r.rest.now (record { found = finds_no_rep (fails_reset f z mark.entries mark.stack); goes_on = here scene.text.now r.rest.now l });
-    }
-
-    pub follows_turn_gap : Ends scene (starting (Turns (mode_of r.mode) (said scene r.body.now)) r.rest.now a) whole → IsTurnGap scene r (starting (Skipping (mode_of r.mode)) r.rest.now a) whole
-    follows_turn_gap ends = record {
-      found = λ b t k. record {
-        bound = bound;
-        found = λ c u f e v h. ends e v (record { found = finds_turn k.found f.found h.found; goes_on = more scene.text.now r.rest.now u v (more scene.text.now r.rest.now t u k.goes_on f.goes_on) h.goes_on });
-        failed = λ c e f z. ends e r.rest.now (record { found = finds_last_turn k.found f z mark.entries mark.stack; goes_on = here scene.text.now r.rest.now l });
+      within = within_then (within_one (n + 1) (omega arith) refl (λ classes o d. form_of_rep d)) ends.within;
+      found = λ b t i f u. record {
+        within = within_then (within_less 0 (omega arith) (within_two (omega arith) i f u (λ classes t us o f d. turns_of_rep f d))) ends.within;
+        found = λ c w h. ends.found c w (record { found = finds_rep f.found h.found; goes_on = more scene.text.now r.rest.now t w f.goes_on h.goes_on });
       };
-      failed = λ b c k z. ends c r.rest.now (record { found = finds_no_turn k z mark.entries mark.stack; goes_on = here scene.text.now r.rest.now l });
+      failed = λ b c f z. ends.found c r.rest.now (record { found = finds_no_rep (fails_reset f z mark.entries mark.stack); goes_on = here scene.text.now r.rest.now l });
     }
 
-  module _ (p : Predicate) {m : Mode} {x : Expression} {a : Now} {whole : Start} (l : IsLeft scene.text.now p.rest.now) (mark : IsMark p.mark a) where
-    pub follows_not : (first : ℕ) → first ≡ length a.notes.told → Decides scene (starting (Run m (NegPred x)) p.rest.now a) whole → IsNegated scene p first (starting (Run m x) p.rest.now a) whole
+    -- the skipping may begin a step later
+    pub follows_turn_gap : (i : ℕ) → i ≤ n + 1 → Finishes scene (starting (Turns (mode_of r.mode) (said scene r.body.now)) r.rest.now a n) whole → IsTurnGap scene r (starting (Skipping (mode_of r.mode)) r.rest.now a i) whole
+    follows_turn_gap i le ends = record {
+      within = within_then (within_one i le refl (λ classes o d. gap_of_turns d)) ends.within;
+      found = λ b t j k u. record {
+        bound = bound;
+        within = within_then (within_two le j k u (λ classes t us o f d. form_of_turns f d)) ends.within;
+        found = λ c w q f v. record {
+          within = within_then (within_less 0 (omega arith) (within_three le j q k u f v (λ classes t u us vs o f k d. turns_of_turns f k d))) ends.within;
+          found = λ e z h. ends.found e z (record { found = finds_turn k.found f.found h.found; goes_on = more scene.text.now r.rest.now w z (more scene.text.now r.rest.now t w k.goes_on f.goes_on) h.goes_on });
+        };
+        failed = λ c e f z. ends.found e r.rest.now (record { found = finds_last_turn k.found f z mark.entries mark.stack; goes_on = here scene.text.now r.rest.now l });
+      };
+      failed = λ b c k z. ends.found c r.rest.now (record { found = finds_no_turn k z mark.entries mark.stack; goes_on = here scene.text.now r.rest.now l });
+    }
+
+  module _ (p : Predicate) {m : Mode} {x : Expression} {a : Now} {n : ℕ} {whole : Start} (l : IsLeft scene.text.now p.rest.now) (mark : IsMark p.mark a) where
+    pub follows_not : (first : ℕ) → first ≡ length a.notes.told → Decides scene (starting (Run m (NegPred x)) p.rest.now a n) whole → IsNegated scene p first (starting (Run m x) p.rest.now a (n + 1)) whole
     follows_not first k d = record {
+      within = within_then (within_one (n + 1) (omega arith) refl (λ classes o d. form_of_not d)) d.within;
       found = λ b c t f z. d.failed c (fails_not first k f.found z mark.entries mark.stack);
       failed = λ b f. d.found (forgetting first b) p.rest.now (record { found = finds_not first k f; goes_on = here scene.text.now p.rest.now l });
     }
 
-    pub follows_ahead : Decides scene (starting (Run m (PosPred x)) p.rest.now a) whole → IsAhead scene p (starting (Run m x) p.rest.now a) whole
+    pub follows_ahead : Decides scene (starting (Run m (PosPred x)) p.rest.now a n) whole → IsAhead scene p (starting (Run m x) p.rest.now a (n + 1)) whole
     follows_ahead d = record {
+      within = within_then (within_one (n + 1) (omega arith) refl (λ classes o d. form_of_ahead d)) d.within;
       found = λ b c t f z. d.found c p.rest.now (record { found = finds_ahead f.found z mark.entries mark.stack; goes_on = here scene.text.now p.rest.now l });
       failed = λ b f. d.failed b (fails_ahead f);
     }
 
+  -- the body of a rule is in each call of it
+  within_call : {m inner : Mode} {k : Text} {r : Rule} {rest : List ℕ} {a b : Now} {n : ℕ} → rule_of (grammar_in scene) k ≡ Some r → inner ≡ body_mode r m → b.stack ≡ a.stack → IsWithin scene 1 (starting (Run inner r.body) rest b (n + 1)) (starting (Run m (Ident k)) rest a n)
+  within_call {n = n} meant e bs = rw e (within_one (n + 1) (omega arith) bs (λ classes o d. body_of_call meant d))
+
   -- a call, whose entry was opened
-  pub follows_call : (k : Called) {inner : Mode} {rest : List ℕ} {a b : Now} {whole : Start} → rule_of (grammar_in scene) (text_of k.row.now.name) ≡ Some (rule_of_row (names_within scene) k.row.now) → inner ≡ body_mode (rule_of_row (names_within scene) k.row.now) (mode_of k.mode) → k.place ≡ length scene.text.now - length rest → b.entries ≡ a.entries ++ open_start (gives_in scene k) (text_of k.row.now.name) k.place → b.stack ≡ a.stack → b.notes ≡ a.notes → k.first ≡ length a.entries → k.told ≡ length a.notes.told → Decides scene (starting (Run (mode_of k.mode) (Ident (text_of k.row.now.name))) rest a) whole → IsCall scene k (starting (Run inner (said scene k.row.now.body)) rest b) whole
+  pub follows_call : (k : Called) {inner : Mode} {rest : List ℕ} {a b : Now} {n : ℕ} {whole : Start} → rule_of (grammar_in scene) (text_of k.row.now.name) ≡ Some (rule_of_row (names_within scene) k.row.now) → inner ≡ body_mode (rule_of_row (names_within scene) k.row.now) (mode_of k.mode) → k.place ≡ length scene.text.now - length rest → b.entries ≡ a.entries ++ open_start (gives_in scene k) (text_of k.row.now.name) k.place → b.stack ≡ a.stack → b.notes ≡ a.notes → k.first ≡ length a.entries → k.told ≡ length a.notes.told → Decides scene (starting (Run (mode_of k.mode) (Ident (text_of k.row.now.name))) rest a n) whole → IsCall scene k (starting (Run inner (said scene k.row.now.body)) rest b (n + 1)) whole
   follows_call k {inner} {rest} {a} {b} meant same_mode place opened bs bf first told d = record {
     opened = λ e. let o = rw e at opened in let l = ap length o ∙ length-append a.entries _ in omega (arith, l, first);
+    within = within_then (within_call meant same_mode bs) d.within;
     found = λ c z after f closes cs cf. d.found z after (record {
       found = found_row (setting_of scene) (mode_of k.mode) inner (names_within scene) k.row.now scene.text.now rest after a b c z (gives_in scene k) (text_of k.row.now.name) k.place (length scene.text.now - length after) k.first refl meant same_mode refl place refl opened bs bf f.found first closes cs cf;
       goes_on = f.goes_on;
@@ -155,36 +202,77 @@ module _ {scene : Scene} where
       omega (arith, l, o)
 
   -- what is skipped
-  pub skips_all : {rest : List ℕ} {a : Now} → Skips scene rest a (starting (Skipping NonAtomicMode) rest a)
-  skips_all {rest} b c s t h k = record { found = finds_skipped h.found k.found; goes_on = more scene.text.now rest s t h.goes_on k.goes_on }
+  pub skips_all : {rest : List ℕ} {a : Now} {n : ℕ} → Skips scene rest a n (starting (Skipping NonAtomicMode) rest a n)
+  skips_all {rest} {n = n} = record {
+    within = within_less 0 (omega arith) (within_one n (omega arith) refl (λ classes o d. blanks_of_skipping d));
+    found = λ b s i h t. record {
+      within = within_less 0 (omega arith) (within_two (omega arith) i h t (λ classes t us o f d. comments_of_skipping f d));
+      found = λ c u k. record { found = finds_skipped h.found k.found; goes_on = more scene.text.now rest s u h.goes_on k.goes_on };
+    };
+  }
 
-  module _ {n : Text} {r : Rule} {rest : List ℕ} {a : Now} {whole : Start} (meant : rule_of (grammar_in scene) n ≡ Some r) (l : IsLeft scene.text.now rest) where
-    pub follows_blank : n ≡ whitespace → Skips scene rest a whole → IsBlank scene rest (starting (Run NonAtomicMode (Ident n)) rest a) whole
-    follows_blank e skips = record {
-      left = l;
-      found = λ b t f c d s u h k. skips c d s u (record { found = finds_more (rw e at (finds_blank meant f.found)) h.found; goes_on = more scene.text.now rest t s f.goes_on h.goes_on }) k;
-      failed = λ b f c u k. skips b c rest u (record { found = finds_no_rep (rw e at (fails_blank meant f)); goes_on = here scene.text.now rest l }) k;
-    }
+  -- what is skipped after a blank, and after a comment
+  blanks_again : {r : Rule} {rest : List ℕ} {a : Now} {n : ℕ} → rule_of (grammar_in scene) whitespace ≡ Some r → (b : Now) (t : List ℕ) (i : ℕ) → FindsFrom scene (starting (Run NonAtomicMode (Ident whitespace)) rest a n) b t → IsInTime scene (starting (Run NonAtomicMode (Ident whitespace)) rest a n) i → IsWithin scene 0 (starting blanks t b i) (starting blanks rest a n)
+  blanks_again meant b t i f u = within_less 0 (omega arith) (within_two (omega arith) i f u (λ classes t us o f d. blanks_of_blanks meant f d))
 
-    pub follows_comment : n ≡ comment → Ends scene (starting comments rest a) whole → IsComment scene rest (starting (Run NonAtomicMode (Ident n)) rest a) whole
-    follows_comment e ends = record {
-      found = λ b t f c d s u h k. ends d u (record { found = finds_more (finds_comment (rw e at (finds_blank meant f.found)) h.found) k.found; goes_on = more scene.text.now rest s u (more scene.text.now rest t s f.goes_on h.goes_on) k.goes_on });
-      failed = λ b f. ends b rest (record { found = finds_no_rep (fails_first (rw e at (fails_blank meant f))); goes_on = here scene.text.now rest l });
-    }
+  blanks_after_comment : {r : Rule} {rest : List ℕ} {a : Now} {n : ℕ} → rule_of (grammar_in scene) comment ≡ Some r → (b : Now) (t : List ℕ) (i : ℕ) → FindsFrom scene (starting (Run NonAtomicMode (Ident comment)) rest a n) b t → IsInTime scene (starting (Run NonAtomicMode (Ident comment)) rest a n) i → IsWithin scene 0 (starting blanks t b i) (starting comments rest a n)
+  blanks_after_comment meant b t i f u = within_less 0 (omega arith) (within_two (omega arith) i f u (λ classes t us o f d. blanks_of_comments meant f d))
 
-  module _ {rest : List ℕ} {a : Now} (l : IsLeft scene.text.now rest) where
-    pub finds_no_blanks : rule_of (grammar_in scene) whitespace ≡ None → FindsFrom scene (starting blanks rest a) a rest
+  comments_after_comment : {r : Rule} {rest : List ℕ} {a : Now} {n : ℕ} → rule_of (grammar_in scene) comment ≡ Some r → (b c : Now) (t s : List ℕ) (i j : ℕ) → FindsFrom scene (starting (Run NonAtomicMode (Ident comment)) rest a n) b t → IsInTime scene (starting (Run NonAtomicMode (Ident comment)) rest a n) i → FindsFrom scene (starting blanks t b i) c s → IsInTime scene (starting blanks t b i) j
+      → IsWithin scene 0 (starting comments s c j) (starting comments rest a n)
+  comments_after_comment meant b c t s i j f u h v = within_less 0 (omega arith) (within_three (omega arith) i j f u h v (λ classes t u us vs o f k d. comments_of_comments meant f k d))
+
+  module _ {name : Text} {r : Rule} {rest : List ℕ} {a : Now} {n : ℕ} {whole : Start} (meant : rule_of (grammar_in scene) name ≡ Some r) (l : IsLeft scene.text.now rest) where
+    pub follows_blank : name ≡ whitespace → Skips scene rest a n whole → IsBlank scene rest (starting (Run NonAtomicMode (Ident name)) rest a n) whole
+    follows_blank e skips =
+        let named = rw e at meant in
+        let one : IsWithin scene 1 (starting (Run NonAtomicMode (Ident name)) rest a n) (starting blanks rest a n) = rw e (within_one n (omega arith) refl (λ classes o d. blank_of_blanks named d)) in
+        record {
+          left = l;
+          within = within_then one skips.within;
+          found = λ b t i f u.
+              let again = blanks_again named b t i (rw e at f) (rw e at u) in
+              record {
+                within = within_then again skips.within;
+                found = λ c s j h v. skips.found c s j (record { found = finds_more (rw e at (finds_blank meant f.found)) h.found; goes_on = more scene.text.now rest t s f.goes_on h.goes_on }) (in_time_same j again v);
+              };
+          failed = λ b i f u. skips.found b rest i (record { found = finds_no_rep (rw e at (fails_blank meant f)); goes_on = here scene.text.now rest l }) (in_time_less (i + 1) i (omega arith) (in_time_whole i one u));
+        }
+
+    pub follows_comment : name ≡ comment → Finishes scene (starting comments rest a n) whole → IsComment scene rest (starting (Run NonAtomicMode (Ident name)) rest a n) whole
+    follows_comment e ends =
+        let named = rw e at meant in
+        let one : IsWithin scene 1 (starting (Run NonAtomicMode (Ident name)) rest a n) (starting comments rest a n) = rw e (within_one n (omega arith) refl (λ classes o d. comment_of_comments named d)) in
+        record {
+          within = within_then one ends.within;
+          found = λ b t i f u. record {
+            within = within_then (blanks_after_comment named b t i (rw e at f) (rw e at u)) ends.within;
+            found = λ c s j h v. record {
+              within = within_then (comments_after_comment named b c t s i j (rw e at f) (rw e at u) h v) ends.within;
+              found = λ d w k. ends.found d w (record { found = finds_more (finds_comment (rw e at (finds_blank meant f.found)) h.found) k.found; goes_on = more scene.text.now rest s w (more scene.text.now rest t s f.goes_on h.goes_on) k.goes_on });
+            };
+          };
+          failed = λ b f. ends.found b rest (record { found = finds_no_rep (fails_first (rw e at (fails_blank meant f))); goes_on = here scene.text.now rest l });
+        }
+
+  module _ {rest : List ℕ} {a : Now} (n : ℕ) (l : IsLeft scene.text.now rest) where
+    pub finds_no_blanks : rule_of (grammar_in scene) whitespace ≡ None → FindsFrom scene (starting blanks rest a n) a rest
     finds_no_blanks u = record { found = finds_no_rep (fails_undefined (setting_of scene) whitespace scene.text.now rest a is_whitespace u); goes_on = here scene.text.now rest l }
 
-    pub finds_no_comments : rule_of (grammar_in scene) comment ≡ None → FindsFrom scene (starting comments rest a) a rest
+    pub finds_no_comments : rule_of (grammar_in scene) comment ≡ None → FindsFrom scene (starting comments rest a n) a rest
     finds_no_comments u = record { found = finds_no_rep (fails_first (fails_undefined (setting_of scene) comment scene.text.now rest a is_comment u)); goes_on = here scene.text.now rest l }
 
   -- where there is nothing to be skipped
-  pub skipped_nowhere : {rest : List ℕ} {a : Now} → IsLeft scene.text.now rest → rule_of (grammar_in scene) whitespace ≡ None → rule_of (grammar_in scene) comment ≡ None → FindsFrom scene (starting (Skipping NonAtomicMode) rest a) a rest
-  skipped_nowhere l u v = skips_all _ _ _ _ (finds_no_blanks l u) (finds_no_comments l v)
+  pub skipped_nowhere : {rest : List ℕ} {a : Now} (n : ℕ) → IsLeft scene.text.now rest → rule_of (grammar_in scene) whitespace ≡ None → rule_of (grammar_in scene) comment ≡ None → FindsFrom scene (starting (Skipping NonAtomicMode) rest a n) a rest
+  skipped_nowhere {rest} {a} n l u v = (skips_all.found a rest n (finds_no_blanks n l u) (in_time_now n)).found _ _ (finds_no_comments n l v)
 
-  pub not_skipped : {rest : List ℕ} {a : Now} (k : mode.Mode) → IsLeft scene.text.now rest → (k ≡ in_mode.Atomic) ⊎ (k ≡ in_mode.CompoundAtomic) → FindsFrom scene (starting (Skipping (mode_of k)) rest a) a rest
-  not_skipped {rest} {a} k l e = record { found = finds_no_skipping (setting_of scene) k scene.text.now rest a e; goes_on = here scene.text.now rest l }
+  pub not_skipped : {rest : List ℕ} {a : Now} (n : ℕ) (k : mode.Mode) → IsLeft scene.text.now rest → (k ≡ in_mode.Atomic) ⊎ (k ≡ in_mode.CompoundAtomic) → FindsFrom scene (starting (Skipping (mode_of k)) rest a n) a rest
+  not_skipped {rest} {a} n k l e = record { found = finds_no_skipping (setting_of scene) k scene.text.now rest a e; goes_on = here scene.text.now rest l }
+
+-- when a task began makes no difference to what came of it
+pub gives_at : (scene : Scene) (k : Task) (rest : List ℕ) (a b : Now) (n i : ℕ) (o : Option (Bor (List ℕ))) → GivesFrom scene (starting k rest a n) b o → GivesFrom scene (starting k rest a i) b o
+gives_at scene k rest a b n i None x = x
+gives_at scene k rest a b n i (Some after) x = record { found = x.found; goes_on = x.goes_on }
 
 -- how the list of what waits goes on
 pub waiting_same : (scene : Scene) (m n : Machine) (whole : Start) → n.frames ≡ m.frames → IsWaiting scene (reverse m.frames.items) whole → IsWaiting scene (reverse n.frames.items) whole
@@ -203,63 +291,99 @@ module _ {scene : Scene} {m n : Machine} where
       is = k;
     }
 
-    pub pushed : (k : Task) (rest : List ℕ) → Awaits scene m (Follows scene f (starting k rest (now_of m))) → IsStarting scene n k rest
-    pushed k rest w = pushed_on (starting k rest (now_of m)) w (rw now (decides_itself (starting k rest (now_of m))))
+    pub pushed : (k : Task) (rest : List ℕ) (i : ℕ) → Awaits scene m (Follows scene f (starting k rest (now_of m) i)) → Awaits scene n (Decides scene (starting k rest (now_of n) i))
+    pushed k rest i w = pushed_on (starting k rest (now_of m) i) w (rw now (decides_itself (starting k rest (now_of m) i)))
 
-    pub pushed_skip : (k : Mode) (rest : List ℕ) → k ≡ NonAtomicMode → Awaits scene m (Follows scene f (starting (Skipping k) rest (now_of m))) → Awaits scene n (Skips scene rest (now_of n))
-    pushed_skip k rest e w = pushed_on (starting (Skipping k) rest (now_of m)) w (rw (e, now) skips_all)
+    pub pushed_skip : (k : Mode) (rest : List ℕ) → k ≡ NonAtomicMode → n.steps ≡ m.steps → Awaits scene m (Follows scene f (starting (Skipping k) rest (now_of m) (steps_of m))) → Awaits scene n (Skips scene rest (now_of n) (steps_of n))
+    pushed_skip k rest e steps w = pushed_on (starting (Skipping k) rest (now_of m) (steps_of m)) w (rw (e, now, steps) skips_all)
 
   -- a frame gets its answer at once
-  pub resumed : {relation : Start → Start → Type 0} (part : Start) {answer : Option (Bor (List ℕ))} → n.frames ≡ m.frames → Awaits scene m (relation part) → GivesFrom scene part (now_of n) answer → IsResumed scene n relation answer
-  resumed part e w g = record { part = part; whole = w.whole; waiting = waiting_same scene m n w.whole e w.waiting; follows = w.is; gives = g }
+  pub resumed : {relation : Start → Start → Type 0} (k : Task) (rest : List ℕ) {answer : Option (Bor (List ℕ))} → n.frames ≡ m.frames → n.steps ≡ m.steps → Awaits scene m (relation (starting k rest (now_of m) (steps_of m + 1))) → GivesFrom scene (starting k rest (now_of m) 0) (now_of n) answer → IsResumed scene n relation answer
+  resumed k rest {answer} e steps w g = record {
+    part = starting k rest (now_of m) (steps_of m + 1);
+    whole = w.whole;
+    waiting = waiting_same scene m n w.whole e w.waiting;
+    follows = w.is;
+    gives = gives_at scene k rest (now_of m) (now_of n) 0 (steps_of m + 1) answer g;
+    in_time = rw steps (in_time_now (steps_of m + 1));
+  }
 
-  pub starting_same : (k : Task) (rest : List ℕ) → n.frames ≡ m.frames → now_of n ≡ now_of m → IsStarting scene m k rest → IsStarting scene n k rest
-  starting_same k rest e now w = awaits_same e (λ whole d. rw now d) w
+  pub starting_same : (k : Task) (rest : List ℕ) → n.frames ≡ m.frames → now_of n ≡ now_of m → n.steps ≡ m.steps → IsStarting scene m k rest → IsStarting scene n k rest
+  starting_same k rest e now steps w = awaits_same e (λ whole d. rw (now, steps) d) w
 
 -- a frame was put on the list after a form was found to have parts
-pub entered : {scene : Scene} {n o : Machine} (m : Machine) (f : Frame) (k : Task) (rest : List ℕ) → m.frames ≡ o.frames → now_of m ≡ now_of o → now_of n ≡ now_of m → reverse n.frames.items ≡ f ∷ reverse m.frames.items → Awaits scene o (Follows scene f (starting k rest (now_of o))) → IsStarting scene n k rest
-entered {scene} {n} {o} m f k rest e now now2 frames w =
-    pushed {m = m} f now2 frames k rest (record { whole = w.whole; waiting = waiting_same scene o m w.whole e w.waiting; is = rw now w.is })
+pub entered : {scene : Scene} {n o : Machine} (m : Machine) (f : Frame) (k : Task) (rest : List ℕ) (i : ℕ) → m.frames ≡ o.frames → now_of m ≡ now_of o → now_of n ≡ now_of m → reverse n.frames.items ≡ f ∷ reverse m.frames.items → Awaits scene o (Follows scene f (starting k rest (now_of o) i)) → Awaits scene n (Decides scene (starting k rest (now_of n) i))
+entered {scene} {n} {o} m f k rest i e now now2 frames w =
+    pushed {m = m} f now2 frames k rest i (record { whole = w.whole; waiting = waiting_same scene o m w.whole e w.waiting; is = rw now w.is })
 
 -- what comes of an answer
 module _ {scene : Scene} {m n : Machine} {follows : Start → Start → Type 0} {answer : Option (Bor (List ℕ))} (r : IsResumed scene m follows answer) (same : n.frames ≡ m.frames) where
-  pub after_some : {after : Bor (List ℕ)} {known : Start → Type 0} → answer ≡ Some after → ((part whole : Start) → follows part whole → FindsFrom scene part (now_of m) after.now → known whole) → Awaits scene n known
+  pub after_some : {after : Bor (List ℕ)} {known : Start → Type 0} → answer ≡ Some after → ((part whole : Start) → follows part whole → FindsFrom scene part (now_of m) after.now → IsInTime scene part (steps_of m + 1) → known whole) → Awaits scene n known
   after_some e f = record {
     whole = r.whole;
     waiting = waiting_same scene m n r.whole same r.waiting;
-    is = f r.part r.whole r.follows (rw e at r.gives);
+    is = f r.part r.whole r.follows (rw e at r.gives) r.in_time;
   }
 
-  pub after_none : {known : Start → Type 0} → answer ≡ None → ((part whole : Start) → follows part whole → FailsFrom scene part (now_of m) → known whole) → Awaits scene n known
+  pub after_none : {known : Start → Type 0} → answer ≡ None → ((part whole : Start) → follows part whole → FailsFrom scene part (now_of m) → IsInTime scene part (steps_of m + 1) → known whole) → Awaits scene n known
   after_none e f = record {
     whole = r.whole;
     waiting = waiting_same scene m n r.whole same r.waiting;
-    is = f r.part r.whole r.follows (rw e at r.gives);
+    is = f r.part r.whole r.follows (rw e at r.gives) r.in_time;
   }
+
+-- an answer that the next step takes
+pub answers : {scene : Scene} {m : Machine} (n : ℕ) {part whole : Start} {answer : Option (Bor (List ℕ))} → IsWithin scene 1 part whole → IsInTime scene part n → GivesFrom scene whole (now_of m) answer → IsAnswered scene m n answer whole
+answers n w t g = record { gives = g; in_time = in_time_whole n w t }
+
+-- an answer that was given at once
+pub answers_at_once : {scene : Scene} {m : Machine} (n : ℕ) {k : Task} {rest : List ℕ} {a : Now} {whole : Start} {answer : Option (Bor (List ℕ))} → IsWithin scene 0 (starting k rest a n) whole → GivesFrom scene whole (now_of m) answer → IsAnswered scene m (n + 1) answer whole
+answers_at_once n w g = record { gives = g; in_time = in_time_same ((n + 1) + 1) w (in_time_soon n) }
 
 -- the start, and the end
 pub all_left : (text : List ℕ) → IsLeft text text
 all_left text = let z : length text - length text ≡ 0 = omega arith in rw z refl
 
-pub starts_at_top : (scene : Scene) (m : Machine) → m.frames.items ≡ [] → now_of m ≡ (top_of scene).now → IsStarting scene m (top_of scene).task (top_of scene).rest
-starts_at_top scene m e now = record {
+pub starts_at_top : (scene : Scene) (m : Machine) → m.frames.items ≡ [] → now_of m ≡ (top_of scene).now → steps_of m ≡ 0 → IsStarting scene m (top_of scene).task (top_of scene).rest
+starts_at_top scene m e now steps = record {
   whole = top_of scene;
   waiting = rw e refl;
-  is = rw now (decides_itself (top_of scene));
+  is = rw (now, steps) (decides_itself (top_of scene));
 }
 
-pub popped : (scene : Scene) (m n : Machine) (f : Frame) (answer : Option (Bor (List ℕ))) → m.frames.items ≡ n.frames.items ++ f ∷ [] → now_of n ≡ now_of m → Awaits scene m (λ whole. GivesFrom scene whole (now_of m) answer) → IsResumed scene n (Follows scene f) answer
+pub popped : (scene : Scene) (m n : Machine) (f : Frame) (answer : Option (Bor (List ℕ))) → m.frames.items ≡ n.frames.items ++ f ∷ [] → now_of n ≡ now_of m → Awaits scene m (IsAnswered scene m (steps_of n) answer) → IsResumed scene n (Follows scene f) answer
 popped scene m n f answer e now w =
     let r : reverse m.frames.items ≡ f ∷ reverse n.frames.items = ap reverse e ∙ reverse-append n.frames.items (f ∷ []) in
     let x : IsWaiting scene (f ∷ reverse n.frames.items) w.whole = rw r at w.waiting in
-    record { part = w.whole; whole = x.0; waiting = x.2; follows = x.1; gives = rw now w.is }
+    record { part = w.whole; whole = x.0; waiting = x.2; follows = x.1; gives = rw now w.is.gives; in_time = w.is.in_time }
 
 no_more : (fs : List Frame) → length fs ≡ 0 → fs ≡ []
 no_more [] e = refl
 no_more (f ∷ fs) e = absurd (omega arith)
 
-pub at_top : (scene : Scene) (m n : Machine) (answer : Option (Bor (List ℕ))) → length m.frames.items ≡ 0 → now_of n ≡ now_of m → Awaits scene m (λ whole. GivesFrom scene whole (now_of m) answer) → GivesFrom scene (top_of scene) (now_of n) answer
-at_top scene m n answer e now w =
+pub at_top : (scene : Scene) (m n : Machine) (i : ℕ) (answer : Option (Bor (List ℕ))) → length m.frames.items ≡ 0 → now_of n ≡ now_of m → Awaits scene m (IsAnswered scene m i answer) → GivesFrom scene (top_of scene) (now_of n) answer
+at_top scene m n i answer e now w =
     let z : m.frames.items ≡ [] = no_more m.frames.items e in
     let x : w.whole ≡ top_of scene = rw z at w.waiting in
-    rw (now, ← x) w.is
+    rw (now, ← x) w.is.gives
+
+-- what is on the way does not change with the count of the steps
+pub counted : (scene : Scene) (m n : Machine) (i : ℕ) (c : Control) → n.frames ≡ m.frames → now_of n ≡ now_of m → IsOnTheWay scene m i c → IsOnTheWay scene n i c
+counted scene m n i (control.Run f md rest) e now r = record { bound = r.bound; left = r.left; starts = awaits_same e (λ whole d. rw now d) r.starts }
+counted scene m n i (control.Answer answer) e now w = awaits_same e (λ whole a. record { gives = rw now a.gives; in_time = a.in_time }) w
+
+-- what is on the way after some steps is so before them
+pub on_the_way_sooner : (scene : Scene) (m : Machine) (n i : ℕ) (c : Control) → i ≤ n → IsOnTheWay scene m n c → IsOnTheWay scene m i c
+on_the_way_sooner scene m n i (control.Run f md rest) l r = record { bound = r.bound; left = r.left; starts = awaits_same refl (λ whole d. decides_sooner n i l d) r.starts }
+on_the_way_sooner scene m n i (control.Answer answer) l w = awaits_same refl (λ whole a. record { gives = a.gives; in_time = in_time_less (n + 1) (i + 1) (omega arith) a.in_time }) w
+
+-- what is on the way at the end of the steps
+pub out_of_steps : (scene : Scene) (m : Machine) (n : ℕ) (c : Control) → IsOnTheWay scene m n c → (classes : Classes) → Fits scene.program.now.properties.items classes → (o : Outcome) (d : HasFrom scene classes (top_of scene) o) → n < most_steps d
+out_of_steps scene m n (control.Run f md rest) r classes fits o d =
+    let w = within_then r.starts.is.within (within_top (reverse m.frames.items) r.starts.whole r.starts.waiting) in
+    let x = w.each classes fits o d in
+    omega (arith, positive x.1, x.2)
+out_of_steps scene m n (control.Answer answer) r classes fits o d =
+    let w = within_top (reverse m.frames.items) r.whole r.waiting in
+    let t = in_time_same (n + 1) w r.is.in_time in
+    omega (arith, t.each classes fits o d)

@@ -1,5 +1,5 @@
 -- What a text has for a rule.
-use Rattle.std.specs.Prelude.{◌≡◌, List, [], ℕ, None, chars, ⊤}
+use Rattle.std.specs.Prelude.{◌≡◌, ◌<◌, List, [], ℕ, None, chars, ⊤}
 use Rattle.std.specs.Borrow.{Bor}
 use Rattle.meta_base.specs.Language.Text.{Text}
 use Rattle.meta_base.specs.Language.Expression.{Grammar, Ident, rule_of}
@@ -13,13 +13,17 @@ use Rattle.meta_matcher.specs.declared.entries.Entry.{Entry}
 use Rattle.meta_matcher.specs.declared.matcher.Refusal.{Refusal}
 use Rattle.meta_matcher.specs.declared.matcher.Refusal.TheVariants as is
 use Rattle.meta_matcher.specs.declared.matcher.Matcher.{Matcher}
+use Rattle.meta_matcher.specs.declared.machine.Stop.{Stop}
+use Rattle.meta_matcher.specs.declared.machine.Stop.TheVariants as stop
 use Rattle.meta_matcher.specs.Programs.{Fits, IsSound}
+use Rattle.meta_matcher.specs.Sizes.{most_steps}
 use Rattle.meta_matcher.specs.Told.{each_once, told_of}
 use Rattle.meta_matcher.specs.Written.{seen}
 
 -- the names of its rules mean what they are resolved to
 abbrev pub IsSoundMatcher : Matcher → Type 0
-IsSoundMatcher matcher = IsSound matcher.program.rows.items matcher.program.properties.items matcher.program.whitespace matcher.program.comment
+IsSoundMatcher matcher = IsSound matcher.program.rows.items matcher.program.properties.items
+    matcher.program.whitespace matcher.program.comment
 
 -- the start of a text, with the empty stack
 abbrev pub start_of : List ℕ → State
@@ -30,19 +34,36 @@ abbrev pub Has : Grammar → Text → List ℕ → Classes → Outcome → Type 
 Has g n text classes o = Matches g classes (Ident n) NonAtomicMode (start_of text) o
 
 -- these are the entries of the trees that the rule gives, and it ends there, whatever the classes are
-pub record IsMatched (g : Grammar) (ps : List Property) (n : Text) (text : List ℕ) (end_ : ℕ) (es : List Entry) : Type 0 where
+pub record IsMatched (g : Grammar) (ps : List Property) (n : Text) (text : List ℕ) (end_ : ℕ)
+    (es : List Entry) : Type 0 where
   pub trees : Trees
   pub found : (classes : Classes) → Fits ps classes
       → (t : State) × (t.position ≡ end_) × Has g n text classes (Success t trees)
   pub entries : seen es ≡ entries_of 0 trees
 
+-- memory was wanting; or each outcome of the rule takes more steps than there were; or, where the stack was
+-- empty for `PEEK` or `POP`, the rule has no outcome: whatever the classes are
+abbrev pub IsStopped : Grammar → List Property → Text → List ℕ → ℕ → Stop → Type 0
+IsStopped g ps n text steps stop.Memory = ⊤
+IsStopped g ps n text steps stop.OutOfSteps =
+    (classes : Classes) → Fits ps classes → (o : Outcome) (d : Has g n text classes o) → steps < most_steps d
+IsStopped g ps n text steps stop.EmptyStack =
+    (classes : Classes) → Fits ps classes → (o : Outcome) → Has g n text classes o → ⊥
+
 -- no rule has the name; or the rule fails, whatever the classes are, and this is the place of the failure; or
--- the run was stopped
-abbrev pub IsRefused : Grammar → List Property → Text → List ℕ → Refusal → Type 0
-IsRefused g ps n text (is.UnknownRule name) = (rule_of g n ≡ None) × (chars name.now ≡ n)
-IsRefused g ps n text (is.NoMatch place) =
+-- the run, of so many steps at most, was stopped
+abbrev pub IsRefused : Grammar → List Property → Text → List ℕ → ℕ → Refusal → Type 0
+IsRefused g ps n text steps (is.UnknownRule name) = (rule_of g n ≡ None) × (chars name.now ≡ n)
+IsRefused g ps n text steps (is.NoMatch place) =
     (classes : Classes) → Fits ps classes → (d : Has g n text classes Failure) × (place ≡ furthest d)
-IsRefused g ps n text (is.Stopped stop) = ⊤
+IsRefused g ps n text steps (is.Stopped why) = IsStopped g ps n text steps why
+
+-- the same where the run ends, so that it was stopped by want of memory alone
+abbrev pub IsRefusedAtTheEnd : Grammar → List Property → Text → List ℕ → Refusal → Type 0
+IsRefusedAtTheEnd g ps n text (is.UnknownRule name) = (rule_of g n ≡ None) × (chars name.now ≡ n)
+IsRefusedAtTheEnd g ps n text (is.NoMatch place) =
+    (classes : Classes) → Fits ps classes → (d : Has g n text classes Failure) × (place ≡ furthest d)
+IsRefusedAtTheEnd g ps n text (is.Stopped why) = why ≡ stop.Memory
 
 -- the names are those that are expected at a place, whatever the classes are: each once, in the order of their
 -- calls, where the rule fails or matches
@@ -50,8 +71,8 @@ abbrev pub AreExpectedAt : Grammar → List Property → Text → List ℕ → �
 AreExpectedAt g ps n text place names = (classes : Classes) → Fits ps classes
     → (o : Outcome) × (d : Has g n text classes o) × (told_of names ≡ each_once (expected_at place d))
 
--- no rule has the name; or the run was stopped
-abbrev pub IsUnanswered : Grammar → Text → Refusal → Type 0
-IsUnanswered g n (is.UnknownRule name) = (rule_of g n ≡ None) × (chars name.now ≡ n)
-IsUnanswered g n (is.NoMatch place) = ⊥
-IsUnanswered g n (is.Stopped stop) = ⊤
+-- no rule has the name; or the run, of so many steps at most, was stopped
+abbrev pub IsUnanswered : Grammar → List Property → Text → List ℕ → ℕ → Refusal → Type 0
+IsUnanswered g ps n text steps (is.UnknownRule name) = (rule_of g n ≡ None) × (chars name.now ≡ n)
+IsUnanswered g ps n text steps (is.NoMatch place) = ⊥
+IsUnanswered g ps n text steps (is.Stopped why) = IsStopped g ps n text steps why

@@ -1,10 +1,10 @@
 -- What waits for an answer, and what the answer makes of it.
-use Rattle.std.specs.Prelude.{◌≡◌, ◌<◌, ℕ, ◌-◌, List, [], ◌∷◌, Bool, true, ◌&&◌, IsUtf8, Option, Some, None, chars, length, reverse, take, ⊤}
+use Rattle.std.specs.Prelude.{◌≡◌, ◌<◌, ◌≤◌, ℕ, ◌+◌, ◌-◌, List, [], ◌∷◌, Bool, true, ◌&&◌, IsUtf8, Option, Some, None, Result, Ok, Err, chars, length, reverse, take, ⊤}
 use Rattle.std.specs.Borrow.{Bor}
 use Rattle.meta_ast.specs.Ast.{rule_type_of, text_of}
 use Rattle.meta_base.specs.Language.Expression.{Expression, Ident, Rep, Seq, comment, whitespace}
-use Rattle.meta_base.specs.Language.Meaning.{Run, Skipping, Task, Turns, gives_token, seen_from}
-use Rattle.meta_base.specs.Language.State.{Between, NonAtomicMode}
+use Rattle.meta_base.specs.Language.Meaning.{Does, Run, Skipping, Task, Turns, gives_token, seen_from}
+use Rattle.meta_base.specs.Language.State.{Between, Classes, NonAtomicMode, Outcome}
 use Rattle.meta_matcher.specs.declared.form.Form.{Form}
 use Rattle.meta_matcher.specs.declared.form.Form.TheVariants as form
 use Rattle.meta_matcher.specs.declared.modes.Mode.{Mode}
@@ -20,22 +20,29 @@ use Rattle.meta_matcher.specs.declared.frames.Frame.TheVariants as frame
 use Rattle.meta_matcher.specs.declared.frames.Control.{Control}
 use Rattle.meta_matcher.specs.declared.frames.Control.TheVariants as control
 use Rattle.meta_matcher.specs.declared.frames.AtOnce.{AtOnce}
+use Rattle.meta_matcher.specs.declared.frames.Came.{Came}
+use Rattle.meta_matcher.specs.declared.frames.Came.TheVariants as came
 use Rattle.meta_matcher.specs.declared.frames.AtOnce.TheVariants as at_once
 use Rattle.meta_matcher.specs.declared.machine.Machine.{Machine}
 use Rattle.meta_matcher.specs.declared.machine.Scene.{Scene}
-use Rattle.meta_matcher.specs.Machines.{IsBoundIn, now_of, said, setting_of}
-use Rattle.meta_matcher.specs.Runs.{Fails, Finds, GoesOn, IsLeft, IsReset, Now, forgetting, mode_of, noting}
+use Rattle.meta_matcher.specs.declared.machine.Stop.{Stop}
+use Rattle.meta_matcher.specs.declared.machine.Stop.TheVariants as stop
+use Rattle.meta_matcher.specs.Machines.{IsBoundIn, grammar_in, now_of, said, setting_of, steps_of}
+use Rattle.meta_matcher.specs.Programs.{Fits}
+use Rattle.meta_matcher.specs.Runs.{Fails, Finds, GoesOn, IsLeft, IsReset, Now, forgetting, mode_of, noting, standing}
+use Rattle.meta_matcher.specs.Sizes.{most_steps}
 use Rattle.meta_matcher.specs.Stacked.{stack_of}
 use Rattle.meta_matcher.specs.Written.{Closes}
 
--- where a task starts: what is left of the text, and what there is then
+-- where a task starts: what is left of the text, what there is then, and how many steps were taken before
 pub record Start : Type 0 where
   pub task : Task
   pub rest : List ℕ
   pub now : Now
+  pub since : ℕ
 
-abbrev pub starting : Task → List ℕ → Now → Start
-starting k rest now = record { task = k; rest = rest; now = now }
+abbrev pub starting : Task → List ℕ → Now → ℕ → Start
+starting k rest now n = record { task = k; rest = rest; now = now; since = n }
 
 -- what comes second in a sequence, as an expression; and its names mean what it says
 abbrev pub said_second : Scene → second.Second → Expression
@@ -56,7 +63,7 @@ comments = Run Between (Rep (Seq (Ident comment) (Rep (Ident whitespace))))
 -- the rule that is called, at the start of the text, with nothing yet
 abbrev pub top_of : Scene → Start
 top_of scene = starting (Run NonAtomicMode (Ident (text_of scene.row.now.name))) scene.text.now
-    (record { entries = []; stack = []; notes = record { furthest = 0; told = [] } })
+    (record { entries = []; stack = []; notes = record { furthest = 0; told = [] } }) 0
 
 -- the form has parts
 abbrev pub IsNested : Form → Type 0
@@ -73,6 +80,18 @@ IsNested (form.Tag' p a t) = ⊤
 IsNested (form.Restore' p a) = ⊤
 IsNested _ = ⊥
 
+-- memory was wanting, or the stack is empty
+abbrev pub IsOutOfTexts : Stop → Machine → Type 0
+IsOutOfTexts stop.Memory m = ⊤
+IsOutOfTexts stop.OutOfSteps m = ⊥
+IsOutOfTexts stop.EmptyStack m = stack_of m.stack ≡ []
+
+-- memory was wanting, or the form is `PEEK` or `POP` and the stack is empty
+abbrev pub IsStuckAtOnce : Form → Machine → Stop → Type 0
+IsStuckAtOnce form.Peek m why = IsOutOfTexts why m
+IsStuckAtOnce form.Pop m why = IsOutOfTexts why m
+IsStuckAtOnce _ m why = why ≡ stop.Memory
+
 module _ (scene : Scene) where
   -- from this start the task was found to succeed, and to leave these bytes
   pub record FindsFrom (s : Start) (later : Now) (after : List ℕ) : Type 0 where
@@ -87,17 +106,39 @@ module _ (scene : Scene) where
   GivesFrom s later None = FailsFrom s later
   GivesFrom s later (Some after) = FindsFrom s later after.now
 
+  -- the task has this outcome from its start
+  abbrev pub HasFrom : Classes → Start → Outcome → Type 0
+  HasFrom classes s o = Does (grammar_in scene) classes s.task (standing scene.text.now s.rest s.now.stack) o
+
+  -- in each derivation of the whole is one of the part, and n steps of those for the whole are left after it
+  pub record IsWithin (n : ℕ) (part whole : Start) : Type 0 where
+    pub each : (classes : Classes) → Fits scene.program.now.properties.items classes
+        → (o : Outcome) (d : HasFrom classes whole o) → (p : Outcome) × (e : HasFrom classes part p)
+        × ((part.since + most_steps e) + n ≤ whole.since + most_steps d)
+
+  -- once the task is done, n steps were taken: as many as there are for its derivations, at most
+  pub record IsInTime (s : Start) (n : ℕ) : Type 0 where
+    pub each : (classes : Classes) → Fits scene.program.now.properties.items classes
+        → (o : Outcome) (d : HasFrom classes s o) → n ≤ s.since + most_steps d
+
   -- where the part is found, the whole is found to end there
   abbrev pub Ends : Start → Start → Type 0
   Ends part whole = (b : Now) (after : List ℕ) → FindsFrom part b after → FindsFrom whole b after
 
+  -- the part, which never fails, is what is left to be done of the whole
+  pub record Finishes (part whole : Start) : Type 0 where
+    pub within : IsWithin 0 part whole
+    pub found : Ends part whole
+
   -- what comes of the part comes of the whole
   pub record Decides (part whole : Start) : Type 0 where
+    pub within : IsWithin 0 part whole
     pub found : Ends part whole
     pub failed : (b : Now) → FailsFrom part b → FailsFrom whole b
 
   -- the second form of a sequence is run: where it fails, so does the sequence, with all put back
   pub record IsSecond (mark : Mark) (part whole : Start) : Type 0 where
+    pub within : IsWithin 1 part whole
     pub found : Ends part whole
     pub failed : (b c : Now) → FailsFrom part b → IsReset mark.entries (stack_of mark.stack) b c
         → FailsFrom whole c
@@ -105,52 +146,60 @@ module _ (scene : Scene) where
   -- the skipping is run: the second form comes where it ends
   pub record IsGap (s : Sequence) (part whole : Start) : Type 0 where
     pub bound : IsBoundSecond scene s.second
-    pub found : (b : Now) (after : List ℕ) → FindsFrom part b after
-        → IsSecond s.mark (starting (Run (mode_of s.mode) (said_second scene s.second)) after b) whole
+    pub within : IsWithin 1 part whole
+    pub found : (b : Now) (after : List ℕ) (n : ℕ) → FindsFrom part b after → IsInTime part n
+        → IsSecond s.mark (starting (Run (mode_of s.mode) (said_second scene s.second)) after b n) whole
     pub failed : (b c : Now) → FailsFrom part b → IsReset s.mark.entries (stack_of s.mark.stack) b c
         → FailsFrom whole c
 
   -- the first form is run: the skipping comes where it ends
   pub record IsFirst (s : Sequence) (part whole : Start) : Type 0 where
-    pub found : (b : Now) (after : List ℕ) → FindsFrom part b after
-        → IsGap s (starting (Skipping (mode_of s.mode)) after b) whole
+    pub within : IsWithin 1 part whole
+    pub found : (b : Now) (after : List ℕ) (n : ℕ) → FindsFrom part b after → IsInTime part n
+        → IsGap s (starting (Skipping (mode_of s.mode)) after b n) whole
     pub failed : (b : Now) → FailsFrom part b → FailsFrom whole b
 
   -- the left side of a choice is run: where it fails, the right side decides
   pub record IsLeftSide (right : Form) (mode : Mode) (rest : List ℕ) (part whole : Start) : Type 0 where
     pub bound : IsBoundIn scene right
     pub left : IsLeft scene.text.now rest
+    pub within : IsWithin 1 part whole
     pub found : Ends part whole
-    pub failed : (b : Now) → FailsFrom part b
-        → Decides (starting (Run (mode_of mode) (said scene right)) rest b) whole
+    pub failed : (b : Now) (n : ℕ) → FailsFrom part b → IsInTime part n
+        → Decides (starting (Run (mode_of mode) (said scene right)) rest b n) whole
 
   -- the form of an option is run: where it fails, nothing is taken
   pub record IsOptional (rest : List ℕ) (part whole : Start) : Type 0 where
+    pub within : IsWithin 1 part whole
     pub found : Ends part whole
     pub failed : (b : Now) → FailsFrom part b → FindsFrom whole b rest
 
   -- the form of a repetition is run: further turns come where it ends, and the last one is put back
   pub record IsTurn (r : Repetition) (part whole : Start) : Type 0 where
     pub bound : IsBoundIn scene r.body.now
-    pub found : (b : Now) (after : List ℕ) → FindsFrom part b after
-        → Ends (starting (Turns (mode_of r.mode) (said scene r.body.now)) after b) whole
+    pub within : IsWithin 1 part whole
+    pub found : (b : Now) (after : List ℕ) (n : ℕ) → FindsFrom part b after → IsInTime part n
+        → Finishes (starting (Turns (mode_of r.mode) (said scene r.body.now)) after b n) whole
     pub failed : (b c : Now) → FailsFrom part b → IsReset r.mark.entries (stack_of r.mark.stack) b c
         → FindsFrom whole c r.rest.now
 
   -- the skipping before it is run
   pub record IsTurnGap (r : Repetition) (part whole : Start) : Type 0 where
-    pub found : (b : Now) (after : List ℕ) → FindsFrom part b after
-        → IsTurn r (starting (Run (mode_of r.mode) (said scene r.body.now)) after b) whole
+    pub within : IsWithin 1 part whole
+    pub found : (b : Now) (after : List ℕ) (n : ℕ) → FindsFrom part b after → IsInTime part n
+        → IsTurn r (starting (Run (mode_of r.mode) (said scene r.body.now)) after b n) whole
     pub failed : (b c : Now) → FailsFrom part b → IsReset r.mark.entries (stack_of r.mark.stack) b c
         → FindsFrom whole c r.rest.now
 
   -- the form of a predicate is run: all that it did is put back, and what is told below a `!` is forgotten
   pub record IsNegated (p : Predicate) (told : ℕ) (part whole : Start) : Type 0 where
+    pub within : IsWithin 1 part whole
     pub found : (b c : Now) (after : List ℕ) → FindsFrom part b after
         → IsReset p.mark.entries (stack_of p.mark.stack) (forgetting told b) c → FailsFrom whole c
     pub failed : (b : Now) → FailsFrom part b → FindsFrom whole (forgetting told b) p.rest.now
 
   pub record IsAhead (p : Predicate) (part whole : Start) : Type 0 where
+    pub within : IsWithin 1 part whole
     pub found : (b c : Now) (after : List ℕ) → FindsFrom part b after
         → IsReset p.mark.entries (stack_of p.mark.stack) b c → FindsFrom whole c p.rest.now
     pub failed : (b : Now) → FailsFrom part b → FailsFrom whole b
@@ -158,25 +207,33 @@ module _ (scene : Scene) where
   -- a form is run whose text is pushed
   pub record IsPushed (rest : List ℕ) (part whole : Start) : Type 0 where
     pub from : part.rest ≡ rest
+    pub left : IsLeft scene.text.now rest
+    pub within : IsWithin 1 part whole
     pub found : (b c : Now) (after taken : List ℕ) → FindsFrom part b after
         → taken ≡ take (length rest - length after) rest → IsUtf8 taken → c.entries ≡ b.entries
         → c.notes ≡ b.notes → c.stack ≡ chars taken ∷ b.stack → FindsFrom whole c after
     pub failed : (b : Now) → FailsFrom part b → FailsFrom whole b
 
-  -- the blanks from here on, and then the comments, end where the whole ends
-  abbrev pub Skips : List ℕ → Now → Start → Type 0
-  Skips rest now whole = (b c : Now) (middle after : List ℕ) → FindsFrom (starting blanks rest now) b middle
-      → FindsFrom (starting comments middle b) c after → FindsFrom whole c after
+  -- the blanks from here on, and then the comments, are what is left to be done of the whole
+  pub record Skips (rest : List ℕ) (now : Now) (since : ℕ) (whole : Start) : Type 0 where
+    pub within : IsWithin 0 (starting blanks rest now since) whole
+    pub found : (b : Now) (middle : List ℕ) (n : ℕ) → FindsFrom (starting blanks rest now since) b middle
+        → IsInTime (starting blanks rest now since) n → Finishes (starting comments middle b n) whole
 
   -- a blank is run: more come where it ends, or else the comments
   pub record IsBlank (rest : List ℕ) (part whole : Start) : Type 0 where
     pub left : IsLeft scene.text.now rest
-    pub found : (b : Now) (after : List ℕ) → FindsFrom part b after → Skips after b whole
-    pub failed : (b : Now) → FailsFrom part b → Ends (starting comments rest b) whole
+    pub within : IsWithin 1 part whole
+    pub found : (b : Now) (after : List ℕ) (n : ℕ) → FindsFrom part b after → IsInTime part n
+        → Skips after b n whole
+    pub failed : (b : Now) (n : ℕ) → FailsFrom part b → IsInTime part n
+        → Finishes (starting comments rest b n) whole
 
   -- a comment is run: blanks and further comments come where it ends
   pub record IsComment (rest : List ℕ) (part whole : Start) : Type 0 where
-    pub found : (b : Now) (after : List ℕ) → FindsFrom part b after → Skips after b whole
+    pub within : IsWithin 1 part whole
+    pub found : (b : Now) (after : List ℕ) (n : ℕ) → FindsFrom part b after → IsInTime part n
+        → Skips after b n whole
     pub failed : (b : Now) → FailsFrom part b → FindsFrom whole b rest
 
   -- whether a call gives a token
@@ -186,6 +243,7 @@ module _ (scene : Scene) where
   -- the body of a rule is run: its trees come to stand in one tree, or its failure is noted
   pub record IsCall (k : Called) (part whole : Start) : Type 0 where
     pub opened : gives_in k ≡ true → k.first < length part.now.entries
+    pub within : IsWithin 1 part whole
     pub found : (b c : Now) (after : List ℕ) → FindsFrom part b after
         → Closes (gives_in k) (text_of k.row.now.name) k.place (length scene.text.now - length after) k.first
         b.entries c.entries
@@ -221,11 +279,11 @@ module _ (scene : Scene) where
     pub waiting : IsWaiting (reverse m.frames.items) whole
     pub is : known whole
 
-  -- what comes of a task, from here on, comes of what is waited for
+  -- what comes of a task that is begun in this step comes of what is waited for
   abbrev pub IsStarting : Machine → Task → List ℕ → Type 0
-  IsStarting m k rest = Awaits m (Decides (starting k rest (now_of m)))
+  IsStarting m k rest = Awaits m (Decides (starting k rest (now_of m) (steps_of m)))
 
-  -- a frame that was taken off the list gets an answer
+  -- a frame that was taken off the list gets an answer, which this step takes
   pub record IsResumed (m : Machine) (relation : Start → Start → Type 0)
       (answer : Option (Bor (List ℕ))) : Type 0 where
     pub part : Start
@@ -233,19 +291,44 @@ module _ (scene : Scene) where
     pub waiting : IsWaiting (reverse m.frames.items) whole
     pub follows : relation part whole
     pub gives : GivesFrom part (now_of m) answer
+    pub in_time : IsInTime part (steps_of m + 1)
 
-  -- what the machine does next leads to what comes of the rule that is called
-  pub record IsRunning (m : Machine) (f : Form) (mode : Mode) (rest : List ℕ) : Type 0 where
+  -- the form that is run once n steps were taken
+  pub record IsRunning (m : Machine) (n : ℕ) (f : Form) (mode : Mode) (rest : List ℕ) : Type 0 where
     pub bound : IsBoundIn scene f
     pub left : IsLeft scene.text.now rest
-    pub starts : IsStarting m (Run (mode_of mode) (said scene f)) rest
+    pub starts : Awaits m (Decides (starting (Run (mode_of mode) (said scene f)) rest (now_of m) n))
 
-  abbrev pub IsOnTheWay : Machine → Control → Type 0
-  IsOnTheWay m (control.Run f mode rest) = IsRunning m f.now mode rest.now
-  IsOnTheWay m (control.Answer answer) = Awaits m (λ whole. GivesFrom whole (now_of m) answer)
+  -- the answer that is given once n steps were taken, which the next one takes
+  pub record IsAnswered (m : Machine) (n : ℕ) (answer : Option (Bor (List ℕ))) (whole : Start) : Type 0 where
+    pub gives : GivesFrom whole (now_of m) answer
+    pub in_time : IsInTime whole (n + 1)
+
+  -- what the machine does once n steps were taken leads to what comes of the rule that is called
+  abbrev pub IsOnTheWay : Machine → ℕ → Control → Type 0
+  IsOnTheWay m n (control.Run f mode rest) = IsRunning m n f.now mode rest.now
+  IsOnTheWay m n (control.Answer answer) = Awaits m (IsAnswered m n answer)
+
+  -- a run is stopped by want of memory, or on the empty stack, where the rule that is called has no outcome
+  abbrev pub IsStuck : Stop → Type 0
+  IsStuck stop.Memory = ⊤
+  IsStuck stop.OutOfSteps = ⊥
+  IsStuck stop.EmptyStack = (classes : Classes) → Fits scene.program.now.properties.items classes
+      → (o : Outcome) → HasFrom classes (top_of scene) o → ⊥
+
+  -- what comes of a step
+  abbrev pub Leads : Machine → ℕ → Result Control Stop → Type 0
+  Leads m n (Ok c) = IsOnTheWay m n c
+  Leads m n (Err why) = IsStuck why
+
+  -- what comes of several steps, after which n were taken in all
+  abbrev pub Comes : Machine → ℕ → Result Came Stop → Type 0
+  Comes m n (Ok (came.Ended answer)) = GivesFrom (top_of scene) (now_of m) answer
+  Comes m n (Ok (came.Going c)) = IsOnTheWay m n c
+  Comes m n (Err why) = IsStuck why
 
   -- what comes of a form that is run at once: an answer, or nothing where it has parts
   abbrev pub ComesAtOnce : Form → Mode → List ℕ → Machine → Machine → AtOnce → Type 0
   ComesAtOnce f mode rest old new (at_once.Answered answer) =
-      GivesFrom (starting (Run (mode_of mode) (said scene f)) rest (now_of old)) (now_of new) answer
+      GivesFrom (starting (Run (mode_of mode) (said scene f)) rest (now_of old) 0) (now_of new) answer
   ComesAtOnce f mode rest old new at_once.Nested = (now_of new ≡ now_of old) × IsNested f

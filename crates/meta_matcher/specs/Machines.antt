@@ -1,5 +1,5 @@
 -- What a machine keeps, and what its functions say.
-use Rattle.std.specs.Prelude.{◌≡◌, ℕ, List, Option, length}
+use Rattle.std.specs.Prelude.{◌≡◌, ◌+◌, ◌*◌, ℕ, List, Option, length}
 use Rattle.std.specs.Borrow.{Bor}
 use Rattle.meta_base.specs.Language.Text.{Text}
 use Rattle.meta_base.specs.Language.Expression.{Expression, Grammar, whitespace, comment}
@@ -22,6 +22,13 @@ now_of m = record {
   stack = stack_of m.stack;
   notes = record { furthest = m.furthest; told = told_of m.told.items };
 }
+
+-- how many steps a round has, and how many were taken
+abbrev pub round : ℕ
+round = 18446744073709551614
+
+abbrev pub steps_of : Machine → ℕ
+steps_of m = m.steps.rounds * round + m.steps.since
 
 -- the names of a scene's rules, and the grammar that they are
 abbrev pub names_within : Scene → List Text

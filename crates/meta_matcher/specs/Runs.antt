@@ -1,5 +1,5 @@
 -- What a run answers.
-use Rattle.std.specs.Prelude.{◌≡◌, ℕ, ◌-◌, ◌≤◌, ◌&&◌, max, List, ◌++◌, Bool, Option, Some, None, drop, take, length, chars, if◌then◌else◌, nat_eq, ⊤}
+use Rattle.std.specs.Prelude.{◌≡◌, ℕ, suc, ◌-◌, ◌≤◌, ◌&&◌, max, List, [], ◌∷◌, ◌++◌, Bool, Option, Some, None, drop, take, length, chars, if◌then◌else◌, nat_eq, ⊤}
 use Rattle.std.specs.Borrow.{Bor}
 use Rattle.meta_base.specs.Language.Text.{Text}
 use Rattle.meta_base.specs.Language.Expression.{Grammar}
@@ -39,6 +39,11 @@ abbrev pub Progress : List ℕ → List ℕ → Option (Bor (List ℕ)) → Type
 Progress text rest None = ⊤
 Progress text rest (Some after) = GoesOn text rest after.now
 
+-- how many characters from the start on are in a set
+abbrev pub span : (ℕ → Bool) → Text → ℕ
+span set [] = 0
+span set (c ∷ u) = let n = span set u in if set c then suc n else 0
+
 -- what is noted of failures: the furthest place of one, and which names are told at the place that is asked for
 pub record Notes : Type 0 where
   pub furthest : ℕ
@@ -76,7 +81,8 @@ pub record Finds (g : Setting) (k : Task) (text rest : List ℕ) (a b : Now) (af
   pub trees : Trees
   pub added : b.entries ≡ a.entries ++ entries_of (length a.entries) trees
   pub ran : (classes : Classes) → Fits g.properties classes
-      → Ran g.grammar classes g.asked k (standing text rest a.stack) (Success (standing text after b.stack) trees) a.notes b.notes
+      → Ran g.grammar classes g.asked k (standing text rest a.stack)
+      (Success (standing text after b.stack) trees) a.notes b.notes
 
 abbrev pub Gives : Setting → Task → List ℕ → List ℕ → Now → Now → Option (Bor (List ℕ)) → Type 0
 Gives g k text rest a b None = Fails g k text rest a b

@@ -7,12 +7,15 @@ ghost use Rattle.meta_base.specs.Language.Builtins.{is_one_of, property_names};
 ghost use Rattle.meta_matcher.specs.declared.form.Property.{Property};
 ghost use Rattle.meta_matcher.specs.Programs.{Fits, IsNumberOf, IsRow, IsSkippedRule, IsSound, class_name, grammar_of, rule_of_row};
 ghost use Rattle.meta_matcher.specs.Compiled.{Compiles, names_in};
+ghost use Rattle.meta_matcher.specs.Indexed.{KnowsLast};
 ghost use Rattle.meta_ast.specs.Ast.{text_of};
 
 use crate::form::{Class, Form, Program, Property, Row};
+use crate::forms::form_of;
+use crate::indexed::{Indexed, numbered};
 use crate::properties::{Properties, properties_in};
-use meta_ast::optimized::{OptimizedExpr, OptimizedRule};
-use meta_ast::texts::copy_texts;
+use crate::sets::{firsts_of, gathered};
+use meta_ast::optimized::OptimizedRule;
 use meta_names::unicode_property_names;
 use std::alloc::{AllocError, Global};
 
@@ -38,20 +41,6 @@ pub(crate) fn same(a: &str, b: &str) -> bool
     ensures { result ≡ bytes_eq (chars a.now) (chars b.now) }
 {
     a == b
-}
-
-/// The number of the last rule of a name.
-pub(crate) fn find_rule(rules: &[OptimizedRule], name: &str) -> Option<usize>
-    ensures { IsSkippedRule (optimized_rules_of rules.now) (chars name.now) result }
-{
-    let mut below = rules.len();
-    while below > 0 {
-        below -= 1;
-        if same(rules[below].name.as_str(), name) {
-            return Some(below);
-        }
-    }
-    None
 }
 
 /// The name of a class.
@@ -111,7 +100,7 @@ fn single(text: &str) -> Option<char>
 }
 
 /// The one character of a range's bound.
-fn bound(text: &String) -> Result<char, Unfit>
+pub(crate) fn bound(text: &String) -> Result<char, Unfit>
     ensures { IfOk result (λ c. text_of text.now ≡ c ∷ []) }
 {
     match single(text.as_str()) {
@@ -205,84 +194,21 @@ fn builtin(properties: &[Property], name: &String) -> Result<Option<Form>, Alloc
 }
 
 /// What a name stands for: the last rule of that name, or else a builtin.
-fn named(rules: &[OptimizedRule], properties: &[Property], name: &String) -> Result<Form, Unfit>
-    ensures { IfOk result
-        (Compiles (optimized_rules_of rules.now) properties.now (Ident (text_of name.now))) }
+pub(crate) fn named(
+    rules: &Indexed<'_>,
+    properties: &[Property],
+    name: &String,
+) -> Result<Form, Unfit>
+    requires { KnowsLast (optimized_rules_of rules.now.rules.now) rules.now.numbers }
+    ensures { IfOk result (Compiles (optimized_rules_of rules.now.rules.now) properties.now
+        (Ident (text_of name.now))) }
 {
-    match find_rule(rules, name.as_str()) {
+    match rules.number_of(name.as_str()) {
         Some(number) => Ok(Form::Call(number)),
         None => match builtin(properties, name)? {
             Some(form) => Ok(form),
             None => Err(Unfit::UnknownName(name.clone()?)),
         },
-    }
-}
-
-/// The form of an expression.
-#[cycle(compile)]
-fn form_of(
-    alloc: Global,
-    rules: &[OptimizedRule],
-    properties: &[Property],
-    expr: &OptimizedExpr,
-) -> Result<Form, Unfit>
-    ensures { IfOk result
-        (Compiles (optimized_rules_of rules.now) properties.now (optimized_expression_of expr.now)) }
-{
-    match expr {
-        OptimizedExpr::Str(text) => Ok(Form::Str(text.clone()?)),
-        OptimizedExpr::Insens(text) => Ok(Form::Insens(text.clone()?)),
-        OptimizedExpr::Range(low, high) => {
-            let first = bound(low)?;
-            let last = bound(high)?;
-            Ok(Form::Range(first, last))
-        }
-        OptimizedExpr::Ident(name) => named(rules, properties, name),
-        OptimizedExpr::PeekSlice(start, end) => Ok(Form::PeekSlice(*start, *end)),
-        OptimizedExpr::PosPred(inner) => Ok(Form::PosPred(boxed(alloc, rules, properties, inner)?)),
-        OptimizedExpr::NegPred(inner) => Ok(Form::NegPred(boxed(alloc, rules, properties, inner)?)),
-        OptimizedExpr::Seq(left, right) => {
-            let first = boxed(alloc, rules, properties, left)?;
-            let second = boxed(alloc, rules, properties, right)?;
-            Ok(Form::Seq(first, second))
-        }
-        OptimizedExpr::Choice(left, right) => {
-            let first = boxed(alloc, rules, properties, left)?;
-            let second = boxed(alloc, rules, properties, right)?;
-            Ok(Form::Choice(first, second))
-        }
-        OptimizedExpr::Opt(inner) => Ok(Form::Opt(boxed(alloc, rules, properties, inner)?)),
-        OptimizedExpr::Rep(inner) => Ok(Form::Rep(boxed(alloc, rules, properties, inner)?)),
-        OptimizedExpr::RepOnce(inner) => Ok(Form::RepOnce(boxed(alloc, rules, properties, inner)?)),
-        OptimizedExpr::Skip(texts) => Ok(Form::Skip(copy_texts(texts)?)),
-        OptimizedExpr::Push(inner) => Ok(Form::Push(boxed(alloc, rules, properties, inner)?)),
-        OptimizedExpr::PushLiteral(text) => Ok(Form::PushLiteral(text.clone()?)),
-        OptimizedExpr::NodeTag(inner, tag) => {
-            let tag = tag.clone()?;
-            Ok(Form::Tag(boxed(alloc, rules, properties, inner)?, tag))
-        }
-        OptimizedExpr::RestoreOnErr(inner) => Ok(Form::Restore(boxed(
-            alloc, rules, properties, inner,
-        )?)),
-    }
-}
-
-/// The form of an expression, in a box.
-#[cycle(compile)]
-fn boxed(
-    alloc: Global,
-    rules: &[OptimizedRule],
-    properties: &[Property],
-    expr: &OptimizedExpr,
-) -> Result<Box<Form>, Unfit>
-    ensures { IfOk result
-        (λ form. Compiles (optimized_rules_of rules.now) properties.now
-        (optimized_expression_of expr.now) form.value) }
-{
-    let form = form_of(alloc, rules, properties, expr)?;
-    match Box::new(alloc, form) {
-        Ok(form) => Ok(form),
-        Err(_) => Err(Unfit::Memory),
     }
 }
 
@@ -300,39 +226,40 @@ fn is_blank(name: &str) -> bool
 /// The row of a rule.
 fn row_of(
     alloc: Global,
-    rules: &[OptimizedRule],
+    rules: &Indexed<'_>,
     properties: &[Property],
     rule: &OptimizedRule,
 ) -> Result<Row, Unfit>
-    ensures says { IfOk result (λ row. rule_of_row (names_in (optimized_rules_of rules.now)) row ≡ optimized_rule_of rule.now) }
-    ensures sound { IfOk result (IsRow (optimized_rules_of rules.now) (names_in (optimized_rules_of rules.now))
-        properties.now) }
+    requires { KnowsLast (optimized_rules_of rules.now.rules.now) rules.now.numbers }
+    ensures says { IfOk result (λ row. rule_of_row (names_in (optimized_rules_of rules.now.rules.now)) row
+        ≡ optimized_rule_of rule.now) }
+    ensures sound { IfOk result (IsRow (optimized_rules_of rules.now.rules.now)
+        (names_in (optimized_rules_of rules.now.rules.now)) properties.now) }
 {
     let name = rule.name.clone()?;
     let blank = is_blank(name.as_str());
-    let body = form_of(alloc, rules, properties, &rule.expr)?;
+    let body = gathered(alloc, form_of(alloc, rules, properties, &rule.expr)?)?;
+    let firsts = firsts_of(alloc, &body)?;
     Ok(Row {
         name,
         kind: rule.ty,
         blank,
+        firsts,
         body,
     })
 }
 
 /// The rows of rules.
-fn rows_of(
-    alloc: Global,
-    rules: &[OptimizedRule],
-    properties: &[Property],
-) -> Result<Vec<Row>, Unfit>
+fn rows_of(alloc: Global, rules: &Indexed<'_>, properties: &[Property]) -> Result<Vec<Row>, Unfit>
+    requires { KnowsLast (optimized_rules_of rules.now.rules.now) rules.now.numbers }
     ensures sound { IfOk result (λ rows. (white note : Option ℕ)
-        → IsSkippedRule (optimized_rules_of rules.now) whitespace white
-        → IsSkippedRule (optimized_rules_of rules.now) comment note
+        → IsSkippedRule (optimized_rules_of rules.now.rules.now) whitespace white
+        → IsSkippedRule (optimized_rules_of rules.now.rules.now) comment note
         → IsSound rows.items properties.now white note) }
-    ensures means { IfOk result (λ rows. grammar_of rows.items ≡ optimized_rules_of rules.now) }
+    ensures means { IfOk result (λ rows. grammar_of rows.items ≡ optimized_rules_of rules.now.rules.now) }
 {
     let mut rows = Vec::new(alloc);
-    for rule in rules {
+    for rule in rules.rules {
         let row = row_of(alloc, rules, properties, rule)?;
         if rows.push(row).is_err() {
             return Err(Unfit::Memory);
@@ -353,9 +280,10 @@ pub fn program_of<P: Properties>(
     ensures fits { IfOk result (λ program. Fits program.properties.items P.classes) }
 {
     let properties = properties_in(alloc, rules, properties)?;
-    let rows = rows_of(alloc, rules, &properties)?;
-    let whitespace = find_rule(rules, "WHITESPACE");
-    let comment = find_rule(rules, "COMMENT");
+    let rules = numbered(alloc, rules)?;
+    let rows = rows_of(alloc, &rules, &properties)?;
+    let whitespace = rules.number_of("WHITESPACE");
+    let comment = rules.number_of("COMMENT");
     Ok(Program {
         rows,
         properties,

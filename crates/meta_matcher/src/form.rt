@@ -1,5 +1,6 @@
 //! Rules as they are run: names are resolved.
 use meta_ast::ast::RuleType;
+use meta_ast::deep::Release;
 
 /// The builtins that match one character of a set.
 #[derive(Clone, Copy, Debug, PartialEq, Eq)]
@@ -24,6 +25,8 @@ pub enum Form {
     Insens(String),
     Range(char, char),
     One(Class),
+    /// One of some characters, as the form in the box says; the flags tell it of the first ones by number.
+    Set(Vec<bool>, Box<Form>),
     Start,
     End,
     Newline,
@@ -38,7 +41,9 @@ pub enum Form {
     Opt(Box<Form>),
     Rep(Box<Form>),
     RepOnce(Box<Form>),
-    Skip(Vec<String>),
+    /// To the first of some texts, or to the end: flags tell of the first characters by number whether one of
+    /// the texts may begin with them.
+    Skip(Vec<String>, Vec<bool>),
     Push(Box<Form>),
     PushLiteral(String),
     /// What is tagged, with its tag.
@@ -52,13 +57,27 @@ pub enum Form {
     PeekSlice(i32, Option<i32>),
 }
 
-/// A rule: `blank` if it has one of the two names that are skipped.
-#[derive(Drop)]
+/// A rule: `blank` if it has one of the two names that are skipped. The flags `firsts` tell of the first
+/// characters by number whether the body may begin with them. The body is let go by a loop.
 pub struct Row {
     pub name: String,
     pub kind: RuleType,
     pub blank: bool,
+    pub firsts: Vec<bool>,
     pub body: Form,
+}
+
+impl Drop for Row {
+    fn drop(self) {
+        let Row {
+            name: _,
+            kind: _,
+            blank: _,
+            firsts: _,
+            body,
+        } = self;
+        body.release();
+    }
 }
 
 /// The set of characters of a property's name: ranges of code points with both their ends.

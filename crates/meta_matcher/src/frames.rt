@@ -112,3 +112,12 @@ pub enum AtOnce<'a> {
     /// The form has parts, and was not run.
     Nested,
 }
+
+/// What comes of several steps.
+#[derive(Clone, Copy)]
+pub enum Came<'a> {
+    /// The run is at its end, with this answer.
+    Ended(Option<&'a str>),
+    /// The run goes on with this.
+    Going(Control<'a>),
+}

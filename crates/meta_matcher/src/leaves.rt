@@ -6,7 +6,7 @@ ghost use Rattle.std.specs.Char.{eq_ignore_ascii_case};
 ghost use Rattle.meta_ast.specs.Ast.{text_of};
 ghost use Rattle.meta_base.specs.Language.State.{None', Success, moved};
 ghost use Rattle.meta_base.specs.Language.Matching.{any_begins, begins, character_outcome, concatenated, distance, newline_outcome, range_set, slice_outcome, text_outcome};
-ghost use Rattle.meta_matcher.specs.Programs.{is_in_ranges, set_of};
+ghost use Rattle.meta_matcher.specs.Programs.{AreStops, is_in_ranges, set_of};
 ghost use Rattle.meta_matcher.specs.Runs.{GoesOn, IsLeft, Progress, leaving, standing};
 
 use crate::form::Class;
@@ -29,7 +29,8 @@ pub fn character<'i>(low: char, high: char, rest: &'i str) -> Option<&'i str>
     ensures goes_on { (whole : List ℕ) → IsLeft whole rest.entry.now
         → Progress whole rest.entry.now result }
     ensures means { (whole : List ℕ) (ts : List Text) → IsLeft whole rest.entry.now
-        → leaving whole ts result ≡ character_outcome (range_set (low ∷ []) (high ∷ [])) (standing whole rest.entry.now ts) }
+        → leaving whole ts result
+        ≡ character_outcome (range_set (low ∷ []) (high ∷ [])) (standing whole rest.entry.now ts) }
 {
     let mut characters = rest.chars();
     match characters.next() {
@@ -46,7 +47,7 @@ pub fn character<'i>(low: char, high: char, rest: &'i str) -> Option<&'i str>
 
 /// Whether a character is in the set of a builtin.
 #[inline(always)]
-fn is_in(class: Class, c: char) -> bool
+pub(crate) fn is_in(class: Class, c: char) -> bool
     ensures { result ≡ set_of class c }
 {
     match class {
@@ -171,22 +172,39 @@ fn any_begins(texts: &Vec<String>, rest: &str) -> bool
     false
 }
 
+/// Whether one of some texts stands here, where a character is the first.
+#[inline(always)]
+fn stands(texts: &Vec<String>, stops: &Vec<bool>, first: char, rest: &str) -> bool
+    requires { AreStops stops.now.items (map text_of texts.now.items) }
+    ensures { (u : Text) → chars rest.now ≡ first ∷ u
+        → result ≡ any_begins (map text_of texts.now.items) (chars rest.now) }
+{
+    match stops.get(first as usize) {
+        Some(may) => { if *may { any_begins(texts, rest) } else { false } }
+        None => any_begins(texts, rest),
+    }
+}
+
 /// Goes on to the first place at which one of some texts stands, or to the end.
-pub fn ahead_to<'i>(texts: &Vec<String>, from: &'i str) -> &'i str
+pub fn ahead_to<'i>(texts: &Vec<String>, stops: &Vec<bool>, from: &'i str) -> &'i str
+    requires { AreStops stops.now.items (map text_of texts.now.items) }
     ensures goes_on { (whole : List ℕ) → IsLeft whole from.entry.now
         → GoesOn whole from.entry.now result.now }
     ensures means { (whole : List ℕ) (ts : List Text) → IsLeft whole from.entry.now
         → standing whole result.now ts
-        ≡ moved (distance (map text_of texts.now.items) (chars from.entry.now)) (standing whole from.entry.now ts) }
+        ≡ moved (distance (map text_of texts.now.items) (chars from.entry.now))
+        (standing whole from.entry.now ts) }
 {
     let mut rest = from;
     loop {
-        if any_begins(texts, rest) {
-            return rest;
-        }
         let mut characters = rest.chars();
         match characters.next() {
-            Some(_) => rest = characters.as_str(),
+            Some(c) => {
+                if stands(texts, stops, c, rest) {
+                    return rest;
+                }
+                rest = characters.as_str();
+            }
             None => return rest,
         }
     }

@@ -1,18 +1,22 @@
 //! What a machine keeps, and what it matches at once.
-ghost use Rattle.std.specs.Prelude.{◌≡◌, IfOk, OnOk, [], None, chars, codes};
+ghost use Rattle.std.specs.Prelude.{◌≡◌, false, true, IfErr, IfOk, OnOk, [], None, chars, codes};
 ghost use Rattle.meta_ast.specs.Ast.{text_of};
 ghost use Rattle.meta_base.specs.Language.Expression.{Ident, PeekSlice, PushLiteral, rule_of};
 ghost use Rattle.meta_base.specs.Language.Meaning.{Run};
-ghost use Rattle.meta_matcher.specs.Frames.{ComesAtOnce};
-ghost use Rattle.meta_matcher.specs.Machines.{GivesIn, IsBoundIn, IsMark, IsSoundIn, grammar_in, now_of};
+ghost use Rattle.meta_matcher.specs.declared.form.Form.TheVariants.{Call};
+ghost use Rattle.meta_matcher.specs.Frames.{ComesAtOnce, FailsFrom, IsOutOfTexts, IsStuckAtOnce, starting};
+ghost use Rattle.meta_matcher.specs.Machines.{GivesIn, IsBoundIn, IsMark, IsSoundIn, grammar_in, now_of, said, steps_of};
 ghost use Rattle.meta_matcher.specs.Runs.{IsLeft, IsReset, Progress, forgetting, mode_of, noting};
 ghost use Rattle.meta_matcher.specs.Stacked.{stack_of};
+ghost use Rattle.meta_matcher.specs.declared.machine.Stop.TheVariants.{Memory};
 
 use crate::entries::{Entry, close, cut, open, written};
 use crate::form::{Form, Program, Row};
 use crate::frames::{AtOnce, Frame, Mark};
 use crate::leaves::{ahead_to, character, insens, literal, literals, newline, one, slice, within};
-use crate::modes::{Mode, is_seen_from, noted};
+use crate::modes::{Mode, call_counts, is_seen_from, noted};
+use crate::sets::{is_barred, one_of};
+use crate::skipping::{repeated, repeated_once};
 use crate::stack::{Stack, pushed, shared, texts_of};
 use crate::told::{count, forget, tell};
 use std::alloc::{AllocError, Global};
@@ -26,11 +30,11 @@ pub enum Stop {
     OutOfSteps,
     /// `PEEK` or `POP` on the empty stack.
     EmptyStack,
-    /// What was matched does not begin and end on characters: this never comes.
-    Unsliced,
 }
 
 impl From<AllocError> for Stop {
+    ghost from_gives = { λ _ stop. stop ≡ Memory };
+
     fn from(_error: AllocError) -> Stop {
         Stop::Memory
     }
@@ -46,6 +50,13 @@ pub struct Scene<'a> {
     pub asked: usize,
 }
 
+/// How many steps were taken: in whole rounds, of 2^64 - 2 steps each, and since the last.
+#[derive(Clone, Copy)]
+pub struct Steps {
+    pub rounds: usize,
+    pub since: u64,
+}
+
 /// What a run has written and noted so far, and what waits.
 #[derive(Drop)]
 pub struct Machine<'a> {
@@ -59,6 +70,8 @@ pub struct Machine<'a> {
     pub told: Vec<&'a str>,
     /// What waits for answers: the last frame for what is run now.
     pub frames: Vec<Frame<'a>>,
+    /// How many steps were taken before this one.
+    pub steps: Steps,
 }
 
 impl<'a> Machine<'a> {
@@ -68,6 +81,7 @@ impl<'a> Machine<'a> {
         ensures furthest { (now_of result).notes.furthest ≡ 0 }
         ensures told { (now_of result).notes.told ≡ [] }
         ensures frames { result.frames.items ≡ [] }
+        ensures steps { steps_of result ≡ 0 }
     {
         Machine {
             entries: Vec::new(alloc),
@@ -75,6 +89,10 @@ impl<'a> Machine<'a> {
             furthest: 0,
             told: Vec::new(alloc),
             frames: Vec::new(alloc),
+            steps: Steps {
+                rounds: 0,
+                since: 0,
+            },
         }
     }
 
@@ -88,6 +106,7 @@ impl<'a> Machine<'a> {
             furthest: _,
             told: _,
             frames: _,
+            steps: _,
         } = self;
         entries
     }
@@ -102,6 +121,7 @@ impl<'a> Machine<'a> {
             furthest: _,
             told,
             frames: _,
+            steps: _,
         } = self;
         told
     }
@@ -119,6 +139,7 @@ impl<'a> Machine<'a> {
         ensures entries { self.new.entries ≡ self.old.entries }
         ensures stack { self.new.stack ≡ self.old.stack }
         ensures frames { self.new.frames ≡ self.old.frames }
+        ensures steps { self.new.steps ≡ self.old.steps }
         ensures notes { OnOk result ((now_of self.new).notes
             ≡ noting scene.entry.now.asked counts (chars name.entry.now) place told (now_of self.old).notes) }
     {
@@ -134,6 +155,7 @@ impl<'a> Machine<'a> {
     #[inline(always)]
     pub fn forget(&mut self, told: usize)
         ensures frames { self.new.frames ≡ self.old.frames }
+        ensures steps { self.new.steps ≡ self.old.steps }
         ensures now { now_of self.new ≡ forgetting told (now_of self.old) }
     {
         forget(&mut self.told, told);
@@ -145,10 +167,11 @@ impl<'a> Machine<'a> {
         scene: &Scene<'a>,
         mode: Mode,
         rest: &'a str,
-    ) -> Result<Option<&'a str>, Stop>
+    ) -> Result<Option<&'a str>, AllocError>
         requires unnamed { rule_of (grammar_in scene.now) (codes "EOI") ≡ None }
         requires left { IsLeft scene.now.text.now rest.now }
         ensures frames { self.new.frames ≡ self.old.frames }
+        ensures steps { self.new.steps ≡ self.old.steps }
         ensures goes_on { IfOk result (Progress scene.entry.now.text.now rest.entry.now) }
         ensures means { IfOk result
             (GivesIn scene.entry.now (Run (mode_of mode) (Ident (codes "EOI")))
@@ -177,6 +200,8 @@ impl<'a> Machine<'a> {
         requires unnamed { rule_of (grammar_in scene.now) (codes "PEEK") ≡ None }
         requires left { IsLeft scene.now.text.now rest.now }
         ensures frames { self.new.frames ≡ self.old.frames }
+        ensures steps { self.new.steps ≡ self.old.steps }
+        ensures stopped { IfErr result (λ stop. IsOutOfTexts stop self.old) }
         ensures goes_on { IfOk result (Progress scene.entry.now.text.now rest.entry.now) }
         ensures means { IfOk result
             (GivesIn scene.entry.now (Run (mode_of mode) (Ident (codes "PEEK")))
@@ -193,6 +218,8 @@ impl<'a> Machine<'a> {
         requires unnamed { rule_of (grammar_in scene.now) (codes "POP") ≡ None }
         requires left { IsLeft scene.now.text.now rest.now }
         ensures frames { self.new.frames ≡ self.old.frames }
+        ensures steps { self.new.steps ≡ self.old.steps }
+        ensures stopped { IfErr result (λ stop. IsOutOfTexts stop self.old) }
         ensures goes_on { IfOk result (Progress scene.entry.now.text.now rest.entry.now) }
         ensures means { IfOk result
             (GivesIn scene.entry.now (Run (mode_of mode) (Ident (codes "POP")))
@@ -217,10 +244,11 @@ impl<'a> Machine<'a> {
         scene: &Scene<'a>,
         mode: Mode,
         rest: &'a str,
-    ) -> Result<Option<&'a str>, Stop>
+    ) -> Result<Option<&'a str>, AllocError>
         requires unnamed { rule_of (grammar_in scene.now) (codes "DROP") ≡ None }
         requires left { IsLeft scene.now.text.now rest.now }
         ensures frames { self.new.frames ≡ self.old.frames }
+        ensures steps { self.new.steps ≡ self.old.steps }
         ensures goes_on { IfOk result (Progress scene.entry.now.text.now rest.entry.now) }
         ensures means { IfOk result
             (GivesIn scene.entry.now (Run (mode_of mode) (Ident (codes "DROP")))
@@ -242,10 +270,11 @@ impl<'a> Machine<'a> {
         scene: &Scene<'a>,
         mode: Mode,
         rest: &'a str,
-    ) -> Result<Option<&'a str>, Stop>
+    ) -> Result<Option<&'a str>, AllocError>
         requires unnamed { rule_of (grammar_in scene.now) (codes "PEEK_ALL") ≡ None }
         requires left { IsLeft scene.now.text.now rest.now }
         ensures frames { self.new.frames ≡ self.old.frames }
+        ensures steps { self.new.steps ≡ self.old.steps }
         ensures goes_on { IfOk result (Progress scene.entry.now.text.now rest.entry.now) }
         ensures means { IfOk result
             (GivesIn scene.entry.now (Run (mode_of mode) (Ident (codes "PEEK_ALL")))
@@ -261,10 +290,11 @@ impl<'a> Machine<'a> {
         scene: &Scene<'a>,
         mode: Mode,
         rest: &'a str,
-    ) -> Result<Option<&'a str>, Stop>
+    ) -> Result<Option<&'a str>, AllocError>
         requires unnamed { rule_of (grammar_in scene.now) (codes "POP_ALL") ≡ None }
         requires left { IsLeft scene.now.text.now rest.now }
         ensures frames { self.new.frames ≡ self.old.frames }
+        ensures steps { self.new.steps ≡ self.old.steps }
         ensures goes_on { IfOk result (Progress scene.entry.now.text.now rest.entry.now) }
         ensures means { IfOk result
             (GivesIn scene.entry.now (Run (mode_of mode) (Ident (codes "POP_ALL")))
@@ -288,9 +318,10 @@ impl<'a> Machine<'a> {
         to: Option<i32>,
         mode: Mode,
         rest: &'a str,
-    ) -> Result<Option<&'a str>, Stop>
+    ) -> Result<Option<&'a str>, AllocError>
         requires left { IsLeft scene.now.text.now rest.now }
         ensures frames { self.new.frames ≡ self.old.frames }
+        ensures steps { self.new.steps ≡ self.old.steps }
         ensures goes_on { IfOk result (Progress scene.entry.now.text.now rest.entry.now) }
         ensures means { IfOk result
             (GivesIn scene.entry.now (Run (mode_of mode) (PeekSlice from to))
@@ -308,9 +339,10 @@ impl<'a> Machine<'a> {
         pushed_text: &'a String,
         mode: Mode,
         rest: &'a str,
-    ) -> Result<Option<&'a str>, Stop>
+    ) -> Result<Option<&'a str>, AllocError>
         requires left { IsLeft scene.now.text.now rest.now }
         ensures frames { self.new.frames ≡ self.old.frames }
+        ensures steps { self.new.steps ≡ self.old.steps }
         ensures goes_on { IfOk result (Progress scene.entry.now.text.now rest.entry.now) }
         ensures means { IfOk result
             (GivesIn scene.entry.now (Run (mode_of mode) (PushLiteral (text_of pushed_text.entry.now)))
@@ -338,6 +370,7 @@ impl<'a> Machine<'a> {
     #[inline(always)]
     pub fn back_to(&mut self, mark: Mark<'a>)
         ensures frames { self.new.frames ≡ self.old.frames }
+        ensures steps { self.new.steps ≡ self.old.steps }
         ensures reset { IsReset mark.entry.entries (stack_of mark.entry.stack)
             (now_of self.old) (now_of self.new) }
     {
@@ -346,8 +379,40 @@ impl<'a> Machine<'a> {
         self.stack = stack;
     }
 
-    /// Runs a form that has no parts. The answer is what is left of the text after it, or `None` where it
-    /// fails. A form with parts is left alone.
+    /// Whether a call of a rule is refused at once, since its body cannot begin with the character that stands
+    /// here. Its failure is then noted.
+    #[inline(always)]
+    fn is_refused(
+        &mut self,
+        scene: &Scene<'a>,
+        number: usize,
+        mode: Mode,
+        rest: &'a str,
+    ) -> Result<bool, AllocError>
+        requires sound { IsSoundIn scene.now }
+        requires bound { IsBoundIn scene.now (Call number) }
+        requires left { IsLeft scene.now.text.now rest.now }
+        ensures frames { self.new.frames ≡ self.old.frames }
+        ensures steps { self.new.steps ≡ self.old.steps }
+        ensures fails { IfOk result (λ refused. refused ≡ true → FailsFrom scene.entry.now
+            (starting (Run (mode_of mode) (said scene.entry.now (Call number))) rest.entry.now (now_of self.old) 0)
+            (now_of self.new)) }
+        ensures kept { IfOk result (λ refused. refused ≡ false → now_of self.new ≡ now_of self.old) }
+    {
+        let row = &scene.program.rows[number];
+        if !is_barred(&row.firsts, rest) {
+            return Ok(false);
+        }
+        let place = scene.text.len() - rest.len();
+        let told = count(&self.told);
+        let counts = call_counts(row.kind, mode);
+        self.note(scene, counts, row.name.as_str(), place, told)?;
+        Ok(true)
+    }
+
+    /// Runs a form that has no parts, or is as many of a set as there are, and refuses a call where its rule
+    /// cannot begin here, at the front of a sequence too. The answer is what is left of the text after it, or
+    /// `None` where it fails. Another form with parts is left alone.
     #[inline]
     pub fn at_once(
         &mut self,
@@ -356,9 +421,12 @@ impl<'a> Machine<'a> {
         mode: Mode,
         rest: &'a str,
     ) -> Result<AtOnce<'a>, Stop>
+        requires sound { IsSoundIn scene.now }
         requires bound { IsBoundIn scene.now form.now }
         requires left { IsLeft scene.now.text.now rest.now }
         ensures frames { self.new.frames ≡ self.old.frames }
+        ensures steps { self.new.steps ≡ self.old.steps }
+        ensures stopped { IfErr result (IsStuckAtOnce form.entry.now self.old) }
         ensures means { IfOk result
             (ComesAtOnce scene.entry.now form.entry.now mode rest.entry.now self.old self.new) }
     {
@@ -366,6 +434,26 @@ impl<'a> Machine<'a> {
             Form::Str(literally) => Ok(AtOnce::Answered(literal(literally.as_str(), rest))),
             Form::Range(low, high) => Ok(AtOnce::Answered(character(*low, *high, rest))),
             Form::One(class) => Ok(AtOnce::Answered(one(*class, rest))),
+            Form::Set(flags, form) => Ok(AtOnce::Answered(one_of(flags, form, rest))),
+            Form::Call(number) => {
+                if self.is_refused(scene, *number, mode, rest)? {
+                    Ok(AtOnce::Answered(None))
+                } else {
+                    Ok(AtOnce::Nested)
+                }
+            }
+            Form::Seq(first, _) => match &**first {
+                Form::Call(number) => {
+                    if self.is_refused(scene, *number, mode, rest)? {
+                        Ok(AtOnce::Answered(None))
+                    } else {
+                        Ok(AtOnce::Nested)
+                    }
+                }
+                _ => Ok(AtOnce::Nested),
+            },
+            Form::Rep(body) => Ok(repeated(scene, body, mode, rest)),
+            Form::RepOnce(body) => Ok(repeated_once(scene, body, mode, rest)),
             Form::Start => {
                 if rest.len() == scene.text.len() {
                     Ok(AtOnce::Answered(Some(rest)))
@@ -383,7 +471,7 @@ impl<'a> Machine<'a> {
                 let property = &scene.program.properties[*number];
                 Ok(AtOnce::Answered(within(&property.ranges, rest)))
             }
-            Form::Skip(texts) => Ok(AtOnce::Answered(Some(ahead_to(texts, rest)))),
+            Form::Skip(texts, stops) => Ok(AtOnce::Answered(Some(ahead_to(texts, stops, rest)))),
             Form::Peek => Ok(AtOnce::Answered(self.peek(scene, mode, rest)?)),
             Form::Pop => Ok(AtOnce::Answered(self.pop(scene, mode, rest)?)),
             Form::Discard => Ok(AtOnce::Answered(self.discard(scene, mode, rest)?)),

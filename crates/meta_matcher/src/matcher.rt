@@ -1,9 +1,11 @@
 //! Rules that are run on whole texts.
 ghost use Rattle.std.specs.Prelude.{◌≡◌, IfErr, IfOk, chars};
 ghost use Rattle.meta_ast.specs.Optimized.{optimized_rules_of};
+ghost use Rattle.meta_base.specs.Language.State.{Classes};
 ghost use Rattle.meta_matcher.specs.Programs.{Fits, IsSkippedRule, grammar_of};
 
 use crate::compile::{Unfit, program_of, same};
+use crate::ending::Ending;
 use crate::entries::Entry;
 use crate::form::{Program, Row};
 use crate::machine::{Machine, Scene, Stop};
@@ -55,7 +57,8 @@ fn find_row(rows: &[Row], name: &str) -> Option<usize>
 }
 
 impl Matcher {
-    ghost use Rattle.meta_matcher.specs.Answers.{AreExpectedAt, IsMatched, IsRefused, IsSoundMatcher, IsUnanswered};
+    ghost use Rattle.meta_matcher.specs.Answers.{AreExpectedAt, IsMatched, IsRefused, IsRefusedAtTheEnd, IsSoundMatcher, IsUnanswered};
+    ghost use Rattle.meta_matcher.specs.Endings.{EndsOn};
 
     /// The rules, with each name resolved once: to the last rule of that name, or to a builtin where no rule
     /// has it. A name that is neither, and a bound of a range that is not one character, are refused; so is
@@ -77,6 +80,10 @@ impl Matcher {
     /// What the rule of a name matches in NonAtomic from the start of a text, with the empty stack, found in
     /// so many steps at most: a step begins with a form, or takes an answer. Refused are a name that no rule
     /// has, a text on which the rule fails, and what stops a run.
+    ///
+    /// A run that has an outcome comes to it, but for want of memory, if it may take two steps for each rule
+    /// of the relation of matching that a derivation of the outcome applies. `PEEK` or `POP` on the empty stack
+    /// is met only where there is no outcome.
     pub fn parse<'a>(
         &'a self,
         alloc: Global,
@@ -86,9 +93,10 @@ impl Matcher {
     ) -> Result<Found<'a>, Refusal<'a>>
         requires sound { IsSoundMatcher self.now }
         ensures matched { IfOk result (λ found. IsMatched (grammar_of self.entry.now.program.rows.items)
-            self.entry.now.program.properties.items (chars rule.entry.now) text.entry.now found.end found.entries.items) }
+            self.entry.now.program.properties.items (chars rule.entry.now) text.entry.now
+            found.end found.entries.items) }
         ensures refused { IfErr result (IsRefused (grammar_of self.entry.now.program.rows.items)
-            self.entry.now.program.properties.items (chars rule.entry.now) text.entry.now) }
+            self.entry.now.program.properties.items (chars rule.entry.now) text.entry.now steps) }
     {
         let Some(number) = find_row(&self.program.rows, rule) else {
             return Err(Refusal::UnknownRule(rule));
@@ -108,6 +116,51 @@ impl Matcher {
             }),
             Ok(None) => Err(Refusal::NoMatch(machine.furthest)),
             Err(stop) => Err(Refusal::Stopped(stop)),
+        }
+    }
+
+    /// The same with no limit on the steps, for a rule that has an outcome on the text, as those of an accepted
+    /// plain grammar have on every text: only want of memory stops the run.
+    pub fn parse_to_the_end<'a>(
+        &'a self,
+        alloc: Global,
+        rule: &'a str,
+        text: &'a str,
+    ) -> Result<Found<'a>, Refusal<'a>>
+        requires sound { IsSoundMatcher self.now }
+        requires fits { (classes : Classes) × Fits self.now.program.properties.items classes }
+        requires ends { EndsOn (grammar_of self.now.program.rows.items)
+            self.now.program.properties.items (chars rule.now) text.now }
+        ensures matched { IfOk result (λ found. IsMatched (grammar_of self.entry.now.program.rows.items)
+            self.entry.now.program.properties.items (chars rule.entry.now) text.entry.now
+            found.end found.entries.items) }
+        ensures refused { IfErr result (IsRefusedAtTheEnd (grammar_of self.entry.now.program.rows.items)
+            self.entry.now.program.properties.items (chars rule.entry.now) text.entry.now) }
+    {
+        let Some(number) = find_row(&self.program.rows, rule) else {
+            return Err(Refusal::UnknownRule(rule));
+        };
+        let row = &self.program.rows[number];
+        let ending = Ending {
+            scene: Scene {
+                program: &self.program,
+                row,
+                text,
+                asked: NOWHERE,
+            },
+        };
+        let mut machine = Machine::new(alloc);
+        match machine.run_to_the_end(&ending) {
+            Ok(Some(after)) => {
+                let end = text.len() - after.len();
+                let entries = machine.into_entries();
+                Ok(Found { entries, end })
+            }
+            Ok(None) => {
+                let place = machine.furthest;
+                Err(Refusal::NoMatch(place))
+            }
+            Err(_) => Err(Refusal::Stopped(Stop::Memory)),
         }
     }
 
@@ -132,7 +185,7 @@ impl Matcher {
         ensures expected { IfOk result (λ names. AreExpectedAt (grammar_of self.entry.now.program.rows.items)
             self.entry.now.program.properties.items (chars rule.entry.now) text.entry.now place names.items) }
         ensures refused { IfErr result (IsUnanswered (grammar_of self.entry.now.program.rows.items)
-            (chars rule.entry.now)) }
+            self.entry.now.program.properties.items (chars rule.entry.now) text.entry.now steps) }
     {
         let Some(number) = find_row(&self.program.rows, rule) else {
             return Err(Refusal::UnknownRule(rule));

@@ -1,6 +1,9 @@
 //! The sets of characters of property names.
-ghost use Rattle.std.specs.Prelude.{◌≡◌, ◌<◌, ℕ, Bool, false, IfOk, IfSome, chars};
+ghost use Rattle.std.specs.Prelude.{◌≡◌, ◌<◌, ◌+◌, ℕ, Bool, false, IfOk, IfSome, OnOk, chars};
+ghost use Rattle.meta_ast.specs.Optimized.{optimized_expression_of};
+ghost use Rattle.meta_ast.specs.Weight.{weight};
 ghost use Rattle.meta_base.specs.Language.Text.{Text};
+ghost use Rattle.meta_matcher.specs.Forming.{heft};
 ghost use Rattle.meta_matcher.specs.Programs.{Fits, is_in_ranges};
 
 use crate::form::Property;
@@ -31,29 +34,70 @@ impl Properties for NoProperties {
     }
 }
 
-/// Adds the names that an expression calls.
-fn add_names<'a>(names: &mut Vec<&'a str>, expr: &'a OptimizedExpr) -> Result<(), AllocError> {
+/// Puts two operands on a list, the left one on top.
+#[tactic(auto, using(crate::proofs::Forming::heavier))]
+fn put_both<'a>(
+    waiting: &mut Vec<&'a OptimizedExpr>,
+    left: &'a OptimizedExpr,
+    right: &'a OptimizedExpr,
+) -> Result<(), AllocError>
+    ensures { OnOk result (heft waiting.new.items ≡ heft waiting.old.items
+        + (weight (optimized_expression_of left.entry.now)
+        + weight (optimized_expression_of right.entry.now))) }
+{
+    waiting.push(right)?;
+    waiting.push(left)?;
+    Ok(())
+}
+
+/// Puts the operands of an expression on a list.
+#[tactic(auto, using(crate::proofs::Forming::heavier))]
+fn put_operands<'a>(
+    waiting: &mut Vec<&'a OptimizedExpr>,
+    expr: &'a OptimizedExpr,
+) -> Result<(), AllocError>
+    ensures { OnOk result (heft waiting.new.items
+        < heft waiting.old.items + weight (optimized_expression_of expr.entry.now)) }
+{
     match expr {
-        OptimizedExpr::Ident(name) => Ok(names.push(name.as_str())?),
         OptimizedExpr::Str(_)
         | OptimizedExpr::Insens(_)
         | OptimizedExpr::Range(_, _)
+        | OptimizedExpr::Ident(_)
         | OptimizedExpr::PeekSlice(_, _)
         | OptimizedExpr::Skip(_)
-        | OptimizedExpr::PushLiteral(_) => Ok(()),
+        | OptimizedExpr::PushLiteral(_) => {}
         OptimizedExpr::Seq(left, right) | OptimizedExpr::Choice(left, right) => {
-            add_names(names, left)?;
-            add_names(names, right)
+            put_both(waiting, left, right)?;
         }
-        OptimizedExpr::NodeTag(inner, _) => add_names(names, inner),
+        OptimizedExpr::NodeTag(inner, _) => waiting.push(inner)?,
         OptimizedExpr::PosPred(inner)
         | OptimizedExpr::NegPred(inner)
         | OptimizedExpr::Opt(inner)
         | OptimizedExpr::Rep(inner)
         | OptimizedExpr::RepOnce(inner)
         | OptimizedExpr::Push(inner)
-        | OptimizedExpr::RestoreOnErr(inner) => add_names(names, inner),
+        | OptimizedExpr::RestoreOnErr(inner) => waiting.push(inner)?,
     }
+    Ok(())
+}
+
+/// Adds the names that an expression calls, by a loop.
+#[tactic(auto, using(crate::proofs::Forming::heavier))]
+fn add_names<'a>(
+    alloc: Global,
+    names: &mut Vec<&'a str>,
+    expr: &'a OptimizedExpr,
+) -> Result<(), AllocError> {
+    let mut waiting = Vec::new(alloc);
+    waiting.push(expr)?;
+    'parts: while let Some(part) = waiting.pop() {
+        if let OptimizedExpr::Ident(name) = part {
+            names.push(name.as_str())?;
+        }
+        put_operands(&mut waiting, part)?;
+    }
+    Ok(())
 }
 
 /// Whether a property of a name is there.
@@ -95,7 +139,7 @@ pub(crate) fn properties_in<P: Properties>(
 {
     let mut names = Vec::new(alloc);
     for rule in rules {
-        add_names(&mut names, &rule.expr)?;
+        add_names(alloc, &mut names, &rule.expr)?;
     }
     let mut found = Vec::new(alloc);
     for name in &names {

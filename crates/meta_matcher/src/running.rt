@@ -1,43 +1,37 @@
 //! The steps of a machine: what it does with the form at hand, and with an answer.
-ghost use Rattle.std.specs.Prelude.{◌≡◌, ℕ, List, IfOk, OnOk, [], ◌∷◌, false, reverse, true};
+ghost use Rattle.std.specs.Prelude.{◌≡◌, ◌+◌, ◌-◌, ◌*◌, ◌≤◌, ℕ, List, IfErr, IfOk, OnOk, [], ◌∷◌, drop, false, length, reverse, take, true};
 ghost use Rattle.meta_ast.specs.Ast.{text_of};
 ghost use Rattle.meta_base.specs.Language.Expression.{Choice, Ident, NegPred, Opt, PosPred, Push, Rep, Seq, rule_of};
 ghost use Rattle.meta_base.specs.Language.Meaning.{Run, Skipping, Turns};
 ghost use Rattle.meta_base.specs.Language.State.{NonAtomicMode};
-ghost use Rattle.meta_matcher.specs.Frames.{Awaits, Decides, Ends, FindsFrom, Follows, GivesFrom, IsAhead, IsBlank, IsBoundSecond, IsCall, IsComment, IsFirst, IsGap, IsLeftSide, IsNegated, IsNested, IsOnTheWay, IsOptional, IsPushed, IsResumed, IsRunning, IsSecond, IsStarting, IsTurn, IsTurnGap, Skips, comments, said_second, starting, top_of};
-ghost use Rattle.meta_matcher.specs.Machines.{IsBoundIn, IsRowIn, IsSoundIn, grammar_in, names_within, now_of, said};
-ghost use Rattle.meta_matcher.specs.Programs.{rule_of_row};
+ghost use Rattle.meta_matcher.specs.Answers.{IsStopped};
+ghost use Rattle.meta_matcher.specs.Frames.{Awaits, Comes, Decides, FindsFrom, Finishes, Follows, GivesFrom, IsAhead, IsBlank, IsBoundSecond, IsCall, IsComment, IsFirst, IsGap, IsLeftSide, IsNegated, IsNested, IsOnTheWay, IsOptional, IsPushed, IsResumed, IsRunning, IsSecond, IsStarting, IsTurn, IsTurnGap, Leads, Skips, comments, said_second, starting, top_of};
+ghost use Rattle.meta_matcher.specs.Endings.{classes_in};
+ghost use Rattle.meta_matcher.specs.Machines.{IsBoundIn, IsRowIn, IsSoundIn, grammar_in, names_within, now_of, round, said, steps_of};
+ghost use Rattle.meta_matcher.specs.Programs.{Fits, rule_of_row};
 ghost use Rattle.meta_matcher.specs.Runs.{IsLeft, Now, mode_of};
 
+use crate::ending::Ending;
 use crate::entries::{close, cut, open, written};
 use crate::form::{Form, Row};
 use crate::frames::{
-    AtOnce, Called, Control, Frame, Mark, Predicate, Repetition, Second, Sequence,
+    AtOnce, Called, Came, Control, Frame, Mark, Predicate, Repetition, Second, Sequence,
 };
-use crate::machine::{Machine, Scene, Stop};
+use crate::machine::{Machine, Scene, Steps, Stop};
 use crate::modes::{Mode, body_mode, call_counts, gives_token};
+use crate::skipping::passed;
 use crate::stack::{pushed, shared};
 use crate::told::count;
 use std::alloc::AllocError;
 
-/// Whether anything is skipped in a mode.
+/// What was taken of a text, of which this is left.
 #[inline(always)]
-fn skips(scene: &Scene<'_>, mode: Mode) -> bool
-    requires sound { IsSoundIn scene.now }
-    ensures anything { result ≡ true → mode_of mode ≡ NonAtomicMode }
-    ensures nothing { result ≡ false → (rest : List ℕ) (now : Now) → IsLeft scene.now.text.now rest
-        → FindsFrom scene.now (starting (Skipping (mode_of mode)) rest now) now rest }
+fn taken<'a>(rest: &'a str, after: &'a str) -> &'a str
+    requires left { after.now ≡ drop (length rest.now - length after.now) rest.now }
+    requires shorter { length after.now ≤ length rest.now }
+    ensures { result.now ≡ take (length rest.entry.now - length after.entry.now) rest.entry.now }
 {
-    match mode {
-        Mode::NonAtomic => match scene.program.whitespace {
-            Some(_) => true,
-            None => match scene.program.comment {
-                Some(_) => true,
-                None => false,
-            },
-        },
-        Mode::Atomic | Mode::CompoundAtomic => false,
-    }
+    &rest[..rest.len() - after.len()]
 }
 
 impl<'a> Machine<'a> {
@@ -45,6 +39,7 @@ impl<'a> Machine<'a> {
     #[inline(always)]
     fn wait(&mut self, frame: Frame<'a>) -> Result<(), AllocError>
         ensures now { now_of self.new ≡ now_of self.old }
+        ensures steps { self.new.steps ≡ self.old.steps }
         ensures frames { OnOk result
             (reverse self.new.frames.items ≡ frame.entry ∷ reverse self.old.frames.items) }
     {
@@ -53,7 +48,7 @@ impl<'a> Machine<'a> {
     }
 
     /// Runs a form for a frame that waits for its answer, at once where the form has no parts.
-    #[inline]
+    #[inline(always)]
     fn enter(
         &mut self,
         scene: &Scene<'a>,
@@ -67,8 +62,8 @@ impl<'a> Machine<'a> {
         requires left { IsLeft scene.now.text.now rest.now }
         requires follows { Awaits scene.now self.old
             (Follows scene.now frame (starting (Run (mode_of mode) (said scene.now form.now))
-            rest.now (now_of self.old))) }
-        ensures { IfOk result (IsOnTheWay scene.entry.now self.new) }
+            rest.now (now_of self.old) (steps_of self.old + 1))) }
+        ensures { Leads scene.entry.now self.new (steps_of self.old + 1) result }
     {
         match self.at_once(scene, form, mode, rest)? {
             AtOnce::Answered(answer) => self.resume(scene, frame, answer),
@@ -88,7 +83,7 @@ impl<'a> Machine<'a> {
     ) -> Result<Control<'a>, Stop>
         requires sound { IsSoundIn scene.now }
         requires follows { IsResumed scene.now self.old (Follows scene.now frame) answer }
-        ensures { IfOk result (IsOnTheWay scene.entry.now self.new) }
+        ensures { Leads scene.entry.now self.new (steps_of self.old + 1) result }
     {
         match frame {
             Frame::First(sequence) => self.after_first(scene, sequence, answer),
@@ -96,14 +91,14 @@ impl<'a> Machine<'a> {
             Frame::Second(mark) => Ok(self.after_second(scene, mark, answer)),
             Frame::Left(right, mode, rest) => Ok(self.after_left(scene, right, mode, rest, answer)),
             Frame::Optional(rest) => Ok(self.after_optional(scene, rest, answer)),
-            Frame::Turn(repetition) => self.after_turn(scene, repetition, answer),
-            Frame::TurnGap(repetition) => self.after_turn_gap(scene, repetition, answer),
+            Frame::Turn(repetition) => Ok(self.after_turn(scene, repetition, answer)?),
+            Frame::TurnGap(repetition) => Ok(self.after_turn_gap(scene, repetition, answer)?),
             Frame::Not(predicate, told) => Ok(self.after_not(scene, predicate, told, answer)),
             Frame::Ahead(predicate) => Ok(self.after_ahead(scene, predicate, answer)),
-            Frame::Push(rest) => self.after_push(scene, rest, answer),
-            Frame::Call(called) => self.after_call(scene, called, answer),
-            Frame::Blank(rest) => self.after_blank(scene, rest, answer),
-            Frame::Comment(rest) => self.after_comment(scene, rest, answer),
+            Frame::Push(rest) => Ok(self.after_push(scene, rest, answer)?),
+            Frame::Call(called) => Ok(self.after_call(scene, called, answer)?),
+            Frame::Blank(rest) => Ok(self.after_blank(scene, rest, answer)?),
+            Frame::Comment(rest) => Ok(self.after_comment(scene, rest, answer)?),
         }
     }
 
@@ -122,7 +117,7 @@ impl<'a> Machine<'a> {
         requires left { IsLeft scene.now.text.now rest.now }
         requires starts { IsStarting scene.now self.old
             (Run (mode_of mode) (Seq (said scene.now first.now) (said_second scene.now second))) rest.now }
-        ensures { IfOk result (IsOnTheWay scene.entry.now self.new) }
+        ensures { Leads scene.entry.now self.new (steps_of self.old + 1) result }
     {
         let mark = self.mark()?;
         let frame = Frame::First(Sequence { second, mode, mark });
@@ -130,7 +125,7 @@ impl<'a> Machine<'a> {
     }
 
     /// The first form of a sequence has an answer.
-    #[inline]
+    #[inline(always)]
     fn after_first(
         &mut self,
         scene: &Scene<'a>,
@@ -139,17 +134,16 @@ impl<'a> Machine<'a> {
     ) -> Result<Control<'a>, Stop>
         requires sound { IsSoundIn scene.now }
         requires follows { IsResumed scene.now self.old (IsFirst scene.now sequence) answer }
-        ensures { IfOk result (IsOnTheWay scene.entry.now self.new) }
+        ensures { Leads scene.entry.now self.new (steps_of self.old + 1) result }
     {
         match answer {
-            Some(after) => {
-                if skips(scene, sequence.mode) {
+            Some(after) => match passed(scene, sequence.mode, after) {
+                Some(next) => self.second(scene, sequence, next),
+                None => {
                     self.wait(Frame::Gap(sequence))?;
-                    self.blanks(scene, after)
-                } else {
-                    self.second(scene, sequence, after)
+                    Ok(self.blanks(scene, after)?)
                 }
-            }
+            },
             None => Ok(Control::Answer(None)),
         }
     }
@@ -164,7 +158,7 @@ impl<'a> Machine<'a> {
     ) -> Result<Control<'a>, Stop>
         requires sound { IsSoundIn scene.now }
         requires follows { IsResumed scene.now self.old (IsGap scene.now sequence) answer }
-        ensures { IfOk result (IsOnTheWay scene.entry.now self.new) }
+        ensures { Leads scene.entry.now self.new (steps_of self.old + 1) result }
     {
         match answer {
             Some(after) => self.second(scene, sequence, after),
@@ -176,7 +170,7 @@ impl<'a> Machine<'a> {
     }
 
     /// Runs the second form of a sequence, at once where it has no parts.
-    #[inline]
+    #[inline(always)]
     fn second(
         &mut self,
         scene: &Scene<'a>,
@@ -188,8 +182,8 @@ impl<'a> Machine<'a> {
         requires left { IsLeft scene.now.text.now rest.now }
         requires follows { Awaits scene.now self.old (IsSecond scene.now sequence.mark
             (starting (Run (mode_of sequence.mode) (said_second scene.now sequence.second))
-            rest.now (now_of self.old))) }
-        ensures { IfOk result (IsOnTheWay scene.entry.now self.new) }
+            rest.now (now_of self.old) (steps_of self.old + 1))) }
+        ensures { Leads scene.entry.now self.new (steps_of self.old + 1) result }
     {
         let Sequence { second, mode, mark } = sequence;
         match second {
@@ -202,13 +196,13 @@ impl<'a> Machine<'a> {
             },
             Second::Repeated(body) => {
                 self.wait(Frame::Second(mark))?;
-                self.repetition(scene, body, mode, rest)
+                Ok(self.repetition(scene, body, mode, rest)?)
             }
         }
     }
 
     /// The second form of a sequence has an answer.
-    #[inline]
+    #[inline(always)]
     fn after_second(
         &mut self,
         scene: &Scene<'a>,
@@ -216,7 +210,7 @@ impl<'a> Machine<'a> {
         answer: Option<&'a str>,
     ) -> Control<'a>
         requires follows { IsResumed scene.now self.old (IsSecond scene.now mark) answer }
-        ensures { IsOnTheWay scene.entry.now self.new result }
+        ensures { IsOnTheWay scene.entry.now self.new (steps_of self.old + 1) result }
     {
         match answer {
             Some(after) => Control::Answer(Some(after)),
@@ -228,7 +222,7 @@ impl<'a> Machine<'a> {
     }
 
     /// The left side of a choice has an answer.
-    #[inline]
+    #[inline(always)]
     fn after_left(
         &mut self,
         scene: &Scene<'a>,
@@ -239,7 +233,7 @@ impl<'a> Machine<'a> {
     ) -> Control<'a>
         requires follows { IsResumed scene.now self.old
             (IsLeftSide scene.now right.now mode rest.now) answer }
-        ensures { IsOnTheWay scene.entry.now self.new result }
+        ensures { IsOnTheWay scene.entry.now self.new (steps_of self.old + 1) result }
     {
         match answer {
             Some(after) => Control::Answer(Some(after)),
@@ -256,7 +250,7 @@ impl<'a> Machine<'a> {
         answer: Option<&'a str>,
     ) -> Control<'a>
         requires follows { IsResumed scene.now self.old (IsOptional scene.now rest.now) answer }
-        ensures { IsOnTheWay scene.entry.now self.new result }
+        ensures { IsOnTheWay scene.entry.now self.new (steps_of self.old + 1) result }
     {
         match answer {
             Some(after) => Control::Answer(Some(after)),
@@ -271,13 +265,13 @@ impl<'a> Machine<'a> {
         body: &'a Form,
         mode: Mode,
         rest: &'a str,
-    ) -> Result<Control<'a>, Stop>
+    ) -> Result<Control<'a>, AllocError>
         requires bound { IsBoundIn scene.now body.now }
         requires left { IsLeft scene.now.text.now rest.now }
         requires ends { Awaits scene.now self.old
-            (Ends scene.now (starting (Run (mode_of mode) (Rep (said scene.now body.now)))
-            rest.now (now_of self.old))) }
-        ensures { IfOk result (IsOnTheWay scene.entry.now self.new) }
+            (Finishes scene.now (starting (Run (mode_of mode) (Rep (said scene.now body.now)))
+            rest.now (now_of self.old) (steps_of self.old))) }
+        ensures { IfOk result (IsOnTheWay scene.entry.now self.new (steps_of self.old + 1)) }
     {
         let mark = self.mark()?;
         let repetition = Repetition {
@@ -296,12 +290,12 @@ impl<'a> Machine<'a> {
         scene: &Scene<'a>,
         repetition: Repetition<'a>,
         rest: &'a str,
-    ) -> Result<Control<'a>, Stop>
+    ) -> Result<Control<'a>, AllocError>
         requires left { IsLeft scene.now.text.now rest.now }
         requires follows { Awaits scene.now self.old (IsTurn scene.now repetition
             (starting (Run (mode_of repetition.mode) (said scene.now repetition.body.now))
-            rest.now (now_of self.old))) }
-        ensures { IfOk result (IsOnTheWay scene.entry.now self.new) }
+            rest.now (now_of self.old) (steps_of self.old + 1))) }
+        ensures { IfOk result (IsOnTheWay scene.entry.now self.new (steps_of self.old + 1)) }
     {
         let body = repetition.body;
         let mode = repetition.mode;
@@ -316,10 +310,10 @@ impl<'a> Machine<'a> {
         scene: &Scene<'a>,
         repetition: Repetition<'a>,
         answer: Option<&'a str>,
-    ) -> Result<Control<'a>, Stop>
+    ) -> Result<Control<'a>, AllocError>
         requires sound { IsSoundIn scene.now }
         requires follows { IsResumed scene.now self.old (IsTurn scene.now repetition) answer }
-        ensures { IfOk result (IsOnTheWay scene.entry.now self.new) }
+        ensures { IfOk result (IsOnTheWay scene.entry.now self.new (steps_of self.old + 1)) }
     {
         match answer {
             Some(after) => self.next_turn(scene, repetition.body, repetition.mode, after),
@@ -338,14 +332,14 @@ impl<'a> Machine<'a> {
         body: &'a Form,
         mode: Mode,
         rest: &'a str,
-    ) -> Result<Control<'a>, Stop>
+    ) -> Result<Control<'a>, AllocError>
         requires sound { IsSoundIn scene.now }
         requires bound { IsBoundIn scene.now body.now }
         requires left { IsLeft scene.now.text.now rest.now }
         requires ends { Awaits scene.now self.old
-            (Ends scene.now (starting (Turns (mode_of mode) (said scene.now body.now))
-            rest.now (now_of self.old))) }
-        ensures { IfOk result (IsOnTheWay scene.entry.now self.new) }
+            (Finishes scene.now (starting (Turns (mode_of mode) (said scene.now body.now))
+            rest.now (now_of self.old) (steps_of self.old))) }
+        ensures { IfOk result (IsOnTheWay scene.entry.now self.new (steps_of self.old + 1)) }
     {
         let mark = self.mark()?;
         let repetition = Repetition {
@@ -354,11 +348,12 @@ impl<'a> Machine<'a> {
             rest,
             mark,
         };
-        if skips(scene, mode) {
-            self.wait(Frame::TurnGap(repetition))?;
-            self.blanks(scene, rest)
-        } else {
-            self.turn(scene, repetition, rest)
+        match passed(scene, mode, rest) {
+            Some(next) => self.turn(scene, repetition, next),
+            None => {
+                self.wait(Frame::TurnGap(repetition))?;
+                self.blanks(scene, rest)
+            }
         }
     }
 
@@ -369,9 +364,9 @@ impl<'a> Machine<'a> {
         scene: &Scene<'a>,
         repetition: Repetition<'a>,
         answer: Option<&'a str>,
-    ) -> Result<Control<'a>, Stop>
+    ) -> Result<Control<'a>, AllocError>
         requires follows { IsResumed scene.now self.old (IsTurnGap scene.now repetition) answer }
-        ensures { IfOk result (IsOnTheWay scene.entry.now self.new) }
+        ensures { IfOk result (IsOnTheWay scene.entry.now self.new (steps_of self.old + 1)) }
     {
         match answer {
             Some(after) => self.turn(scene, repetition, after),
@@ -395,7 +390,7 @@ impl<'a> Machine<'a> {
         requires left { IsLeft scene.now.text.now rest.now }
         requires starts { IsStarting scene.now self.old
             (Run (mode_of mode) (NegPred (said scene.now body.now))) rest.now }
-        ensures { IfOk result (IsOnTheWay scene.entry.now self.new) }
+        ensures { Leads scene.entry.now self.new (steps_of self.old + 1) result }
     {
         let mark = self.mark()?;
         let frame = Frame::Not(Predicate { rest, mark }, count(&self.told));
@@ -412,7 +407,7 @@ impl<'a> Machine<'a> {
         answer: Option<&'a str>,
     ) -> Control<'a>
         requires follows { IsResumed scene.now self.old (IsNegated scene.now predicate told) answer }
-        ensures { IsOnTheWay scene.entry.now self.new result }
+        ensures { IsOnTheWay scene.entry.now self.new (steps_of self.old + 1) result }
     {
         self.forget(told);
         match answer {
@@ -437,7 +432,7 @@ impl<'a> Machine<'a> {
         requires left { IsLeft scene.now.text.now rest.now }
         requires starts { IsStarting scene.now self.old
             (Run (mode_of mode) (PosPred (said scene.now body.now))) rest.now }
-        ensures { IfOk result (IsOnTheWay scene.entry.now self.new) }
+        ensures { Leads scene.entry.now self.new (steps_of self.old + 1) result }
     {
         let mark = self.mark()?;
         let frame = Frame::Ahead(Predicate { rest, mark });
@@ -453,7 +448,7 @@ impl<'a> Machine<'a> {
         answer: Option<&'a str>,
     ) -> Control<'a>
         requires follows { IsResumed scene.now self.old (IsAhead scene.now predicate) answer }
-        ensures { IsOnTheWay scene.entry.now self.new result }
+        ensures { IsOnTheWay scene.entry.now self.new (steps_of self.old + 1) result }
     {
         match answer {
             Some(_) => {
@@ -470,15 +465,13 @@ impl<'a> Machine<'a> {
         scene: &Scene<'a>,
         rest: &'a str,
         answer: Option<&'a str>,
-    ) -> Result<Control<'a>, Stop>
+    ) -> Result<Control<'a>, AllocError>
         requires follows { IsResumed scene.now self.old (IsPushed scene.now rest.now) answer }
-        ensures { IfOk result (IsOnTheWay scene.entry.now self.new) }
+        ensures { IfOk result (IsOnTheWay scene.entry.now self.new (steps_of self.old + 1)) }
     {
         match answer {
             Some(after) => {
-                let Some(taken) = rest.get(..rest.len() - after.len()) else {
-                    return Err(Stop::Unsliced);
-                };
+                let taken = taken(rest, after);
                 let alloc = *self.entries.allocator();
                 let below = shared(&self.stack)?;
                 self.stack = pushed(alloc, taken, below)?;
@@ -489,21 +482,21 @@ impl<'a> Machine<'a> {
     }
 
     /// A call of a rule.
-    #[inline]
+    #[inline(always)]
     fn call(
         &mut self,
         scene: &Scene<'a>,
         row: &'a Row,
         mode: Mode,
         rest: &'a str,
-    ) -> Result<Control<'a>, Stop>
+    ) -> Result<Control<'a>, AllocError>
         requires row { IsRowIn scene.now row.now }
         requires meant { rule_of (grammar_in scene.now) (text_of row.now.name)
             ≡ Some (rule_of_row (names_within scene.now) row.now) }
         requires left { IsLeft scene.now.text.now rest.now }
         requires starts { IsStarting scene.now self.old
             (Run (mode_of mode) (Ident (text_of row.now.name))) rest.now }
-        ensures { IfOk result (IsOnTheWay scene.entry.now self.new) }
+        ensures { IfOk result (IsOnTheWay scene.entry.now self.new (steps_of self.old + 1)) }
     {
         let place = scene.text.len() - rest.len();
         let first = written(&self.entries);
@@ -522,15 +515,15 @@ impl<'a> Machine<'a> {
     }
 
     /// The body of a rule has an answer.
-    #[inline]
+    #[inline(always)]
     fn after_call(
         &mut self,
         scene: &Scene<'a>,
         called: Called<'a>,
         answer: Option<&'a str>,
-    ) -> Result<Control<'a>, Stop>
+    ) -> Result<Control<'a>, AllocError>
         requires follows { IsResumed scene.now self.old (IsCall scene.now called) answer }
-        ensures { IfOk result (IsOnTheWay scene.entry.now self.new) }
+        ensures { IfOk result (IsOnTheWay scene.entry.now self.new (steps_of self.old + 1)) }
     {
         let Called {
             row,
@@ -563,11 +556,12 @@ impl<'a> Machine<'a> {
     }
 
     /// Skips the blanks, if there is a rule for them, and then the comments.
-    fn blanks(&mut self, scene: &Scene<'a>, rest: &'a str) -> Result<Control<'a>, Stop>
+    fn blanks(&mut self, scene: &Scene<'a>, rest: &'a str) -> Result<Control<'a>, AllocError>
         requires sound { IsSoundIn scene.now }
         requires left { IsLeft scene.now.text.now rest.now }
-        requires skips { Awaits scene.now self.old (Skips scene.now rest.now (now_of self.old)) }
-        ensures { IfOk result (IsOnTheWay scene.entry.now self.new) }
+        requires skips { Awaits scene.now self.old
+            (Skips scene.now rest.now (now_of self.old) (steps_of self.old)) }
+        ensures { IfOk result (IsOnTheWay scene.entry.now self.new (steps_of self.old + 1)) }
     {
         match scene.program.whitespace {
             Some(number) => {
@@ -580,12 +574,12 @@ impl<'a> Machine<'a> {
     }
 
     /// Skips the comments, if there is a rule for them.
-    fn comments(&mut self, scene: &Scene<'a>, rest: &'a str) -> Result<Control<'a>, Stop>
+    fn comments(&mut self, scene: &Scene<'a>, rest: &'a str) -> Result<Control<'a>, AllocError>
         requires sound { IsSoundIn scene.now }
         requires left { IsLeft scene.now.text.now rest.now }
         requires ends { Awaits scene.now self.old
-            (Ends scene.now (starting comments rest.now (now_of self.old))) }
-        ensures { IfOk result (IsOnTheWay scene.entry.now self.new) }
+            (Finishes scene.now (starting comments rest.now (now_of self.old) (steps_of self.old))) }
+        ensures { IfOk result (IsOnTheWay scene.entry.now self.new (steps_of self.old + 1)) }
     {
         match scene.program.comment {
             Some(number) => {
@@ -604,10 +598,10 @@ impl<'a> Machine<'a> {
         scene: &Scene<'a>,
         rest: &'a str,
         answer: Option<&'a str>,
-    ) -> Result<Control<'a>, Stop>
+    ) -> Result<Control<'a>, AllocError>
         requires sound { IsSoundIn scene.now }
         requires follows { IsResumed scene.now self.old (IsBlank scene.now rest.now) answer }
-        ensures { IfOk result (IsOnTheWay scene.entry.now self.new) }
+        ensures { IfOk result (IsOnTheWay scene.entry.now self.new (steps_of self.old + 1)) }
     {
         match answer {
             Some(after) => self.blanks(scene, after),
@@ -622,10 +616,10 @@ impl<'a> Machine<'a> {
         scene: &Scene<'a>,
         rest: &'a str,
         answer: Option<&'a str>,
-    ) -> Result<Control<'a>, Stop>
+    ) -> Result<Control<'a>, AllocError>
         requires sound { IsSoundIn scene.now }
         requires follows { IsResumed scene.now self.old (IsComment scene.now rest.now) answer }
-        ensures { IfOk result (IsOnTheWay scene.entry.now self.new) }
+        ensures { IfOk result (IsOnTheWay scene.entry.now self.new (steps_of self.old + 1)) }
     {
         match answer {
             Some(after) => self.blanks(scene, after),
@@ -642,8 +636,8 @@ impl<'a> Machine<'a> {
         rest: &'a str,
     ) -> Result<Control<'a>, Stop>
         requires sound { IsSoundIn scene.now }
-        requires running { IsRunning scene.now self.old form.now mode rest.now }
-        ensures { IfOk result (IsOnTheWay scene.entry.now self.new) }
+        requires running { IsRunning scene.now self.old (steps_of self.old) form.now mode rest.now }
+        ensures { Leads scene.entry.now self.new (steps_of self.old + 1) result }
     {
         match self.at_once(scene, form, mode, rest)? {
             AtOnce::Answered(answer) => Ok(Control::Answer(answer)),
@@ -660,14 +654,14 @@ impl<'a> Machine<'a> {
         rest: &'a str,
     ) -> Result<Control<'a>, Stop>
         requires sound { IsSoundIn scene.now }
-        requires running { IsRunning scene.now self.old form.now mode rest.now }
+        requires running { IsRunning scene.now self.old (steps_of self.old) form.now mode rest.now }
         requires nested { IsNested form.now }
-        ensures { IfOk result (IsOnTheWay scene.entry.now self.new) }
+        ensures { Leads scene.entry.now self.new (steps_of self.old + 1) result }
     {
         match form {
             Form::Call(number) => {
                 let row = &scene.program.rows[*number];
-                self.call(scene, row, mode, rest)
+                Ok(self.call(scene, row, mode, rest)?)
             }
             Form::Seq(first, second) => {
                 self.sequence(scene, first, Second::Once(second), mode, rest)
@@ -680,7 +674,7 @@ impl<'a> Machine<'a> {
             }
             Form::Opt(body) => self.enter(scene, Frame::Optional(rest), body, mode, rest),
             Form::Push(body) => self.enter(scene, Frame::Push(rest), body, mode, rest),
-            Form::Rep(body) => self.repetition(scene, body, mode, rest),
+            Form::Rep(body) => Ok(self.repetition(scene, body, mode, rest)?),
             Form::NegPred(body) => self.negation(scene, body, mode, rest),
             Form::PosPred(body) => self.lookahead(scene, body, mode, rest),
             Form::Restore(body) => Ok(Control::Run(body, mode, rest)),
@@ -689,9 +683,35 @@ impl<'a> Machine<'a> {
         }
     }
 
-    /// Runs the scene's rule on its text, in NonAtomic, for so many steps at most. The answer is what is left
-    /// of the text after it, or `None` where it fails. Refused are want of memory, a run of more steps, and
-    /// `PEEK` or `POP` on the empty stack.
+    /// Goes on after so many rounds and a step, up to so many steps in all since those rounds.
+    fn go_on(
+        &mut self,
+        scene: &Scene<'a>,
+        first: Control<'a>,
+        rounds: usize,
+        steps: u64,
+    ) -> Result<Came<'a>, Stop>
+        requires sound { IsSoundIn scene.now }
+        requires on_the_way { IsOnTheWay scene.now self.old (rounds * round + 1) first }
+        ensures { Comes scene.entry.now self.new (rounds * round + steps) result }
+    {
+        let mut control = first;
+        'steps: for since in 1..steps {
+            self.steps = Steps { rounds, since };
+            control = match control {
+                Control::Run(form, mode, rest) => self.start(scene, form, mode, rest)?,
+                Control::Answer(answer) => match self.frames.pop() {
+                    Some(frame) => self.resume(scene, frame, answer)?,
+                    None => return Ok(Came::Ended(answer)),
+                },
+            };
+        }
+        Ok(Came::Going(control))
+    }
+
+    /// Runs the scene's rule on its text, in NonAtomic, for so many steps at most, of which its call is the
+    /// first. The answer is what is left of the text after it, or `None` where it fails. Refused are want of
+    /// memory, a run of more steps, and `PEEK` or `POP` on the empty stack, after which there is no outcome.
     pub fn run(&mut self, scene: &Scene<'a>, steps: u64) -> Result<Option<&'a str>, Stop>
         requires sound { IsSoundIn scene.now }
         requires row { IsRowIn scene.now scene.now.row.now }
@@ -699,18 +719,52 @@ impl<'a> Machine<'a> {
             ≡ Some (rule_of_row (names_within scene.now) scene.now.row.now) }
         requires fresh { now_of self.old ≡ (top_of scene.now).now }
         requires no_frames { self.old.frames.items ≡ [] }
-        ensures { IfOk result (GivesFrom scene.entry.now (top_of scene.entry.now) (now_of self.new)) }
+        requires no_steps { steps_of self.old ≡ 0 }
+        ensures gives { IfOk result (GivesFrom scene.entry.now (top_of scene.entry.now) (now_of self.new)) }
+        ensures stopped { IfErr result (IsStopped (grammar_in scene.entry.now)
+            scene.entry.now.program.now.properties.items (text_of scene.entry.now.row.now.name)
+            scene.entry.now.text.now steps) }
     {
-        let mut control = self.call(scene, scene.row, Mode::NonAtomic, scene.text)?;
-        'steps: for _ in 0..steps {
-            control = match control {
-                Control::Run(form, mode, rest) => self.start(scene, form, mode, rest)?,
-                Control::Answer(answer) => match self.frames.pop() {
-                    Some(frame) => self.resume(scene, frame, answer)?,
-                    None => return Ok(answer),
-                },
-            };
+        let first = self.call(scene, scene.row, Mode::NonAtomic, scene.text)?;
+        match self.go_on(scene, first, 0, steps)? {
+            Came::Ended(answer) => Ok(answer),
+            Came::Going(_) => Err(Stop::OutOfSteps),
         }
-        Err(Stop::OutOfSteps)
+    }
+
+    /// The same for a text that has an outcome: it has no limit, and only want of memory stops it. It counts
+    /// rounds of steps, which takes a byte each.
+    pub fn run_to_the_end(&mut self, ending: &Ending<'a>) -> Result<Option<&'a str>, AllocError>
+        requires sound { IsSoundIn ending.now.scene }
+        requires row { IsRowIn ending.now.scene ending.now.scene.row.now }
+        requires meant { rule_of (grammar_in ending.now.scene) (text_of ending.now.scene.row.now.name)
+            ≡ Some (rule_of_row (names_within ending.now.scene) ending.now.scene.row.now) }
+        requires fits { Fits ending.now.scene.program.now.properties.items
+            (classes_in ending.now.scene.program.now.properties.items) }
+        requires fresh { now_of self.old ≡ (top_of ending.now.scene).now }
+        requires no_frames { self.old.frames.items ≡ [] }
+        requires no_steps { steps_of self.old ≡ 0 }
+        ensures { IfOk result (GivesFrom ending.entry.now.scene (top_of ending.entry.now.scene)
+            (now_of self.new)) }
+    {
+        let mut control = self.call(
+            &ending.scene,
+            ending.scene.row,
+            Mode::NonAtomic,
+            ending.scene.text,
+        )?;
+        let mut rounds = Vec::new(*self.entries.allocator());
+        'rounds: loop {
+            match self.go_on(&ending.scene, control, rounds.len(), u64::MAX) {
+                Ok(Came::Ended(answer)) => return Ok(answer),
+                Ok(Came::Going(next)) => control = next,
+                Err(stop) => match stop {
+                    Stop::Memory => return Err(AllocError),
+                    Stop::OutOfSteps => unreachable!(),
+                    Stop::EmptyStack => unreachable!(),
+                },
+            }
+            rounds.push(0u8)?;
+        }
     }
 }

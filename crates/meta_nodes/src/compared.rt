@@ -1,11 +1,11 @@
 //! Equality of nodes, expressions and rules: by structure and place, and exactly that.
-ghost use Rattle.std.specs.Prelude.{◌≡◌, ◌↔◌, ◌+◌, ◌<◌, ◌&&◌, IsTrue, IfOk};
+ghost use Rattle.std.specs.Prelude.{◌≡◌, ◌↔◌, ◌+◌, ◌<◌, ◌≤◌, ◌&&◌, IsTrue, IfOk};
 ghost use Rattle.std.specs.Cmp.{on_equiv, partial_equiv_from_equiv};
 ghost use Rattle.meta_ast.specs.Weight.{weight};
 ghost use Rattle.meta_nodes.specs.Erasure.{without_spans};
 ghost use Rattle.meta_nodes.specs.NodeEquality.{rule_eq, rule_eq_equiv, span_eq, spanned_eq, spanned_eq_equiv};
 ghost use Rattle.meta_nodes.specs.Nodes.{piece_of, rule_view, unplaced, view, IsSameExpression};
-ghost use Rattle.meta_nodes.specs.Sameness.{are_equal, heaviness};
+ghost use Rattle.meta_nodes.specs.Sameness.{are_equal, heaviness, heaviness_left, is_equal, is_same};
 
 use crate::node::{ParserExpr, ParserNode, ParserRule};
 use meta_ast::texts::same_text;
@@ -41,7 +41,7 @@ impl<'i> PartialEq for ParserNode<'i> {
         ensures computed { result ≡ spanned_eq (view self.now) (view other.now) }
         ensures exact { IsTrue result ↔ (view self.now ≡ view other.now) }
     {
-        equal(self, other)
+        equal_nodes(self, other)
     }
 }
 
@@ -58,7 +58,7 @@ impl<'i> PartialEq for ParserExpr<'i> {
         ensures computed { result ≡ spanned_eq (unplaced self.now) (unplaced other.now) }
         ensures exact { IsTrue result ↔ IsSameExpression self.now other.now }
     {
-        same_expr(self, other)
+        equal(self, other)
     }
 }
 
@@ -73,12 +73,19 @@ fn same_span(a: &Span<'_>, b: &Span<'_>) -> bool
     a == b
 }
 
-/// Whether two nodes are equal, with a list of what is left to be compared; by calls where there is no memory
-/// for it.
-fn equal<'i>(a: &ParserNode<'i>, b: &ParserNode<'i>) -> bool
+/// Whether two nodes are equal, where they stand and what they say.
+fn equal_nodes<'i>(a: &ParserNode<'i>, b: &ParserNode<'i>) -> bool
     ensures { result ≡ spanned_eq (view a.now) (view b.now) }
 {
-    match allocator_of(&a.expr) {
+    same_span(&a.span, &b.span) && equal(&a.expr, &b.expr)
+}
+
+/// Whether two expressions are equal, with a list of what is left to be compared; by calls where there is no
+/// memory for it.
+fn equal<'i>(a: &ParserExpr<'i>, b: &ParserExpr<'i>) -> bool
+    ensures { result ≡ spanned_eq (unplaced a.now) (unplaced b.now) }
+{
+    match allocator_of(a) {
         None => same(a, b),
         Some(alloc) => match equal_by_list(alloc, a, b) {
             Ok(answer) => answer,
@@ -102,115 +109,136 @@ fn allocator_of(expr: &ParserExpr<'_>) -> Option<Global> {
 }
 
 /// Two nodes that are to be compared.
-#[derive(Drop)]
+#[derive(Clone, Copy)]
 struct Both<'n, 'i> {
     first: &'n ParserNode<'i>,
     second: &'n ParserNode<'i>,
 }
 
-/// Whether two nodes are equal, by a loop. The only fault is a want of memory.
-#[tactic(auto, using(crate::proofs::Sameness::are_equal_one, crate::proofs::Sameness::lighter))]
+/// What is left to be compared of two expressions.
+#[derive(Clone, Copy)]
+enum Left<'n, 'i> {
+    /// Nothing: this is the answer.
+    Nothing(bool),
+    /// Their operands, beside the answer on all else.
+    One(Both<'n, 'i>, bool),
+    Two(Both<'n, 'i>, Both<'n, 'i>),
+}
+
+/// Whether two expressions are equal, by a loop. The only fault is a want of memory.
+#[tactic(auto, using(crate::proofs::Sameness::lighter))]
 fn equal_by_list<'i>(
     alloc: Global,
-    a: &ParserNode<'i>,
-    b: &ParserNode<'i>,
+    a: &ParserExpr<'i>,
+    b: &ParserExpr<'i>,
 ) -> Result<bool, AllocError>
-    ensures { IfOk result (λ answer. answer ≡ spanned_eq (view a.now) (view b.now)) }
+    ensures { IfOk result (λ answer. answer ≡ spanned_eq (unplaced a.now) (unplaced b.now)) }
 {
     let mut others = Vec::new(alloc);
-    others.push(Both {
-        first: a,
-        second: b,
-    })?;
-    'both: while let Some(both) = others.pop() {
-        if !equal_outside(both.first, both.second, &mut others)? {
-            return Ok(false);
-        }
+    let mut is_equal = put(compared(a, b), &mut others)?;
+    'both: while is_equal {
+        let Some(both) = others.pop() else {
+            return Ok(true);
+        };
+        is_equal = equal_outside(both, &mut others)?;
     }
-    Ok(true)
+    Ok(false)
 }
 
 /// Whether two nodes are equal but for their operands, which are put on a list. The only fault is a want of
 /// memory.
-#[tactic(auto, using(crate::proofs::Sameness::are_equal_last, crate::proofs::Sameness::heaviness_last))]
 fn equal_outside<'n, 'i>(
-    a: &'n ParserNode<'i>,
-    b: &'n ParserNode<'i>,
+    both: Both<'n, 'i>,
     others: &mut Vec<Both<'n, 'i>>,
 ) -> Result<bool, AllocError>
     ensures same { IfOk result (λ answer. (answer && are_equal others.new.items)
-        ≡ (spanned_eq (view a.entry.now) (view b.entry.now) && are_equal others.old.items)) }
+        ≡ (is_equal both.entry && are_equal others.old.items)) }
     ensures work { IfOk result (λ _. heaviness others.new.items
-        < weight (without_spans (view a.entry.now)) + heaviness others.old.items) }
+        < weight (without_spans (view both.entry.first.now)) + heaviness others.old.items) }
 {
-    use ParserExpr as E;
-    if !same_span(&a.span, &b.span) {
-        return Ok(same(a, b));
+    if !same_span(&both.first.span, &both.second.span) {
+        return Ok(false);
     }
-    match (&a.expr, &b.expr) {
-        (E::PosPred(first), E::PosPred(second))
-        | (E::NegPred(first), E::NegPred(second))
-        | (E::Opt(first), E::Opt(second))
-        | (E::Rep(first), E::Rep(second))
-        | (E::RepOnce(first), E::RepOnce(second))
-        | (E::Push(first), E::Push(second)) => {
-            others.push(Both { first, second })?;
+    let answer = put(compared(&both.first.expr, &both.second.expr), others)?;
+    Ok(answer)
+}
+
+/// Puts what is left to be compared on a list, and answers all else. The only fault is a want of memory.
+fn put<'n, 'i>(left: Left<'n, 'i>, others: &mut Vec<Both<'n, 'i>>) -> Result<bool, AllocError>
+    ensures same { IfOk result (λ answer. (answer && are_equal others.new.items)
+        ≡ (is_same left.entry && are_equal others.old.items)) }
+    ensures work { IfOk result (λ _. heaviness others.new.items
+        ≤ heaviness_left left.entry + heaviness others.old.items) }
+{
+    match left {
+        Left::Nothing(answer) => Ok(answer),
+        Left::One(operands, answer) => {
+            others.push(operands)?;
+            Ok(answer)
+        }
+        Left::Two(first, second) => {
+            others.push(second)?;
+            others.push(first)?;
             Ok(true)
         }
-        (E::NodeTag(first, s), E::NodeTag(second, t)) => {
-            if !same_text(s, t) {
-                return Ok(false);
-            }
-            others.push(Both { first, second })?;
-            Ok(true)
-        }
-        (E::Seq(first, x), E::Seq(second, y)) | (E::Choice(first, x), E::Choice(second, y)) => {
-            others.push(Both {
-                first: x,
-                second: y,
-            })?;
-            others.push(Both { first, second })?;
-            Ok(true)
-        }
-        _ => Ok(same(a, b)),
     }
 }
 
-/// Whether two nodes are equal, where they stand and what they say.
+/// Whether two expressions are equal, by calls.
 #[cycle(same)]
-fn same(a: &ParserNode<'_>, b: &ParserNode<'_>) -> bool
-    ensures { result ≡ spanned_eq (view a.now) (view b.now) }
+fn same<'n, 'i>(a: &'n ParserExpr<'i>, b: &'n ParserExpr<'i>) -> bool
+    ensures { result ≡ spanned_eq (unplaced a.entry.now) (unplaced b.entry.now) }
 {
-    same_span(&a.span, &b.span) && same_expr(&a.expr, &b.expr)
+    match compared(a, b) {
+        Left::Nothing(answer) => answer,
+        Left::One(operands, answer) => answer && same_nodes(operands),
+        Left::Two(first, second) => same_nodes(first) && same_nodes(second),
+    }
 }
 
-/// Whether two expressions are of one variant, with equal parts.
+/// Whether two nodes are equal, by calls.
 #[cycle(same)]
-fn same_expr(a: &ParserExpr<'_>, b: &ParserExpr<'_>) -> bool
-    ensures { result ≡ spanned_eq (unplaced a.now) (unplaced b.now) }
+fn same_nodes<'n, 'i>(both: Both<'n, 'i>) -> bool
+    ensures { result ≡ is_equal both.entry }
+{
+    same_span(&both.first.span, &both.second.span) && same(&both.first.expr, &both.second.expr)
+}
+
+/// What is left to be compared of two expressions, once all but their operands is.
+fn compared<'n, 'i>(a: &'n ParserExpr<'i>, b: &'n ParserExpr<'i>) -> Left<'n, 'i>
+    ensures same { is_same result ≡ spanned_eq (unplaced a.entry.now) (unplaced b.entry.now) }
+    ensures work { heaviness_left result < weight (without_spans (unplaced a.entry.now)) }
 {
     use ParserExpr as E;
     match (a, b) {
         (E::Str(s), E::Str(t))
         | (E::Insens(s), E::Insens(t))
         | (E::Ident(s), E::Ident(t))
-        | (E::PushLiteral(s), E::PushLiteral(t)) => same_text(s, t),
-        (E::Range(s, u), E::Range(t, v)) => same_text(s, t) && same_text(u, v),
-        (E::PeekSlice(i, j), E::PeekSlice(k, l)) => i == k && j == l,
-        (E::PosPred(x), E::PosPred(y))
-        | (E::NegPred(x), E::NegPred(y))
-        | (E::Opt(x), E::Opt(y))
-        | (E::Rep(x), E::Rep(y))
-        | (E::RepOnce(x), E::RepOnce(y))
-        | (E::Push(x), E::Push(y)) => same(x, y),
-        (E::NodeTag(x, s), E::NodeTag(y, t)) => same_text(s, t) && same(x, y),
-        (E::Seq(x, y), E::Seq(z, w)) | (E::Choice(x, y), E::Choice(z, w)) => {
-            same(x, z) && same(y, w)
+        | (E::PushLiteral(s), E::PushLiteral(t)) => Left::Nothing(same_text(s, t)),
+        (E::Range(s, u), E::Range(t, v)) => Left::Nothing(same_text(s, t) && same_text(u, v)),
+        (E::PeekSlice(i, j), E::PeekSlice(k, l)) => Left::Nothing(i == k && j == l),
+        (E::PosPred(first), E::PosPred(second))
+        | (E::NegPred(first), E::NegPred(second))
+        | (E::Opt(first), E::Opt(second))
+        | (E::Rep(first), E::Rep(second))
+        | (E::RepOnce(first), E::RepOnce(second))
+        | (E::Push(first), E::Push(second)) => Left::One(Both { first, second }, true),
+        (E::NodeTag(first, s), E::NodeTag(second, t)) => {
+            Left::One(Both { first, second }, same_text(s, t))
         }
-        (E::RepExact(x, m), E::RepExact(y, n))
-        | (E::RepMin(x, m), E::RepMin(y, n))
-        | (E::RepMax(x, m), E::RepMax(y, n)) => m == n && same(x, y),
-        (E::RepMinMax(x, k, m), E::RepMinMax(y, l, n)) => k == l && m == n && same(x, y),
-        _ => false,
+        (E::Seq(first, x), E::Seq(second, y)) | (E::Choice(first, x), E::Choice(second, y)) => {
+            let right = Both {
+                first: x,
+                second: y,
+            };
+            Left::Two(Both { first, second }, right)
+        }
+        (E::RepExact(first, m), E::RepExact(second, n))
+        | (E::RepMin(first, m), E::RepMin(second, n))
+        | (E::RepMax(first, m), E::RepMax(second, n)) => Left::One(Both { first, second }, m == n),
+        (E::RepMinMax(first, k, m), E::RepMinMax(second, l, n)) => {
+            Left::One(Both { first, second }, k == l && m == n)
+        }
+        _ => Left::Nothing(false),
     }
 }

@@ -132,7 +132,8 @@ pub record AreRight (names : Names) (g : Grammar) : Type 0 where
 -- nor has any name that is not met
 pub record Tells (names : Names) (g : Grammar) : Type 0 where
   pub right : AreRight names g
-  pub unmet : (s : String Global) → met_at names.met (string_bytes s) ≡ None → HasNoStrings g (Ident (text_of s))
+  pub unmet : (s : String Global) → met_at names.met (string_bytes s) ≡ None
+      → HasNoStrings g (Ident (text_of s))
 
 -- the map holds the bodies of a grammar, and it is told which of its names have strings
 abbrev pub Serve : {S : Type 0} → HashMap (String Global) Expr S → Names → Grammar → Type 0

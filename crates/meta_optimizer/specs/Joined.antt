@@ -53,7 +53,8 @@ joined_with (around.RepMax i) x = e.RepMax x i
 joined_with (around.RepMinMax i j) x = e.RepMinMax x i j
 joined_with around.Push x = e.Push x
 joined_with (around.NodeTag t) x = e.NodeTag x (text_of t)
-joined_with (around.FirstOfSeq right) x = joined_here (e.Seq x (concatenated (expression_of right.value.value)))
+joined_with (around.FirstOfSeq right) x =
+    joined_here (e.Seq x (concatenated (expression_of right.value.value)))
 joined_with (around.FirstOfChoice right) x = e.Choice x (concatenated (expression_of right.value.value))
 joined_with (around.SecondOfSeq left) x = joined_here (e.Seq (said_by left.value) x)
 joined_with (around.SecondOfChoice left) x = e.Choice (expression_of left.value.value) x

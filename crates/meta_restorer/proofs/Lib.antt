@@ -1,4 +1,3 @@
-pub mod Marking
 pub mod Looking
 pub mod Naming
 pub mod Noting

@@ -16,7 +16,7 @@ use Rattle.meta_restorer.specs.Bodies.{NamedBody, named_body}
 use Rattle.meta_restorer.specs.Calls.{name_changes, names_in, number_changes}
 use Rattle.meta_restorer.specs.Changing.{changes_by, is_changer}
 use Rattle.meta_restorer.specs.Names.{Numbers, numbers_of}
-use Rattle.meta_restorer.specs.Noted.{AreNotedOf, AreWithin, IsNotedAs, IsWithin, noted_by, shows, shows_at}
+use Rattle.meta_restorer.specs.Noted.{AreNotedOf, AreWithin, IsNotedAs, IsWithin, noted_by, shows}
 use Rattle.meta_restorer.specs.declared.names.Names.{Names}
 use Rattle.meta_restorer.specs.declared.noted.Noted.{Noted}
 use Rattle.meta_restorer.specs.declared.noted.Share.{Share}
@@ -38,13 +38,13 @@ pub noted_first : (names : Option (Bor Names)) (n : Text) (ns : List Text) → n
 noted_first (Some names) n ns = refl
 noted_first None n ns = refl
 
-module _ (names : Names) (marks : List Bool) where
+module _ (names : Names) (p : ℕ → Bool) where
   abbrev marked : List Text → Bool
-  marked ns = list_any (number_changes marks) (numbers_of names ns)
+  marked ns = list_any (number_changes p) (numbers_of names ns)
 
   both : (a b c d : Bool) (ms ns : List Text) → a ≡ (b || marked ms) → c ≡ (d || marked ns) → (a || c) ≡ ((b || d) || marked (ms ++ ns))
   both a b c d ms ns e f =
-      let parts : marked (ms ++ ns) ≡ (marked ms || marked ns) = ap (list_any (number_changes marks)) (map-append _ ms ns) ∙ list_any-append (number_changes marks) (numbers_of names ms) (numbers_of names ns) in
+      let parts : marked (ms ++ ns) ≡ (marked ms || marked ns) = ap (list_any (number_changes p)) (map-append _ ms ns) ∙ list_any-append (number_changes p) (numbers_of names ms) (numbers_of names ns) in
       ap (λ x. x || c) e ∙ (ap (λ x. (b || marked ms) || x) f ∙ (shuffled b (marked ms) d (marked ns) ∙ ap (λ x. (b || d) || x) (sym parts)))
     where
       shuffled : (a b c d : Bool) → ((a || b) || (c || d)) ≡ ((a || c) || (b || d))
@@ -54,7 +54,7 @@ module _ (names : Names) (marks : List Bool) where
       shuffled false false c d = refl
 
   -- an expression changes the stack by itself, or names a rule that is marked
-  pub split : (x : code.OptimizedExpr) → changes_by (name_changes names marks) (optimized_expression_of x)
+  pub split : (x : code.OptimizedExpr) → changes_by (name_changes names p) (optimized_expression_of x)
       ≡ (changes_by is_changer (optimized_expression_of x) || marked (names_in (optimized_expression_of x)))
   split (code.Str s) = refl
   split (code.Insens s) = refl
@@ -76,9 +76,9 @@ module _ (names : Names) (marks : List Bool) where
 
   -- what is noted of an expression shows whether it changes the stack
   pub shown : (x : code.OptimizedExpr) (qs : Numbers) (s : Share) → IsNotedAs names (optimized_expression_of x) qs s
-      → shows marks qs s ≡ changes_by (name_changes names marks) (optimized_expression_of x)
-  shown x qs s h = ap (λ b. b || list_any (number_changes marks) (slice_range qs s.start s.end)) h.changes
-      ∙ (ap (λ rs. changes_by is_changer (optimized_expression_of x) || list_any (number_changes marks) rs) h.numbers ∙ sym (split x))
+      → shows qs p s ≡ changes_by (name_changes names p) (optimized_expression_of x)
+  shown x qs s h = ap (λ b. b || list_any (number_changes p) (slice_range qs s.start s.end)) h.changes
+      ∙ (ap (λ rs. changes_by is_changer (optimized_expression_of x) || list_any (number_changes p) rs) h.numbers ∙ sym (split x))
 
 -- what has been noted stays, where more is noted behind it
 range_kept : (qs more : Numbers) (i j : ℕ) → i ≤ j → j ≤ length qs → slice_range (qs ++ more) i j ≡ slice_range qs i j
@@ -122,7 +122,7 @@ got_mapped f [] i x e = cc
 got_mapped f (y ∷ xs) zero x e = cc
 got_mapped f (y ∷ xs) (suc i) x e = got_mapped f xs i x e
 
-got_alike : {A B : Type 0} (xs : List A) (ys : List B) (k : ℕ) (x : A) → slice_get xs k ≡ Some x → length xs ≡ length ys → (y : B) × (slice_get ys k ≡ Some y)
+pub got_alike : {A B : Type 0} (xs : List A) (ys : List B) (k : ℕ) (x : A) → slice_get xs k ≡ Some x → length xs ≡ length ys → (y : B) × (slice_get ys k ≡ Some y)
 got_alike [] ys k x e l = cc
 got_alike (x ∷ xs) [] k z e l = absurd (omega arith)
 got_alike (x ∷ xs) (y ∷ ys) zero z e l = (y, refl)
@@ -150,11 +150,9 @@ module _ (names : Names) where
   are_within bs n h i s at = let (b, here) = got_alike n.shares.items bs i s at h.alike in (h.noted i b s here at).within
 
   -- the share of a body shows whether it changes the stack
-  pub shown_at : (bs : List NamedBody) (n : Noted) (marks : List Bool) (i : ℕ) (b : NamedBody) → AreNotedOf names bs n → slice_get bs i ≡ Some b
-      → shows_at marks n i ≡ changes_by (name_changes names marks) (optimized_expression_of b.1)
-  shown_at bs n marks i b h at =
-      let (s, here) = got_alike bs n.shares.items i b at (sym h.alike) in
-      ap (λ o. elim o [ Some t ↦ shows marks n.numbers.items t | None ↦ false ]) here ∙ shown names marks b.1 n.numbers.items s (h.noted i b s at here)
+  pub shown_at : (bs : List NamedBody) (n : Noted) (p : ℕ → Bool) (i : ℕ) (b : NamedBody) (s : Share) → AreNotedOf names bs n → slice_get bs i ≡ Some b → slice_get n.shares.items i ≡ Some s
+      → shows n.numbers.items p s ≡ changes_by (name_changes names p) (optimized_expression_of b.1)
+  shown_at bs n p i b s h at here = shown names p b.1 n.numbers.items s (h.noted i b s at here)
 
   -- what is noted of the body of a rule
   pub noted_at : (rs : List OptimizedRule) (n : Noted) (i : ℕ) (r : OptimizedRule) (s : Share) → AreNotedOf names (map named_body rs) n → slice_get rs i ≡ Some r → slice_get n.shares.items i ≡ Some s

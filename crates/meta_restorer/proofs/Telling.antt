@@ -5,57 +5,59 @@ use Rattle.meta_base.specs.Language.Expression.{Expression, Ident, Rule, rule_of
 use Rattle.meta_base.specs.Rewritings.Wrapping.{ChangesStack, changes_push, changes_push_literal, changes_pop, changes_pop_all, changes_drop, changes_rule, changes_pos_pred, changes_neg_pred, changes_seq_left, changes_seq_right, changes_left, changes_right, changes_opt, changes_rep, changes_rep_once, changes_rep_exact, changes_rep_min, changes_rep_max, changes_rep_min_max, changes_tag}
 use Rattle.meta_ast.specs.Ast.{text_of}
 use Rattle.meta_ast.specs.Optimized.{optimized_expression_of}
+use Rattle.meta_flags.specs.Least.{follows, is_set_at}
 use Rattle.meta_restorer.specs.Bodies.{NamedBody, rule_with, grammar_with}
-use Rattle.meta_restorer.specs.Calls.{is_set_at, number_changes, name_changes}
+use Rattle.meta_restorer.specs.Calls.{number_changes, name_changes}
 use Rattle.meta_restorer.specs.Changing.{is_changer, changes_by}
 use Rattle.meta_restorer.specs.Names.{last_place, number_of, KnowsNames}
-use Rattle.meta_restorer.specs.Noted.{AreClosed, AreNotedOf, AreSound, Holds, holds}
+use Rattle.meta_restorer.specs.Noted.{AreClosed, AreNotedOf, AreSound, Holds}
 use Rattle.meta_restorer.specs.declared.names.Names.{Names}
 use Rattle.meta_restorer.specs.declared.noted.Noted.{Noted}
 use Rattle.meta_restorer.proofs.Changers.{changer_changes, drop_named, either, pop_all_named, pop_named}
 use Rattle.meta_restorer.proofs.Deciding.{changing, or_left, or_right}
-use Rattle.meta_restorer.proofs.Looking.{shown_at}
+use Rattle.meta_restorer.proofs.Looking.{got_alike, shown_at}
 use Rattle.meta_restorer.proofs.Naming.{Named, absent, named, resolved}
 use Rattle.meta_restorer.proofs.Said.{IsSaid, said}
 
 module _ (bs : List NamedBody) (names : Names) (noted : Noted) (known : KnowsNames names (grammar_with bs)) (met : AreNotedOf names bs noted) where
   -- a name changes the stack where its rule does
-  by_number : (marks : List Bool) → ((i : ℕ) (b : NamedBody) → slice_get bs i ≡ Some b → is_set_at marks i ≡ true → ChangesStack (grammar_with bs) (optimized_expression_of b.1))
-      → (s : String Global) → name_changes names marks (text_of s) ≡ true → ChangesStack (grammar_with bs) (Ident (text_of s))
-  by_number marks f s h = elim (either (is_changer (text_of s)) (number_changes marks (number_of names (text_of s))) h) [
+  by_number : (p : ℕ → Bool) → ((i : ℕ) (b : NamedBody) → slice_get bs i ≡ Some b → p i ≡ true → ChangesStack (grammar_with bs) (optimized_expression_of b.1))
+      → (s : String Global) → name_changes names p (text_of s) ≡ true → ChangesStack (grammar_with bs) (Ident (text_of s))
+  by_number p f s h = elim (either (is_changer (text_of s)) (number_changes p (number_of names (text_of s))) h) [
     | inl k ↦ changer_changes (grammar_with bs) (text_of s) k
-    | inr k ↦ go (last_place (grammar_with bs) (text_of s)) (resolved bs (text_of s)) (sym (ap (number_changes marks) (known s)) ∙ k)
+    | inr k ↦ go (last_place (grammar_with bs) (text_of s)) (resolved bs (text_of s)) (sym (ap (number_changes p) (known s)) ∙ k)
   ]
     where
-      go : (o : Option ℕ) → Named bs (text_of s) o → number_changes marks o ≡ true → ChangesStack (grammar_with bs) (Ident (text_of s))
+      go : (o : Option ℕ) → Named bs (text_of s) o → number_changes p o ≡ true → ChangesStack (grammar_with bs) (Ident (text_of s))
       go o (absent e) k = cc
       go o (named {i = i} b at e) k = changes_rule e (f i b at k)
 
   holding : {i : ℕ} → Holds noted i → (b : NamedBody) → slice_get bs i ≡ Some b → ChangesStack (grammar_with bs) (optimized_expression_of b.1)
-  holding (holds {i = i} marks sh f) b e =
-      changing (grammar_with bs) (name_changes names marks) (by_number marks (λ j d g k. holding (f j k) d g)) (optimized_expression_of b.1) (said b.1) (sym (shown_at names bs noted marks i b met e) ∙ sh)
+  holding (follows {i = i} {a = s} p at sh f) b e =
+      changing (grammar_with bs) (name_changes names p) (by_number p (λ j d g k. holding (f j k) d g)) (optimized_expression_of b.1) (said b.1) (sym (shown_at names bs noted p i b s met e at) ∙ sh)
 
   module _ (marks : List Bool) (closed : AreClosed noted marks) where
     abbrev p : Text → Bool
-    p = name_changes names marks
+    p = name_changes names (is_set_at marks)
 
     marked_rule : (n : Text) (s : String Global) (r : Rule) → n ≡ text_of s → rule_of (grammar_with bs) n ≡ Some r → (IsSaid r.body → changes_by p r.body ≡ true) → p n ≡ true
-    marked_rule n s r k e f = or_right (is_changer n) (number_changes marks (number_of names n)) (ap (λ m. number_changes marks (number_of names m)) k ∙ (ap (number_changes marks) (known s) ∙ (ap (λ m. number_changes marks (last_place (grammar_with bs) m)) (sym k) ∙ go (last_place (grammar_with bs) n) (resolved bs n))))
+    marked_rule n s r k e f = or_right (is_changer n) (number_changes (is_set_at marks) (number_of names n)) (ap (λ m. number_changes (is_set_at marks) (number_of names m)) k ∙ (ap (number_changes (is_set_at marks)) (known s) ∙ (ap (λ m. number_changes (is_set_at marks) (last_place (grammar_with bs) m)) (sym k) ∙ go (last_place (grammar_with bs) n) (resolved bs n))))
       where
-        go : (o : Option ℕ) → Named bs n o → number_changes marks o ≡ true
+        go : (o : Option ℕ) → Named bs n o → number_changes (is_set_at marks) o ≡ true
         go o (absent a) = cc
         go o (named {i = i} b at a) =
             let same : rule_with b ≡ r = cc in
             let own : changes_by p (optimized_expression_of b.1) ≡ true = ap (λ (q : Rule). changes_by p q.body) same ∙ f (subst (λ (q : Rule). IsSaid q.body) same (said b.1)) in
-            closed i (shown_at names bs noted marks i b met at ∙ own)
+            let (s, here) = got_alike bs noted.shares.items i b at (sym met.alike) in
+            closed i s here (shown_at names bs noted (is_set_at marks) i b s met at here ∙ own)
 
     complete : {e : Expression} → ChangesStack (grammar_with bs) e → IsSaid e → changes_by p e ≡ true
     complete changes_push s = refl
     complete changes_push_literal s = refl
     complete (changes_tag d) s = complete d s
-    complete (changes_pop {n = n} b) s = or_left (is_changer n) (number_changes marks (number_of names n)) (pop_named n b)
-    complete (changes_pop_all {n = n} b) s = or_left (is_changer n) (number_changes marks (number_of names n)) (pop_all_named n b)
-    complete (changes_drop {n = n} b) s = or_left (is_changer n) (number_changes marks (number_of names n)) (drop_named n b)
+    complete (changes_pop {n = n} b) s = or_left (is_changer n) (number_changes (is_set_at marks) (number_of names n)) (pop_named n b)
+    complete (changes_pop_all {n = n} b) s = or_left (is_changer n) (number_changes (is_set_at marks) (number_of names n)) (pop_all_named n b)
+    complete (changes_drop {n = n} b) s = or_left (is_changer n) (number_changes (is_set_at marks) (number_of names n)) (drop_named n b)
     complete (changes_rule {n = n} {r = r} e d) (s, k) = marked_rule n s r k e (λ h. complete d h)
     complete (changes_pos_pred d) s = complete d s
     complete (changes_neg_pred d) s = complete d s
@@ -73,6 +75,6 @@ module _ (bs : List NamedBody) (names : Names) (noted : Noted) (known : KnowsNam
 
     pub tells : AreSound noted marks → (n : String Global) → (p (text_of n) ≡ true → ChangesStack (grammar_with bs) (Ident (text_of n))) × (ChangesStack (grammar_with bs) (Ident (text_of n)) → p (text_of n) ≡ true)
     tells sound n = (
-      (λ h. by_number marks (λ i b at k. holding (sound.right i k) b at) n h),
+      (λ h. by_number (is_set_at marks) (λ i b at k. holding (sound.right i k) b at) n h),
       (λ d. complete d (n, refl)),
     )

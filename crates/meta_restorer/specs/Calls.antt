@@ -1,21 +1,18 @@
--- The names that are met in expressions, and marks of the rules that they mean.
-use Rattle.std.specs.Prelude.{◌≡◌, ⊤, ℕ, suc, ◌+◌, List, [], ◌∷◌, ◌++◌, Option, Some, None, Bool, true, false, ◌||◌, unwrap_or, slice_get, length}
+-- The names that are met in expressions, and the rules that they mean.
+use Rattle.std.specs.Prelude.{◌≡◌, ⊤, ℕ, ◌+◌, List, [], ◌∷◌, ◌++◌, Option, Some, None, Bool, false, ◌||◌, slice_get, length}
 use Rattle.meta_base.specs.Language.Text.{Text}
 use Rattle.meta_base.specs.Language.Expression.{Expression, Ident, PosPred, NegPred, Seq, Choice, Opt, Rep, RepOnce, Push, NodeTag}
 use Rattle.meta_restorer.specs.Changing.{is_changer}
 use Rattle.meta_restorer.specs.Names.{Numbers, number_of}
 use Rattle.meta_restorer.specs.declared.names.Names.{Names}
 
-abbrev pub is_set_at : List Bool → ℕ → Bool
-is_set_at bs i = unwrap_or (slice_get bs i) false
+abbrev pub number_changes : (ℕ → Bool) → Option ℕ → Bool
+number_changes p None = false
+number_changes p (Some i) = p i
 
-abbrev pub number_changes : List Bool → Option ℕ → Bool
-number_changes marks None = false
-number_changes marks (Some i) = is_set_at marks i
-
--- whether a name is that of a builtin that changes the stack, or of a rule that is marked
-abbrev pub name_changes : Names → List Bool → Text → Bool
-name_changes names marks n = is_changer n || number_changes marks (number_of names n)
+-- whether a name is that of a builtin that changes the stack, or of a rule that does
+abbrev pub name_changes : Names → (ℕ → Bool) → Text → Bool
+name_changes names p n = is_changer n || number_changes p (number_of names n)
 
 -- the names that are met in an expression, not below a wrapper, in order
 abbrev pub names_in : Expression → List Text
@@ -44,8 +41,3 @@ AreNoted names qs (Opt e) i = AreNoted names qs e i
 AreNoted names qs (Rep e) i = AreNoted names qs e i
 AreNoted names qs (RepOnce e) i = AreNoted names qs e i
 AreNoted names qs _ i = ⊤
-
-abbrev pub unset : List Bool → ℕ
-unset [] = 0
-unset (true ∷ bs) = unset bs
-unset (false ∷ bs) = suc (unset bs)

@@ -1,12 +1,14 @@
 -- What is noted of expressions, and which rules change the stack by what is noted of their bodies.
-use Rattle.std.specs.Prelude.{◌≡◌, ◌≤◌, ◌||◌, ℕ, List, [], Option, Some, None, Bool, true, false, slice_get, slice_range, length}
+use Rattle.std.specs.Prelude.{◌≡◌, ◌≤◌, ◌||◌, ℕ, List, [], Option, Some, None, Bool, slice_get, slice_range, length}
 use Rattle.std.specs.Borrow.{Bor}
 use Rattle.std.specs.List.{list_any}
 use Rattle.meta_base.specs.Language.Text.{Text}
 use Rattle.meta_base.specs.Language.Expression.{Expression}
 use Rattle.meta_ast.specs.Optimized.{optimized_expression_of}
+use Rattle.meta_flags.specs.Least as least
+use Rattle.meta_flags.specs.Least.{Follows}
 use Rattle.meta_restorer.specs.Bodies.{NamedBody}
-use Rattle.meta_restorer.specs.Calls.{is_set_at, names_in, number_changes}
+use Rattle.meta_restorer.specs.Calls.{names_in, number_changes}
 use Rattle.meta_restorer.specs.Changing.{changes_by, is_changer}
 use Rattle.meta_restorer.specs.Names.{Numbers, numbers_of}
 use Rattle.meta_restorer.specs.declared.names.Names.{Names}
@@ -21,16 +23,9 @@ pub record IsWithin (qs : Numbers) (s : Share) : Type 0 where
 abbrev pub AreWithin : Noted → Type 0
 AreWithin n = (i : ℕ) (s : Share) → slice_get n.shares.items i ≡ Some s → IsWithin n.numbers.items s
 
--- a `PUSH`, `PUSH_LITERAL`, `POP`, `POP_ALL` or `DROP` is met, or a rule that is marked
-abbrev pub shows : List Bool → Numbers → Share → Bool
-shows marks qs s = s.changes || list_any (number_changes marks) (slice_range qs s.start s.end)
-
--- the same in the body of a rule, if there is such a rule
-abbrev pub shows_at : List Bool → Noted → ℕ → Bool
-shows_at marks n i = elim (slice_get n.shares.items i) [
-  | Some s ↦ shows marks n.numbers.items s
-  | None ↦ false
-]
+-- a `PUSH`, `PUSH_LITERAL`, `POP`, `POP_ALL` or `DROP` is met, or a rule that changes the stack
+abbrev pub shows : Numbers → (ℕ → Bool) → Share → Bool
+shows qs p s = s.changes || list_any (number_changes p) (slice_range qs s.start s.end)
 
 -- what is noted of names that are met: their numbers, if names are known
 abbrev pub noted_by : Option (Bor Names) → List Text → Numbers
@@ -50,19 +45,14 @@ pub record AreNotedOf (names : Names) (bodies : List NamedBody) (n : Noted) : Ty
       → slice_get bodies i ≡ Some b → slice_get n.shares.items i ≡ Some s
       → IsNotedAs names (optimized_expression_of b.1) n.numbers.items s
 
--- a rule changes the stack by itself, or calls one that does: the least relation
-pub data Holds (n : Noted) : ℕ → Type 0 where
-  holds : {i : ℕ} (marks : List Bool) → shows_at marks n i ≡ true
-      → ((j : ℕ) → is_set_at marks j ≡ true → Holds n j) → Holds n i
+-- a rule changes the stack by itself, or calls one that does
+abbrev pub Holds : Noted → ℕ → Type 0
+Holds n = Follows (shows n.numbers.items) n.shares.items
 
 -- as many marks as rules, and each mark is right
-pub record AreSound (n : Noted) (marks : List Bool) : Type 0 where
-  pub alike : length marks ≡ length n.shares.items
-  pub right : (i : ℕ) → is_set_at marks i ≡ true → Holds n i
+abbrev pub AreSound : Noted → List Bool → Type 0
+AreSound n = least.AreSound (shows n.numbers.items) n.shares.items
 
 -- a rule that changes the stack by the marks is marked
-abbrev pub IsClosedAt : Noted → List Bool → ℕ → Type 0
-IsClosedAt n marks i = shows_at marks n i ≡ true → is_set_at marks i ≡ true
-
 abbrev pub AreClosed : Noted → List Bool → Type 0
-AreClosed n marks = (i : ℕ) → IsClosedAt n marks i
+AreClosed n = least.AreClosed (shows n.numbers.items) n.shares.items

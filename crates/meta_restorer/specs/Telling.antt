@@ -7,13 +7,14 @@ use Rattle.meta_base.specs.Language.Text.{Text}
 use Rattle.meta_base.specs.Language.Expression.{Expression, Ident, Grammar}
 use Rattle.meta_base.specs.Rewritings.Wrapping.{ChangesStack}
 use Rattle.meta_ast.specs.Ast.{text_of}
+use Rattle.meta_flags.specs.Least.{is_set_at}
 use Rattle.meta_restorer.specs.Calls.{AreNoted, name_changes}
 use Rattle.meta_restorer.specs.Names.{number_of}
 use Rattle.meta_restorer.specs.declared.changes.Changes.{Changes}
 
 -- whether a name changes the stack
 abbrev pub told : Changes → Text → Bool
-told c = name_changes c.names c.marks.items
+told c = name_changes c.names (is_set_at c.marks.items)
 
 -- it is told rightly which names change the stack
 abbrev pub Tells : Changes → Grammar → Type 0

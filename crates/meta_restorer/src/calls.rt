@@ -3,23 +3,15 @@ ghost use Rattle.std.specs.Prelude.{◌≡◌, [], Bool, true, false};
 ghost use Rattle.meta_base.specs.Language.Text.{Text};
 ghost use Rattle.meta_ast.specs.Optimized.{optimized_expression_of};
 ghost use Rattle.meta_restorer.specs.Changing.{changes_by, restored_by};
-ghost use Rattle.meta_restorer.specs.Calls.{is_set_at, names_in, number_changes};
+ghost use Rattle.meta_flags.specs.Least.{is_set_at};
+ghost use Rattle.meta_restorer.specs.Calls.{names_in, number_changes};
 
 use meta_ast::optimized::OptimizedExpr;
-
-/// Whether a flag is set.
-pub(crate) fn is_set(flags: &[bool], place: usize) -> bool
-    ensures { result ≡ is_set_at flags.now place }
-{
-    match flags.get(place) {
-        Some(flag) => *flag,
-        None => false,
-    }
-}
+use meta_flags::is_set;
 
 /// Whether the rule of a name is marked.
 pub(crate) fn is_marked(marks: &[bool], rule: Option<usize>) -> bool
-    ensures { result ≡ number_changes marks.now rule }
+    ensures { result ≡ number_changes (is_set_at marks.now) rule }
 {
     match rule {
         Some(rule) => is_set(marks, rule),

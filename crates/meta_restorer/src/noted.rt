@@ -4,10 +4,11 @@ ghost use Rattle.std.specs.Prelude.{◌≡◌, ◌++◌, ◌∷◌, [], IfOk, On
 ghost use Rattle.meta_base.specs.Language.Expression.{Expression};
 ghost use Rattle.meta_ast.specs.Ast.{text_of};
 ghost use Rattle.meta_ast.specs.Optimized.{optimized_expression_of};
+ghost use Rattle.meta_flags.specs.Least.{is_set_at};
 ghost use Rattle.meta_restorer.specs.Bodies.{said_by};
 ghost use Rattle.meta_restorer.specs.Calls.{names_in};
 ghost use Rattle.meta_restorer.specs.Changing.{changes_by, is_changer};
-ghost use Rattle.meta_restorer.specs.Noted.{AreNotedOf, AreWithin, IsNotedAs, IsWithin, noted_by, shows, shows_at};
+ghost use Rattle.meta_restorer.specs.Noted.{AreNotedOf, IsNotedAs, IsWithin, noted_by, shows};
 
 use crate::bodies::Body;
 use crate::calls::{is_marked, is_plain};
@@ -162,7 +163,7 @@ pub(crate) fn noted_of<'a>(
 /// Whether a `PUSH`, `PUSH_LITERAL`, `POP`, `POP_ALL` or `DROP` is met, or a rule that is marked.
 pub(crate) fn is_shown(numbers: &[Option<usize>], share: Share, marks: &[bool]) -> bool
     requires { IsWithin numbers.now share }
-    ensures { result ≡ shows marks.now numbers.now share }
+    ensures { result ≡ shows numbers.now (is_set_at marks.now) share }
 {
     if share.changes {
         return true;
@@ -173,15 +174,4 @@ pub(crate) fn is_shown(numbers: &[Option<usize>], share: Share, marks: &[bool]) 
         }
     }
     false
-}
-
-/// The same of the body of a rule, if there is such a rule.
-pub(crate) fn is_shown_at(noted: &Noted, rule: usize, marks: &[bool]) -> bool
-    requires { AreWithin noted.now }
-    ensures { result ≡ shows_at marks.now noted.now rule }
-{
-    match noted.shares.get(rule) {
-        Some(share) => is_shown(&noted.numbers, *share, marks),
-        None => false,
-    }
 }

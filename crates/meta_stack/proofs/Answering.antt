@@ -5,6 +5,7 @@ use Rattle.meta_base.specs.Language.Builtins.{Builtin, One, Property, Newline, S
 use Rattle.meta_base.specs.Language.Expression as plain
 use Rattle.meta_base.specs.Language.Expression.{Expression, Ident, Rule, Grammar, rule_of, whitespace, comment}
 use Rattle.meta_base.specs.Language.WellFormed.{IsNullable, nullable_str, nullable_insens, nullable_soi, nullable_eoi, nullable_call, nullable_pos_pred, nullable_neg_pred, nullable_opt, nullable_rep, nullable_rep_max, nullable_seq, nullable_left, nullable_right, nullable_rep_once, nullable_push, nullable_exact_zero, nullable_exact, nullable_min_zero, nullable_min, nullable_min_max_zero, nullable_min_max, nullable_skip, nullable_restore, nullable_push_literal, nullable_tag}
+use Rattle.meta_flags.specs.Least.{is_set_at}
 use Rattle.meta_nodes.specs.Erasure.{without_spans, round, between}
 use Rattle.meta_nodes.specs.Nodes.{view}
 use Rattle.meta_nodes.specs.Spanned as spanned
@@ -14,14 +15,15 @@ use Rattle.meta_stacks.specs.Reported.{KnowsNullable}
 use Rattle.meta_stacks.specs.Reports.{TakesEntries, AltersStack, by_push, by_builtin, by_rule, in_left, in_right, in_first, in_second, in_opt, in_rep, in_rep_once, in_rep_exact, in_rep_min, in_rep_max, in_rep_min_max, in_restore, SkippingAltersStack, by_push_literal, in_tag}
 use Rattle.meta_stack.specs.Answers.{AreAnswers, at_place, null_kind, changing_kind}
 use Rattle.meta_stack.specs.Expressions.{body_flag, name_flag, may_stay, may_change}
-use Rattle.meta_stack.specs.Flags.{is_set_at}
-use Rattle.meta_stack.specs.Names.{grammar_of, rule_said, last_place, kind_in, name_kind, builtin_kind, is_end}
-use Rattle.meta_stack.specs.Numbering.{AreTabled, IsSimple, all_nodes, leaf_kind, leaf_free, unary_free, is_empty_text, text_kind, slice_kind, wrap_of, wrap_kind, both_kind, choice_of}
+use Rattle.meta_table.specs.Names.{grammar_of, rule_said, last_place, is_end}
+use Rattle.meta_stack.specs.Names.{kind_in, name_kind, builtin_kind}
+use Rattle.meta_table.specs.Nodes.{IsSimple, all_nodes, choice_of}
+use Rattle.meta_stack.specs.Numbering.{AreTabled, leaf_kind, leaf_free, unary_free, is_empty_text, text_kind, slice_kind, wrap_of, wrap_kind, both_kind}
 use Rattle.meta_stack.specs.declared.table.Kind.TheVariants as is
 use Rattle.meta_stack.specs.declared.table.Node.{Node}
 use Rattle.meta_stack.specs.declared.facts.Question.TheVariants as asks
 use Rattle.meta_stack.proofs.Builtins.{builtin_does, kind_by}
-use Rattle.meta_stack.proofs.Resolved.{Named, absent, named, resolved, got_like, same_item}
+use Rattle.meta_table.proofs.Resolved.{Named, absent, named, resolved, got_like, same_item}
 
 or_first : (b c : Bool) → b ≡ true → (b || c) ≡ true
 or_first true c h = refl

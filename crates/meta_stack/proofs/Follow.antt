@@ -3,7 +3,7 @@ use Rattle.std.proofs.Common.{◌≡◌, ℕ, zero, suc, ◌+◌, ◌-◌, ◌<�
 use Rattle.meta_stacks.specs.Stack.{AbstractStack, is_among, stack_eq, unknown}
 use Rattle.meta_stacks.specs.Reading as says
 use Rattle.meta_stacks.specs.Reading.{turns, onward, walk, Required, Optional}
-use Rattle.meta_stack.specs.Table.{IsMeaning, copies}
+use Rattle.meta_stack.specs.Table.{IsMeaning}
 use Rattle.meta_stacks.specs.Walks.{stepped, turned}
 use Rattle.meta_stack.proofs.Counts.{times_more, times_left}
 use Rattle.std.proofs.lemmas.Option.{slice_get_within, slice_get_cases}

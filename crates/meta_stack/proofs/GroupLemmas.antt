@@ -2,13 +2,13 @@
 use Rattle.std.proofs.Common.{◌≡◌, ℕ, zero, suc, ◌⊎◌, ◌+◌, inl, inr, List, [], ◌∷◌, ◌++◌, Option, Some, None, Bool, true, false, slice_get, replicate, length, refl, sym, ◌∙◌, ap, subst}
 use Rattle.std.proofs.Math.ListN.{set}
 use Rattle.std.proofs.lemmas.List.{length_push}
-use Rattle.meta_stack.specs.Flags.{is_set_at}
+use Rattle.meta_flags.specs.Least.{is_set_at}
 use Rattle.meta_stack.specs.Leading.{IsOperandOf, LeadsToCall, to_call, by_body, by_operand, LeadsFrom, LeadsBack, Owns, AreOwned, AreLinks, AreLed, IsOnward, owner_in, leader_in, turned}
 use Rattle.meta_stack.specs.Table.{called_by, parts_of}
 use Rattle.meta_stack.specs.declared.calls.Link.{Link}
 use Rattle.meta_stack.specs.declared.table.Node.{Node}
 use Rattle.meta_stack.specs.declared.table.Parts.{Parts}
-use Rattle.meta_stack.proofs.FlagLemmas.{set_or_one}
+use Rattle.meta_flags.proofs.LeastLemmas.{set_or_one}
 use Rattle.meta_stack.proofs.LeadingLemmas.{call_kind}
 
 owner_set : (owners : List (Option ℕ)) (i r j s : ℕ) → owner_in (set owners i (Some r)) j ≡ Some s → ((j ≡ i) × (r ≡ s)) ⊎ (owner_in owners j ≡ Some s)

@@ -6,7 +6,8 @@ use Rattle.meta_base.specs.Language.Expression.{Expression}
 use Rattle.meta_nodes.specs.Nodes.{view, view_at, piece_of}
 use Rattle.meta_nodes.specs.Spanned.{Span, span_of, Spanned, Leaf, One, Two, Unary, Binary}
 use Rattle.meta_nodes.specs.declared.node.ParserNode.{ParserNode}
-use Rattle.meta_stack.specs.Numbering.{AreNodes, IsNode, Fits, IsSimple, both_kind, choice_of, is_free, leaf_kind, postorder, size, wrap_kind, wrap_of}
+use Rattle.meta_table.specs.Nodes.{IsSimple, choice_of, postorder, size}
+use Rattle.meta_stack.specs.Numbering.{AreNodes, IsNode, Fits, both_kind, is_free, leaf_kind, wrap_kind, wrap_of}
 use Rattle.meta_stack.specs.Lacking.{IsBehind, IsLacking, Chain, SoFar, Numbers, left_of, effort_lacking, effort_left}
 use Rattle.meta_stack.specs.declared.table.Kind.{Kind}
 use Rattle.meta_stack.specs.declared.table.Node.{Node}

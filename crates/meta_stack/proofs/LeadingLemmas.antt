@@ -2,10 +2,11 @@
 use Rattle.std.proofs.Common.{◌≡◌, ◌↔◌, ℕ, ◌⊎◌, inl, inr, List, Option, Some, None, Bool, true, false, ◌||◌, nat_eq, slice_get, refl, sym, ◌∙◌, ap}
 use Rattle.std.specs.Cmp.{unsigned_Decides}
 use Rattle.meta_nodes.specs.Spanned.{Unary, PosPred, NegPred, Opt, Rep, RepOnce, RepExact, RepMin, RepMax, RepMinMax, Push, Tag, Binary, Seq, Choice}
-use Rattle.meta_stack.specs.Answers.{answer, at_place, leading, some_part, Holds, holds, AreSound, AreClosed}
-use Rattle.meta_stack.specs.Flags.{is_set_at}
+use Rattle.meta_flags.specs.Least.{follows, is_set_at}
+use Rattle.meta_stack.specs.Answers.{answer, at_place, leading, some_part, Holds, AreSound, AreClosed}
 use Rattle.meta_stack.specs.Leading.{IsOperandOf, LeadsToCall, to_call, by_body, by_operand, LeadsBack}
-use Rattle.meta_stack.specs.Numbering.{wrap_of, wrap_kind, both_kind, choice_of}
+use Rattle.meta_table.specs.Nodes.{choice_of}
+use Rattle.meta_stack.specs.Numbering.{wrap_of, wrap_kind, both_kind}
 use Rattle.meta_stack.specs.Table.{called_by, parts_of}
 use Rattle.meta_stack.specs.declared.facts.Question.TheVariants as asks
 use Rattle.meta_stack.specs.declared.table.Kind.{Kind}
@@ -109,7 +110,7 @@ module _ (ns : List Node) (roots : List ℕ) (r : ℕ) where
 
   -- what the least answer says
   pub holds_leads : {i : ℕ} → Holds (asks.LeadsTo r) ns roots i → LeadsToCall ns roots i r
-  holds_leads (holds {i = i} {n = n} p at f g) = lead_on p i n at (λ j h. holds_leads (g j h)) (called_by n.kind) refl f
+  holds_leads (follows {i = i} {a = n} p at f g) = lead_on p i n at (λ j h. holds_leads (g j h)) (called_by n.kind) refl f
 
   module _ (flags : List Bool) (closed : AreClosed (asks.LeadsTo r) ns roots flags) where
     by_calling : (n : Node) (o : Option ℕ) → called_by n.kind ≡ o → leading roots (is_set_at flags) r o (parts_of n.kind) ≡ true → answer (asks.LeadsTo r) roots (is_set_at flags) n ≡ true

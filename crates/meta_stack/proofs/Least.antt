@@ -7,22 +7,24 @@ use Rattle.meta_base.specs.Language.Builtins.{Builtin, One, Property, Newline, S
 use Rattle.meta_base.specs.Language.Expression as plain
 use Rattle.meta_base.specs.Language.Expression.{Expression, Ident, Rule, Grammar, rule_of}
 use Rattle.meta_base.specs.Language.WellFormed.{IsNullable, nullable_str, nullable_insens, nullable_soi, nullable_eoi, nullable_call, nullable_pos_pred, nullable_neg_pred, nullable_opt, nullable_rep, nullable_rep_max, nullable_seq, nullable_left, nullable_right, nullable_rep_once, nullable_push, nullable_exact_zero, nullable_exact, nullable_min_zero, nullable_min, nullable_min_max_zero, nullable_min_max, nullable_skip, nullable_restore, nullable_push_literal, nullable_tag}
+use Rattle.meta_flags.specs.Least.{follows, is_set_at}
 use Rattle.meta_nodes.specs.Erasure.{without_spans, round, between}
 use Rattle.meta_nodes.specs.Nodes.{view}
 use Rattle.meta_nodes.specs.Spanned as spanned
 use Rattle.meta_nodes.specs.Spanned.{Spanned, Leaf, Unary, PosPred, NegPred, Opt, Rep, RepOnce, RepExact, RepMin, RepMax, RepMinMax, Push, Tag, Binary, Seq, Choice}
 use Rattle.meta_nodes.specs.declared.node.ParserRule.{ParserRule}
 use Rattle.meta_stacks.specs.Reports.{AltersStack, by_push, by_push_literal, in_tag, by_builtin, by_rule, in_left, in_right, in_first, in_second, in_opt, in_rep, in_rep_once, in_rep_exact, in_rep_min, in_rep_max, in_rep_min_max}
-use Rattle.meta_stack.specs.Answers.{answer, at_place, null_kind, changing_kind, Holds, holds, Asked, AreSound}
+use Rattle.meta_stack.specs.Answers.{answer, at_place, null_kind, changing_kind, Holds, Asked, AreSound}
 use Rattle.meta_stack.specs.Expressions.{body_flag, name_flag, may_stay}
-use Rattle.meta_stack.specs.Flags.{is_set_at}
-use Rattle.meta_stack.specs.Names.{grammar_of, rule_said, last_place, kind_in, name_kind, is_end}
-use Rattle.meta_stack.specs.Numbering.{AreTabled, IsNode, IsSimple, all_nodes, leaf_kind, leaf_free, unary_free, is_empty_text, text_kind, slice_kind, wrap_of, wrap_kind, both_kind, choice_of}
+use Rattle.meta_table.specs.Names.{grammar_of, rule_said, last_place, is_end}
+use Rattle.meta_stack.specs.Names.{kind_in, name_kind}
+use Rattle.meta_table.specs.Nodes.{IsSimple, all_nodes, choice_of}
+use Rattle.meta_stack.specs.Numbering.{AreTabled, IsNode, leaf_kind, leaf_free, unary_free, is_empty_text, text_kind, slice_kind, wrap_of, wrap_kind, both_kind}
 use Rattle.meta_stack.specs.declared.table.Node.{Node}
 use Rattle.meta_stack.specs.declared.facts.Question.{Question}
 use Rattle.meta_stack.specs.declared.facts.Question.TheVariants as asks
 use Rattle.meta_stack.proofs.Builtins.{builtin_does, kind_by}
-use Rattle.meta_stack.proofs.Resolved.{Named, absent, named, resolved, got_like, same_item}
+use Rattle.meta_table.proofs.Resolved.{Named, absent, named, resolved, got_like, same_item}
 
 either : (a b : Bool) → (a || b) ≡ true → (a ≡ true) ⊎ (b ≡ true)
 either true b h = inl refl
@@ -207,7 +209,7 @@ module _ (rules : List ParserRule) (ns : List Node) (roots : List ℕ) (tabled :
 
   -- what holds of a node is what is asked of its expression
   pub least : (q : Question) {i : ℕ} → Holds q ns roots i → (x : Spanned) → slice_get all i ≡ Some x → Asked q G (without_spans x)
-  least q (holds {i = i} {n = n} p at f g) x here =
+  least q (follows {i = i} {a = n} p at f g) x here =
       let (m, is, fit) = tabled.nodes.fit i x here in
       node_asked q p (λ j h y e. least q (g j h) y e) i m x fit (subst (λ z. answer q roots p z ≡ true) (same_item (slice_get ns i) n m at is) f)
 

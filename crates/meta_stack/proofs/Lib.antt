@@ -10,7 +10,6 @@ pub mod Starting
 pub mod NameLemmas
 pub mod Numbered
 pub mod Roots
-pub mod Resolved
 pub mod Builtins
 pub mod Tied
 pub mod Answering

@@ -11,7 +11,8 @@ use Rattle.meta_base.specs.Language.Text.{Text}
 use Rattle.meta_nodes.specs.Spanned.{Span, span_of, Spanned, Leaf, One, Two}
 use Rattle.meta_base.specs.Language.Expression as plain
 use Rattle.meta_base.specs.Language.Expression.{Expression}
-use Rattle.meta_stack.specs.Numbering.{size, postorder, AreNodes, IsNode, Fits, leaf_kind, kind_of_code}
+use Rattle.meta_table.specs.Nodes.{size, postorder}
+use Rattle.meta_stack.specs.Numbering.{AreNodes, IsNode, Fits, leaf_kind, kind_of_code}
 use Rattle.meta_stack.specs.declared.table.Node.{Node}
 use Rattle.meta_stack.specs.declared.table.Kind.{Kind}
 

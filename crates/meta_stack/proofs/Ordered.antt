@@ -5,14 +5,16 @@ use Rattle.meta_base.specs.Language.Text.{Text}
 use Rattle.meta_base.specs.Language.Builtins.{Builtin, One, Property, Newline, Soi, Eoi, Peek, Pop, Drop, PeekAll, PopAll, builtin_of}
 use Rattle.meta_base.specs.Language.Expression as plain
 use Rattle.meta_base.specs.Language.Expression.{Expression}
+use Rattle.meta_flags.specs.Least.{is_set_at}
 use Rattle.meta_nodes.specs.Nodes.{view}
 use Rattle.meta_nodes.specs.Spanned as spanned
 use Rattle.meta_nodes.specs.Spanned.{Spanned, Leaf, Unary, PosPred, NegPred, Opt, Rep, RepOnce, RepExact, RepMin, RepMax, RepMinMax, Push, Tag, Binary, Seq, Choice}
 use Rattle.meta_nodes.specs.declared.node.ParserRule.{ParserRule}
-use Rattle.meta_stack.specs.Flags.{is_set_at}
 use Rattle.meta_stack.specs.Leading.{AreRanked, IsOperandOf}
-use Rattle.meta_stack.specs.Names.{grammar_of, kind_in, name_kind, last_place}
-use Rattle.meta_stack.specs.Numbering.{AreTabled, Fits, IsSimple, all_nodes, leaf_kind, text_kind, slice_kind, wrap_of, wrap_kind, both_kind, choice_of}
+use Rattle.meta_table.specs.Names.{grammar_of, last_place}
+use Rattle.meta_stack.specs.Names.{kind_in, name_kind}
+use Rattle.meta_table.specs.Nodes.{IsSimple, all_nodes, choice_of}
+use Rattle.meta_stack.specs.Numbering.{AreTabled, Fits, leaf_kind, text_kind, slice_kind, wrap_of, wrap_kind, both_kind}
 use Rattle.meta_stack.specs.Table.{AreInside, IsOrdered, Inside, LeadsTo, Lies, followed_at, nodes_of, parts_of}
 use Rattle.meta_stack.specs.declared.table.Kind.{Kind}
 use Rattle.meta_stack.specs.declared.table.Kind.TheVariants as is
@@ -21,7 +23,7 @@ use Rattle.meta_stack.specs.declared.table.Table.{Table}
 use Rattle.meta_stack.proofs.Builtins.{builtin_does, kind_by}
 use Rattle.meta_stack.proofs.LeadingLemmas.{both_operands, wrap_operand}
 use Rattle.meta_stack.proofs.RankLemmas.{body_falls, operand_falls}
-use Rattle.meta_stack.proofs.Resolved.{got_like, same_item}
+use Rattle.meta_table.proofs.Resolved.{got_like, same_item}
 
 -- the bodies of rules are nodes
 pub bodies_inside : (rules : List ParserRule) (kind_of : Text → Kind) (t : Table) → AreTabled rules kind_of (nodes_of t) t.roots.items → AreInside t

@@ -1,7 +1,7 @@
 -- Ranks of nodes, and rules that reach themselves.
 use Rattle.std.proofs.Common.{◌≡◌, ◌↔◌, ℕ, zero, suc, ◌+◌, ◌<◌, ◌≤◌, ◌⊎◌, inl, inr, List, [], ◌∷◌, ◌++◌, Option, Some, None, Bool, true, false, slice_get, length, unwrap_or, replicate, refl, sym, ◌∙◌, ap, subst, arith}
 use Rattle.std.proofs.lemmas.Option.{slice_get_within, slice_get_past}
-use Rattle.meta_stack.specs.Flags.{is_set_at}
+use Rattle.meta_flags.specs.Least.{is_set_at}
 use Rattle.meta_stack.specs.Leading.{IsOperandOf, LeadsToCall, to_call, by_body, by_operand, LeadsBack, rank_in, PartsFall, BodyFalls, CallFalls, AreRanked, AreCalls, AreRaised, bit}
 use Rattle.meta_stack.specs.Table.{called_by, parts_of}
 use Rattle.meta_stack.specs.declared.table.Node.{Node}

@@ -5,6 +5,7 @@ use Rattle.meta_base.specs.Language.Text.{Text}
 use Rattle.meta_base.specs.Language.Builtins.{Builtin, One, Property, Newline, Soi, Eoi, Peek, Pop, Drop, PeekAll, PopAll, builtin_of}
 use Rattle.meta_base.specs.Language.Expression as plain
 use Rattle.meta_base.specs.Language.Expression.{Expression, Ident, Rule, Grammar, rule_of, Part, whole, of_pos_pred, of_neg_pred, of_seq_left, of_seq_right, of_choice_left, of_choice_right, of_opt, of_rep, of_rep_once, of_rep_exact, of_rep_min, of_rep_max, of_rep_min_max, of_push, of_tag}
+use Rattle.meta_flags.specs.Least.{is_set_at}
 use Rattle.meta_nodes.specs.Erasure.{without_spans, round, between}
 use Rattle.meta_nodes.specs.Nodes.{view}
 use Rattle.meta_nodes.specs.Spanned as spanned
@@ -13,10 +14,11 @@ use Rattle.meta_nodes.specs.declared.node.ParserRule.{ParserRule}
 use Rattle.meta_stacks.specs.Recursion.{ReachesByCalls, by_call, by_calls}
 use Rattle.meta_stack.specs.Answers.{at_place}
 use Rattle.meta_stack.specs.Certain.{IsTableOf}
-use Rattle.meta_stack.specs.Flags.{is_set_at}
 use Rattle.meta_stack.specs.Leading.{IsOperandOf, LeadsToCall, to_call, by_body, by_operand, LeadsBack}
-use Rattle.meta_stack.specs.Names.{grammar_of, rule_said, last_place, kind_in, name_kind}
-use Rattle.meta_stack.specs.Numbering.{AreTabled, Fits, IsSimple, all_nodes, leaf_kind, text_kind, slice_kind, wrap_of, wrap_kind, both_kind, choice_of}
+use Rattle.meta_table.specs.Names.{grammar_of, rule_said, last_place}
+use Rattle.meta_stack.specs.Names.{kind_in, name_kind}
+use Rattle.meta_table.specs.Nodes.{IsSimple, all_nodes, choice_of}
+use Rattle.meta_stack.specs.Numbering.{AreTabled, Fits, leaf_kind, text_kind, slice_kind, wrap_of, wrap_kind, both_kind}
 use Rattle.meta_stack.specs.Table.{called_by, nodes_of, parts_of}
 use Rattle.meta_stack.specs.Told.{is_flagged}
 use Rattle.meta_stack.specs.declared.table.Kind.TheVariants as is
@@ -24,7 +26,7 @@ use Rattle.meta_stack.specs.declared.table.Node.{Node}
 use Rattle.meta_stack.specs.declared.table.Table.{Table}
 use Rattle.meta_stack.proofs.Builtins.{builtin_does, kind_by}
 use Rattle.meta_stack.proofs.LeadingLemmas.{both_operands, set_place, wrap_operand}
-use Rattle.meta_stack.proofs.Resolved.{Named, absent, named, resolved, got_like, same_item}
+use Rattle.meta_table.proofs.Resolved.{Named, absent, named, resolved, got_like, same_item}
 use Rattle.meta_stack.proofs.Tied.{inner_part, leaf_parts, side_part, simple_part}
 
 -- 1. a place has one name

@@ -1,6 +1,7 @@
 -- What is reported in a node, from what is reported in its operands.
 use Rattle.std.proofs.Common.{◌≡◌, ℕ, List, [], ◌∷◌, ◌++◌, Some, Bool, inl, inr, slice_get, map, refl, sym, ◌∙◌, ap, subst, append_assoc}
 use Rattle.std.proofs.lemmas.List.{map_push}
+use Rattle.meta_flags.specs.Least.{is_set_at}
 use Rattle.meta_nodes.specs.Nodes.{piece_of}
 use Rattle.meta_nodes.specs.Spanned.{Span, Spanned, Leaf, One, Two}
 use Rattle.meta_stacks.specs.Stack.{AbstractStack, In}
@@ -8,7 +9,6 @@ use Rattle.meta_stacks.specs.Reading as says
 use Rattle.meta_stacks.specs.Reading.{loops}
 use Rattle.meta_stacks.specs.Walks.{next_after}
 use Rattle.meta_stacks.specs.Reported.{starts, copies_of, is_endless, is_choice, ReportedIn, SomeLoop}
-use Rattle.meta_stack.specs.Flags.{is_set_at}
 use Rattle.meta_stack.specs.Table.{IsMeaning, HasParts, copies, nodes_of, parts_of}
 use Rattle.meta_stack.specs.Memory.{Meaning, IsRight}
 use Rattle.meta_stack.specs.Following.{seen_stacks}

@@ -5,7 +5,8 @@ use Rattle.std.proofs.lemmas.List.{length_push, append_assoc, append-nil}
 use Rattle.meta_nodes.specs.Nodes.{view}
 use Rattle.meta_nodes.specs.Spanned.{Spanned}
 use Rattle.meta_nodes.specs.declared.node.ParserRule.{ParserRule}
-use Rattle.meta_stack.specs.Numbering.{all_nodes, postorder, AreRoots}
+use Rattle.meta_table.specs.Nodes.{all_nodes, postorder}
+use Rattle.meta_stack.specs.Numbering.{AreRoots}
 use Rattle.meta_stack.proofs.Numbered.{got_more, got_before}
 
 -- the nodes of one rule more

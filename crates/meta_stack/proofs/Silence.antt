@@ -5,6 +5,7 @@ use Rattle.meta_base.specs.Language.Text.{Text}
 use Rattle.meta_base.specs.Language.Builtins.{Builtin, One, Property, Newline, Soi, Eoi, Peek, Pop, Drop, PeekAll, PopAll, builtin_of}
 use Rattle.meta_base.specs.Language.Expression as plain
 use Rattle.meta_base.specs.Language.Expression.{Expression, Rule, Grammar, rule_of}
+use Rattle.meta_flags.specs.Least.{is_set_at}
 use Rattle.meta_nodes.specs.Erasure.{without_spans, round, between}
 use Rattle.meta_nodes.specs.Nodes.{view}
 use Rattle.meta_nodes.specs.Spanned as spanned
@@ -16,10 +17,11 @@ use Rattle.meta_stacks.specs.Reading.{builtin_reading, loops, name_reading}
 use Rattle.meta_stacks.specs.Reported.{ReportedIn, is_endless, is_choice}
 use Rattle.meta_stacks.specs.Reports.{reading_in, skips_in}
 use Rattle.meta_stack.specs.Answers.{AreAnswers, at_place, some_part, still_kind}
-use Rattle.meta_stack.specs.Flags.{is_set_at}
 use Rattle.meta_stack.specs.Leading.{IsOperandOf}
-use Rattle.meta_stack.specs.Names.{grammar_of, rule_said, last_place, kind_in, name_kind}
-use Rattle.meta_stack.specs.Numbering.{AreTabled, Fits, IsSimple, all_nodes, is_empty_text, leaf_kind, text_kind, slice_kind, wrap_of, wrap_kind, both_kind, choice_of}
+use Rattle.meta_table.specs.Names.{grammar_of, rule_said, last_place}
+use Rattle.meta_stack.specs.Names.{kind_in, name_kind}
+use Rattle.meta_table.specs.Nodes.{IsSimple, all_nodes, choice_of}
+use Rattle.meta_stack.specs.Numbering.{AreTabled, Fits, is_empty_text, leaf_kind, text_kind, slice_kind, wrap_of, wrap_kind, both_kind}
 use Rattle.meta_stack.specs.Reportable.{AreBehind, AreReportable, AreSilent, may_be_still, may_loop, slice_may_be_still, TellLoops}
 use Rattle.meta_stack.specs.Table.{parts_of}
 use Rattle.meta_stack.specs.declared.facts.Question.TheVariants as asks
@@ -28,7 +30,7 @@ use Rattle.meta_stack.specs.declared.table.Parts.{Parts}
 use Rattle.meta_stack.specs.declared.table.Parts.TheVariants as parts
 use Rattle.meta_stack.proofs.Builtins.{builtin_does, kind_by}
 use Rattle.meta_stack.proofs.Reached.{either_operand, only_operand}
-use Rattle.meta_stack.proofs.Resolved.{Named, absent, named, resolved, got_like, same_item}
+use Rattle.meta_table.proofs.Resolved.{Named, absent, named, resolved, got_like, same_item}
 use Rattle.meta_stack.proofs.Still.{first_turn, names_still, reads_still}
 use Rattle.meta_stack.proofs.Tied.{binary_parts, leaf_parts, optional_of, required_of, unary_parts}
 

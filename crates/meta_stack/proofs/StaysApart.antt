@@ -2,12 +2,12 @@
 use Rattle.std.proofs.Common.{◌≡◌, ◌∙◌, sym, ap, refl, arith, ℕ, zero, suc, ◌<◌, ◌≤◌, ◌-◌, nat_eq, nat_le, List, [], ◌∷◌, length, Bool, true, false, not, ◌&&◌, ◌||◌, if◌then◌else◌, Option, Some, None, is_some, slice_get, inl}
 use Rattle.std.proofs.lemmas.Bool.Decides.{nat_tests}
 use Rattle.std.proofs.lemmas.Bool.{and_parts}
+use Rattle.meta_flags.specs.Least.{is_set_at}
 use Rattle.meta_stacks.specs.Stack.{Base, Empty, Blank, Any, AbstractStack, common, both_marks, join, join_any, failed}
 use Rattle.meta_stacks.specs.Reading.{Reading, Walk, Copy, Required, Optional, Endless, from, only_if, tried, stays, ahead_reading, not_ahead_reading, opt_reading, seq_reading, choice_reading, turns, onward, walk, walked, is_single}
 use Rattle.meta_stacks.specs.Walks.{turned}
 use Rattle.meta_stacks.proofs.Turning.{is_in}
 use Rattle.meta_stack.specs.Apart.{moved, AreMovable, AreApart, apart_kind, apart_call}
-use Rattle.meta_stack.specs.Flags.{is_set_at}
 use Rattle.meta_stack.specs.Memory.{Meaning}
 use Rattle.meta_stack.specs.Table.{IsMeaning, IsOrdered, Inside, Lies, LeadsTo, call_reading, copies, followed_at, level, node_reading, nodes_of}
 use Rattle.meta_stack.specs.declared.table.Kind.{Kind}

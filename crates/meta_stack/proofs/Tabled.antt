@@ -7,7 +7,8 @@ use Rattle.meta_stack.specs.Answers.{AreSound, AreClosed}
 use Rattle.meta_stack.specs.Certain.{IsTableOf}
 use Rattle.meta_stack.specs.Expressions.{name_flag}
 use Rattle.meta_stack.specs.Leading.{AreCalls}
-use Rattle.meta_stack.specs.Names.{grammar_of, kind_in}
+use Rattle.meta_table.specs.Names.{grammar_of}
+use Rattle.meta_stack.specs.Names.{kind_in}
 use Rattle.meta_stack.specs.Numbering.{AreTabled}
 use Rattle.meta_stack.specs.Table.{nodes_of}
 use Rattle.meta_stack.specs.declared.facts.Question.TheVariants as asks

@@ -6,6 +6,7 @@ use Rattle.meta_base.specs.Language.Text.{Text}
 use Rattle.meta_base.specs.Language.Builtins.{Builtin, One, Property, Newline, Soi, Eoi, Peek, Pop, Drop, PeekAll, PopAll, builtin_of}
 use Rattle.meta_base.specs.Language.Expression as plain
 use Rattle.meta_base.specs.Language.Expression.{Expression, Ident, Rule, Grammar, rule_of, Part, whole, of_pos_pred, of_neg_pred, of_seq_left, of_seq_right, of_choice_left, of_choice_right, of_opt, of_rep, of_rep_once, of_rep_exact, of_rep_min, of_rep_max, of_rep_min_max, of_push, of_tag}
+use Rattle.meta_flags.specs.Least.{is_set_at}
 use Rattle.meta_nodes.specs.Erasure.{without_spans, round, between}
 use Rattle.meta_nodes.specs.Nodes.{view, rule_views}
 use Rattle.meta_nodes.specs.Spanned.{Span, Spanned, Leaf, Unary, PosPred, NegPred, Opt, Rep, RepOnce, RepExact, RepMin, RepMax, RepMinMax, Push, Tag, Binary, Seq, Choice}
@@ -17,10 +18,11 @@ use Rattle.meta_stacks.specs.Reading.{reading, name_reading, rule_reading, built
 use Rattle.meta_stacks.specs.Reported.{copies_of, is_endless, is_choice}
 use Rattle.meta_stacks.proofs.Fuel.{reading_same}
 use Rattle.meta_stack.specs.Answers.{at_place}
-use Rattle.meta_stack.specs.Flags.{is_set_at}
 use Rattle.meta_stack.specs.Memory.{Meaning}
-use Rattle.meta_stack.specs.Names.{grammar_of, rule_said, last_place, kind_in, name_kind}
-use Rattle.meta_stack.specs.Numbering.{AreTabled, IsNode, is_empty_text, Fits, IsSimple, all_nodes, leaf_kind, text_kind, slice_kind, wrap_of, wrap_kind, both_kind, choice_of}
+use Rattle.meta_table.specs.Names.{grammar_of, rule_said, last_place}
+use Rattle.meta_stack.specs.Names.{kind_in, name_kind}
+use Rattle.meta_table.specs.Nodes.{IsSimple, all_nodes, choice_of}
+use Rattle.meta_stack.specs.Numbering.{AreTabled, IsNode, is_empty_text, Fits, leaf_kind, text_kind, slice_kind, wrap_of, wrap_kind, both_kind}
 use Rattle.meta_stack.specs.Table.{IsMeaning, IsOrdered, Lies, LeadsTo, Called, Inside, node_reading, call_reading, followed_at, nodes_of, parts_of, copies, rank_at}
 use Rattle.meta_stack.specs.Told.{is_flagged}
 use Rattle.meta_stack.specs.Visiting.{StandsFor, DoesTheSame}
@@ -30,7 +32,7 @@ use Rattle.meta_stack.specs.declared.table.Node.{Node}
 use Rattle.meta_stack.specs.declared.table.Parts.TheVariants as parts
 use Rattle.meta_stack.specs.declared.table.Table.{Table}
 use Rattle.meta_stack.proofs.Builtins.{builtin_does, kind_by}
-use Rattle.meta_stack.proofs.Resolved.{Named, absent, named, resolved, got_like, same_item}
+use Rattle.meta_table.proofs.Resolved.{Named, absent, named, resolved, got_like, same_item}
 
 -- 1. parts of expressions that are names
 pub simple_part : (e : Expression) (c : Text) → IsSimple e → Part e (Ident c) → e ≡ Ident c

@@ -7,6 +7,7 @@ use Rattle.std.proofs.lemmas.List.{length-map}
 use Rattle.meta_base.specs.Language.Expression.{Grammar}
 use Rattle.meta_base.specs.Language.Text.{Text}
 use Rattle.meta_base.specs.declared.runtime.places.Span as code_span
+use Rattle.meta_flags.specs.Least.{is_set_at}
 use Rattle.meta_nodes.specs.Erasure.{rules_without_spans, without_spans}
 use Rattle.meta_nodes.specs.Nodes.{piece_of, view, rule_views}
 use Rattle.meta_nodes.specs.Spanned.{Span, Spanned, SpannedRule}
@@ -22,10 +23,10 @@ use Rattle.meta_stacks.proofs.Routes.{reported_is_certain}
 use Rattle.meta_stacks.specs.declared.stack.Stack.{Stack}
 use Rattle.meta_stack.specs.Certain.{AreCertain, ArePlain, IsTableOf}
 use Rattle.meta_stack.specs.Expressions.{may_stay, name_flag}
-use Rattle.meta_stack.specs.Flags.{is_set_at}
 use Rattle.meta_stack.specs.Following.{seen_stacks}
 use Rattle.meta_stack.specs.Memory.{Meaning, IsRight}
-use Rattle.meta_stack.specs.Names.{grammar_of, kind_in}
+use Rattle.meta_table.specs.Names.{grammar_of}
+use Rattle.meta_stack.specs.Names.{kind_in}
 use Rattle.meta_stack.specs.Numbering.{AreTabled}
 use Rattle.meta_stack.specs.Reportable.{AreReportable, AreSilent, FindsMore}
 use Rattle.meta_stack.specs.Table.{IsMeaning, nodes_of}
@@ -41,7 +42,7 @@ use Rattle.meta_stack.proofs.FlagLemmas.{sound_answers}
 use Rattle.meta_stack.proofs.Least.{may_stay_null}
 use Rattle.meta_stack.proofs.Reached.{flagged_reaches}
 use Rattle.meta_stack.proofs.Reporting.{told_otherwise}
-use Rattle.meta_stack.proofs.Resolved.{got_like}
+use Rattle.meta_table.proofs.Resolved.{got_like}
 use Rattle.meta_stack.proofs.Silence.{silent}
 use Rattle.meta_stack.proofs.Tied as tied
 

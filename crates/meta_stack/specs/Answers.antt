@@ -1,9 +1,10 @@
 -- What is asked of all nodes, and answered by the answers for their operands.
-use Rattle.std.specs.Prelude.{◌≡◌, ℕ, List, Option, Some, None, Bool, true, false, ◌&&◌, ◌||◌, slice_get, length, nat_eq, ⊤}
+use Rattle.std.specs.Prelude.{◌≡◌, ℕ, List, Option, Some, None, Bool, true, false, ◌&&◌, ◌||◌, slice_get, nat_eq, ⊤}
 use Rattle.meta_base.specs.Language.Expression.{Expression, Grammar}
 use Rattle.meta_base.specs.Language.WellFormed.{IsNullable}
+use Rattle.meta_flags.specs.Least as least
+use Rattle.meta_flags.specs.Least.{Follows, is_set_at}
 use Rattle.meta_stacks.specs.Reports.{AltersStack}
-use Rattle.meta_stack.specs.Flags.{is_set_at}
 use Rattle.meta_stack.specs.Table.{called_by, parts_of}
 use Rattle.meta_stack.specs.declared.table.Kind.{Kind}
 use Rattle.meta_stack.specs.declared.table.Kind.TheVariants as is
@@ -25,57 +26,33 @@ null_kind roots p (is.Tag j) = p j
 null_kind roots p (is.Repeat j required optional endless) = p j
 null_kind roots p (is.Seq j k) = p j && p k
 null_kind roots p (is.Choice j k) = p j || p k
-null_kind roots p is.Still = false
-null_kind roots p is.Leaf = false
-null_kind roots p is.Peek = false
-null_kind roots p is.Pop = false
-null_kind roots p is.Drop = false
-null_kind roots p is.PeekAll = false
-null_kind roots p is.PopAll = false
-null_kind roots p (is.PushLiteral blank) = false
-null_kind roots p (is.PosPred j) = false
-null_kind roots p (is.NegPred j) = false
-null_kind roots p (is.Opt j) = false
+null_kind roots p _ = false
 
 -- it changes the stack outside predicates
 abbrev pub changing_kind : List ℕ → (ℕ → Bool) → Kind → Bool
 changing_kind roots p (is.Call r) = at_place p (slice_get roots r)
 changing_kind roots p (is.Push j) = true
 changing_kind roots p (is.PushLiteral blank) = true
-changing_kind roots p (is.Tag j) = p j
-changing_kind roots p (is.Repeat j required optional endless) = p j
-changing_kind roots p (is.Seq j k) = p j || p k
-changing_kind roots p (is.Choice j k) = p j || p k
-changing_kind roots p (is.Opt j) = p j
 changing_kind roots p is.Pop = true
 changing_kind roots p is.Drop = true
 changing_kind roots p is.PopAll = true
-changing_kind roots p is.Still = false
-changing_kind roots p is.Leaf = false
-changing_kind roots p is.Peek = false
-changing_kind roots p is.PeekAll = false
-changing_kind roots p (is.PosPred j) = false
-changing_kind roots p (is.NegPred j) = false
+changing_kind roots p (is.Tag j) = p j
+changing_kind roots p (is.Opt j) = p j
+changing_kind roots p (is.Repeat j required optional endless) = p j
+changing_kind roots p (is.Seq j k) = p j || p k
+changing_kind roots p (is.Choice j k) = p j || p k
+changing_kind roots p _ = false
 
 -- it may be read as taking nothing, from some stack, by its operands
 abbrev pub still_kind : List ℕ → (ℕ → Bool) → Kind → Bool
+still_kind roots p is.Leaf = false
 still_kind roots p (is.Call r) = at_place p (slice_get roots r)
 still_kind roots p (is.Push j) = p j
 still_kind roots p (is.Tag j) = p j
 still_kind roots p (is.Repeat j required optional endless) = nat_eq required 0 || p j
 still_kind roots p (is.Seq j k) = p j && p k
 still_kind roots p (is.Choice j k) = p j || p k
-still_kind roots p is.Leaf = false
-still_kind roots p is.Still = true
-still_kind roots p is.Peek = true
-still_kind roots p is.Pop = true
-still_kind roots p is.Drop = true
-still_kind roots p is.PeekAll = true
-still_kind roots p is.PopAll = true
-still_kind roots p (is.PushLiteral blank) = true
-still_kind roots p (is.PosPred j) = true
-still_kind roots p (is.NegPred j) = true
-still_kind roots p (is.Opt j) = true
+still_kind roots p _ = true
 
 -- some operand is
 abbrev pub some_part : (ℕ → Bool) → Parts → Bool
@@ -100,23 +77,17 @@ abbrev pub AreAnswers : Question → List Node → List ℕ → List Bool → Ty
 AreAnswers q ns roots flags = (i : ℕ) (n : Node) → slice_get ns i ≡ Some n
     → is_set_at flags i ≡ answer q roots (is_set_at flags) n
 
--- the answer for the node is yes: the least relation
-pub data Holds (q : Question) (ns : List Node) (roots : List ℕ) : ℕ → Type 0 where
-  holds : {i : ℕ} {n : Node} (p : ℕ → Bool) → slice_get ns i ≡ Some n → answer q roots p n ≡ true
-      → ((j : ℕ) → p j ≡ true → Holds q ns roots j) → Holds q ns roots i
+-- the answer for a node is yes
+abbrev pub Holds : Question → List Node → List ℕ → ℕ → Type 0
+Holds q ns roots = Follows (answer q roots) ns
 
 -- as many flags as nodes, and each flag is right
-pub record AreSound (q : Question) (ns : List Node) (roots : List ℕ) (flags : List Bool) : Type 0 where
-  pub alike : length flags ≡ length ns
-  pub right : (i : ℕ) → is_set_at flags i ≡ true → Holds q ns roots i
+abbrev pub AreSound : Question → List Node → List ℕ → List Bool → Type 0
+AreSound q ns roots = least.AreSound (answer q roots) ns
 
 -- a node whose answer is yes by the flags has its flag set
-abbrev pub IsClosedAt : Question → List Node → List ℕ → List Bool → ℕ → Type 0
-IsClosedAt q ns roots flags i = (n : Node) → slice_get ns i ≡ Some n
-    → answer q roots (is_set_at flags) n ≡ true → is_set_at flags i ≡ true
-
 abbrev pub AreClosed : Question → List Node → List ℕ → List Bool → Type 0
-AreClosed q ns roots flags = (i : ℕ) → IsClosedAt q ns roots flags i
+AreClosed q ns roots = least.AreClosed (answer q roots) ns
 
 -- what a question asks of an expression; what nodes are read as and where they lead is said of numbers alone
 abbrev pub Asked : Question → Grammar → Expression → Type 0

@@ -1,9 +1,9 @@
 -- What stays apart from the stack: it does the same from every stack, and leaves it.
 use Rattle.std.specs.Prelude.{◌≡◌, ℕ, List, Option, Some, None, Bool, true, false, ◌&&◌, nat_le, slice_get}
+use Rattle.meta_flags.specs.Least.{is_set_at}
 use Rattle.meta_stacks.specs.Stack.{AbstractStack}
 use Rattle.meta_stacks.specs.Reading as says
 use Rattle.meta_stacks.specs.Reading.{only_if}
-use Rattle.meta_stack.specs.Flags.{is_set_at}
 use Rattle.meta_stack.specs.Table.{followed_at, nodes_of}
 use Rattle.meta_stack.specs.declared.table.Kind.{Kind}
 use Rattle.meta_stack.specs.declared.table.Kind.TheVariants as is

@@ -6,6 +6,7 @@ use Rattle.meta_base.specs.declared.grammar.Rule.{Rule}
 use Rattle.meta_base.specs.declared.runtime.errors.Error.{Error}
 use Rattle.meta_base.specs.Language.Text.{Text}
 use Rattle.meta_base.specs.Language.WellFormed.{IsNullable}
+use Rattle.meta_flags.specs.Least.{is_set_at}
 use Rattle.meta_nodes.specs.Erasure.{rules_without_spans, without_spans}
 use Rattle.meta_nodes.specs.Spanned.{Span, Spanned, SpannedRule}
 use Rattle.meta_nodes.specs.declared.node.ParserRule.{ParserRule}
@@ -15,9 +16,9 @@ use Rattle.meta_stacks.specs.Reports.{SkippingAltersStack, skips_in}
 use Rattle.meta_stacks.specs.Stack.{In}
 use Rattle.meta_stacks.specs.Turns.{most_stacks}
 use Rattle.meta_stack.specs.Answers.{AreAnswers, AreSound}
-use Rattle.meta_stack.specs.Flags.{is_set_at}
 use Rattle.meta_stack.specs.Leading.{LeadsBack}
-use Rattle.meta_stack.specs.Names.{grammar_of, kind_in}
+use Rattle.meta_table.specs.Names.{grammar_of}
+use Rattle.meta_stack.specs.Names.{kind_in}
 use Rattle.meta_stack.specs.Numbering.{AreTabled}
 use Rattle.meta_stack.specs.Table.{AreInside, IsOrdered, nodes_of}
 use Rattle.meta_stack.specs.Visiting.{AllReported}

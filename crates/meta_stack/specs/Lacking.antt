@@ -4,7 +4,8 @@ use Rattle.meta_base.specs.Language.Text.{Text}
 use Rattle.meta_nodes.specs.Nodes.{view, view_at}
 use Rattle.meta_nodes.specs.Spanned.{Span, Spanned, One, Two, Unary, Binary}
 use Rattle.meta_nodes.specs.declared.node.ParserNode.{ParserNode}
-use Rattle.meta_stack.specs.Numbering.{AreNodes, choice_of, is_free, postorder, size, wrap_of}
+use Rattle.meta_table.specs.Nodes.{choice_of, postorder, size}
+use Rattle.meta_stack.specs.Numbering.{AreNodes, is_free, wrap_of}
 use Rattle.meta_stack.specs.declared.table.Kind.{Kind}
 use Rattle.meta_stack.specs.declared.table.Node.{Node}
 use Rattle.meta_stack.specs.declared.numbering.Coming.{Coming}

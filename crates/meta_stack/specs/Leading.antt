@@ -1,6 +1,6 @@
 -- Which nodes lead to calls of which rules, and ranks by which calls come to an end.
 use Rattle.std.specs.Prelude.{◌≡◌, ◌↔◌, ◌⊎◌, ℕ, ◌+◌, ◌<◌, ◌≤◌, List, Option, Some, None, Bool, true, false, slice_get, length, unwrap_or, ⊤}
-use Rattle.meta_stack.specs.Flags.{is_set_at}
+use Rattle.meta_flags.specs.Least.{is_set_at}
 use Rattle.meta_stack.specs.Table.{called_by, parts_of}
 use Rattle.meta_stack.specs.declared.calls.Link.{Link}
 use Rattle.meta_stack.specs.declared.table.Kind.TheVariants as is

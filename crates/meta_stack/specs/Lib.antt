@@ -1,4 +1,3 @@
-pub mod Flags
 pub mod Table
 pub mod Keys
 pub mod Memory
@@ -6,11 +5,9 @@ pub mod Following
 pub mod Searching
 pub mod Visiting
 pub mod Names
-pub mod NameMaps
 pub mod Numbering
 pub mod Answers
 pub mod Told
-pub mod Reaching
 pub mod Expressions
 pub mod Certain
 pub mod Reportable

@@ -1,15 +1,16 @@
 -- The nodes of bodies, each behind those inside it.
-use Rattle.std.specs.Prelude.{◌≡◌, ℕ, zero, suc, ◌+◌, ◌-◌, ◌<◌, min, List, [], ◌∷◌, ◌++◌, flat_map, length, Option, Some, None, Bool, true, false, slice_get, nat_eq, ⊤, ℤ, pos}
+use Rattle.std.specs.Prelude.{◌≡◌, ℕ, zero, ◌+◌, ◌-◌, ◌<◌, min, List, [], ◌∷◌, length, Option, Some, None, Bool, true, false, slice_get, nat_eq, ℤ, pos}
 use Rattle.meta_base.specs.Language.Text.{Text}
 use Rattle.meta_base.specs.Language.Expression as plain
 use Rattle.meta_base.specs.Language.Expression.{Expression}
-use Rattle.meta_nodes.specs.Nodes.{view, view_at, rule_views, piece_of}
-use Rattle.meta_nodes.specs.Spanned.{Span, Spanned, Leaf, One, Two, Unary, PosPred, NegPred, Opt, Rep, RepOnce, RepExact, RepMin, RepMax, RepMinMax, Push, Tag, Binary, Seq, Choice, SpannedRule, span_of}
+use Rattle.meta_nodes.specs.Nodes.{view, view_at, piece_of}
+use Rattle.meta_nodes.specs.Spanned.{Span, Spanned, Leaf, One, Two, Unary, PosPred, NegPred, Opt, Rep, RepOnce, RepExact, RepMin, RepMax, RepMinMax, Push, Tag, Binary, span_of}
 use Rattle.meta_nodes.specs.declared.node.ParserExpr.{ParserExpr}
 use Rattle.meta_nodes.specs.declared.node.ParserExpr.TheVariants as code
 use Rattle.meta_nodes.specs.declared.node.ParserRule.{ParserRule}
 use Rattle.meta_ast.specs.Ast.{text_of}
-use Rattle.meta_stack.specs.Names.{is_end}
+use Rattle.meta_table.specs.Names.{is_end}
+use Rattle.meta_table.specs.Nodes.{all_nodes, size, IsSimple, choice_of}
 use Rattle.meta_stack.specs.declared.table.Kind.{Kind}
 use Rattle.meta_stack.specs.declared.table.Kind.TheVariants as is
 use Rattle.meta_stack.specs.declared.table.Node.{Node}
@@ -17,19 +18,6 @@ use Rattle.meta_stack.specs.declared.numbering.Operands.{Operands}
 use Rattle.meta_stack.specs.declared.numbering.Operands.TheVariants as has
 use Rattle.meta_stack.specs.declared.numbering.Wrap.{Wrap}
 use Rattle.meta_stack.specs.declared.numbering.Wrap.TheVariants as wraps
-
--- a node and all nodes below it, each behind those inside it, the left one before the right
-abbrev pub postorder : Spanned → List Spanned
-postorder (Leaf s e) = Leaf s e ∷ []
-postorder (One s f x) = postorder x ++ One s f x ∷ []
-postorder (Two s f x y) = (postorder x ++ postorder y) ++ Two s f x y ∷ []
-
--- the nodes of all bodies, also of a rule that a later one of its name hides
-abbrev pub every_node : List SpannedRule → List Spanned
-every_node rules = flat_map (λ r. postorder r.body) rules
-
-abbrev pub all_nodes : List ParserRule → List Spanned
-all_nodes rules = every_node (rule_views rules)
 
 abbrev pub is_empty_text : Text → Bool
 is_empty_text [] = true
@@ -87,10 +75,6 @@ abbrev pub both_kind : Bool → ℕ → ℕ → Kind
 both_kind false j k = is.Seq j k
 both_kind true j k = is.Choice j k
 
-abbrev pub choice_of : Binary → Bool
-choice_of Seq = false
-choice_of Choice = true
-
 -- what may take nothing, whatever its operands do
 abbrev pub leaf_free : Expression → Bool
 leaf_free (plain.Str t) = is_empty_text t
@@ -117,28 +101,12 @@ is_free (Leaf s e) = leaf_free e
 is_free (One s f x) = unary_free f
 is_free (Two s f x y) = false
 
--- what is inside a node is smaller
-abbrev pub size : Spanned → ℕ
-size (Leaf s e) = 1
-size (One s f x) = suc (size x)
-size (Two s f x y) = suc (size x + size y)
-
 -- what an expression is made of is smaller than it, wherever it stands
 abbrev pub AreSmaller : ParserExpr → Operands → Type 0
 AreSmaller expr has.Nothing = (t : Span) → size (view_at t expr) ≡ 1
 AreSmaller expr (has.Inside wrap body) = (t : Span) → size (view_at t expr) ≡ size (view body.now) + 1
 AreSmaller expr (has.Both choice first second) =
     (t : Span) → size (view_at t expr) ≡ size (view first.now) + size (view second.now) + 1
-
--- an expression without operands
-abbrev pub IsSimple : Expression → Type 0
-IsSimple (plain.Str t) = ⊤
-IsSimple (plain.Insens t) = ⊤
-IsSimple (plain.Range t u) = ⊤
-IsSimple (plain.Ident n) = ⊤
-IsSimple (plain.PeekSlice i j) = ⊤
-IsSimple (plain.PushLiteral t) = ⊤
-IsSimple _ = ⊥
 
 -- an expression is made of these, wherever it stands
 abbrev pub IsMadeOf : ParserExpr → Operands → Type 0

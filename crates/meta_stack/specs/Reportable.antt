@@ -4,16 +4,16 @@ use Rattle.std.specs.List.{filter}
 use Rattle.meta_base.specs.declared.runtime.places.Span as code_span
 use Rattle.meta_base.specs.Language.Text.{Text}
 use Rattle.meta_base.specs.Language.Expression.{Expression, Str, Insens, Range, Ident, PeekSlice, PosPred, NegPred, Seq, Choice, Opt, Rep, RepOnce, RepExact, RepMin, RepMax, RepMinMax, Skip, Push, RestoreOnErr, Grammar, PushLiteral, NodeTag}
+use Rattle.meta_flags.specs.Least.{is_set_at}
 use Rattle.meta_nodes.specs.Nodes.{view}
 use Rattle.meta_nodes.specs.Spanned.{Spanned}
 use Rattle.meta_nodes.specs.declared.node.ParserRule.{ParserRule}
 use Rattle.meta_stacks.specs.Reported.{ReportedFrom}
 use Rattle.meta_stack.specs.Answers.{AreAnswers, some_part}
-use Rattle.meta_stack.specs.Flags.{is_set_at}
 use Rattle.meta_stack.specs.Leading.{IsOperandOf}
 use Rattle.meta_stack.specs.Certain.{IsTableOf}
 use Rattle.meta_stack.specs.Memory.{Meaning, IsRight}
-use Rattle.meta_stack.specs.Names.{grammar_of}
+use Rattle.meta_table.specs.Names.{grammar_of}
 use Rattle.meta_stack.specs.Numbering.{is_empty_text}
 use Rattle.meta_stack.specs.Table.{IsMeaning, parts_of}
 use Rattle.meta_stack.specs.Visiting.{FindsAll}

@@ -1,8 +1,8 @@
 -- The nodes of all rules, by number, and what they mean.
 use Rattle.std.specs.Prelude.{◌≡◌, ℕ, suc, ◌+◌, ◌*◌, ◌<◌, ◌≤◌, List, [], ◌∷◌, ◌++◌, replicate, length, Option, Some, None, Bool, true, false, if◌then◌else◌, slice_get, unwrap_or, ⊤}
+use Rattle.meta_flags.specs.Least.{is_set_at}
 use Rattle.meta_stacks.specs.Stack.{AbstractStack, pop_one, push_mark, failed}
 use Rattle.meta_stacks.specs.Reading.{Reading, surely, maybe, anything, from, peek_all_reading, pop_all_reading, top_reading, drop_reading, pushed_reading, ahead_reading, not_ahead_reading, seq_reading, choice_reading, opt_reading, Copy, Required, Optional, Endless, walked}
-use Rattle.meta_stack.specs.Flags.{is_set_at}
 use Rattle.meta_stack.specs.declared.table.Kind.{Kind}
 use Rattle.meta_stack.specs.declared.table.Kind.TheVariants as is
 use Rattle.meta_stack.specs.declared.table.Parts.{Parts}

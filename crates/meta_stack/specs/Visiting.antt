@@ -1,11 +1,11 @@
 -- From which stacks the code visits nodes, and what it reports.
 use Rattle.std.specs.Prelude.{◌≡◌, ℕ, ◌+◌, ◌<◌, List, [], ◌∷◌, ◌++◌, Some, Bool, true, false, ◌⊎◌, slice_get, map, ⊤}
+use Rattle.meta_flags.specs.Least.{is_set_at}
 use Rattle.meta_nodes.specs.Nodes.{piece_of}
 use Rattle.meta_nodes.specs.Spanned.{Span, Spanned, Leaf, One, Two}
 use Rattle.meta_stacks.specs.Stack.{AbstractStack, In, entry}
 use Rattle.meta_stacks.specs.Reading as says
 use Rattle.meta_stacks.specs.Reading.{loops, Copy}
-use Rattle.meta_stack.specs.Flags.{is_set_at}
 use Rattle.meta_stack.specs.Table.{IsMeaning, copies, nodes_of, parts_of}
 use Rattle.meta_stack.specs.Memory.{Meaning, IsRight}
 use Rattle.meta_stack.specs.Following.{seen_stacks}

@@ -1,13 +1,14 @@
 //! Nodes that stay apart from the stack: they do the same from every stack, and leave it. So they are read from
 //! one stack alone.
 ghost use Rattle.std.specs.Prelude.{◌≡◌, ◌<◌, ℕ, IfOk, length, true};
+ghost use Rattle.meta_flags.specs.Least.{is_set_at};
 ghost use Rattle.meta_stack.specs.Apart as spec;
 ghost use Rattle.meta_stack.specs.Apart.{AreApart, apart_kind};
-ghost use Rattle.meta_stack.specs.Flags.{is_set_at};
 ghost use Rattle.meta_stack.specs.Table.{nodes_of};
 
-use crate::listeners::who_listens;
-use crate::table::{Kind, Table, is_set};
+use crate::facts::Nodes;
+use crate::table::{Kind, Table};
+use meta_flags::{is_set, who_listens};
 use std::alloc::{AllocError, Global};
 
 /// Whether the body that a call leads to has a flag.
@@ -81,7 +82,11 @@ fn tell(
 
 /// All nodes but those that look at the stack or change it, and those that lead to them.
 fn found_apart<'i>(alloc: Global, table: &Table<'i>) -> Result<Vec<bool>, AllocError> {
-    let listeners = who_listens(alloc, table.roots.as_slice(), table.nodes.as_slice())?;
+    let nodes = Nodes {
+        roots: table.roots.as_slice(),
+        nodes: table.nodes.as_slice(),
+    };
+    let listeners = who_listens(alloc, &nodes)?;
     let mut flags = vec![in alloc; true; table.nodes.len()]?;
     let mut waiting = Vec::new(alloc);
     for place in 0..table.nodes.len() {

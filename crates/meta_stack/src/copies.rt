@@ -15,6 +15,31 @@ use crate::waiting::{Awaited, Next, Waiting};
 use meta_stacks::{Reading, Stack, Walk};
 use std::alloc::{AllocError, Global};
 
+/// How often something is repeated.
+#[derive(Clone, Copy)]
+pub struct Counts {
+    /// How many copies are required.
+    pub required: u32,
+    /// How many more there may be, each of which may fail.
+    pub optional: u32,
+    /// Whether turns without end follow.
+    pub endless: bool,
+}
+
+/// What is repeated, and how often.
+#[derive(Clone, Copy)]
+pub struct Repeated {
+    pub body: usize,
+    pub counts: Counts,
+}
+
+/// A node whose reading is begun, and the stack from which it is read.
+#[derive(Clone, Copy)]
+pub struct Begun {
+    pub node: usize,
+    pub stack: Stack,
+}
+
 /// A repetition whose copies are followed.
 #[derive(Drop)]
 pub struct Copies {
@@ -43,6 +68,21 @@ pub struct Turns {
     pub walk: Walk,
     /// The stacks from which turns started.
     pub seen: Vec<Stack>,
+}
+
+/// A copy that was read: what is left behind it, whether it is required, and the stack from which it was read.
+#[derive(Drop)]
+pub struct LastCopy {
+    pub copies: Copies,
+    pub required: bool,
+    pub from: Stack,
+}
+
+/// A turn that was read: what is left behind it, and the stack from which it was read.
+#[derive(Drop)]
+pub struct LastTurn {
+    pub turns: Turns,
+    pub from: Stack,
 }
 
 /// Whether a stack is among others.
@@ -82,36 +122,30 @@ pub fn foreseen(trace: &[Walk], walk: Walk, left: usize) -> Option<Walk>
 }
 
 /// Whether nothing can be skipped between the copies.
-fn stands_alone(skips: bool, required: u32, optional: u32, endless: bool) -> bool
-    ensures { result ≡ (not skips || says.is_single (copies required optional endless)) }
+fn stands_alone(skips: bool, counts: Counts) -> bool
+    ensures { result
+        ≡ (not skips || says.is_single (copies counts.required counts.optional counts.endless)) }
 {
-    !skips || (!endless && required as u64 + optional as u64 <= 1)
+    !skips || (!counts.endless && counts.required as u64 + counts.optional as u64 <= 1)
 }
 
 /// A repetition of which no copy has been followed yet, from a stack.
-pub fn all_copies(
-    alloc: Global,
-    table: &Table,
-    stack: Stack,
-    body: usize,
-    required: u32,
-    optional: u32,
-    endless: bool,
-) -> Copies
+pub fn all_copies(alloc: Global, table: &Table, stack: Stack, repeated: Repeated) -> Copies
     ensures all { (meaning : Meaning)
         → copied_reading table.now meaning result (stack_of stack) (walk_of result.walk)
-        ≡ says.walked table.now.limit (meaning body) table.now.skips (stack_of stack)
-        (copies required optional endless) }
-    ensures body { result.body ≡ body }
+        ≡ says.walked table.now.limit (meaning repeated.body) table.now.skips (stack_of stack)
+        (copies repeated.counts.required repeated.counts.optional repeated.counts.endless) }
+    ensures body { result.body ≡ repeated.body }
     ensures none { result.trace.items ≡ [] }
     ensures few { copies_left table.now result ≤ most_readings table.now }
 {
+    let Repeated { body, counts } = repeated;
     Copies {
         body,
-        required,
-        optional,
-        endless,
-        alone: stands_alone(table.skips, required, optional, endless),
+        required: counts.required,
+        optional: counts.optional,
+        endless: counts.endless,
+        alone: stands_alone(table.skips, counts),
         walk: Walk {
             here: Some(stack),
             failing: false,
@@ -122,31 +156,26 @@ pub fn all_copies(
 }
 
 /// The reading of a repetition is there, and is remembered.
-fn end(
-    memory: &mut Memory,
-    node: usize,
-    stack: Stack,
-    alone: bool,
-    walk: Walk,
-) -> Result<Next, AllocError>
-    ensures { IfOk result (EndsWith memory.old memory.new node stack alone (walk_of walk)) }
+fn end(memory: &mut Memory, begun: Begun, alone: bool, walk: Walk) -> Result<Next, AllocError>
+    ensures { IfOk result (EndsWith memory.old memory.new begun.node begun.stack alone (walk_of walk)) }
 {
-    let reading = walk.reading(stack, alone);
-    memory.remember(node, stack, reading)?;
+    let reading = walk.reading(begun.stack, alone);
+    memory.remember(begun.node, begun.stack, reading)?;
     Ok(Next::Done(reading))
 }
 
 /// A repetition waits for a copy, which is read from a stack; `copies`: what is left behind that copy.
 fn wait_for_copy(
     waiting: &mut Vec<Waiting>,
-    node: usize,
-    stack: Stack,
+    begun: Begun,
     mut copies: Copies,
     required: bool,
     from: Stack,
 ) -> Result<Next, AllocError>
-    ensures { IfOk result (AwaitsCopy waiting.old.items waiting.new.items node stack copies required from) }
+    ensures { IfOk result
+        (AwaitsCopy waiting.old.items waiting.new.items begun.node begun.stack copies required from) }
 {
+    let Begun { node, stack } = begun;
     let body = copies.body;
     let walk = copies.walk;
     copies.trace.push(walk)?;
@@ -160,33 +189,33 @@ fn wait_for_copy(
 
 /// The next copy of a repetition is read, or the reading of the repetition is there.
 pub fn next_copy(
-    alloc: Global,
     table: &Table,
     memory: &mut Memory,
     waiting: &mut Vec<Waiting>,
-    node: usize,
-    stack: Stack,
+    begun: Begun,
     mut copies: Copies,
 ) -> Result<Next, AllocError>
-    ensures { IfOk result (GoesOn table.now memory.old memory.new node stack
-        (λ meaning. CopiesLead table.now meaning copies (stack_of stack) (meaning node (stack_of stack)))
+    ensures { IfOk result (GoesOn table.now memory.old memory.new begun.node begun.stack
+        (λ meaning. CopiesLead table.now meaning copies (stack_of begun.stack)
+        (meaning begun.node (stack_of begun.stack)))
         copies.body (copies_left table.now copies) waiting.old.items waiting.new.items) }
 {
     let walk = copies.walk;
     let Some(from) = walk.here else {
-        return end(memory, node, stack, copies.alone, walk);
+        return end(memory, begun, copies.alone, walk);
     };
     if copies.required > 0 {
         copies.required -= 1;
-        return wait_for_copy(waiting, node, stack, copies, true, from);
+        return wait_for_copy(waiting, begun, copies, true, from);
     }
     if copies.optional > 0 {
         copies.optional -= 1;
-        return wait_for_copy(waiting, node, stack, copies, false, from);
+        return wait_for_copy(waiting, begun, copies, false, from);
     }
     if !copies.endless {
-        return end(memory, node, stack, copies.alone, walk);
+        return end(memory, begun, copies.alone, walk);
     }
+    let alloc = *copies.trace.allocator();
     let turns = Turns {
         body: copies.body,
         alone: copies.alone,
@@ -198,26 +227,27 @@ pub fn next_copy(
         },
         seen: Vec::new(alloc),
     };
-    next_turn(table, memory, waiting, node, stack, turns, Some(from))
+    next_turn(table, memory, waiting, begun, turns, Some(from))
 }
 
 /// A repetition goes on behind a copy that was read from a stack.
 pub fn copied(
-    alloc: Global,
     table: &Table,
     memory: &mut Memory,
     waiting: &mut Vec<Waiting>,
-    node: usize,
-    stack: Stack,
-    mut copies: Copies,
-    required: bool,
-    from: Stack,
+    begun: Begun,
+    copy: LastCopy,
     reading: Reading,
 ) -> Result<Next, AllocError>
-    ensures { IfOk result (Resumes table.now memory.old memory.new node stack
-        (Awaited.Copy copies required from) reading copies.body (copies_left table.now copies)
-        waiting.old.items waiting.new.items) }
+    ensures { IfOk result (Resumes table.now memory.old memory.new begun.node begun.stack
+        (Awaited.Copy copy.copies copy.required copy.from) reading copy.copies.body
+        (copies_left table.now copy.copies) waiting.old.items waiting.new.items) }
 {
+    let LastCopy {
+        mut copies,
+        required,
+        from,
+    } = copy;
     copies.walk = copies.walk.stepped(reading, from, required);
     let left = if required {
         copies.required
@@ -225,16 +255,16 @@ pub fn copied(
         copies.optional
     };
     let Some(walk) = foreseen(&copies.trace, copies.walk, left as usize) else {
-        return next_copy(alloc, table, memory, waiting, node, stack, copies);
+        return next_copy(table, memory, waiting, begun, copies);
     };
     copies.walk = walk;
-    copies.trace = Vec::new(alloc);
+    copies.trace = Vec::new(*copies.trace.allocator());
     if required {
         copies.required = 0;
     } else {
         copies.optional = 0;
     }
-    next_copy(alloc, table, memory, waiting, node, stack, copies)
+    next_copy(table, memory, waiting, begun, copies)
 }
 
 /// The next turn of a repetition is read, or the reading of the repetition is there; `next`: where the turn
@@ -243,14 +273,13 @@ fn next_turn(
     table: &Table,
     memory: &mut Memory,
     waiting: &mut Vec<Waiting>,
-    node: usize,
-    stack: Stack,
+    begun: Begun,
     mut turns: Turns,
     next: Option<Stack>,
 ) -> Result<Next, AllocError>
-    ensures { IfOk result (GoesOn table.now memory.old memory.new node stack
-        (λ meaning. TurnsLead table.now meaning turns (stack_of stack) (possible next)
-        (meaning node (stack_of stack)))
+    ensures { IfOk result (GoesOn table.now memory.old memory.new begun.node begun.stack
+        (λ meaning. TurnsLead table.now meaning turns (stack_of begun.stack) (possible next)
+        (meaning begun.node (stack_of begun.stack)))
         turns.body turns.left waiting.old.items waiting.new.items) }
 {
     let walk = turns.walk;
@@ -260,14 +289,15 @@ fn next_turn(
             failing: walk.failing,
             still: false,
         };
-        return end(memory, node, stack, turns.alone, unknown);
+        return end(memory, begun, turns.alone, unknown);
     }
     let Some(from) = next else {
-        return end(memory, node, stack, turns.alone, walk);
+        return end(memory, begun, turns.alone, walk);
     };
     if is_among(&turns.seen, from) {
-        return end(memory, node, stack, turns.alone, walk);
+        return end(memory, begun, turns.alone, walk);
     }
+    let Begun { node, stack } = begun;
     let body = turns.body;
     turns.left -= 1;
     turns.seen.push(from)?;
@@ -284,15 +314,15 @@ pub fn turned(
     table: &Table,
     memory: &mut Memory,
     waiting: &mut Vec<Waiting>,
-    node: usize,
-    stack: Stack,
-    mut turns: Turns,
-    from: Stack,
+    begun: Begun,
+    turn: LastTurn,
     reading: Reading,
 ) -> Result<Next, AllocError>
-    ensures { IfOk result (Resumes table.now memory.old memory.new node stack
-        (Awaited.Turn turns from) reading turns.body turns.left waiting.old.items waiting.new.items) }
+    ensures { IfOk result (Resumes table.now memory.old memory.new begun.node begun.stack
+        (Awaited.Turn turn.turns turn.from) reading turn.turns.body turn.turns.left
+        waiting.old.items waiting.new.items) }
 {
+    let LastTurn { mut turns, from } = turn;
     turns.walk = turns.walk.turned(reading, from);
-    next_turn(table, memory, waiting, node, stack, turns, reading.ok)
+    next_turn(table, memory, waiting, begun, turns, reading.ok)
 }

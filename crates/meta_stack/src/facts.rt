@@ -1,15 +1,13 @@
 //! Which nodes may take nothing, which change the stack, which may be read as taking nothing, and which lead to
 //! calls of a rule.
-ghost use Rattle.std.specs.Prelude.{◌≡◌, ◌<◌, ◌≤◌, ◌+◌, IfOk, OnOk, true, false};
-ghost use Rattle.std.specs.Prelude.{slice_get};
-ghost use Rattle.meta_stack.specs.Flags.{is_set_at};
+ghost use Rattle.std.specs.Prelude.{◌≡◌, IfOk, slice_get};
+ghost use Rattle.meta_flags.specs.Least.{is_set_at};
 ghost use Rattle.meta_stack.specs.Answers as spec;
-ghost use Rattle.meta_stack.specs.Answers.{AreSound, AreClosed, IsClosedAt};
-ghost use Rattle.meta_stack.specs.Reaching.{unset};
+ghost use Rattle.meta_stack.specs.Answers.{AreSound, AreClosed};
 ghost use Rattle.meta_stack.specs.Table.{called_by, parts_of};
 
-use crate::listeners::{Listeners, who_listens};
-use crate::table::{Kind, Node, Parts, is_set};
+use crate::table::{Kind, Node, Parts};
+use meta_flags::{Inference, Listening, Told, is_set, least_flags, who_listens};
 use std::alloc::{AllocError, Global};
 
 /// What is asked of each node.
@@ -41,22 +39,12 @@ fn takes_nothing(roots: &[usize], flags: &[bool], kind: Kind) -> bool
 {
     match kind {
         Kind::Call(rule) => is_root_set(roots, flags, rule),
-        Kind::Push(body) => is_set(flags, body),
-        Kind::Tag(body) => is_set(flags, body),
-        Kind::Repeat(body, _, _, _) => is_set(flags, body),
+        Kind::Push(body) | Kind::Tag(body) | Kind::Repeat(body, _, _, _) => is_set(flags, body),
         Kind::Seq(first, second) => is_set(flags, first) && is_set(flags, second),
         Kind::Choice(first, second) => is_set(flags, first) || is_set(flags, second),
-        Kind::Still => false,
-        Kind::Leaf => false,
-        Kind::Peek => false,
-        Kind::Pop => false,
-        Kind::Drop => false,
-        Kind::PeekAll => false,
-        Kind::PopAll => false,
+        Kind::Still | Kind::Leaf | Kind::PosPred(_) | Kind::NegPred(_) | Kind::Opt(_) => false,
+        Kind::Peek | Kind::Pop | Kind::Drop | Kind::PeekAll | Kind::PopAll => false,
         Kind::PushLiteral(_) => false,
-        Kind::PosPred(_) => false,
-        Kind::NegPred(_) => false,
-        Kind::Opt(_) => false,
     }
 }
 
@@ -65,21 +53,13 @@ fn changes_stack(roots: &[usize], flags: &[bool], kind: Kind) -> bool
     ensures { result ≡ spec.changing_kind roots.now (is_set_at flags.now) kind }
 {
     match kind {
+        Kind::Push(_) | Kind::PushLiteral(_) | Kind::Pop | Kind::Drop | Kind::PopAll => true,
         Kind::Call(rule) => is_root_set(roots, flags, rule),
-        Kind::Push(_) => true,
-        Kind::PushLiteral(_) => true,
-        Kind::Tag(body) => is_set(flags, body),
-        Kind::Repeat(body, _, _, _) => is_set(flags, body),
-        Kind::Seq(first, second) => is_set(flags, first) || is_set(flags, second),
-        Kind::Choice(first, second) => is_set(flags, first) || is_set(flags, second),
-        Kind::Opt(body) => is_set(flags, body),
-        Kind::Pop => true,
-        Kind::Drop => true,
-        Kind::PopAll => true,
-        Kind::Still => false,
-        Kind::Leaf => false,
-        Kind::Peek => false,
-        Kind::PeekAll => false,
+        Kind::Tag(body) | Kind::Opt(body) | Kind::Repeat(body, _, _, _) => is_set(flags, body),
+        Kind::Seq(first, second) | Kind::Choice(first, second) => {
+            is_set(flags, first) || is_set(flags, second)
+        }
+        Kind::Still | Kind::Leaf | Kind::Peek | Kind::PeekAll => false,
         Kind::PosPred(_) | Kind::NegPred(_) => false,
     }
 }
@@ -89,23 +69,15 @@ fn may_be_still(roots: &[usize], flags: &[bool], kind: Kind) -> bool
     ensures { result ≡ spec.still_kind roots.now (is_set_at flags.now) kind }
 {
     match kind {
+        Kind::Leaf => false,
         Kind::Call(rule) => is_root_set(roots, flags, rule),
-        Kind::Push(body) => is_set(flags, body),
-        Kind::Tag(body) => is_set(flags, body),
+        Kind::Push(body) | Kind::Tag(body) => is_set(flags, body),
         Kind::Repeat(body, required, _, _) => required == 0 || is_set(flags, body),
         Kind::Seq(first, second) => is_set(flags, first) && is_set(flags, second),
         Kind::Choice(first, second) => is_set(flags, first) || is_set(flags, second),
-        Kind::Leaf => false,
-        Kind::Still => true,
-        Kind::Peek => true,
-        Kind::Pop => true,
-        Kind::Drop => true,
-        Kind::PeekAll => true,
-        Kind::PopAll => true,
+        Kind::Still | Kind::PosPred(_) | Kind::NegPred(_) | Kind::Opt(_) => true,
+        Kind::Peek | Kind::Pop | Kind::Drop | Kind::PeekAll | Kind::PopAll => true,
         Kind::PushLiteral(_) => true,
-        Kind::PosPred(_) => true,
-        Kind::NegPred(_) => true,
-        Kind::Opt(_) => true,
     }
 }
 
@@ -143,38 +115,6 @@ fn answer<'i>(question: Question, roots: &[usize], flags: &[bool], node: Node<'i
     }
 }
 
-/// Sets the flag of a node whose answer is yes by the flags; the node then waits to tell its listeners.
-/// Whether it was set now.
-fn mark<'i>(
-    question: Question,
-    roots: &[usize],
-    nodes: &[Node<'i>],
-    flags: &mut Vec<bool>,
-    waiting: &mut Vec<usize>,
-    place: usize,
-) -> Result<bool, AllocError>
-    requires { AreSound question nodes.now roots.now flags.old.items }
-    ensures sound { OnOk result (AreSound question nodes.now roots.now flags.new.items) }
-    ensures same { IfOk result (λ added. added ≡ false → (flags.new.items ≡ flags.old.items)
-        × IsClosedAt question nodes.now roots.now flags.new.items place) }
-    ensures fewer { IfOk result (λ added. added ≡ true → unset flags.new.items + 1 ≡ unset flags.old.items) }
-    ensures waits { IfOk result (λ added. added ≡ false → waiting.new.len ≡ waiting.old.len) }
-    ensures waits_more { IfOk result (λ added. added ≡ true → waiting.new.len ≡ waiting.old.len + 1) }
-{
-    if place >= nodes.len() {
-        return Ok(false);
-    }
-    if is_set(flags.as_slice(), place) {
-        return Ok(false);
-    }
-    if !answer(question, roots, flags.as_slice(), nodes[place]) {
-        return Ok(false);
-    }
-    waiting.push(place)?;
-    flags[place] = true;
-    Ok(true)
-}
-
 /// The first node of a rule, and its body.
 pub(crate) fn nodes_of_rule(roots: &[usize], rule: usize) -> (usize, usize) {
     let first = match rule.checked_sub(1) {
@@ -190,54 +130,64 @@ pub(crate) fn nodes_of_rule(roots: &[usize], rule: usize) -> (usize, usize) {
     }
 }
 
-/// Lets all that wait tell their listeners.
-fn spread<'i>(
-    question: Question,
-    roots: &[usize],
-    nodes: &[Node<'i>],
-    listeners: &Listeners,
-    flags: &mut Vec<bool>,
-    waiting: &mut Vec<usize>,
-) -> Result<(), AllocError>
-    requires { AreSound question nodes.now roots.now flags.old.items }
-    ensures sound { OnOk result (AreSound question nodes.now roots.now flags.new.items) }
-    ensures fewer { OnOk result (unset flags.new.items ≤ unset flags.old.items) }
-{
-    while let Some(place) = waiting.pop() {
-        for listener in listeners.of(place) {
-            mark(question, roots, nodes, flags, waiting, *listener)?;
-        }
-    }
-    Ok(())
+/// The nodes of all rules, and the bodies of rules among them.
+#[derive(Drop)]
+pub(crate) struct Nodes<'a, 'i> {
+    pub roots: &'a [usize],
+    pub nodes: &'a [Node<'i>],
 }
 
-/// Sets the flag of each node whose answer is yes by the flags, and what follows of it. Whether any was set.
-fn round<'i>(
-    question: Question,
-    roots: &[usize],
-    nodes: &[Node<'i>],
-    listeners: &Listeners,
-    flags: &mut Vec<bool>,
-    waiting: &mut Vec<usize>,
-) -> Result<bool, AllocError>
-    requires { AreSound question nodes.now roots.now flags.old.items }
-    ensures sound { OnOk result (AreSound question nodes.now roots.now flags.new.items) }
-    ensures closed { IfOk result (λ added. added ≡ false
-        → AreClosed question nodes.now roots.now flags.new.items) }
-    ensures fewer { IfOk result (λ added. added ≡ true → unset flags.new.items < unset flags.old.items) }
-{
-    let mut added = false;
-    for place in 0..nodes.len() {
-        if mark(question, roots, nodes, flags, waiting, place)? {
-            added = true;
-            spread(question, roots, nodes, listeners, flags, waiting)?;
+impl<'a, 'i> Listening for Nodes<'a, 'i> {
+    fn count(&self) -> usize {
+        self.nodes.len()
+    }
+
+    fn tell<T: Told>(&self, place: usize, told: &mut T) {
+        let Some(node) = self.nodes.get(place) else {
+            return;
+        };
+        if let Some(rule) = node.kind.called() {
+            if let Some(root) = self.roots.get(rule) {
+                told.listens_to(*root);
+            }
+            return;
+        }
+        match node.kind.parts() {
+            Parts::Nothing => {}
+            Parts::Inside(body, _, _, _) => told.listens_to(body),
+            Parts::Both(first, second, _) => {
+                told.listens_to(first);
+                told.listens_to(second);
+            }
         }
     }
-    Ok(added)
 }
 
-/// The answers for all nodes: flags are set from those of the operands, and a node whose flag is set tells at
-/// once those that depend on it. A last round, which adds none, shows that all are set.
+/// A question about nodes.
+#[derive(Drop)]
+struct Asked<'a, 'i> {
+    question: Question,
+    roots: &'a [usize],
+    nodes: &'a [Node<'i>],
+}
+
+impl<'a, 'i> Inference for Asked<'a, 'i> {
+    type Item = Node<'i>;
+
+    ghost items = { λ asked. asked.nodes.now };
+
+    ghost infers = { λ asked. spec.answer asked.question asked.roots.now };
+
+    fn count(&self) -> usize {
+        self.nodes.len()
+    }
+
+    fn infers(&self, flags: &[bool], place: usize) -> bool {
+        answer(self.question, self.roots, flags, self.nodes[place])
+    }
+}
+
+/// The answers for all nodes: the least flags that follow from one another.
 pub(crate) fn answers<'i>(
     alloc: Global,
     question: Question,
@@ -247,12 +197,11 @@ pub(crate) fn answers<'i>(
     ensures sound { IfOk result (λ flags. AreSound question nodes.now roots.now flags.items) }
     ensures closed { IfOk result (λ flags. AreClosed question nodes.now roots.now flags.items) }
 {
-    let listeners = who_listens(alloc, roots, nodes)?;
-    let mut flags = vec![in alloc; false; nodes.len()]?;
-    let mut waiting = Vec::new(alloc);
-    loop {
-        if !round(question, roots, nodes, &listeners, &mut flags, &mut waiting)? {
-            return Ok(flags);
-        }
-    }
+    let listeners = who_listens(alloc, &Nodes { roots, nodes })?;
+    let asked = Asked {
+        question,
+        roots,
+        nodes,
+    };
+    least_flags(alloc, &asked, &listeners)
 }

@@ -3,7 +3,8 @@ ghost use Rattle.std.specs.Prelude.{◌≡◌, ℕ, IfOk, Some, false, true, sli
 ghost use Rattle.meta_stack.specs.Leading.{AreLed, AreLinks, IsOnward, LeadsBack, leader_in};
 
 use crate::calls::{Groups, Link, turned};
-use crate::table::{Node, is_set};
+use crate::table::Node;
+use meta_flags::is_set;
 use std::alloc::{AllocError, Global};
 
 /// The leader of a rule.
@@ -24,21 +25,33 @@ fn leads_on(leaders: &[usize], flags: &[bool], first: usize, second: usize) -> b
     leader_of(leaders, first) == leader && (first == leader || is_set(flags, first))
 }
 
+/// Links in some order and the leaders of the rules, and whether the links are followed down from the leaders
+/// or up to them.
+#[derive(Clone, Copy)]
+struct Ways<'l> {
+    links: &'l [Link],
+    leaders: &'l [usize],
+    down: bool,
+}
+
 /// Sets the flag of the rule at the end of a link, if the one at its beginning is the leader of both or has
 /// its flag set. Where flags tell which rules lead up to their leaders, the link is taken from its target.
 fn go_on<'i>(
     roots: &[usize],
     nodes: &[Node<'i>],
-    links: &[Link],
-    leaders: &[usize],
-    down: bool,
+    ways: Ways<'_>,
     flags: &mut Vec<bool>,
     place: usize,
 )
-    requires links { AreLinks nodes.now roots.now links.now }
-    requires flags { AreLed nodes.now roots.now down leaders.now flags.old.items }
-    ensures { AreLed nodes.now roots.now down leaders.now flags.new.items }
+    requires links { AreLinks nodes.now roots.now ways.links.now }
+    requires flags { AreLed nodes.now roots.now ways.down ways.leaders.now flags.old.items }
+    ensures { AreLed nodes.now roots.now ways.entry.down ways.entry.leaders.now flags.new.items }
 {
+    let Ways {
+        links,
+        leaders,
+        down,
+    } = ways;
     if place >= links.len() {
         return;
     }
@@ -53,17 +66,16 @@ fn led_by<'i>(
     alloc: Global,
     roots: &[usize],
     nodes: &[Node<'i>],
-    links: &[Link],
-    leaders: &[usize],
-    down: bool,
+    ways: Ways<'_>,
     steps: &[usize],
 ) -> Result<Vec<bool>, AllocError>
-    requires { AreLinks nodes.now roots.now links.now }
-    ensures { IfOk result (λ flags. AreLed nodes.now roots.now down leaders.now flags.items) }
+    requires { AreLinks nodes.now roots.now ways.links.now }
+    ensures { IfOk result
+        (λ flags. AreLed nodes.now roots.now ways.entry.down ways.entry.leaders.now flags.items) }
 {
     let mut flags = vec![in alloc; false; roots.len()]?;
     for step in steps {
-        go_on(roots, nodes, links, leaders, down, &mut flags, *step);
+        go_on(roots, nodes, ways, &mut flags, *step);
     }
     Ok(flags)
 }
@@ -80,9 +92,14 @@ fn reached_by<'i>(
     requires { AreLinks nodes.now roots.now links.now }
     ensures { IfOk result (λ flags. AreLed nodes.now roots.now true leaders.now flags.items) }
 {
-    let mut reached = led_by(alloc, roots, nodes, links, leaders, true, steps)?;
+    let ways = Ways {
+        links,
+        leaders,
+        down: true,
+    };
+    let mut reached = led_by(alloc, roots, nodes, ways, steps)?;
     for place in 0..links.len() {
-        go_on(roots, nodes, links, leaders, true, &mut reached, place);
+        go_on(roots, nodes, ways, &mut reached, place);
     }
     Ok(reached)
 }
@@ -118,8 +135,12 @@ pub(crate) fn recursive_by<'i>(
 {
     let leaders = groups.leaders.as_slice();
     let reached = reached_by(alloc, roots, nodes, links, leaders, groups.down.as_slice())?;
-    let up = groups.up.as_slice();
-    let returning = led_by(alloc, roots, nodes, links, leaders, false, up)?;
+    let up = Ways {
+        links,
+        leaders,
+        down: false,
+    };
+    let returning = led_by(alloc, roots, nodes, up, groups.up.as_slice())?;
     let mut flags = Vec::with_capacity(alloc, roots.len())?;
     for rule in 0..roots.len() {
         flags.push(is_recursive(

@@ -7,7 +7,6 @@ mod calls;
 mod copies;
 mod facts;
 mod groups;
-mod listeners;
 mod loops;
 mod memory;
 mod names;

@@ -13,9 +13,6 @@ use crate::table::Table;
 use meta_stacks::Stack;
 use std::alloc::{AllocError, Global};
 
-/// How many turns the search follows.
-pub const MOST_TURNS: usize = 64;
-
 /// Whether one of the stacks has the same marks.
 fn has_marks_of(stacks: &[Stack], stack: Stack) -> bool
     ensures { result ≡ is.are_among (marks_in stacks.now) (stack_of stack).marks }

@@ -5,7 +5,7 @@ ghost use Rattle.meta_stack.specs.Keys as spec;
 ghost use Rattle.meta_stacks.specs.Views.{possible, reading_of, stack_of};
 ghost use Rattle.meta_stacks.specs.Reading as says;
 
-use crate::table::is_set;
+use meta_flags::is_set;
 use meta_stacks::{Base, Reading, Stack};
 use std::alloc::{AllocError, Global};
 use std::collections::HashMap;

@@ -1,60 +1,13 @@
-//! Names, resolved to the numbers of rules.
-ghost use Rattle.std.specs.Prelude.{◌≡◌, IfOk, codes, bytes_eq, is_some};
-ghost use Rattle.std.specs.Str.{IsAscii};
+//! What names do.
+ghost use Rattle.std.specs.Prelude.{◌≡◌};
 ghost use Rattle.meta_ast.specs.Ast.{text_of};
-ghost use Rattle.meta_stack.specs.Names.{last_place, kind_in, builtin_kind, grammar_of};
-ghost use Rattle.meta_stack.specs.NameMaps.{KnowsRules};
+ghost use Rattle.meta_table.specs.NameMaps.{KnowsRules};
+ghost use Rattle.meta_table.specs.Names.{grammar_of};
+ghost use Rattle.meta_stack.specs.Names.{kind_in, builtin_kind};
 
 use crate::table::Kind;
 use meta_nodes::ParserRule;
-use std::alloc::{AllocError, Global};
-use std::collections::HashMap;
-
-/// For each name the place of its last rule.
-#[derive(Drop)]
-pub struct Names {
-    pub places: HashMap<String, usize>,
-}
-
-/// The names of rules.
-pub(crate) fn names_of<'i>(alloc: Global, rules: &[ParserRule<'i>]) -> Result<Names, AllocError>
-    ensures { IfOk result (λ names. KnowsRules rules.now names) }
-{
-    let mut places = HashMap::new(alloc);
-    for place in 0..rules.len() {
-        let name = String::from_str(alloc, rules[place].name.as_str())?;
-        places.insert(name, place)?;
-    }
-    Ok(Names { places })
-}
-
-impl Names {
-    ghost use Rattle.std.specs.Prelude.{string_bytes};
-    ghost use Rattle.std.specs.HashMap.{get_by_text};
-
-    /// The place of the last rule of that name, if there is one.
-    pub(crate) fn place_of(&self, name: &str) -> Option<usize>
-        ensures { result ≡ get_by_text self.now.places name.now }
-    {
-        self.places.get(name).copied()
-    }
-}
-
-/// The place of the last rule of that name, if there is one.
-fn rule_named<'i>(rules: &[ParserRule<'i>], names: &Names, name: &String) -> Option<usize>
-    requires { KnowsRules rules.now names.now }
-    ensures { result ≡ last_place (grammar_of rules.now) (text_of name.now) }
-{
-    names.place_of(name.as_str())
-}
-
-/// Whether a name is a literal's text.
-pub(crate) fn is_literal(name: &String, literal: &str) -> bool
-    requires { IsAscii literal.now }
-    ensures { result ≡ bytes_eq (text_of name.now) literal.now }
-{
-    name.as_str() == literal
-}
+use meta_table::{Names, is_literal, rule_number};
 
 /// What a builtin does.
 fn kind_of_builtin(name: &String) -> Kind
@@ -80,7 +33,7 @@ pub(crate) fn kind_of_name<'i>(rules: &[ParserRule<'i>], names: &Names, name: &S
     requires { KnowsRules rules.now names.now }
     ensures { result ≡ kind_in (grammar_of rules.now) (text_of name.now) }
 {
-    match rule_named(rules, names, name) {
+    match rule_number(rules, names, name) {
         Some(rule) => Kind::Call(rule),
         None => kind_of_builtin(name),
     }

@@ -5,14 +5,17 @@ ghost use Rattle.meta_ast.specs.Ast.{text_of};
 ghost use Rattle.meta_nodes.specs.Nodes.{view, view_at, piece_of};
 ghost use Rattle.meta_nodes.specs.Spanned as spanned;
 ghost use Rattle.meta_nodes.specs.Spanned.{Spanned};
-ghost use Rattle.meta_stack.specs.Names.{kind_in, grammar_of, is_end};
-ghost use Rattle.meta_stack.specs.NameMaps.{KnowsRules};
-ghost use Rattle.meta_stack.specs.Numbering.{AreSmaller, IsMadeOf, kind_of_code, AreNodes, AreTabled, text_kind, slice_kind, is_empty_text, is_free, wrap_kind, both_kind, postorder};
+ghost use Rattle.meta_table.specs.Names.{grammar_of};
+ghost use Rattle.meta_stack.specs.Names.{kind_in};
+ghost use Rattle.meta_table.specs.NameMaps.{KnowsRules};
+ghost use Rattle.meta_table.specs.Nodes.{postorder};
+ghost use Rattle.meta_stack.specs.Numbering.{AreSmaller, IsMadeOf, kind_of_code, AreNodes, AreTabled, text_kind, slice_kind, is_empty_text, is_free, wrap_kind, both_kind};
 ghost use Rattle.meta_stack.specs.Lacking.{IsBehind, Numbers};
 
-use crate::names::{Names, is_literal, kind_of_name};
+use crate::names::kind_of_name;
 use crate::table::{Kind, Node};
 use meta_nodes::{ParserExpr, ParserNode, ParserRule};
+use meta_table::{Names, is_end};
 use std::alloc::{AllocError, Global};
 
 /// What stands round one operand.
@@ -127,13 +130,6 @@ fn is_empty_text(text: &String) -> bool
     ensures { result ≡ is_empty_text (text_of text.now) }
 {
     text.is_empty()
-}
-
-/// Whether a name is that of a builtin that takes nothing.
-fn is_end(name: &String) -> bool
-    ensures { result ≡ is_end (text_of name.now) }
-{
-    is_literal(name, "SOI") || is_literal(name, "EOI")
 }
 
 /// Whether an expression may take nothing, whatever its operands do.

@@ -6,7 +6,7 @@ ghost use Rattle.meta_stack.specs.Following.{Follows, Turned};
 ghost use Rattle.meta_stack.specs.Waiting.{ReadsOn};
 ghost use Rattle.meta_stacks.specs.Views.{stack_of, walk_of};
 
-use crate::copies::{all_copies, foreseen, is_among, next_copy};
+use crate::copies::{Begun, Counts, Repeated, all_copies, foreseen, is_among, next_copy};
 use crate::memory::Memory;
 use crate::table::{Kind, Table};
 use crate::waiting::{Awaited, How, Next, Waiting, go_on, wait};
@@ -34,7 +34,7 @@ pub fn read(
                 next = begin(alloc, table, memory, node, stack, &mut waiting)?;
             }
             Next::Done(reading) => match waiting.pop() {
-                Some(last) => next = go_on(alloc, table, memory, &mut waiting, last, reading)?,
+                Some(last) => next = go_on(table, memory, &mut waiting, last, reading)?,
                 None => return Ok(reading),
             },
         }
@@ -83,8 +83,13 @@ fn begin(
             wait(waiting, node, stack, Awaited::First(second, true), first)
         }
         Kind::Repeat(body, required, optional, endless) => {
-            let copies = all_copies(alloc, table, stack, body, required, optional, endless);
-            next_copy(alloc, table, memory, waiting, node, stack, copies)
+            let counts = Counts {
+                required,
+                optional,
+                endless,
+            };
+            let copies = all_copies(alloc, table, stack, Repeated { body, counts });
+            next_copy(table, memory, waiting, Begun { node, stack }, copies)
         }
     }
 }
@@ -109,25 +114,32 @@ fn step(
     Ok(walk.stepped(reading, stack, required))
 }
 
+/// So many copies of one kind.
+#[derive(Clone, Copy)]
+pub struct Series {
+    pub body: usize,
+    pub required: bool,
+    pub count: u32,
+}
+
 /// So many copies, followed until they come back to a walk that was seen. `trace` has the walks
 /// from which one of them starts, each once.
 pub fn follow(
     alloc: Global,
     table: &Table,
     memory: &mut Memory,
-    body: usize,
-    required: bool,
-    count: u32,
+    series: Series,
     start: Walk,
     trace: &mut Vec<Walk>,
 ) -> Result<Walk, AllocError>
-    requires inside { body < table.now.nodes.len }
+    requires inside { series.body < table.now.nodes.len }
     requires ordered { IsOrdered table.now }
     requires none { trace.old.items ≡ [] }
-    ensures { IfOk result (Follows table.now memory.old memory.new body required count
+    ensures { IfOk result (Follows table.now memory.old memory.new series.body series.required series.count
         (walk_of start) trace.new.items) }
 {
-    let count = count as usize;
+    let Series { body, required, .. } = series;
+    let count = series.count as usize;
     let mut walk = start;
     for done in 0..count {
         if let Some(last) = foreseen(trace, walk, count - done) {

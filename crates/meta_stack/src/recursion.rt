@@ -7,7 +7,8 @@ use crate::calls::groups_of;
 use crate::facts::{Question, answers, is_root_set};
 use crate::groups::recursive_by;
 use crate::owners::links_of;
-use crate::table::{Node, Parts, is_set};
+use crate::table::{Node, Parts};
+use meta_flags::is_set;
 use std::alloc::{AllocError, Global};
 
 /// What is known of calls.

@@ -1,13 +1,14 @@
 //! In which nodes something may be reported: what is repeated without end takes something from every stack
 //! nearly everywhere, and there no stack needs to be looked at.
 ghost use Rattle.std.specs.Prelude.{◌≡◌, ℕ, IfOk, Some, false, ◌||◌, slice_get};
+ghost use Rattle.meta_flags.specs.Least.{is_set_at};
 ghost use Rattle.meta_stack.specs.Answers.{some_part};
-ghost use Rattle.meta_stack.specs.Flags.{is_set_at};
 ghost use Rattle.meta_stack.specs.Reportable as spec;
 ghost use Rattle.meta_stack.specs.Reportable.{AreBehind, AreReportable, TellLoops};
 
 use crate::facts::{Question, answers, is_part_set, is_root_set};
-use crate::table::{Node, Parts, is_set};
+use crate::table::{Node, Parts};
+use meta_flags::is_set;
 use std::alloc::{AllocError, Global};
 
 /// Whether a node repeats without end what may be read as taking nothing.

@@ -1,10 +1,11 @@
 //! The nodes of all rules, by number.
 ghost use Rattle.std.specs.Prelude.{◌≡◌, ◌<◌, ℕ, slice_get};
+ghost use Rattle.meta_flags.specs.Least.{is_set_at};
 ghost use Rattle.meta_stacks.specs.Stack as is;
 ghost use Rattle.meta_stacks.specs.Reading as says;
-ghost use Rattle.meta_stack.specs.Flags.{is_set_at};
 
 use meta_base::runtime::Span;
+use meta_flags::is_set;
 
 /// What a node does, its operands by their numbers.
 #[derive(Clone, Copy)]
@@ -131,16 +132,6 @@ pub struct Table<'i> {
     pub limit: usize,
     /// How many turns the loop search follows.
     pub turns: usize,
-}
-
-/// Whether a flag is set.
-pub fn is_set(flags: &[bool], place: usize) -> bool
-    ensures { result ≡ is_set_at flags.now place }
-{
-    match flags.get(place) {
-        Some(flag) => *flag,
-        None => false,
-    }
 }
 
 impl<'i> Table<'i> {

@@ -4,13 +4,13 @@ ghost use Rattle.std.specs.List.{filter};
 ghost use Rattle.std.specs.Str.{IsAscii};
 ghost use Rattle.meta_base.specs.Language.Expression.{whitespace, comment};
 ghost use Rattle.meta_base.specs.Pieces.Saying.{Tell};
+ghost use Rattle.meta_flags.specs.Least.{is_set_at};
 ghost use Rattle.meta_nodes.specs.Nodes.{rule_views, piece_of};
 ghost use Rattle.meta_stacks.specs.Reports.{skips_in};
 ghost use Rattle.meta_stack.specs.Certain.{ArePlain, AreReports, IsSorted, TellReports, complaint_at};
 ghost use Rattle.meta_stack.specs.Expressions.{body_flag, name_flag};
-ghost use Rattle.meta_stack.specs.Flags.{is_set_at};
-ghost use Rattle.meta_stack.specs.NameMaps.{KnowsRules};
-ghost use Rattle.meta_stack.specs.Names.{grammar_of, last_place};
+ghost use Rattle.meta_table.specs.NameMaps.{KnowsRules};
+ghost use Rattle.meta_table.specs.Names.{grammar_of, last_place};
 ghost use Rattle.meta_stack.specs.Table.{AreInside, IsOrdered};
 ghost use Rattle.meta_stack.specs.Reportable.{FindsMore, IsToVisit};
 ghost use Rattle.meta_stack.specs.Visiting.{FindsAll, Keeps};
@@ -19,24 +19,28 @@ use crate::apart::apart_of;
 use crate::calls::numbers;
 use crate::facts::{Question, answers, is_root_set, nodes_of_rule};
 use crate::memory::Memory;
-use crate::names::{Names, names_of};
 use crate::numbering::number_all;
 use crate::reader::read;
 use crate::recursion::{Calls, calls_of};
 use crate::reportable::{is_some_root_set, reportable_nodes};
-use crate::table::{Table, is_set};
+use crate::table::Table;
 use crate::visits::{Pending, visit};
 use meta_base::grammar::Rule;
 use meta_base::runtime::{Error, ErrorVariant, Fault, Span, Survey};
+use meta_flags::is_set;
 use meta_nodes::ParserRule;
 use meta_stacks::Stack;
+use meta_table::{Names, names_of};
 use std::alloc::{AllocError, Global};
 
-/// How many turns of a repetition are followed at most: more than there are abstract stacks.
-const MOST_STACKS: usize = 3067;
+/// How many abstract stacks there are.
+const ABSTRACT_STACKS: usize = 3066;
+
+/// How many turns of a repetition are followed at most: of so many, one starts from a stack that was seen.
+const MOST_TURNS: usize = ABSTRACT_STACKS + 1;
 
 /// How many turns the loop search follows.
-const MOST_TURNS: usize = 64;
+const SEARCHED_TURNS: usize = 64;
 
 /// Whether the flag of the body of the rule of that name is set.
 fn is_body_set<'i>(
@@ -136,8 +140,8 @@ fn to_visit_in<'i>(
         ranks,
         nullable,
         skips: is_skipping(rules, &names),
-        limit: MOST_STACKS,
-        turns: MOST_TURNS,
+        limit: MOST_TURNS,
+        turns: SEARCHED_TURNS,
     };
     Ok(Some(ToVisit { table, reportable }))
 }

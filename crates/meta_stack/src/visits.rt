@@ -4,12 +4,13 @@ ghost use Rattle.meta_stack.specs.Table.{IsOrdered, copies};
 ghost use Rattle.meta_stack.specs.Visiting.{AddsStack, AddsAll, AddsEach, AddsWhere, Collects, IsAfter, IsReportedWhereItLoops, IsStartOf, FindsLoop, FindsIn, VisitsOn};
 ghost use Rattle.meta_stacks.specs.Views.{stack_of};
 
-use crate::copies::is_among;
+use crate::copies::{Counts, Repeated, is_among};
 use crate::loops::loops;
 use crate::memory::Memory;
-use crate::reader::{follow, read, turn};
-use crate::table::{Parts, Table, is_set};
+use crate::reader::{Series, follow, read, turn};
+use crate::table::{Parts, Table};
 use meta_base::runtime::Span;
+use meta_flags::is_set;
 use meta_stacks::{Stack, Walk};
 use std::alloc::{AllocError, Global};
 
@@ -45,24 +46,30 @@ fn add_each(stacks: &mut Vec<Stack>, more: &[Stack]) -> Result<(), AllocError>
     Ok(())
 }
 
+/// The first of two parts, and whether they are a choice.
+#[derive(Clone, Copy)]
+struct First {
+    node: usize,
+    choice: bool,
+}
+
 /// Adds the stack after the first of two parts: after its failure for a choice, else after its
 /// success.
 fn add_after(
     alloc: Global,
     table: &Table,
     memory: &mut Memory,
-    first: usize,
-    choice: bool,
+    first: First,
     stack: Stack,
     found: &mut Vec<Stack>,
 ) -> Result<(), AllocError>
-    requires inside { first < table.now.nodes.len }
+    requires inside { first.node < table.now.nodes.len }
     requires ordered { IsOrdered table.now }
     ensures { OnOk result (AddsWhere table.now memory.old memory.new (λ meaning b. IsAfter
-        (meaning first) choice (stack_of stack) b) found.old.items found.new.items) }
+        (meaning first.node) first.choice (stack_of stack) b) found.old.items found.new.items) }
 {
-    let reading = read(alloc, table, memory, first, stack)?;
-    let next = reading.next_after(choice, stack);
+    let reading = read(alloc, table, memory, first.node, stack)?;
+    let next = reading.next_after(first.choice, stack);
     if let Some(next) = next {
         add(found, next)?;
     }
@@ -74,18 +81,17 @@ fn after(
     alloc: Global,
     table: &Table,
     memory: &mut Memory,
-    first: usize,
-    choice: bool,
+    first: First,
     stacks: &[Stack],
 ) -> Result<Vec<Stack>, AllocError>
-    requires inside { first < table.now.nodes.len }
+    requires inside { first.node < table.now.nodes.len }
     requires ordered { IsOrdered table.now }
     ensures { IfOk result (λ after. Collects table.now memory.old memory.new (λ meaning. IsAfter
-        (meaning first) choice) stacks.now after.items) }
+        (meaning first.node) first.choice) stacks.now after.items) }
 {
     let mut found = Vec::new(alloc);
     for stack in stacks {
-        add_after(alloc, table, memory, first, choice, *stack, &mut found)?;
+        add_after(alloc, table, memory, first, *stack, &mut found)?;
     }
     Ok(found)
 }
@@ -95,35 +101,40 @@ fn add_starts(
     alloc: Global,
     table: &Table,
     memory: &mut Memory,
-    body: usize,
-    required: u32,
-    optional: u32,
-    endless: bool,
+    repeated: Repeated,
     stack: Stack,
     found: &mut Vec<Stack>,
 ) -> Result<(), AllocError>
-    requires inside { body < table.now.nodes.len }
+    requires inside { repeated.body < table.now.nodes.len }
     requires ordered { IsOrdered table.now }
     ensures { OnOk result (AddsWhere table.now memory.old memory.new
-        (λ meaning b. IsStartOf table.now.limit (meaning body) (copies required optional endless)
+        (λ meaning b. IsStartOf table.now.limit (meaning repeated.body)
+        (copies repeated.counts.required repeated.counts.optional repeated.counts.endless)
         (stack_of stack) b) found.old.items found.new.items) }
 {
+    let Repeated { body, counts } = repeated;
     let start = Walk {
         here: Some(stack),
         failing: false,
         still: true,
     };
     let mut trace = Vec::new(alloc);
-    let first = follow(
-        alloc, table, memory, body, true, required, start, &mut trace,
-    )?;
+    let required = Series {
+        body,
+        required: true,
+        count: counts.required,
+    };
+    let first = follow(alloc, table, memory, required, start, &mut trace)?;
     add_all(found, &trace)?;
     let mut trace = Vec::new(alloc);
-    let second = follow(
-        alloc, table, memory, body, false, optional, first, &mut trace,
-    )?;
+    let optional = Series {
+        body,
+        required: false,
+        count: counts.optional,
+    };
+    let second = follow(alloc, table, memory, optional, first, &mut trace)?;
     add_all(found, &trace)?;
-    if !endless {
+    if !counts.endless {
         return Ok(());
     }
     let mut seen = Vec::new(alloc);
@@ -136,23 +147,19 @@ fn starts(
     alloc: Global,
     table: &Table,
     memory: &mut Memory,
-    body: usize,
-    required: u32,
-    optional: u32,
-    endless: bool,
+    repeated: Repeated,
     stacks: &[Stack],
 ) -> Result<Vec<Stack>, AllocError>
-    requires inside { body < table.now.nodes.len }
+    requires inside { repeated.body < table.now.nodes.len }
     requires ordered { IsOrdered table.now }
     ensures { IfOk result (λ starts. Collects table.now memory.old memory.new
-        (λ meaning. IsStartOf table.now.limit (meaning body)
-        (copies required optional endless)) stacks.now starts.items) }
+        (λ meaning. IsStartOf table.now.limit (meaning repeated.body)
+        (copies repeated.counts.required repeated.counts.optional repeated.counts.endless))
+        stacks.now starts.items) }
 {
     let mut found = Vec::new(alloc);
     for stack in stacks {
-        add_starts(
-            alloc, table, memory, body, required, optional, endless, *stack, &mut found,
-        )?;
+        add_starts(alloc, table, memory, repeated, *stack, &mut found)?;
     }
     Ok(found)
 }
@@ -177,42 +184,41 @@ fn some_loops(
     Ok(false)
 }
 
+/// A node that is still to be visited, and the stacks from which it is.
+#[derive(Drop)]
+pub struct Pending {
+    pub node: usize,
+    pub stacks: Vec<Stack>,
+}
+
 /// Appends a repetition, where it is endless and what is repeated has a loop from one of the stacks and
 /// takes something if its parts do.
 fn report<'i>(
     alloc: Global,
     table: &Table<'i>,
     memory: &mut Memory,
-    node: usize,
-    body: usize,
-    endless: bool,
-    stacks: &[Stack],
+    visited: &Pending,
+    repeated: Repeated,
     found: &mut Vec<Span<'i>>,
 ) -> Result<(), AllocError>
-    requires inside { node < table.now.nodes.len }
-    requires body_inside { body < table.now.nodes.len }
+    requires inside { visited.now.node < table.now.nodes.len }
+    requires body_inside { repeated.body < table.now.nodes.len }
     requires ordered { IsOrdered table.now }
     ensures { OnOk result
-        (IsReportedWhereItLoops table.now memory.old memory.new node body endless stacks.now
-        found.old.items found.new.items) }
+        (IsReportedWhereItLoops table.now memory.old memory.new visited.now.node repeated.body
+        repeated.counts.endless visited.now.stacks.items found.old.items found.new.items) }
 {
-    if !endless {
+    let Repeated { body, counts } = repeated;
+    if !counts.endless {
         return Ok(());
     }
     if is_set(table.nullable.as_slice(), body) {
         return Ok(());
     }
-    if some_loops(alloc, table, memory, body, stacks)? {
-        found.push(table.node_at(node).span)?;
+    if some_loops(alloc, table, memory, body, &visited.stacks)? {
+        found.push(table.node_at(visited.node).span)?;
     }
     Ok(())
-}
-
-/// A node that is still to be visited, and the stacks from which it is.
-#[derive(Drop)]
-pub struct Pending {
-    pub node: usize,
-    pub stacks: Vec<Stack>,
 }
 
 /// Visits a node: what is reported there is appended, and its operands are still to be visited, the first one
@@ -233,7 +239,11 @@ fn visit_one<'i>(
     match table.parts_at(next.node) {
         Parts::Nothing => Ok(()),
         Parts::Both(first, second, choice) => {
-            let behind = after(alloc, table, memory, first, choice, &next.stacks)?;
+            let part = First {
+                node: first,
+                choice,
+            };
+            let behind = after(alloc, table, memory, part, &next.stacks)?;
             left.push(Pending {
                 node: second,
                 stacks: behind,
@@ -245,26 +255,14 @@ fn visit_one<'i>(
             Ok(())
         }
         Parts::Inside(body, required, optional, endless) => {
-            report(
-                alloc,
-                table,
-                memory,
-                next.node,
-                body,
-                endless,
-                &next.stacks,
-                found,
-            )?;
-            let stacks = starts(
-                alloc,
-                table,
-                memory,
-                body,
+            let counts = Counts {
                 required,
                 optional,
                 endless,
-                &next.stacks,
-            )?;
+            };
+            let repeated = Repeated { body, counts };
+            report(alloc, table, memory, &next, repeated, found)?;
+            let stacks = starts(alloc, table, memory, repeated, &next.stacks)?;
             left.push(Pending { node: body, stacks })?;
             Ok(())
         }

@@ -3,11 +3,11 @@ ghost use Rattle.std.specs.Prelude.{◌≡◌, [], ◌∷◌, ◌++◌, IfOk};
 ghost use Rattle.meta_stack.specs.Waiting.{ReadsOn, IsPut, whole_of};
 ghost use Rattle.meta_stacks.specs.Views.{reading_of, stack_of};
 
-use crate::copies::{Copies, Turns, copied, turned};
+use crate::copies::{Begun, Copies, LastCopy, LastTurn, Turns, copied, turned};
 use crate::memory::Memory;
 use crate::table::Table;
 use meta_stacks::{Reading, Stack};
-use std::alloc::{AllocError, Global};
+use std::alloc::AllocError;
 
 /// How the reading of a node comes from that of its last operand.
 #[derive(Clone, Copy)]
@@ -90,7 +90,6 @@ pub fn wait(
 /// What is done once the operand is read that the last of the nodes was waiting for. The reading of a node is
 /// remembered.
 pub fn go_on(
-    alloc: Global,
     table: &Table,
     memory: &mut Memory,
     waiting: &mut Vec<Waiting>,
@@ -122,11 +121,17 @@ pub fn go_on(
             memory.remember(node, stack, whole)?;
             Ok(Next::Done(whole))
         }
-        Awaited::Copy(copies, required, from) => copied(
-            alloc, table, memory, waiting, node, stack, copies, required, from, reading,
-        ),
+        Awaited::Copy(copies, required, from) => {
+            let copy = LastCopy {
+                copies,
+                required,
+                from,
+            };
+            copied(table, memory, waiting, Begun { node, stack }, copy, reading)
+        }
         Awaited::Turn(turns, from) => {
-            turned(table, memory, waiting, node, stack, turns, from, reading)
+            let turn = LastTurn { turns, from };
+            turned(table, memory, waiting, Begun { node, stack }, turn, reading)
         }
     }
 }

@@ -308,10 +308,10 @@ pub found_early : {text rest s : List ℕ} {m : Mode} {es fs : List Entry} {p z 
 found_early {text} {rest} {s} {m} {es} {fs} {p} {z} e rs i x = subst (λ a. Finds (Run m a) text rest es fs p z s) (among_parts e rs i) (found_among (choice_among e (take i rs)) (drop i rs) x)
 
 -- the call of a rule is asked for, with those behind it in a frame
-pub rule_asked : (text : List ℕ) (first : Rule) (others : List Rule) (i : ℕ) (d : Rule) (left : Bor (List Rule)) (m : mode.Mode) (rest : Bor (List ℕ)) (es fs : List Entry) (p z : ℕ) (q top : Question) (gs hs : List Frame) → hs ≡ gs ++ record { wait = wait.FirstOf left; mode = m; mark = 0; rest = rest } ∷ [] → IsLeft text rest.now → i < length others → all_take others ≡ true → left.now ≡ drop (i + 1) others → Fails (Run (mode_of m) (choice_among (Ident (name_of first)) (take i others))) text rest.now es fs p z → Serves text (record { task = Run (mode_of m) (choice_among (Ident (name_of first)) others); rest = rest.now; empty = false; entries = es; furthest = p }) q → IsWaiting text gs q top → IsAsked text hs (record { task = Run (mode_of m) (Ident (name_of (get_or others i d))); rest = rest.now; empty = nullable (get_or others i d); entries = fs; furthest = z }) top
-rule_asked text first others i d left m rest es fs p z q top gs hs e l b k n f h w =
-    asked_on text gs hs (record { wait = wait.FirstOf left; mode = m; mark = 0; rest = rest }) _ q top e
-    (rule_follows text first others i d left m 0 rest es fs p z q l b k n f h) w
+pub rule_asked : (text : List ℕ) (first : Rule) (others : List Rule) (i : ℕ) (d : Rule) (left : Bor (List Rule)) (m : mode.Mode) (mark : ℕ) (rest : Bor (List ℕ)) (es fs : List Entry) (p z : ℕ) (q top : Question) (gs hs : List Frame) → hs ≡ gs ++ record { wait = wait.FirstOf left; start = record { mode = m; mark = mark; rest = rest } } ∷ [] → IsLeft text rest.now → i < length others → all_take others ≡ true → left.now ≡ drop (i + 1) others → Fails (Run (mode_of m) (choice_among (Ident (name_of first)) (take i others))) text rest.now es fs p z → Serves text (record { task = Run (mode_of m) (choice_among (Ident (name_of first)) others); rest = rest.now; empty = false; entries = es; furthest = p }) q → IsWaiting text gs q top → IsAsked text hs (record { task = Run (mode_of m) (Ident (name_of (get_or others i d))); rest = rest.now; empty = nullable (get_or others i d); entries = fs; furthest = z }) top
+rule_asked text first others i d left m mark rest es fs p z q top gs hs e l b k n f h w =
+    asked_on text gs hs (record { wait = wait.FirstOf left; start = record { mode = m; mark = mark; rest = rest } }) _ q top e
+    (rule_follows text first others i d left m mark rest es fs p z q l b k n f h) w
 
 -- the turn of a repetition that can be run
 pub turn_of : (f : Form) → (good f && (not (null f) && nat_lt (cost f) 999)) ≡ true → IsSpelled f → IsRunnableTurn f

@@ -1,14 +1,16 @@
 -- From what a call finds at the start of a text to what the text spells.
-use Rattle.std.proofs.Common.{◌≡◌, refl, sym, ap, subst, ℕ, ◌-◌, max, List, [], length, chars, false, arith}
+use Rattle.std.proofs.Common.{◌≡◌, refl, sym, ◌∙◌, ap, subst, ℕ, ◌-◌, max, List, [], ◌++◌, Option, Some, None, length, chars, false, arith}
+use Rattle.std.specs.Borrow.{Bor}
 use Rattle.std.specs.Str.{IsCharBoundary, IsUtf8}
 use Rattle.meta_base.specs.Language.State.{Classes, NonAtomicMode, State, Failure, Success}
 use Rattle.meta_base.specs.Language.Expression.{Ident}
 use Rattle.meta_base.specs.Language.Meaning.{Does, Task, Run}
 use Rattle.meta_base.specs.Language.FurthestFailure.{furthest}
+use Rattle.meta_base.specs.Language.Ran.{Ran}
 use Rattle.meta_base.specs.Pieces.MetaRules.{name_of}
 use Rattle.meta_base.specs.declared.grammar.Rule.{Rule}
 use Rattle.meta_syntax.specs.declared.entries.Entry.{Entry}
-use Rattle.meta_syntax.specs.Entries.{IsWhole, named_entries}
+use Rattle.meta_syntax.specs.Entries.{IsWhole, entries_of, named_entries}
 use Rattle.meta_syntax.specs.MetaGrammar.{meta_grammar}
 use Rattle.meta_base.specs.Pieces.NamedTrees.{named}
 use Rattle.meta_base.specs.Language.Places.{Stands}
@@ -20,7 +22,7 @@ use Rattle.meta_base.proofs.InBytes.{ends_within, nested_bytes, on_bytes}
 use Rattle.meta_base.proofs.PairLemmas.{AreNested-wider}
 use Rattle.meta_base.proofs.TreesAreNested.{fits}
 use Rattle.meta_syntax.specs.Parses.{FailsAt, IsSyntaxErrorOrMemory, ParseRefuses, Spells, TokensGive, start_of}
-use Rattle.meta_syntax.specs.Runs.{Fails, Finds, at}
+use Rattle.meta_syntax.specs.Runs.{Fails, FailsOrFinds, Finds, at}
 use Rattle.meta_syntax.proofs.EntryLists.{entries-whole}
 
 pub at_start : (text : List ℕ) → at text text ≡ start_of text
@@ -36,6 +38,18 @@ spelled rule text es fs p q after x e =
     let s : Spells rule text x.trees = λ classes.
     (at text after, subst (λ s. Does meta_grammar classes (Run NonAtomicMode (Ident (name_of rule))) s (Success (at text after) x.trees)) (at_start text) (x.ran classes).found) in
     (x.trees, s, b)
+
+-- what one recognizer that has read nothing finds, any other such finds
+pub read_anew : (k : Task) (text rest : List ℕ) (es fs gs : List Entry) (p q z : ℕ) (o : Option (Bor (List ℕ))) → named_entries es ≡ [] → named_entries fs ≡ [] → p ≡ 0 → q ≡ 0 → FailsOrFinds k text rest es gs p z o → FailsOrFinds k text rest fs gs q z o
+read_anew k text rest es fs gs p q z None a b c d x = record {
+  kept = x.kept ∙ (a ∙ sym b);
+  ran = λ classes. subst (λ n. Ran meta_grammar classes k (at text rest) Failure n z) (c ∙ sym d) (x.ran classes);
+}
+read_anew k text rest es fs gs p q z (Some after) a b c d x = record {
+  trees = x.trees;
+  added = subst (λ v. named_entries gs ≡ v ++ entries_of (length v) x.trees) (a ∙ sym b) x.added;
+  ran = λ classes. subst (λ n. Ran meta_grammar classes k (at text rest) (Success (at text after.now) x.trees) n z) (c ∙ sym d) (x.ran classes);
+}
 
 placed : (classes : Classes) (k : Task) (s t : State) (q : ℕ) → s ≡ t → (d : Does meta_grammar classes k s Failure) → q ≡ furthest d → (f : Does meta_grammar classes k t Failure) × (q ≡ furthest f)
 placed classes k s t q e d h = subst (λ s. (f : Does meta_grammar classes k s Failure) × (q ≡ furthest f)) e (d, h)

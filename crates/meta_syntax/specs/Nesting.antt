@@ -149,7 +149,7 @@ Follows text (wait.Repetition body) m mark rest k q = record {
 }
 
 abbrev pub FrameFollows : List ℕ → Frame → Question → Question → Type 0
-FrameFollows text f k q = Follows text f.wait f.mode f.mark f.rest k q
+FrameFollows text f k q = Follows text f.wait f.start.mode f.start.mark f.start.rest k q
 
 -- the frames, the last of which waits for an answer to the question `k`, lead to one to the question `top`
 abbrev pub IsWaiting : List ℕ → List Frame → Question → Question → Type 0
@@ -187,7 +187,7 @@ work_of_wait (wait.FirstOf others) rest = 1
 work_of_wait (wait.Repetition body) rest = steps (effort rest 0)
 
 abbrev pub work_of : Frame → ℕ
-work_of f = work_of_wait f.wait f.rest.now
+work_of f = work_of_wait f.wait f.start.rest.now
 
 abbrev pub work_aside : List Frame → ℕ
 work_aside [] = 0

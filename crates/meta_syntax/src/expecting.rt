@@ -242,9 +242,7 @@ impl Expecting {
             (Tells (Run (mode_of mode) (Ident (name_of rule)))
             text.now rest.entry.now self.old self.new) }
     {
-        let answer = self
-            .recognizer
-            .recognize(self.alloc, text, rule, mode, rest)?;
+        let answer = self.recognizer.by_list(self.alloc, text, rule, mode, rest)?;
         cut(&mut self.recognizer.entries, 0);
         match answer {
             Some(after) => Ok(Some(after)),

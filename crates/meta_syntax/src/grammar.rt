@@ -50,7 +50,7 @@ impl PestParser {
         ensures whole { IfOk result (λ v. IsWhole 0 (named_entries v.items)) }
     {
         let mut recognizer = Recognizer::new(alloc);
-        match recognizer.recognize(alloc, text, rule, Mode::NonAtomic, text) {
+        match recognizer.recognize(alloc, text, rule, Mode::NonAtomic) {
             Ok(Some(_)) => Ok(recognizer.into_entries()),
             Ok(None) => Err(syntax_error(alloc, text, recognizer.furthest)),
             Err(error) => Err(Fault::Memory(error)),
@@ -71,7 +71,7 @@ impl PestParser {
         ensures expected { IfOk result (λ rules. AreExpected rule text.now rules.items) }
     {
         let mut recognizer = Recognizer::new(alloc);
-        match recognizer.recognize(alloc, text, rule, Mode::NonAtomic, text)? {
+        match recognizer.recognize(alloc, text, rule, Mode::NonAtomic)? {
             Some(_) => Ok(Vec::new(alloc)),
             None => expected_rules(alloc, rule, text, recognizer.furthest),
         }

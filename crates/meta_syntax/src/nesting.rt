@@ -1,14 +1,16 @@
-//! What may stand in itself without end is recognized with a list of what waits, and not by calls in calls:
-//! so no text takes the machine's stack.
+//! What nests too deep for calls in calls is recognized with a list of what waits: so no text takes the machine's
+//! stack.
 //!
-//! A few rules of the meta-grammar reach themselves: an expression in parentheses, and a comment where it is
-//! asked for by itself. What lies between two such calls goes over the list, frame by frame; all else is left
-//! to the functions of `recognize`, whose depth the table bounds. Which forms go over the list is a matter of
-//! the stack alone: either way they match the same.
-ghost use Rattle.std.specs.Prelude.{◌≡◌, ◌+◌, ◌<◌, ◌≤◌, ◌∷◌, ◌&&◌, ℕ, IfOk, IfSome, OnOk, Some, false, if◌then◌else◌, length, true};
+//! A text is read by the functions of `recognize` first, which allow some hundred levels of nesting. Where it nests
+//! deeper, it is read once more, in frames: a few rules of the meta-grammar reach themselves, an expression in
+//! parentheses, and a comment where it is asked for by itself. What lies between two such calls goes over the list,
+//! frame by frame; all else is left to the functions of `recognize`, and there the table bounds the depth. Which
+//! forms go over the list is a matter of the stack alone: either way they match the same.
+ghost use Rattle.std.specs.Prelude.{◌≡◌, ◌+◌, ◌<◌, ◌≤◌, ◌∷◌, ◌&&◌, ℕ, [], IfOk, IfSome, OnOk, Some, false, if◌then◌else◌, length, true};
 ghost use Rattle.meta_base.specs.Language.Expression.{Ident};
 ghost use Rattle.meta_base.specs.Language.Meaning.{Run};
 ghost use Rattle.meta_base.specs.Pieces.MetaRules.{name_of};
+ghost use Rattle.meta_syntax.specs.Entries.{named_entries};
 ghost use Rattle.meta_syntax.specs.Forms.{IsGood, IsRunnable, IsSpelled, all_take, calls_cost, choice_among, cost, expression_of, followed, null, nullable, rank_of};
 ghost use Rattle.meta_syntax.specs.Nesting.{Follows, FrameFollows, HasTurned, IsAnswered, IsAsked, IsNext, IsPartWay, IsTried, IsWaiting, Question, effort, question_of, steps, work_aside, work_of};
 ghost use Rattle.meta_syntax.specs.Remembering.{IsReady, RemembersTruly};
@@ -38,15 +40,21 @@ pub enum Wait {
     Repetition(&'static Form),
 }
 
+/// What it was like where something was begun.
+#[derive(Clone, Copy)]
+pub struct Start<'i> {
+    pub mode: Mode,
+    /// How many entries there were.
+    pub mark: usize,
+    /// What was left of the text; of a repetition, behind its last turn.
+    pub rest: &'i str,
+}
+
 /// What waits for the answer of what it has begun.
 #[derive(Clone, Copy)]
 pub struct Frame<'i> {
     pub wait: Wait,
-    pub mode: Mode,
-    /// How many entries there were when it began.
-    pub mark: usize,
-    /// What is left of the text where what it has begun begins; of a repetition, behind its last turn.
-    pub rest: &'i str,
+    pub start: Start<'i>,
 }
 
 /// What is to be done next.
@@ -56,24 +64,6 @@ pub enum Step<'i> {
     Begin(&'static Form, Mode, &'i str),
     /// What was begun last has this answer.
     Answer(Option<&'i str>),
-}
-
-/// How many parentheses a text may open and still be left to calls in calls: they take a megabyte of the
-/// machine's stack.
-const FEW: usize = 512;
-
-/// Whether a text opens so few parentheses that nothing in it is deep.
-fn is_shallow(text: &str) -> bool {
-    let mut left = FEW;
-    for byte in text.as_bytes() {
-        if *byte == b'(' {
-            if left == 0 {
-                return false;
-            }
-            left -= 1;
-        }
-    }
-    true
 }
 
 /// Whether what begins so may have an expression in it: signs, a tag, parentheses or `PUSH`.
@@ -134,15 +124,6 @@ fn may_nest(form: &Form, rest: &str) -> bool {
     }
 }
 
-/// Whether a call is left to calls in calls: of a comment it never is, since they stand in one another without
-/// parentheses.
-fn stays_shallow(text: &str, rule: Rule, rest: &str) -> bool {
-    match rule {
-        Rule::block_comment => false,
-        _ => !nests(rule, rest) || is_shallow(text),
-    }
-}
-
 /// The place of the first of these rules that goes over the list, if what is left may begin with it.
 fn nesting_among(rules: &[Rule], rest: &str) -> Option<usize>
     ensures { IfSome result (λ i. i < length rules.now) }
@@ -152,8 +133,40 @@ fn nesting_among(rules: &[Rule], rest: &str) -> Option<usize>
 }
 
 impl Recognizer {
-    /// What a rule matches, as `call` has it, and with no text that takes the machine's stack.
+    /// What a rule matches at the start of a text, for a recognizer that has read nothing yet. Calls in calls do for
+    /// most texts, and are the faster way; where a text nests too deep for them, it is read once more, with a list
+    /// of what waits: so no text takes the machine's stack.
     pub fn recognize<'i>(
+        &mut self,
+        alloc: Global,
+        text: &'i str,
+        rule: Rule,
+        mode: Mode,
+    ) -> Result<Option<&'i str>, AllocError>
+        requires entries { named_entries self.old.entries.items ≡ [] }
+        requires furthest { self.old.furthest ≡ 0 }
+        requires remembers { RemembersTruly text.now self.old }
+        ensures goes_on { IfOk result (GoesOnIfFound text.entry.now text.entry.now (nullable rule)) }
+        ensures remembers { OnOk result (RemembersTruly text.entry.now self.new) }
+        ensures means { IfOk result
+            (Runs (Run (mode_of mode) (Ident (name_of rule)))
+            text.entry.now text.entry.now self.old self.new) }
+    {
+        match self.call(text, rule, mode, text) {
+            Ok(answer) => return Ok(answer),
+            Err(refused) => {
+                if !self.is_too_deep() {
+                    return Err(refused);
+                }
+            }
+        }
+        *self = Recognizer::new(alloc);
+        let answer = self.by_list(alloc, text, rule, mode, text)?;
+        Ok(answer)
+    }
+
+    /// What a rule matches, as `call` has it, with a list of what waits: no text takes the machine's stack.
+    pub fn by_list<'i>(
         &mut self,
         alloc: Global,
         text: &str,
@@ -168,7 +181,7 @@ impl Recognizer {
             (Runs (Run (mode_of mode) (Ident (name_of rule)))
             text.now rest.entry.now self.old self.new) }
     {
-        if stays_shallow(text, rule, rest) {
+        if !nests(rule, rest) {
             return self.call(text, rule, mode, rest);
         }
         let mut frames = Vec::new(alloc);
@@ -206,6 +219,8 @@ impl Recognizer {
             top → work_aside frames.old.items + steps (effort rest.entry.now (cost form.now)) ≤ work
             → IfOk result (λ step. IsNext text.now frames.new.items self.new step top work) }
     {
+        let mark = count_of_entries(&self.entries);
+        let start = Start { mode, mark, rest };
         match form {
             Form::Call(rule) => {
                 if nests(*rule, rest) {
@@ -214,30 +229,19 @@ impl Recognizer {
                     Ok(Step::Answer(self.call(text, *rule, mode, rest)?))
                 }
             }
-            Form::Seq(first, others) => self.first_part(text, frames, first, others, mode, rest),
+            Form::Seq(first, others) => self.first_part(text, frames, first, others, start),
             Form::Choice(first, second) => {
                 let wait = Wait::Choice(*second);
-                frames.push(Frame {
-                    wait,
-                    mode,
-                    mark: 0,
-                    rest,
-                })?;
+                frames.push(Frame { wait, start })?;
                 Ok(Step::Begin(*first, mode, rest))
             }
             Form::FirstOf(first, others) => {
-                let step = self.first_rule(text, frames, *first, others, mode, rest)?;
+                let step = self.first_rule(text, frames, *first, others, start)?;
                 Ok(step)
             }
             Form::Rep(body) => {
-                let mark = count_of_entries(&self.entries);
                 let wait = Wait::Repetition(*body);
-                frames.push(Frame {
-                    wait,
-                    mode,
-                    mark,
-                    rest,
-                })?;
+                frames.push(Frame { wait, start })?;
                 Ok(Step::Begin(*body, mode, rest))
             }
             Form::Comment(spelled) => {
@@ -280,12 +284,8 @@ impl Recognizer {
         let mark = count_of_entries(&self.entries);
         open(&mut self.entries, gives_token(row.kind, mode), rule, place)?;
         let wait = Wait::Call(rule, row.kind);
-        frames.push(Frame {
-            wait,
-            mode,
-            mark,
-            rest,
-        })?;
+        let start = Start { mode, mark, rest };
+        frames.push(Frame { wait, start })?;
         Ok(Step::Begin(row.body, body_mode(rule, row.kind, mode), rest))
     }
 
@@ -297,23 +297,28 @@ impl Recognizer {
         frames: &mut Vec<Frame<'i>>,
         first: &'static Form,
         others: &'static Form,
-        mode: Mode,
-        rest: &'i str,
+        start: Start<'i>,
     ) -> Result<Step<'i>, AllocError>
         requires first { IsRunnable first.now }
         requires others { IsRunnable others.now }
         requires below { cost others.now < 1000 }
-        requires ready { IsReady text.now rest.now self.old }
+        requires marked { start.mark ≡ length (named_entries self.old.entries.items) }
+        requires ready { IsReady text.now start.rest.now self.old }
         ensures next { (top : Question) (n work : ℕ) → IsAsked text.now frames.old.items
-            (question_of (Run (mode_of mode) (followed (Some (expression_of first.now)) others.now))
-            rest.entry.now (null first.now && null others.now) self.old) top
-            → effort rest.entry.now (if null first.now then cost others.now else 0) < n
+            (question_of (Run (mode_of start.entry.mode) (followed (Some (expression_of first.now)) others.now))
+            start.entry.rest.now (null first.now && null others.now) self.old) top
+            → effort start.entry.rest.now (if null first.now then cost others.now else 0) < n
             → work_aside frames.old.items + steps n ≤ work
             → IfOk result (λ step. IsNext text.now frames.new.items self.new step top work) }
     {
-        let mark = count_of_entries(&self.entries);
-        match self.copies(text, first, mode, rest)? {
-            Some(after) => self.parts(text, frames, others, mode, mark, after),
+        match self.copies(text, first, start.mode, start.rest)? {
+            Some(after) => {
+                let behind = Start {
+                    rest: after,
+                    ..start
+                };
+                self.parts(text, frames, others, behind)
+            }
             None => Ok(Step::Answer(None)),
         }
     }
@@ -326,38 +331,36 @@ impl Recognizer {
         text: &str,
         frames: &mut Vec<Frame<'i>>,
         others: &'static Form,
-        mode: Mode,
-        mark: usize,
-        from: &'i str,
+        start: Start<'i>,
     ) -> Result<Step<'i>, AllocError>
-        requires ready { IsReady text.now from.now self.old }
+        requires ready { IsReady text.now start.rest.now self.old }
         requires good { IsGood others.now }
         requires spelled { IsSpelled others.now }
         requires below { cost others.now < 1000 }
         ensures next { (k top : Question) (n work : ℕ)
-            → IsPartWay text.now others.now mode mark self.old.entries.items self.old.furthest
-            from.entry.now k
-            → IsAsked text.now frames.old.items k top → effort from.entry.now (cost others.now) < n
+            → IsPartWay text.now others.now start.entry.mode start.entry.mark self.old.entries.items
+            self.old.furthest start.entry.rest.now k
+            → IsAsked text.now frames.old.items k top
+            → effort start.entry.rest.now (cost others.now) < n
             → work_aside frames.old.items + steps n ≤ work
             → IfOk result (λ step. IsNext text.now frames.new.items self.new step top work) }
     {
         let mut left = others;
-        let mut rest = from;
+        let mut rest = start.rest;
         loop {
-            let next = self.skip(text, mode, rest)?;
+            let next = self.skip(text, start.mode, rest)?;
             let parts = parts_of(left);
             if may_nest(parts.first, next) {
                 let wait = Wait::Sequence(left, parts.others);
-                frames.push(Frame {
-                    wait,
-                    mode,
-                    mark,
+                let start = Start {
                     rest: next,
-                })?;
-                return Ok(Step::Begin(parts.first, mode, next));
+                    ..start
+                };
+                frames.push(Frame { wait, start })?;
+                return Ok(Step::Begin(parts.first, start.mode, next));
             }
-            let Some(after) = self.run(text, parts.first, mode, next)? else {
-                cut(&mut self.entries, mark);
+            let Some(after) = self.run(text, parts.first, start.mode, next)? else {
+                cut(&mut self.entries, start.mark);
                 return Ok(Step::Answer(None));
             };
             let Some(behind) = parts.others else {
@@ -376,19 +379,19 @@ impl Recognizer {
         frames: &mut Vec<Frame<'i>>,
         first: Rule,
         others: &'static [Rule],
-        mode: Mode,
-        rest: &'i str,
+        start: Start<'i>,
     ) -> Result<Step<'i>, AllocError>
         requires takes { nullable first ≡ false }
         requires others_take { all_take others.now ≡ true }
-        requires ready { IsReady text.now rest.now self.old }
+        requires ready { IsReady text.now start.rest.now self.old }
         ensures next { (top : Question) (work : ℕ) → IsAsked text.now frames.old.items
-            (question_of (Run (mode_of mode) (choice_among (Ident (name_of first)) others.now))
-            rest.entry.now false self.old) top
+            (question_of (Run (mode_of start.entry.mode) (choice_among (Ident (name_of first)) others.now))
+            start.entry.rest.now false self.old) top
             → work_aside frames.old.items
-            + steps (effort rest.entry.now (calls_cost (first ∷ others.now))) ≤ work
+            + steps (effort start.entry.rest.now (calls_cost (first ∷ others.now))) ≤ work
             → IfOk result (λ step. IsNext text.now frames.new.items self.new step top work) }
     {
+        let Start { mode, rest, .. } = start;
         let Some(place) = nesting_among(others, rest) else {
             return Ok(Step::Answer(self.first_of(text, first, others, mode, rest)?));
         };
@@ -396,12 +399,7 @@ impl Recognizer {
             return Ok(Step::Answer(Some(after)));
         }
         let wait = Wait::FirstOf(&others[place + 1..]);
-        frames.push(Frame {
-            wait,
-            mode,
-            mark: 0,
-            rest,
-        })?;
+        frames.push(Frame { wait, start })?;
         let step = self.enter(text, frames, others[place], mode, rest)?;
         Ok(step)
     }
@@ -446,39 +444,46 @@ impl Recognizer {
             → work_aside frames.old.items + work_of frame.entry ≤ work
             → IfOk result (λ step. IsNext text.now frames.new.items self.new step top work) }
     {
-        match frame.wait {
+        let Frame { wait, start } = frame;
+        match wait {
             Wait::Call(rule, kind) => {
-                let left = self.leave(
-                    text, rule, kind, frame.mode, frame.mark, frame.rest, answer,
-                )?;
+                let left = self.leave(text, rule, kind, start, answer)?;
                 Ok(Step::Answer(left))
             }
             Wait::Sequence(_, others) => match answer {
                 Some(after) => match others {
-                    Some(behind) => self.parts(text, frames, behind, frame.mode, frame.mark, after),
+                    Some(behind) => self.parts(
+                        text,
+                        frames,
+                        behind,
+                        Start {
+                            rest: after,
+                            ..start
+                        },
+                    ),
                     None => Ok(Step::Answer(answer)),
                 },
                 None => {
-                    cut(&mut self.entries, frame.mark);
+                    cut(&mut self.entries, start.mark);
                     Ok(Step::Answer(None))
                 }
             },
             Wait::Choice(second) => match answer {
                 Some(_) => Ok(Step::Answer(answer)),
-                None => Ok(Step::Begin(second, frame.mode, frame.rest)),
+                None => Ok(Step::Begin(second, start.mode, start.rest)),
             },
             Wait::FirstOf(others) => match answer {
                 Some(_) => Ok(Step::Answer(answer)),
                 None => {
-                    let found = self.among(text, others, frame.mode, frame.rest)?;
+                    let found = self.among(text, others, start.mode, start.rest)?;
                     Ok(Step::Answer(found))
                 }
             },
             Wait::Repetition(body) => match answer {
-                Some(after) => self.turn(text, frames, body, frame.mode, after),
+                Some(after) => self.turn(text, frames, body, start.mode, after),
                 None => {
-                    cut(&mut self.entries, frame.mark);
-                    Ok(Step::Answer(Some(frame.rest)))
+                    cut(&mut self.entries, start.mark);
+                    Ok(Step::Answer(Some(start.rest)))
                 }
             },
         }
@@ -491,21 +496,20 @@ impl Recognizer {
         text: &str,
         rule: Rule,
         kind: Kind,
-        mode: Mode,
-        mark: usize,
-        rest: &'i str,
+        start: Start<'i>,
         answer: Option<&'i str>,
     ) -> Result<Option<&'i str>, AllocError>
         requires remembers { RemembersTruly text.now self.old }
         requires follows { (k : Question) × (q : Question)
-            × Follows text.now (Wait.Call rule kind) mode mark rest k q
+            × Follows text.now (Wait.Call rule kind) start.mode start.mark start.rest k q
             × IsAnswered text.now k self.old.entries.items self.old.furthest answer }
         ensures remembers { OnOk result (RemembersTruly text.now self.new) }
         ensures answered { (k q : Question)
-            → Follows text.now (Wait.Call rule kind) mode mark rest.entry k q
+            → Follows text.now (Wait.Call rule kind) start.entry.mode start.entry.mark start.entry.rest k q
             → IsAnswered text.now k self.old.entries.items self.old.furthest answer.entry
             → IfOk result (IsAnswered text.now q self.new.entries.items self.new.furthest) }
     {
+        let Start { mode, mark, rest } = start;
         let place = text.len() - rest.len();
         match answer {
             Some(after) => {
@@ -543,12 +547,12 @@ impl Recognizer {
         let mark = count_of_entries(&self.entries);
         let next = self.skip(text, mode, after)?;
         let wait = Wait::Repetition(body);
-        frames.push(Frame {
-            wait,
+        let start = Start {
             mode,
             mark,
             rest: after,
-        })?;
+        };
+        frames.push(Frame { wait, start })?;
         Ok(Step::Begin(body, mode, next))
     }
 }

@@ -1,9 +1,10 @@
 //! The recognizer: an interpreter of the table.
 //!
-//! Forms stand within forms, and so do the calls that run them: what each keeps on the stack says how deep
-//! a text may nest. So each kind of form has a function that is built into no other (`inline(never)`).
-//! What only picks one of them is built into whoever asks (`inline(always)`), so that a form within a form
-//! costs one call.
+//! Forms stand within forms, and so do the calls that run them. So that a level of them takes little of the
+//! machine's stack, each kind of form has a function that is built into no other (`inline(never)`). What only
+//! picks one of them is built into whoever asks (`inline(always)`), so that a form within a form costs one call.
+//! Rules that may reach themselves stand within one another no deeper than a limit: what would go deeper is
+//! refused, and `nesting` reads it with a list of what waits.
 ghost use Rattle.std.specs.Prelude.{◌≡◌, ◌<◌, ◌&&◌, ◌||◌, ℕ, List, IfOk, IfSome, MatchOption, OnOk, Some, [], true, false, codes};
 ghost use Rattle.meta_base.specs.Language.State.{Between};
 ghost use Rattle.meta_base.specs.Language.Expression.{Choice, Ident, NegPred, Opt, Rep, RepOnce, Seq, comment, whitespace};
@@ -32,6 +33,10 @@ use meta_base::grammar::Rule;
 use std::alloc::{AllocError, Global};
 use std::collections::HashSet;
 
+/// How many calls of rules that may reach themselves may stand within one another: they take some megabyte of the
+/// machine's stack.
+const LEVELS: usize = 500;
+
 /// What a run has written and noted so far.
 #[derive(Drop)]
 pub struct Recognizer {
@@ -44,6 +49,8 @@ pub struct Recognizer {
     failed: HashSet<usize>,
     /// Where comments end, by the count of bytes that are left; nothing until one is left open.
     ends: Vec<Option<usize>>,
+    /// How many more calls of rules that may reach themselves may stand within those that have begun.
+    levels: usize,
 }
 
 /// Whether a call is that of a comment which is begun there: such a call may be made again and
@@ -53,6 +60,13 @@ fn begins_comment(rule: Rule, rest: &str) -> bool
     ensures { result ≡ true → rule ≡ block_comment }
 {
     rule == Rule::block_comment && rest.starts_with("/*")
+}
+
+/// Whether a rule may reach itself, so that a text says how deep its calls stand within one another: an expression
+/// by way of its parentheses, and a comment.
+#[inline(always)]
+fn reaches_itself(rule: Rule) -> bool {
+    matches!(rule, Rule::expression | Rule::block_comment)
 }
 
 impl Recognizer {
@@ -66,6 +80,7 @@ impl Recognizer {
             furthest: 0,
             failed: HashSet::new(alloc),
             ends: Vec::new(alloc),
+            levels: LEVELS,
         }
     }
 
@@ -78,8 +93,14 @@ impl Recognizer {
             furthest: _,
             failed: _,
             ends: _,
+            levels: _,
         } = self;
         entries
+    }
+
+    /// Whether a run that was refused stood in so many calls that none may begin within them.
+    pub fn is_too_deep(&self) -> bool {
+        self.levels == 0
     }
 
     /// What a call answers where the next character decides it, or `None` where the call has to be run.
@@ -664,8 +685,42 @@ impl Recognizer {
         }
         match sign_of(rule) {
             Some(character) => self.sign(text, rule, character, mode, rest),
-            None => self.called(text, rule, mode, rest),
+            None => {
+                if reaches_itself(rule) {
+                    self.deeper(text, rule, mode, rest)
+                } else {
+                    self.called(text, rule, mode, rest)
+                }
+            }
         }
+    }
+
+    /// A call of a rule that may reach itself takes a level of those that are left, as long as it runs. Where none
+    /// is left, it is refused as if for want of memory.
+    #[inline(never)]
+    #[cycle(recognize)]
+    fn deeper<'i>(
+        &mut self,
+        text: &str,
+        rule: Rule,
+        mode: Mode,
+        rest: &'i str,
+    ) -> Result<Option<&'i str>, AllocError>
+        requires ready { IsReady text.now rest.now self.old }
+        ensures goes_on { IfOk result (GoesOnIfFound text.now rest.entry.now (nullable rule)) }
+        ensures remembers { OnOk result (RemembersTruly text.now self.new) }
+        ensures means { IfOk result
+            (Runs (Run (mode_of mode) (Ident (name_of rule)))
+            text.now rest.entry.now self.old self.new) }
+    {
+        let levels = self.levels;
+        if levels == 0 {
+            return Err(AllocError);
+        }
+        self.levels = levels - 1;
+        let answer = self.called(text, rule, mode, rest)?;
+        self.levels = levels;
+        Ok(answer)
     }
 
     /// The same, where the character does not decide it. What runs the form is built into it: each form

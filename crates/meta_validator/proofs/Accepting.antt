@@ -6,10 +6,11 @@ use Rattle.meta_base.specs.Language.Expression.{Expression, Rule, Grammar, rule_
 use Rattle.meta_base.specs.Language.WellFormed.{IsNullable, InRules, IsSkipped, is_whitespace, is_comment, Leads, IsWellFormed}
 use Rattle.meta_nodes.specs.Nodes.{view}
 use Rattle.meta_nodes.specs.declared.node.ParserRule.{ParserRule}
-use Rattle.meta_validator.specs.Names.{grammar_of, kind_in, rule_said, last_place}
+use Rattle.meta_flags.specs.Least.{is_set_at}
+use Rattle.meta_table.specs.Names.{grammar_of, rule_said, last_place}
+use Rattle.meta_validator.specs.Names.{kind_in}
 use Rattle.meta_validator.specs.Numbering.{Says, repeated, wrap_kind}
 use Rattle.meta_validator.specs.Facts.{AreFacts}
-use Rattle.meta_validator.specs.Table.{is_set_at}
 use Rattle.meta_validator.specs.Taking.{RepeatedTakes, AllRepeatedTake, SkippedTake}
 use Rattle.meta_validator.specs.Findings.{is_skipped_name}
 use Rattle.meta_validator.specs.declared.facts.Facts.{Facts}
@@ -17,7 +18,8 @@ use Rattle.meta_validator.specs.declared.numbering.Wrap.TheVariants as wraps
 use Rattle.meta_validator.specs.Reports.{Reported, endless, bad_skipped, recursive, Repeats, repeats_any, repeats_once, repeats_min}
 use Rattle.meta_validator.proofs.Certain.{sure_null}
 use Rattle.meta_validator.proofs.Tying.{says}
-use Rattle.meta_validator.proofs.Answering.{Named, absent, named, resolved, got_root, same_rule, no_rule}
+use Rattle.meta_table.proofs.Resolved.{Named, absent, named, resolved}
+use Rattle.meta_validator.proofs.Answering.{got_root, same_rule, no_rule}
 use Rattle.meta_validator.proofs.Reports.{accepted}
 use Rattle.meta_validator.proofs.Walk.{no_walk}
 

@@ -3,46 +3,37 @@ use Rattle.std.proofs.Common.{◌≡◌, ℕ, zero, suc, ◌⊎◌, inl, inr, Li
 use Rattle.std.specs.Cmp.{unsigned_Decides}
 use Rattle.std.proofs.lemmas.Slice.Eq.{bytes_eq-Decides}
 use Rattle.meta_base.specs.Language.Text.{Text}
-use Rattle.meta_base.specs.Language.Expression.{Expression, Str, Insens, Range, Ident, PeekSlice, PosPred, NegPred, Seq, Choice, Opt, Rep, RepOnce, RepExact, RepMin, RepMax, RepMinMax, Skip, Push, RestoreOnErr, Rule, Grammar, rule_of, or_else, PushLiteral, NodeTag}
+use Rattle.meta_base.specs.Language.Expression.{Expression, Str, Insens, Range, Ident, PeekSlice, PosPred, NegPred, Seq, Choice, Opt, Rep, RepOnce, RepExact, RepMin, RepMax, RepMinMax, Skip, Push, RestoreOnErr, Rule, Grammar, rule_of, PushLiteral, NodeTag}
 use Rattle.std.specs.Bool.{Decides}
 use Rattle.meta_base.specs.Language.WellFormed.{IsNullable, nullable_str, nullable_insens, nullable_soi, nullable_eoi, nullable_call, nullable_pos_pred, nullable_neg_pred, nullable_opt, nullable_rep, nullable_rep_max, nullable_seq, nullable_left, nullable_right, nullable_rep_once, nullable_push, nullable_exact_zero, nullable_exact, nullable_min_zero, nullable_min, nullable_min_max_zero, nullable_min_max, nullable_skip, nullable_restore, CannotFail, cannot_fail_str, cannot_fail_insens, cannot_fail_call, cannot_fail_opt, cannot_fail_rep, cannot_fail_rep_max, cannot_fail_seq, cannot_fail_left, cannot_fail_right, cannot_fail_rep_once, cannot_fail_push, cannot_fail_pos_pred, cannot_fail_exact_zero, cannot_fail_exact, cannot_fail_min_zero, cannot_fail_min, cannot_fail_min_max_zero, cannot_fail_min_max, cannot_fail_skip, cannot_fail_restore, nullable_push_literal, nullable_tag, cannot_fail_push_literal, cannot_fail_tag}
 use Rattle.meta_nodes.specs.Nodes.{view}
 use Rattle.meta_nodes.specs.declared.node.ParserRule.{ParserRule}
-use Rattle.meta_validator.specs.Names.{grammar_of, kind_in, rule_said, last_place, name_kind, is_end}
+use Rattle.meta_flags.specs.Least.{is_set_at}
+use Rattle.meta_table.proofs.Resolved.{Named, absent, named, resolved}
+use Rattle.meta_table.specs.Names.{grammar_of, rule_said, last_place, is_end}
+use Rattle.meta_validator.specs.Names.{kind_in, name_kind}
 use Rattle.meta_validator.specs.Numbering.{Says, counted, repeated, wrap_kind}
-use Rattle.meta_validator.specs.Table.{is_set_at, is_of_taking, at_root, fires, Holds, holds}
-use Rattle.meta_validator.specs.Marks.{AreSound, AreClosed}
+use Rattle.meta_validator.specs.Table.{is_of_taking, at_root, fires}
+use Rattle.meta_flags.specs.Least.{follows}
+use Rattle.meta_validator.specs.Marks.{AreSound, AreClosed, Holds}
 use Rattle.meta_validator.specs.Facts.{IsTableOf, Asked, AreAnswers}
 use Rattle.meta_validator.specs.declared.table.Kind.{Kind}
 use Rattle.meta_validator.specs.declared.table.Question.{Question}
 use Rattle.meta_validator.specs.declared.table.Question.TheVariants as asks
 use Rattle.meta_validator.specs.declared.table.Table.{Table}
 use Rattle.meta_validator.specs.declared.numbering.Wrap.TheVariants as wraps
-use Rattle.meta_validator.proofs.MarkLemmas.{either}
 use Rattle.meta_validator.proofs.Tying.{says}
 
--- 1. names
-pub data Named (rs : List ParserRule) (n : Text) : Option ℕ → Type 0 where
-  absent : rule_of (grammar_of rs) n ≡ None → Named rs n None
-  named : {r : ℕ} (rule : ParserRule) → slice_get rs r ≡ Some rule → rule_of (grammar_of rs) n ≡ Some (rule_said rule) → Named rs n (Some r)
-
-abbrev next : Bool → Option ℕ → Option ℕ
-next b q = elim q [ Some k ↦ Some (suc k) | None ↦ if b then Some 0 else None ]
-
-pub resolved : (rs : List ParserRule) (n : Text) → Named rs n (last_place (grammar_of rs) n)
-resolved [] n = absent refl
-resolved (q ∷ rs) n = go (last_place (grammar_of rs) n) (resolved rs n) (bytes_eq (rule_said q).name n) refl
-  where
-    go : (o : Option ℕ) → Named rs n o → (b : Bool) → bytes_eq (rule_said q).name n ≡ b → Named (q ∷ rs) n (next b o)
-    go o (named rule at e) b h = named rule at (ap (λ z. or_else z (if bytes_eq (rule_said q).name n then Some (rule_said q) else None)) e)
-    go o (absent e) true h = named q refl (ap (λ z. or_else z (if bytes_eq (rule_said q).name n then Some (rule_said q) else None)) e ∙ ap (λ b. or_else None (if b then Some (rule_said q) else None)) h)
-    go o (absent e) false h = absent (ap (λ z. or_else z (if bytes_eq (rule_said q).name n then Some (rule_said q) else None)) e ∙ ap (λ b. or_else None (if b then Some (rule_said q) else None)) h)
-
+-- 1. names and roots
 pub got_root : {A : Type 0} (xs : List A) (ys : List ℕ) (k : ℕ) (n : A) → slice_get xs k ≡ Some n → length xs ≡ length ys → (i : ℕ) × (slice_get ys k ≡ Some i)
 got_root [] ys k n e l = cc
 got_root (x ∷ xs) [] k n e l = absurd (omega arith)
 got_root (x ∷ xs) (y ∷ ys) zero n e l = (y, refl)
 got_root (x ∷ xs) (y ∷ ys) (suc k) n e l = got_root xs ys k n e (omega arith)
+
+either : (a b : Bool) → (a || b) ≡ true → (a ≡ true) ⊎ (b ≡ true)
+either true b h = inl refl
+either false b h = inr h
 
 pub end_null : (g : Grammar) (n : Text) → is_end n ≡ true → IsNullable g (Ident n)
 end_null g n h = elim (either (bytes_eq n (codes "SOI")) (bytes_eq n (codes "EOI")) h) [
@@ -208,7 +199,7 @@ module _ (q : Question) (G : Grammar) (place_of : Text → Option ℕ) (t : Tabl
     step i k (RestoreOnErr e) at s f = absurd s
 
   pub asked : {i : ℕ} → Holds q t i → (e : Expression) → Says_ i e → Asked q G e
-  asked (holds {i = i} {k = k} p at f g) e s = step p (λ j d h z. asked (g j h) d z) i k e at s f
+  asked (follows {i = i} {a = k} p at f g) e s = step p (λ j d h z. asked (g j h) d z) i k e at s f
 
 -- 5. what is asked is marked
 end_fires : (roots : List ℕ) (p : ℕ → Bool) (b : Bool) → b ≡ true → (o : Option ℕ) → fires asks.TakesNothing roots p (name_kind b o) ≡ true

@@ -9,12 +9,14 @@ use Rattle.meta_nodes.specs.Erasure.{without_spans}
 use Rattle.meta_nodes.specs.Nodes.{view, rule_view, rule_views}
 use Rattle.meta_nodes.specs.Spanned.{Span, Spanned, Leaf, One, Two, Unary, PosPred, NegPred, Opt, Rep, RepOnce, RepExact, RepMin, RepMax, RepMinMax, Push, Tag, Seq, Choice, SpannedRule}
 use Rattle.meta_nodes.specs.declared.node.ParserRule.{ParserRule}
+use Rattle.meta_flags.specs.Least.{is_set_at}
 use Rattle.meta_validator.specs.Taking.{RepeatedTakes, AllRepeatedTake, SkippedTake}
 use Rattle.meta_validator.specs.Facts.{AreFacts}
 use Rattle.meta_validator.specs.Findings.{Finding, Reports, reports_none, reports_at, OfRepeated, never_fails, takes_nothing, goes_on, OfRepetition, repetition, no_repetition, OfSkipped, skipped, not_skipped, is_endless, is_repetition, is_skipped_name}
-use Rattle.meta_validator.specs.Names.{grammar_of, kind_in}
-use Rattle.meta_validator.specs.Numbering.{Fits, nodes_of, wrap_kind, wrap_of, Says}
-use Rattle.meta_validator.specs.Table.{is_set_at}
+use Rattle.meta_table.specs.Names.{grammar_of}
+use Rattle.meta_validator.specs.Names.{kind_in}
+use Rattle.meta_table.specs.Nodes.{all_nodes}
+use Rattle.meta_validator.specs.Numbering.{Fits, wrap_kind, wrap_of, Says}
 use Rattle.meta_validator.specs.declared.facts.Facts.{Facts}
 use Rattle.meta_validator.specs.declared.numbering.Wrap.TheVariants as wraps
 use Rattle.meta_validator.specs.declared.table.Kind.{Kind}
@@ -64,7 +66,7 @@ module _ (rules : List ParserRule) (facts : Facts) (right : AreFacts rules facts
       go true h = absurd (f ((right.nullable j e s).0 h))
       go false h = refl
 
-  wrap_takes : (s : Span) (f : Unary) (y : Spanned) (j : ℕ) → slice_get (nodes_of rules) j ≡ Some y → OfRepetition G (One s f y) [] → RepeatedTakes facts (wrap_kind (wrap_of f) j)
+  wrap_takes : (s : Span) (f : Unary) (y : Spanned) (j : ℕ) → slice_get (all_nodes rules) j ≡ Some y → OfRepetition G (One s f y) [] → RepeatedTakes facts (wrap_kind (wrap_of f) j)
   wrap_takes s PosPred y j e d = tt
   wrap_takes s NegPred y j e d = tt
   wrap_takes s Opt y j e d = tt
@@ -89,17 +91,17 @@ module _ (rules : List ParserRule) (facts : Facts) (right : AreFacts rules facts
       go true = not_null j (without_spans y) (says_at rules facts right j y e) (none_repetition G d refl s (RepMin n) y refl refl)
       go false = not_null j (without_spans y) (says_at rules facts right j y e) (none_repetition G d refl s (RepMin n) y refl refl)
 
-  kind_takes : (i : ℕ) (x : Spanned) (k : Kind) → Fits (kind_in G) (nodes_of rules) i k x → OfRepetition G x [] → RepeatedTakes facts k
+  kind_takes : (i : ℕ) (x : Spanned) (k : Kind) → Fits (kind_in G) (all_nodes rules) i k x → OfRepetition G x [] → RepeatedTakes facts k
   kind_takes i (Leaf s e) k fit d = subst (λ z. RepeatedTakes facts z) (sym fit.1) (leaf_kinds (λ z. RepeatedTakes facts z) tt tt tt (λ r. tt) (λ r. tt) G e)
   kind_takes i (One s f y) k fit d = subst (λ z. RepeatedTakes facts z) (sym fit.3) (wrap_takes s f y fit.0 fit.2 d)
   kind_takes i (Two s Seq x y) k fit d = subst (λ z. RepeatedTakes facts z) (sym fit.6) tt
   kind_takes i (Two s Choice x y) k fit d = subst (λ z. RepeatedTakes facts z) (sym fit.6) tt
 
-  all_take : {fs : List Finding} → Reports (OfRepetition G) (nodes_of rules) fs → fs ≡ [] → AllRepeatedTake facts
+  all_take : {fs : List Finding} → Reports (OfRepetition G) (all_nodes rules) fs → fs ≡ [] → AllRepeatedTake facts
   all_take h e i k at =
       let w = slice_get_within facts.table.kinds.items i k at in
       let n = right.tabled.nodes.alike in
-      let (x, here) = got_within (nodes_of rules) i (omega arith) in
+      let (x, here) = got_within (all_nodes rules) i (omega arith) in
       let (q, is_q, fit) = right.tabled.nodes.fit i x here in
       let same : q ≡ k = (let m = sym is_q ∙ at in cc) in
       subst (λ z. RepeatedTakes facts z) same (kind_takes i x q fit (reports_empty (OfRepetition G) h e i x here))
@@ -111,7 +113,7 @@ module _ (rules : List ParserRule) (facts : Facts) (right : AreFacts rules facts
       let s = says (kind_in G) facts.table.kinds.items i (view rule.node) (right.table.stand r i rule at root) in
       not_null i (without_spans (view rule.node)) s (none_skipped G d refl name)
 
-  pub empty_well_formed : (fs gs hs ks : List Finding) → Reports (OfRepetition G) (nodes_of rules) fs → Reports (OfSkipped G) (rule_views rules) hs → (ks ≡ [] → (n : Text) → Leads G n n → ⊥) → fs ++ (gs ++ (hs ++ ks)) ≡ [] → IsWellFormed G
+  pub empty_well_formed : (fs gs hs ks : List Finding) → Reports (OfRepetition G) (all_nodes rules) fs → Reports (OfSkipped G) (rule_views rules) hs → (ks ≡ [] → (n : Text) → Leads G n n → ⊥) → fs ++ (gs ++ (hs ++ ks)) ≡ [] → IsWellFormed G
   empty_well_formed fs gs hs ks a c d e =
       let u = empty_second fs (gs ++ (hs ++ ks)) e in
       let v = empty_second gs (hs ++ ks) u in

@@ -5,7 +5,8 @@ use Rattle.meta_base.specs.Language.Expression.{Expression, Rule, Grammar, rule_
 use Rattle.meta_base.specs.Language.WellFormed.{LeftCalls, left_name, left_first, left_second, left_pos_pred, left_neg_pred, left_left, left_right, left_opt, left_rep, left_rep_once, left_rep_exact, left_rep_min, left_rep_max, left_rep_min_max, left_push, left_restore, Leads, at_once, by_way, left_tag}
 use Rattle.meta_nodes.specs.Nodes.{view}
 use Rattle.meta_nodes.specs.declared.node.ParserRule.{ParserRule}
-use Rattle.meta_validator.specs.Names.{grammar_of, kind_in, rule_said, last_place, name_kind, is_end}
+use Rattle.meta_table.specs.Names.{grammar_of, rule_said, last_place, is_end}
+use Rattle.meta_validator.specs.Names.{kind_in, name_kind}
 use Rattle.meta_validator.specs.Numbering.{Says, counted, repeated, wrap_kind}
 use Rattle.meta_validator.specs.Facts.{AreFacts}
 use Rattle.meta_validator.specs.Cycles.{rank_at, Falls, AllFall, NoneRises, FallsFrom}
@@ -13,7 +14,8 @@ use Rattle.meta_validator.specs.declared.facts.Facts.{Facts}
 use Rattle.meta_validator.specs.declared.table.Kind.{Kind}
 use Rattle.meta_validator.specs.declared.numbering.Wrap.TheVariants as wraps
 use Rattle.meta_validator.proofs.Tying.{says}
-use Rattle.meta_validator.proofs.Answering.{Named, absent, named, resolved, got_root, same_rule, no_rule}
+use Rattle.meta_table.proofs.Resolved.{Named, absent, named, resolved}
+use Rattle.meta_validator.proofs.Answering.{got_root, same_rule, no_rule}
 
 pub data Root (rules : List ParserRule) (facts : Facts) (n : Text) : Option ℕ → ℕ → Type 0 where
   root : {r j : ℕ} (rule : ParserRule) → rule_of (grammar_of rules) n ≡ Some (rule_said rule) → slice_get facts.table.roots.items r ≡ Some j → Says (kind_in (grammar_of rules)) facts.table.kinds.items j (rule_said rule).body → Root rules facts n (Some r) j

@@ -8,9 +8,9 @@ use Rattle.meta_base.specs.declared.runtime.places.Span as code_span
 use Rattle.meta_nodes.specs.Nodes.{view, piece_of}
 use Rattle.meta_nodes.specs.Spanned.{Span, span_of, Spanned, Leaf, One, Two, Unary, Binary}
 use Rattle.meta_nodes.specs.declared.node.ParserNode.{ParserNode}
-use Rattle.meta_validator.specs.Findings.{postorder}
+use Rattle.meta_table.specs.Nodes.{postorder, size, IsSimple, choice_of}
 use Rattle.meta_validator.specs.Layout.{all_below, forwards, IsBehind, AreLaidOut, start_of, AreNumbered}
-use Rattle.meta_validator.specs.Numbering.{size, Fits, IsSimple, leaf_kind, wrap_kind, wrap_of, both_kind, choice_of}
+use Rattle.meta_validator.specs.Numbering.{Fits, leaf_kind, wrap_kind, wrap_of, both_kind}
 use Rattle.meta_validator.specs.declared.table.Kind.{Kind}
 use Rattle.meta_validator.proofs.Tying.{found_last, got_before, got_more, nodes_pushed, spans_pushed, span_at}
 

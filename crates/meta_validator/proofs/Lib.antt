@@ -1,4 +1,3 @@
-pub mod MarkLemmas
 pub mod FlagLemmas
 pub mod Certain
 pub mod Walk

@@ -11,13 +11,15 @@ use Rattle.meta_nodes.specs.Erasure.{without_spans}
 use Rattle.meta_nodes.specs.Nodes.{rule_views}
 use Rattle.meta_nodes.specs.Spanned.{Span, Spanned, Leaf, One, Two, Seq, Choice, SpannedRule}
 use Rattle.meta_nodes.specs.declared.node.ParserRule.{ParserRule}
+use Rattle.meta_flags.specs.Least.{is_set_at}
 use Rattle.meta_validator.specs.Facts.{AreFacts}
 use Rattle.meta_validator.specs.LeftRecursion.{IsNoName, said, Means, Passes}
-use Rattle.meta_validator.specs.Names.{grammar_of, kind_in, name_kind, last_place, is_end}
-use Rattle.meta_validator.specs.Numbering.{Fits, IsSimple, leaf_kind, wrap_kind, wrap_of, both_kind, nodes_of, size}
+use Rattle.meta_table.specs.Names.{grammar_of, last_place, is_end}
+use Rattle.meta_validator.specs.Names.{kind_in, name_kind}
+use Rattle.meta_table.specs.Nodes.{IsSimple, all_nodes, size}
+use Rattle.meta_validator.specs.Numbering.{Fits, leaf_kind, wrap_kind, wrap_of, both_kind}
 use Rattle.meta_validator.specs.Regions.{IsNodeOf, ArePassing}
 use Rattle.meta_validator.specs.Searching.{ordered, called_in, inside_of, size_at, cost, unentered, name_of, last_name, IsSearch}
-use Rattle.meta_validator.specs.Table.{is_set_at}
 use Rattle.meta_validator.specs.Walk.{without}
 use Rattle.meta_validator.specs.declared.facts.Facts.{Facts}
 use Rattle.meta_validator.specs.declared.numbering.Wrap.{Wrap}
@@ -90,9 +92,9 @@ module _ (rules : List ParserRule) (facts : Facts) (right : AreFacts rules facts
   G = grammar_of rules
 
   pub data Step (node : ℕ) (todo : List Task) (k : ℕ) (path : List ℕ) (called : Option ℕ) (inner : List Task) : Type 0 where
-    calls : (t : ℕ) (s : Span) (n : Text) → called ≡ Some t → slice_get (nodes_of rules) node ≡ Some (Leaf s (Ident n)) → Means V n t → Step node todo k path called inner
+    calls : (t : ℕ) (s : Span) (n : Text) → called ≡ Some t → slice_get (all_nodes rules) node ≡ Some (Leaf s (Ident n)) → Means V n t → Step node todo k path called inner
     goes_in : (new : List Task) → called ≡ None → ordered todo ++ inner ≡ ordered new → IsSearch rules roots start entered new (k ∷ path)
-        → cost (nodes_of rules) (ordered todo ++ inner) < cost (nodes_of rules) (ordered todo ++ Visit node ∷ []) → Step node todo k path called inner
+        → cost (all_nodes rules) (ordered todo ++ inner) < cost (all_nodes rules) (ordered todo ++ Visit node ∷ []) → Step node todo k path called inner
 
   passes_right : (k : ℕ) (path : List ℕ) (todo : List Task) → IsSearch rules roots start entered todo (k ∷ path) → (j : ℕ) (x : Spanned) → IsNodeOf rules roots k j x
       → Decides (is_set_at passing j) (IsNullable (without (last_name rules roots start (k ∷ path)) (said V)) (without_spans x))
@@ -110,7 +112,7 @@ module _ (rules : List ParserRule) (facts : Facts) (right : AreFacts rules facts
     At o = Step node todo k path (called_in o) (inside_of passing o)
 
     abbrev nodes : List Spanned
-    nodes = nodes_of rules
+    nodes = all_nodes rules
 
     nothing_in : (x : Spanned) → slice_get nodes node ≡ Some x → (o : Option Kind) → called_in o ≡ None → inside_of passing o ≡ [] → IsSearch rules roots start entered todo (k ∷ path) → At o
     nothing_in x here o c i next = goes_in todo c (ap (λ z. ordered todo ++ z) i ∙ append-nil (ordered todo)) next

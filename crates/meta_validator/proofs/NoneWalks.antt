@@ -10,12 +10,11 @@ use Rattle.meta_base.specs.Language.Expression.{Expression, Str, Insens, Range, 
 use Rattle.meta_nodes.specs.Erasure.{without_spans, round}
 use Rattle.meta_nodes.specs.Spanned as spanned
 use Rattle.meta_nodes.specs.Spanned.{Spanned, Leaf, One, Two, Unary, Seq, Choice, SpannedRule}
+use Rattle.meta_flags.specs.Least.{is_set_at, unset}
 use Rattle.meta_validator.specs.LeftRecursion.{IsNoName, said, Means, Walks, walks_over, walks_outside, walks_again, walks_into, walks_inside, walks_neither, walks_other}
-use Rattle.meta_validator.specs.Names.{last_place}
-use Rattle.meta_validator.specs.Table.{is_set_at}
+use Rattle.meta_table.specs.Names.{last_place}
 use Rattle.meta_validator.specs.Walk.{Walked, w_name, w_first, w_second, w_pos_pred, w_neg_pred, w_left, w_right, w_opt, w_rep, w_rep_once, w_rep_exact, w_rep_min, w_rep_max, w_rep_min_max, w_push, w_tag}
-use Rattle.meta_validator.specs.Marks.{unset}
-use Rattle.meta_validator.proofs.MarkLemmas.{unset_less, set_or_one}
+use Rattle.meta_flags.proofs.LeastLemmas.{unset_less, set_or_one}
 
 -- 1. flags that say what a chain has
 pub record Flags (n : ℕ) (c : List ℕ) (flags : List Bool) : Type 0 where

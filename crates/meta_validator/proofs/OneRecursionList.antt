@@ -6,7 +6,7 @@ use Rattle.meta_base.specs.Language.Expression.{Expression, Ident}
 use Rattle.meta_nodes.specs.Spanned.{Span, Spanned, Leaf, One, Two, Unary, Seq, Choice, SpannedRule}
 use Rattle.meta_validator.specs.Findings.{Finding, found_at, Reports, reports_none, reports_at, OfRecursion, recursive, not_recursive, hidden}
 use Rattle.meta_validator.specs.LeftRecursion.{Closed, IsNoName, said, Means, Passes, told_chain, Walks, walks_over, walks_closing, walks_outside, walks_again, walks_into, walks_inside, walks_first, walks_second, walks_neither, walks_other}
-use Rattle.meta_validator.specs.Names.{last_place}
+use Rattle.meta_table.specs.Names.{last_place}
 
 same_some : {A : Type 0} {o : Option A} {a b : A} → o ≡ Some a → o ≡ Some b → a ≡ b
 same_some e f = let h = sym e ∙ f in cc

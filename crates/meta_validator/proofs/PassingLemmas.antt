@@ -11,12 +11,14 @@ use Rattle.meta_nodes.specs.Erasure.{without_spans, rule_without_spans}
 use Rattle.meta_nodes.specs.Nodes.{rule_view, rule_views}
 use Rattle.meta_nodes.specs.Spanned.{Spanned, SpannedRule}
 use Rattle.meta_nodes.specs.declared.node.ParserRule.{ParserRule}
+use Rattle.meta_flags.specs.Least.{is_set_at}
 use Rattle.meta_validator.specs.Facts.{AreFacts}
 use Rattle.meta_validator.specs.LeftRecursion.{Means}
 use Rattle.meta_validator.specs.Marks.{AreSound, AreClosed}
-use Rattle.meta_validator.specs.Names.{grammar_of, kind_in, last_place, name_kind, is_end}
-use Rattle.meta_validator.specs.Numbering.{Says, counted, repeated, wrap_kind, text_kind, nodes_of}
-use Rattle.meta_validator.specs.Table.{is_set_at}
+use Rattle.meta_table.specs.Names.{grammar_of, last_place, is_end}
+use Rattle.meta_validator.specs.Names.{kind_in, name_kind}
+use Rattle.meta_table.specs.Nodes.{all_nodes}
+use Rattle.meta_validator.specs.Numbering.{Says, counted, repeated, wrap_kind, text_kind}
 use Rattle.meta_validator.specs.Walk.{without}
 use Rattle.meta_validator.specs.Without.{without_kind, IsWithout}
 use Rattle.meta_validator.specs.declared.facts.Facts.{Facts}
@@ -26,7 +28,8 @@ use Rattle.meta_validator.specs.declared.table.Kind.{Kind}
 use Rattle.meta_validator.specs.declared.table.Kind.TheVariants as is
 use Rattle.meta_validator.specs.declared.table.Question.TheVariants as asks
 use Rattle.meta_validator.specs.declared.table.Table.{Table}
-use Rattle.meta_validator.proofs.Answering.{Named, absent, named, resolved, Sense, absent_from, lies_at, sense_of, kinds_by, answered, no_rule, same_rule}
+use Rattle.meta_table.proofs.Resolved.{Named, absent, named, resolved}
+use Rattle.meta_validator.proofs.Answering.{Sense, absent_from, lies_at, sense_of, kinds_by, answered, no_rule, same_rule}
 use Rattle.meta_validator.proofs.NoneWalks.{in_rules}
 use Rattle.meta_validator.proofs.ReportingLemmas.{says_at}
 use Rattle.meta_validator.proofs.Walk.{Compared, same_name, other_name, compared, rule_without, rule_gone, rule_within, null_more}
@@ -193,12 +196,12 @@ module _ (rules : List ParserRule) (facts : Facts) (right : AreFacts rules facts
         go (Some k) h (lies_at {j = j} q e root s) = named_without n k j q h e root s
 
     -- marks over that table
-    pub marked_without : (marks : List Bool) → AreSound asks.TakesNothing t marks → AreClosed asks.TakesNothing t marks → (i : ℕ) (x : Spanned) → slice_get (nodes_of rules) i ≡ Some x
+    pub marked_without : (marks : List Bool) → AreSound asks.TakesNothing t marks → AreClosed asks.TakesNothing t marks → (i : ℕ) (x : Spanned) → slice_get (all_nodes rules) i ≡ Some x
         → Decides (is_set_at marks i) (IsNullable (without r.name G) (without_spans x))
     marked_without marks sound closed i x e = answered (without r.name G) place_now t sense_without asks.TakesNothing marks sound closed i (without_spans x) (lies_without i (without_spans x) (says_at rules facts right i x e))
 
   -- a rule that takes something
-  pub marked_plain : (root : ℕ) → Says (kind_in G) facts.table.kinds.items root (without_spans r.body) → is_set_at facts.nullable.items root ≡ false → (i : ℕ) (x : Spanned) → slice_get (nodes_of rules) i ≡ Some x
+  pub marked_plain : (root : ℕ) → Says (kind_in G) facts.table.kinds.items root (without_spans r.body) → is_set_at facts.nullable.items root ≡ false → (i : ℕ) (x : Spanned) → slice_get (all_nodes rules) i ≡ Some x
       → Decides (is_set_at facts.nullable.items i) (IsNullable (without r.name G) (without_spans x))
   marked_plain root s off i x e = let d = right.nullable i (without_spans x) (says_at rules facts right i x e) in
       ((λ h. null_less G r.name takes (d.0 h)), (λ n. d.1 (null_more G r.name n)))

@@ -7,11 +7,11 @@ use Rattle.meta_nodes.specs.Erasure.{without_spans}
 use Rattle.meta_nodes.specs.Nodes.{rule_views}
 use Rattle.meta_nodes.specs.Spanned.{Spanned, SpannedRule}
 use Rattle.meta_nodes.specs.declared.node.ParserRule.{ParserRule}
+use Rattle.meta_flags.specs.Least.{is_set_at}
 use Rattle.meta_validator.specs.Facts.{AreRoots}
 use Rattle.meta_validator.specs.LeftRecursion.{said, Means}
-use Rattle.meta_validator.specs.Numbering.{nodes_of}
+use Rattle.meta_table.specs.Nodes.{all_nodes}
 use Rattle.meta_validator.specs.Regions.{root_of, first_of, IsNodeOf, ArePassingSoFar, ArePassingBelow}
-use Rattle.meta_validator.specs.Table.{is_set_at}
 use Rattle.meta_validator.specs.Walk.{without}
 use Rattle.meta_validator.proofs.RegionLemmas.{rises}
 use Rattle.meta_validator.proofs.LayoutLemmas.{some_size}
@@ -36,7 +36,7 @@ lower_or_equal zero (suc m) h = lower (omega arith)
 lower_or_equal (suc k) zero h = absurd (omega arith)
 lower_or_equal (suc k) (suc m) h = elim (lower_or_equal k m (omega arith)) [ lower l ↦ lower (omega arith) | equal e ↦ equal (ap suc e) ]
 
-module _ (rules : List ParserRule) (roots : List ℕ) (are : AreRoots rules (nodes_of rules) roots) where
+module _ (rules : List ParserRule) (roots : List ℕ) (are : AreRoots rules (all_nodes rules) roots) where
   -- flags for one rule more
   pub passing_next : (m root : ℕ) (old new : List Bool) → slice_get roots m ≡ Some root
       → ((i : ℕ) → i < length old → is_set_at new i ≡ is_set_at old i) → (length old ≤ root + 1 → length new ≡ root + 1)
@@ -69,7 +69,7 @@ module _ (rules : List ParserRule) (roots : List ℕ) (are : AreRoots rules (nod
   -- flags that are copied for one rule more
   pub passing_more : (m root : ℕ) (from old new : List Bool) → slice_get roots m ≡ Some root
       → ((i : ℕ) → i < length old → is_set_at new i ≡ is_set_at old i) → ((i : ℕ) → length old ≤ i → i ≤ root → is_set_at new i ≡ is_set_at from i) → (length old ≤ root + 1 → length new ≡ root + 1)
-      → ((r : SpannedRule) → slice_get (rule_views rules) m ≡ Some r → Means (rule_views rules) r.name m → (i : ℕ) (x : Spanned) → slice_get (nodes_of rules) i ≡ Some x → Decides (is_set_at from i) (IsNullable (without r.name (said (rule_views rules))) (without_spans x)))
+      → ((r : SpannedRule) → slice_get (rule_views rules) m ≡ Some r → Means (rule_views rules) r.name m → (i : ℕ) (x : Spanned) → slice_get (all_nodes rules) i ≡ Some x → Decides (is_set_at from i) (IsNullable (without r.name (said (rule_views rules))) (without_spans x)))
       → (rule : ParserRule) → slice_get rules m ≡ Some rule
       → ArePassingBelow rules roots m old → ArePassingBelow rules roots (m + 1) new
   passing_more m root from old new at kept copied long marks rule here below = passing_next m root old new at kept long own rule here below

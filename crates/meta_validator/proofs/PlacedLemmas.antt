@@ -1,5 +1,5 @@
 -- What is found in rules whose spans are of one text stands in that text.
-use Rattle.std.proofs.Common.{◌≡◌, ℕ, zero, suc, ◌<◌, List, [], ◌∷◌, ◌++◌, map, flat_map, Option, Some, None, slice_get, length, refl, sym, ◌∙◌, ap, subst, arith}
+use Rattle.std.proofs.Common.{◌≡◌, ℕ, zero, suc, List, [], ◌∷◌, ◌++◌, map, flat_map, Option, Some, None, slice_get, sym, subst, arith}
 use Rattle.std.specs.Bool.{⊤}
 use Rattle.std.specs.List.{All}
 use Rattle.std.proofs.lemmas.List.Concat.{flat_map-cons}
@@ -9,7 +9,8 @@ use Rattle.meta_base.specs.Language.Text.{Text}
 use Rattle.meta_base.specs.Language.Expression.{Expression, Grammar}
 use Rattle.meta_nodes.specs.Spanned.{Span, span_of, Spanned, Leaf, One, Two, Seq, Choice, SpannedRule}
 use Rattle.meta_nodes.specs.Erasure.{rules_without_spans}
-use Rattle.meta_validator.specs.Findings.{Finding, postorder, every_node, last_alternative, Reports, reports_none, reports_at, OfRepeated, never_fails, takes_nothing, goes_on, OfRepetition, repetition, no_repetition, OfChoice, unreachable, reachable, no_choice, OfSkipped, skipped, not_skipped, OfRecursion, recursive, not_recursive, hidden, places, endless_at, AreFound, AreAllFound}
+use Rattle.meta_table.specs.Nodes.{postorder, every_node}
+use Rattle.meta_validator.specs.Findings.{Finding, last_alternative, Reports, reports_none, reports_at, OfRepeated, never_fails, takes_nothing, goes_on, OfRepetition, repetition, no_repetition, OfChoice, unreachable, reachable, no_choice, OfSkipped, skipped, not_skipped, OfRecursion, recursive, not_recursive, hidden, endless_at, AreFound, AreAllFound}
 use Rattle.meta_validator.specs.LeftRecursion.{Closed, Walks, walks_over, walks_closing, walks_outside, walks_again, walks_into, walks_inside, walks_first, walks_second, walks_neither, walks_other}
 use Rattle.meta_validator.specs.Placed.{IsIn, AreIn, ArePiecesOf}
 use Rattle.meta_validator.specs.Tags.{told_at, message_at, of_tag, of_tags_in, of_tags}

@@ -12,7 +12,7 @@ use Rattle.meta_nodes.specs.Spanned.{Span, SpannedRule}
 use Rattle.meta_nodes.specs.declared.node.ParserRule.{ParserRule}
 use Rattle.meta_validator.specs.Findings.{Finding, found_at, Reports, reports_none, reports_at, OfRecursion, recursive, not_recursive, hidden, places}
 use Rattle.meta_validator.specs.LeftRecursion.{said, Means, Walks, name_at, told_chain}
-use Rattle.meta_validator.specs.Names.{grammar_of, last_place}
+use Rattle.meta_table.specs.Names.{grammar_of, last_place}
 use Rattle.meta_validator.proofs.ClosingLemmas.{closing_leads, none_comes}
 use Rattle.meta_validator.proofs.ReportingLemmas.{reports_more, got_within}
 use Rattle.meta_validator.proofs.SearchLemmas.{same_place, other_place, compared}

@@ -6,7 +6,7 @@ use Rattle.meta_nodes.specs.Nodes.{view, rule_view, rule_views}
 use Rattle.meta_nodes.specs.Spanned.{Span, Spanned, One, Two, Unary, Binary, SpannedRule}
 use Rattle.meta_nodes.specs.declared.node.ParserRule.{ParserRule}
 use Rattle.meta_validator.specs.Facts.{AreRoots}
-use Rattle.meta_validator.specs.Numbering.{nodes_of, size}
+use Rattle.meta_table.specs.Nodes.{all_nodes, size}
 use Rattle.meta_validator.specs.Regions.{root_of, first_of, IsNodeOf}
 use Rattle.meta_validator.proofs.Answering.{got_root}
 use Rattle.meta_validator.proofs.ReportingLemmas.{got_within}
@@ -22,7 +22,7 @@ got_rule rules k r e = go (slice_get rules k) refl (sym (slice_get-map rule_view
 root_at : (roots : List ℕ) (k i : ℕ) → slice_get roots k ≡ Some i → root_of roots k ≡ i
 root_at roots k i e = ap (λ o. unwrap_or o 0) e
 
-module _ (rules : List ParserRule) (roots : List ℕ) (are : AreRoots rules (nodes_of rules) roots) where
+module _ (rules : List ParserRule) (roots : List ℕ) (are : AreRoots rules (all_nodes rules) roots) where
   -- the body of a rule is one of its nodes
   pub body_node : (k i : ℕ) (r : SpannedRule) → slice_get (rule_views rules) k ≡ Some r → slice_get roots k ≡ Some i → IsNodeOf rules roots k i r.body
   body_node k i r e f = let (rule, here, same) = got_rule rules k r e in
@@ -62,11 +62,11 @@ module _ (rules : List ParserRule) (roots : List ℕ) (are : AreRoots rules (nod
       ]
 
   -- the nodes inside a node are of the same body
-  pub node_inside : (k i j : ℕ) (s : Span) (f : Unary) (x : Spanned) → IsNodeOf rules roots k i (One s f x) → slice_get (nodes_of rules) j ≡ Some x → suc j ≡ i → IsNodeOf rules roots k j x
+  pub node_inside : (k i j : ℕ) (s : Span) (f : Unary) (x : Spanned) → IsNodeOf rules roots k i (One s f x) → slice_get (all_nodes rules) j ≡ Some x → suc j ≡ i → IsNodeOf rules roots k j x
   node_inside k i j s f x n e l = let a = n.first in let b = n.last in record { node = e; first = omega arith; last = omega arith }
 
-  pub node_second : (k i j : ℕ) (s : Span) (f : Binary) (x y : Spanned) → IsNodeOf rules roots k i (Two s f x y) → slice_get (nodes_of rules) j ≡ Some y → suc j ≡ i → IsNodeOf rules roots k j y
+  pub node_second : (k i j : ℕ) (s : Span) (f : Binary) (x y : Spanned) → IsNodeOf rules roots k i (Two s f x y) → slice_get (all_nodes rules) j ≡ Some y → suc j ≡ i → IsNodeOf rules roots k j y
   node_second k i j s f x y n e l = let a = n.first in let b = n.last in record { node = e; first = omega arith; last = omega arith }
 
-  pub node_first : (k i j l : ℕ) (s : Span) (f : Binary) (x y : Spanned) → IsNodeOf rules roots k i (Two s f x y) → slice_get (nodes_of rules) j ≡ Some x → suc l ≡ i → j + size y ≡ l → IsNodeOf rules roots k j x
+  pub node_first : (k i j l : ℕ) (s : Span) (f : Binary) (x y : Spanned) → IsNodeOf rules roots k i (Two s f x y) → slice_get (all_nodes rules) j ≡ Some x → suc l ≡ i → j + size y ≡ l → IsNodeOf rules roots k j x
   node_first k i j l s f x y n e h g = let a = n.first in let b = n.last in record { node = e; first = omega arith; last = omega arith }

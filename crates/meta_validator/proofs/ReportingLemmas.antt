@@ -12,12 +12,14 @@ use Rattle.meta_nodes.specs.Erasure.{without_spans}
 use Rattle.meta_nodes.specs.Nodes.{view, piece_of, rule_view, rule_views}
 use Rattle.meta_nodes.specs.Spanned.{Span, span_of, Spanned, Leaf, One, Two, Unary, PosPred, NegPred, Opt, Rep, RepOnce, RepExact, RepMin, RepMax, RepMinMax, Push, Tag, Seq, Choice}
 use Rattle.meta_nodes.specs.declared.node.ParserRule.{ParserRule}
+use Rattle.meta_flags.specs.Least.{is_set_at}
 use Rattle.meta_validator.specs.Facts.{AreFacts}
 use Rattle.meta_validator.specs.Findings.{Finding, found_at, is_skipped_name, last_alternative, Reports, reports_none, reports_at, OfRepeated, never_fails, takes_nothing, goes_on, OfRepetition, repetition, no_repetition, OfChoice, unreachable, reachable, no_choice, OfSkipped, skipped, not_skipped}
-use Rattle.meta_validator.specs.Names.{grammar_of, kind_in, name_kind, last_place, is_end}
-use Rattle.meta_validator.specs.Numbering.{Says, Fits, nodes_of, leaf_kind, wrap_kind, wrap_of}
+use Rattle.meta_table.specs.Names.{grammar_of, last_place, is_end}
+use Rattle.meta_validator.specs.Names.{kind_in, name_kind}
+use Rattle.meta_table.specs.Nodes.{all_nodes}
+use Rattle.meta_validator.specs.Numbering.{Says, Fits, leaf_kind, wrap_kind, wrap_of}
 use Rattle.meta_validator.specs.Reporting.{AreSpans, repeated_at, repetition_at, alternative_of, alternative_at, unreachable_at, choice_at, skipped_at}
-use Rattle.meta_validator.specs.Table.{is_set_at}
 use Rattle.meta_validator.specs.declared.facts.Facts.{Facts}
 use Rattle.meta_validator.specs.declared.numbering.Wrap.{Wrap}
 use Rattle.meta_validator.specs.declared.numbering.Wrap.TheVariants as wraps
@@ -90,7 +92,7 @@ module _ (rules : List ParserRule) (facts : Facts) (right : AreFacts rules facts
   G = grammar_of rules
 
   abbrev nodes : List Spanned
-  nodes = nodes_of rules
+  nodes = all_nodes rules
 
   abbrev kinds : List Kind
   kinds = facts.table.kinds.items

@@ -5,18 +5,19 @@ use Rattle.std.proofs.lemmas.List.{length_push, length-append, append_assoc, app
 use Rattle.meta_nodes.specs.Nodes.{view}
 use Rattle.meta_nodes.specs.Spanned.{Spanned}
 use Rattle.meta_nodes.specs.declared.node.ParserRule.{ParserRule}
-use Rattle.meta_validator.specs.Names.{grammar_of, kind_in}
-use Rattle.meta_validator.specs.Numbering.{AreNodes, nodes_of, size}
+use Rattle.meta_table.specs.Names.{grammar_of}
+use Rattle.meta_validator.specs.Names.{kind_in}
+use Rattle.meta_table.specs.Nodes.{all_nodes, size, postorder}
+use Rattle.meta_validator.specs.Numbering.{AreNodes}
 use Rattle.meta_validator.specs.Regions.{root_of, first_of}
-use Rattle.meta_validator.specs.Findings.{postorder}
 use Rattle.meta_validator.specs.Facts.{AreRoots, AreTabled, IsTableOf}
 use Rattle.meta_validator.specs.declared.table.Table.{Table}
 use Rattle.meta_validator.proofs.Tying.{stands_at, got_more, got_before}
 
 -- the nodes of one rule more
-pub nodes_more : (rules : List ParserRule) (rule : ParserRule) → nodes_of (rules ++ rule ∷ []) ≡ nodes_of rules ++ postorder (view rule.node)
+pub nodes_more : (rules : List ParserRule) (rule : ParserRule) → all_nodes (rules ++ rule ∷ []) ≡ all_nodes rules ++ postorder (view rule.node)
 nodes_more [] rule = append-nil (postorder (view rule.node))
-nodes_more (r ∷ rules) rule = ap (λ z. postorder (view r.node) ++ z) (nodes_more rules rule) ∙ sym (append_assoc (postorder (view r.node)) (nodes_of rules) (postorder (view rule.node)))
+nodes_more (r ∷ rules) rule = ap (λ z. postorder (view r.node) ++ z) (nodes_more rules rule) ∙ sym (append_assoc (postorder (view r.node)) (all_nodes rules) (postorder (view rule.node)))
 
 front_root : (xs : List ℕ) (y i : ℕ) → i < length xs → root_of (xs ++ y ∷ []) i ≡ root_of xs i
 front_root [] y i l = absurd (omega arith)
@@ -61,11 +62,11 @@ root_step rs rule nodes more roots root at long own h = record {
     first r i q (inr e) (inl f) = let w = slice_get_within roots r i f in let c = h.alike in let d = e.0 in absurd (omega arith)
 
 -- the bodies stand in the table, also where more nodes stand behind those of the rules
-pub table_of : (rules : List ParserRule) (table : Table) (more : List Spanned) → AreNodes (kind_in (grammar_of rules)) (nodes_of rules ++ more) table.kinds.items → AreRoots rules (nodes_of rules) table.roots.items → IsTableOf rules table
+pub table_of : (rules : List ParserRule) (table : Table) (more : List Spanned) → AreNodes (kind_in (grammar_of rules)) (all_nodes rules ++ more) table.kinds.items → AreRoots rules (all_nodes rules) table.roots.items → IsTableOf rules table
 table_of rules table more h r = record {
   alike = r.alike;
-  stand = λ k i rule e f. stands_at (kind_in (grammar_of rules)) (nodes_of rules ++ more) table.kinds.items h (view rule.node) i (got_before (nodes_of rules) more i (view rule.node) (r.lie k i rule e f));
+  stand = λ k i rule e f. stands_at (kind_in (grammar_of rules)) (all_nodes rules ++ more) table.kinds.items h (view rule.node) i (got_before (all_nodes rules) more i (view rule.node) (r.lie k i rule e f));
 }
 
 pub tabled_table : (rules : List ParserRule) (table : Table) → AreTabled rules table → IsTableOf rules table
-tabled_table rules table h = table_of rules table [] (subst (λ z. AreNodes (kind_in (grammar_of rules)) z table.kinds.items) (sym (append-nil (nodes_of rules))) h.nodes) h.roots
+tabled_table rules table h = table_of rules table [] (subst (λ z. AreNodes (kind_in (grammar_of rules)) z table.kinds.items) (sym (append-nil (all_nodes rules))) h.nodes) h.roots

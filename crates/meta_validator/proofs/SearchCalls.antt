@@ -10,17 +10,16 @@ use Rattle.meta_base.specs.Language.Expression as plain
 use Rattle.meta_nodes.specs.Erasure.{without_spans}
 use Rattle.meta_nodes.specs.Spanned.{Spanned, Leaf, SpannedRule, Span}
 use Rattle.meta_nodes.specs.declared.node.ParserRule.{ParserRule}
+use Rattle.meta_flags.specs.Least.{is_set_at, unset}
 use Rattle.meta_validator.specs.LeftRecursion.{Closed, IsNoName, said, Means, Walks, walks_over, walks_closing, walks_outside, walks_again, walks_into}
-use Rattle.meta_validator.specs.Marks.{unset}
-use Rattle.meta_validator.specs.Names.{last_place}
-use Rattle.meta_validator.specs.Numbering.{nodes_of, IsSimple}
+use Rattle.meta_table.specs.Names.{last_place}
+use Rattle.meta_table.specs.Nodes.{all_nodes, IsSimple}
 use Rattle.meta_validator.specs.Regions.{IsNodeOf}
 use Rattle.meta_validator.specs.Searching.{ordered, after, views, Calls, name_of, last_name, Comes, Goes, Owes, IsKnown, AreCovered, AreSettled, IsSought, IsSearch}
-use Rattle.meta_validator.specs.Table.{is_set_at}
 use Rattle.meta_validator.specs.Walk.{Walked, w_name}
 use Rattle.meta_validator.specs.declared.recursions.Task.{Task}
 use Rattle.meta_validator.specs.declared.recursions.Task.TheVariants.{Visit, Leave}
-use Rattle.meta_validator.proofs.MarkLemmas.{set_or_one}
+use Rattle.meta_flags.proofs.LeastLemmas.{set_or_one}
 use Rattle.meta_validator.proofs.NoneWalks.{Flags, flags_more, no_flags, unset_flags, none_walked, at_end, set_keeps, set_sets, in_rules, IsFine}
 use Rattle.meta_validator.proofs.SearchLemmas.{same_rule, one_in, nothing}
 
@@ -50,14 +49,14 @@ module _ (rules : List ParserRule) (roots : List ℕ) (start : ℕ) (entered : L
   called_once v n s t m e (k, w, d) = let same = name_walked V v n k w in let f : last_place (said V) n ≡ Some m = subst (λ z. last_place (said V) z ≡ Some m) (sym same) d in let h = sym f ∙ e in cc
 
   -- 1. calls that are passed over
-  pub over_leaf : (i : ℕ) (s : Span) (e : Expression) (todo : List Task) (k : ℕ) (path : List ℕ) → slice_get (nodes_of rules) i ≡ Some (Leaf s e) → IsSimple e → IsNoName e → Search (Visit i ∷ todo) (k ∷ path) → Search todo (k ∷ path)
+  pub over_leaf : (i : ℕ) (s : Span) (e : Expression) (todo : List Task) (k : ℕ) (path : List ℕ) → slice_get (all_nodes rules) i ≡ Some (Leaf s e) → IsSimple e → IsNoName e → Search (Visit i ∷ todo) (k ∷ path) → Search todo (k ∷ path)
   over_leaf i s e todo k path at simple h search = nothing rules roots start entered i (Leaf s e) todo k path at (walks_over h)
       (λ m d. absurd (simple_none V (last_name rules roots start (k ∷ path)) e d.0 simple h d.1)) search
 
   undefined_none : (n k : Text) (m : ℕ) → n ≡ k → last_place (said V) n ≡ None → last_place (said V) k ≡ Some m → ⊥
   undefined_none n k m e h d = let f = subst (λ z. last_place (said V) z ≡ None) e h in let g = sym f ∙ d in cc
 
-  pub over_undefined : (i : ℕ) (s : Span) (n : Text) (todo : List Task) (k : ℕ) (path : List ℕ) → slice_get (nodes_of rules) i ≡ Some (Leaf s (Ident n)) → last_place (said V) n ≡ None → Search (Visit i ∷ todo) (k ∷ path) → Search todo (k ∷ path)
+  pub over_undefined : (i : ℕ) (s : Span) (n : Text) (todo : List Task) (k : ℕ) (path : List ℕ) → slice_get (all_nodes rules) i ≡ Some (Leaf s (Ident n)) → last_place (said V) n ≡ None → Search (Visit i ∷ todo) (k ∷ path) → Search todo (k ∷ path)
   over_undefined i s n todo k path at h search = nothing rules roots start entered i (Leaf s (Ident n)) todo k path at (walks_outside h)
       (λ m d. absurd (undefined_none n d.0 m (name_walked V (last_name rules roots start (k ∷ path)) n d.0 d.1) h d.2)) search
 
@@ -94,7 +93,7 @@ module _ (rules : List ParserRule) (roots : List ℕ) (start : ℕ) (entered : L
       (λ m c. Contains-append_left (ordered path) (t ∷ []) m c) r.name r.body (known_fine path decided r.name r.body (λ n d. settled t is_left.0 is_left.1 r n at d))
 
   -- 3. a call of a rule that was entered
-  pub over_known : (i : ℕ) (s : Span) (n : Text) (t : ℕ) (todo : List Task) (k : ℕ) (path : List ℕ) → slice_get (nodes_of rules) i ≡ Some (Leaf s (Ident n)) → Means V n t → (t ≡ start → ⊥) → is_set_at entered t ≡ true
+  pub over_known : (i : ℕ) (s : Span) (n : Text) (t : ℕ) (todo : List Task) (k : ℕ) (path : List ℕ) → slice_get (all_nodes rules) i ≡ Some (Leaf s (Ident n)) → Means V n t → (t ≡ start → ⊥) → is_set_at entered t ≡ true
       → Search (Visit i ∷ todo) (k ∷ path) → Search todo (k ∷ path)
   over_known i s n t todo k path at means apart on search = nothing rules roots start entered i (Leaf s (Ident n)) todo k path at comes
       (λ m d. let e = called_once (last_name rules roots start (k ∷ path)) n s t m means d in subst (λ z. IsKnown rules roots start entered z) (sym e) (apart, on)) search
@@ -108,7 +107,7 @@ module _ (rules : List ParserRule) (roots : List ℕ) (start : ℕ) (entered : L
           ]
 
   -- 4. a call of the start
-  pub closes : (i : ℕ) (s : Span) (n : Text) (todo : List Task) (k : ℕ) (path : List ℕ) → slice_get (nodes_of rules) i ≡ Some (Leaf s (Ident n)) → Means V n start → Search (Visit i ∷ todo) (k ∷ path)
+  pub closes : (i : ℕ) (s : Span) (n : Text) (todo : List Task) (k : ℕ) (path : List ℕ) → slice_get (all_nodes rules) i ≡ Some (Leaf s (Ident n)) → Means V n start → Search (Visit i ∷ todo) (k ∷ path)
       → IsSought rules roots start (Some (record { chain = ordered (k ∷ path); call = s }))
   closes i s n todo k path at means search = search.answers (Some (record { chain = ordered (k ∷ path); call = s }))
       (inl (λ y h. subst (λ z. Walks V start (ordered (k ∷ path)) (last_name rules roots start (k ∷ path)) z (Some (record { chain = ordered (k ∷ path); call = s }))) (same_rule at h) (walks_closing means)))
@@ -125,7 +124,7 @@ module _ (rules : List ParserRule) (roots : List ℕ) (start : ℕ) (entered : L
     covered_more [] todo c = tt
     covered_more (k ∷ path) todo c = ((λ r m at d. elim (c.0 r m at d) [ inl a ↦ inl (known_more m a) | inr a ↦ inr a ]), covered_more path (after todo) c.1)
 
-    pub enters : (i : ℕ) (s : Span) (n : Text) (root : ℕ) (r : SpannedRule) (todo : List Task) (k : ℕ) (path : List ℕ) → slice_get (nodes_of rules) i ≡ Some (Leaf s (Ident n)) → Means V n t → is_set_at entered t ≡ false
+    pub enters : (i : ℕ) (s : Span) (n : Text) (root : ℕ) (r : SpannedRule) (todo : List Task) (k : ℕ) (path : List ℕ) → slice_get (all_nodes rules) i ≡ Some (Leaf s (Ident n)) → Means V n t → is_set_at entered t ≡ false
         → slice_get V t ≡ Some r → IsNodeOf rules roots t root r.body → Search (Visit i ∷ todo) (k ∷ path) → IsSearch rules roots start more (Visit root ∷ Leave ∷ todo) (t ∷ k ∷ path)
     enters i s n root r todo k path at means off here place search = record {
       alike = length-set entered t true ∙ search.alike;

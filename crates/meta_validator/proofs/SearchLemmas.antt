@@ -10,11 +10,11 @@ use Rattle.meta_nodes.specs.Erasure.{without_spans, round}
 use Rattle.meta_nodes.specs.Spanned as spanned
 use Rattle.meta_nodes.specs.Spanned.{Spanned, Leaf, One, Two, Unary, Seq, Choice, SpannedRule, Span}
 use Rattle.meta_nodes.specs.declared.node.ParserRule.{ParserRule}
+use Rattle.meta_flags.specs.Least.{is_set_at}
 use Rattle.meta_validator.specs.LeftRecursion.{Closed, said, Passes, Walks, walks_inside, walks_first, walks_second, walks_neither, walks_other}
-use Rattle.meta_validator.specs.Numbering.{nodes_of}
+use Rattle.meta_table.specs.Nodes.{all_nodes}
 use Rattle.meta_validator.specs.Regions.{IsNodeOf}
 use Rattle.meta_validator.specs.Searching.{ordered, rest, after, views, Calls, name_of, last_name, Comes, Goes, Owes, ArePlaced, IsKnown, AreCovered, IsSearch}
-use Rattle.meta_validator.specs.Table.{is_set_at}
 use Rattle.meta_validator.specs.Walk.{Walked, w_first, w_second, w_pos_pred, w_neg_pred, w_left, w_right, w_opt, w_rep, w_rep_once, w_rep_exact, w_rep_min, w_rep_max, w_rep_min_max, w_push, w_tag}
 use Rattle.meta_validator.specs.declared.recursions.Task.{Task}
 use Rattle.meta_validator.specs.declared.recursions.Task.TheVariants.{Visit, Leave}
@@ -86,7 +86,7 @@ module _ (rules : List ParserRule) (roots : List ℕ) (start : ℕ) (entered : L
   )
 
   -- a node is walked over, and what is inside it is to be walked over in its place
-  pub stepped : (i : ℕ) (x : Spanned) (todo new : List Task) (k : ℕ) (path : List ℕ) → slice_get (nodes_of rules) i ≡ Some x → after todo ≡ after new → ArePlaced rules roots start (k ∷ path) new
+  pub stepped : (i : ℕ) (x : Spanned) (todo new : List Task) (k : ℕ) (path : List ℕ) → slice_get (all_nodes rules) i ≡ Some x → after todo ≡ after new → ArePlaced rules roots start (k ∷ path) new
       → ((o : Option Closed) → Goes rules roots start (k ∷ path) new o → Goes rules roots start (k ∷ path) (Visit i ∷ todo) o)
       → ((m : ℕ) → Calls rules roots start (last_name rules roots start (k ∷ path)) x m → IsKnown rules roots start entered m ⊎ Owes rules roots start (last_name rules roots start (k ∷ path)) new m)
       → ((m : ℕ) → Owes rules roots start (last_name rules roots start (k ∷ path)) todo m → Owes rules roots start (last_name rules roots start (k ∷ path)) new m)
@@ -104,7 +104,7 @@ module _ (rules : List ParserRule) (roots : List ℕ) (start : ℕ) (entered : L
   }
 
   -- a node that comes to none, all of whose calls are known
-  pub nothing : (i : ℕ) (x : Spanned) (todo : List Task) (k : ℕ) (path : List ℕ) → slice_get (nodes_of rules) i ≡ Some x
+  pub nothing : (i : ℕ) (x : Spanned) (todo : List Task) (k : ℕ) (path : List ℕ) → slice_get (all_nodes rules) i ≡ Some x
       → Walks V start (ordered (k ∷ path)) (last_name rules roots start (k ∷ path)) x None
       → ((m : ℕ) → Calls rules roots start (last_name rules roots start (k ∷ path)) x m → IsKnown rules roots start entered m)
       → Search (Visit i ∷ todo) (k ∷ path) → Search todo (k ∷ path)
@@ -118,7 +118,7 @@ module _ (rules : List ParserRule) (roots : List ℕ) (start : ℕ) (entered : L
       goes (Some z) g = inr (comes, g)
 
   -- a node round another
-  pub inside : (i j : ℕ) (s : Span) (f : Unary) (x : Spanned) (todo : List Task) (k : ℕ) (path : List ℕ) → slice_get (nodes_of rules) i ≡ Some (One s f x) → IsNodeOf rules roots k j x
+  pub inside : (i j : ℕ) (s : Span) (f : Unary) (x : Spanned) (todo : List Task) (k : ℕ) (path : List ℕ) → slice_get (all_nodes rules) i ≡ Some (One s f x) → IsNodeOf rules roots k j x
       → Search (Visit i ∷ todo) (k ∷ path) → Search (Visit j ∷ todo) (k ∷ path)
   inside i j s f x todo k path at place search = stepped i (One s f x) todo (Visit j ∷ todo) k path at refl ((x, place), search.placed.1) goes
       (λ m d. inr (inl (x, place.node, (d.0, in_round V (last_name rules roots start (k ∷ path)) f (without_spans x) d.0 d.1, d.2)))) (λ m d. inr d) search
@@ -132,7 +132,7 @@ module _ (rules : List ParserRule) (roots : List ℕ) (start : ℕ) (entered : L
       goes (Some z) (inr g) = inr (comes None g.0, g.1)
 
   -- a sequence of which only the left side is walked over
-  pub first_only : (i j : ℕ) (s : Span) (x y : Spanned) (todo : List Task) (k : ℕ) (path : List ℕ) → slice_get (nodes_of rules) i ≡ Some (Two s Seq x y) → IsNodeOf rules roots k j x
+  pub first_only : (i j : ℕ) (s : Span) (x y : Spanned) (todo : List Task) (k : ℕ) (path : List ℕ) → slice_get (all_nodes rules) i ≡ Some (Two s Seq x y) → IsNodeOf rules roots k j x
       → (Passes V (last_name rules roots start (k ∷ path)) x → ⊥)
       → Search (Visit i ∷ todo) (k ∷ path) → Search (Visit j ∷ todo) (k ∷ path)
   first_only i j s x y todo k path at place stops search = stepped i (Two s Seq x y) todo (Visit j ∷ todo) k path at refl ((x, place), search.placed.1) goes
@@ -154,7 +154,7 @@ module _ (rules : List ParserRule) (roots : List ℕ) (start : ℕ) (entered : L
       goes (Some z) (inr g) = inr (none g.0, g.1)
 
   -- both sides of a node
-  module _ (i j l : ℕ) (x y both : Spanned) (todo : List Task) (k : ℕ) (path : List ℕ) (at : slice_get (nodes_of rules) i ≡ Some both) (place : IsNodeOf rules roots k j x) (other : IsNodeOf rules roots k l y)
+  module _ (i j l : ℕ) (x y both : Spanned) (todo : List Task) (k : ℕ) (path : List ℕ) (at : slice_get (all_nodes rules) i ≡ Some both) (place : IsNodeOf rules roots k j x) (other : IsNodeOf rules roots k l y)
       (some_first : (z : Closed) → Walks V start (ordered (k ∷ path)) (last_name rules roots start (k ∷ path)) x (Some z) → Walks V start (ordered (k ∷ path)) (last_name rules roots start (k ∷ path)) both (Some z))
       (onward : (o : Option Closed) → Walks V start (ordered (k ∷ path)) (last_name rules roots start (k ∷ path)) x None → Walks V start (ordered (k ∷ path)) (last_name rules roots start (k ∷ path)) y o → Walks V start (ordered (k ∷ path)) (last_name rules roots start (k ∷ path)) both o)
       (sides : (n : Text) → Walked (said V) (last_name rules roots start (k ∷ path)) (without_spans both) n → Walked (said V) (last_name rules roots start (k ∷ path)) (without_spans x) n ⊎ Walked (said V) (last_name rules roots start (k ∷ path)) (without_spans y) n) where
@@ -185,12 +185,12 @@ module _ (rules : List ParserRule) (roots : List ℕ) (start : ℕ) (entered : L
   seq_sides v n x y (w_first w) = inl w
   seq_sides v n x y (w_second p w) = inr w
 
-  pub of_choice : (i j l : ℕ) (s : Span) (x y : Spanned) (todo : List Task) (k : ℕ) (path : List ℕ) → slice_get (nodes_of rules) i ≡ Some (Two s Choice x y) → IsNodeOf rules roots k j x → IsNodeOf rules roots k l y
+  pub of_choice : (i j l : ℕ) (s : Span) (x y : Spanned) (todo : List Task) (k : ℕ) (path : List ℕ) → slice_get (all_nodes rules) i ≡ Some (Two s Choice x y) → IsNodeOf rules roots k j x → IsNodeOf rules roots k l y
       → Search (Visit i ∷ todo) (k ∷ path) → Search (Visit j ∷ Visit l ∷ todo) (k ∷ path)
   of_choice i j l s x y todo k path at place other = both_sides i j l x y (Two s Choice x y) todo k path at place other (λ z w. walks_first w) (λ o w u. walks_other w u)
       (λ n w. choice_sides (last_name rules roots start (k ∷ path)) n x y w)
 
-  pub of_sequence : (i j l : ℕ) (s : Span) (x y : Spanned) (todo : List Task) (k : ℕ) (path : List ℕ) → slice_get (nodes_of rules) i ≡ Some (Two s Seq x y) → IsNodeOf rules roots k j x → IsNodeOf rules roots k l y
+  pub of_sequence : (i j l : ℕ) (s : Span) (x y : Spanned) (todo : List Task) (k : ℕ) (path : List ℕ) → slice_get (all_nodes rules) i ≡ Some (Two s Seq x y) → IsNodeOf rules roots k j x → IsNodeOf rules roots k l y
       → Passes V (last_name rules roots start (k ∷ path)) x
       → Search (Visit i ∷ todo) (k ∷ path) → Search (Visit j ∷ Visit l ∷ todo) (k ∷ path)
   of_sequence i j l s x y todo k path at place other passes = both_sides i j l x y (Two s Seq x y) todo k path at place other (λ z w. walks_first w) onward

@@ -11,14 +11,17 @@ use Rattle.meta_nodes.specs.Nodes.{rule_views}
 use Rattle.meta_nodes.specs.Spanned as spanned
 use Rattle.meta_nodes.specs.Spanned.{Span, Spanned, Leaf, One, Two, Unary, SpannedRule}
 use Rattle.meta_nodes.specs.declared.node.ParserRule.{ParserRule}
+use Rattle.meta_flags.specs.Least.{is_set_at}
 use Rattle.meta_validator.specs.Cycles.{rank_at}
 use Rattle.meta_validator.specs.Facts.{AreFacts}
 use Rattle.meta_validator.specs.LeftRecursion.{Means}
 use Rattle.meta_validator.specs.Levels.{Rests, AllRest, IsSettled, AreSettled, own_answer, own_answer_at}
-use Rattle.meta_validator.specs.Names.{grammar_of, kind_in, last_place, name_kind, is_end}
-use Rattle.meta_validator.specs.Numbering.{Says, IsSimple, Fits, counted, repeated, wrap_of, wrap_kind, leaf_kind, nodes_of}
+use Rattle.meta_table.specs.Names.{grammar_of, last_place, is_end}
+use Rattle.meta_validator.specs.Names.{kind_in, name_kind}
+use Rattle.meta_table.specs.Nodes.{IsSimple, all_nodes}
+use Rattle.meta_validator.specs.Numbering.{Says, Fits, counted, repeated, wrap_of, wrap_kind, leaf_kind}
 use Rattle.meta_validator.specs.Regions.{IsNodeOf, ArePassingSoFar, first_of}
-use Rattle.meta_validator.specs.Table.{is_set_at, at_root}
+use Rattle.meta_validator.specs.Table.{at_root}
 use Rattle.meta_validator.specs.Walk.{without}
 use Rattle.meta_validator.specs.declared.facts.Facts.{Facts}
 use Rattle.meta_validator.specs.declared.numbering.Wrap.TheVariants as wraps
@@ -250,7 +253,7 @@ module _ (rules : List ParserRule) (facts : Facts) (right : AreFacts rules facts
         (λ h. none_or m (λ k. IsNullable other (RepMinMax (without_spans x) k n)) nullable_min_max_zero (inl h)) (λ b. nullable_min_max b) (λ a. min_max_null a)
 
     abbrev nodes : List Spanned
-    nodes = nodes_of rules
+    nodes = all_nodes rules
 
     abbrev roots : List ℕ
     roots = facts.table.roots.items

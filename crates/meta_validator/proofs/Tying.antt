@@ -11,8 +11,8 @@ use Rattle.meta_nodes.specs.Spanned.{Span, span_of, Spanned, Leaf, One, Two, Pos
 use Rattle.meta_base.specs.Language.Expression as plain
 use Rattle.meta_base.specs.Language.Expression.{Expression}
 use Rattle.meta_nodes.specs.Erasure.{without_spans}
-use Rattle.meta_validator.specs.Numbering.{AreNodes, Fits, Stands, Says, IsSimple, leaf_kind, kind_of_code}
-use Rattle.meta_validator.specs.Findings.{postorder}
+use Rattle.meta_table.specs.Nodes.{IsSimple, postorder}
+use Rattle.meta_validator.specs.Numbering.{AreNodes, Fits, Stands, Says, leaf_kind, kind_of_code}
 use Rattle.meta_validator.specs.declared.table.Kind.{Kind}
 
 -- what is in the list stays there

@@ -9,14 +9,14 @@ use Rattle.meta_nodes.specs.Erasure.{without_spans, rule_without_spans}
 use Rattle.meta_nodes.specs.Nodes.{rule_view, rule_views}
 use Rattle.meta_nodes.specs.Spanned.{Span, Spanned, Leaf, SpannedRule}
 use Rattle.meta_nodes.specs.declared.node.ParserRule.{ParserRule}
+use Rattle.meta_flags.specs.Least.{is_set_at}
 use Rattle.meta_validator.specs.Facts.{AreFacts}
 use Rattle.meta_validator.specs.LeftRecursion.{Means}
-use Rattle.meta_validator.specs.Names.{grammar_of, last_place}
-use Rattle.meta_validator.specs.Numbering.{nodes_of}
+use Rattle.meta_table.specs.Names.{grammar_of, last_place}
+use Rattle.meta_table.specs.Nodes.{all_nodes}
 use Rattle.meta_validator.specs.Walk.{Walked, WalkLeads, w_at_once, w_by_way}
 use Rattle.meta_validator.specs.Regions.{ArePassing}
 use Rattle.meta_validator.specs.Searching.{ordered, called_in, inside_of, cost, unentered, Calls, IsKnown, IsSearch, IsGoing, IsClosing, NeverComesBack}
-use Rattle.meta_validator.specs.Table.{is_set_at}
 use Rattle.meta_validator.specs.declared.facts.Facts.{Facts}
 use Rattle.meta_validator.specs.declared.recursions.Walk.{Walk}
 use Rattle.meta_validator.specs.declared.table.Kind.{Kind}
@@ -26,7 +26,8 @@ use Rattle.meta_validator.proofs.NoneWalks.{in_rules}
 use Rattle.meta_validator.proofs.NodeSteps.{Step, calls, goes_in, stepped_at, cost-append, cost_visit, unentered_set}
 use Rattle.meta_validator.proofs.RegionLemmas.{body_node}
 use Rattle.meta_validator.proofs.ReportingLemmas.{got_within}
-use Rattle.meta_validator.proofs.Answering.{Named, absent, named as named_rule, resolved, no_rule}
+use Rattle.meta_table.proofs.Resolved.{Named, absent, named as named_rule, resolved}
+use Rattle.meta_validator.proofs.Answering.{no_rule}
 use Rattle.meta_validator.proofs.PassingLemmas.{its_rule}
 use Rattle.meta_validator.proofs.SearchCalls.{over_known, closes, enters, begins}
 
@@ -38,7 +39,7 @@ module _ (rules : List ParserRule) (facts : Facts) (right : AreFacts rules facts
   V = rule_views rules
 
   abbrev nodes : List Spanned
-  nodes = nodes_of rules
+  nodes = all_nodes rules
 
   abbrev Search : List Task → List ℕ → Type 0
   Search todo path = IsSearch rules roots start entered todo path
@@ -146,7 +147,7 @@ module _ (rules : List ParserRule) (facts : Facts) (right : AreFacts rules facts
     (state : IsSearch rules facts.table.roots.items start old.entered.all.items (Visit node ∷ todo) path) (tasks : old.tasks.items ≡ ordered todo) (chain : old.chain.items ≡ ordered path) where
   abbrev Goes_on : Walk → Type 0
   Goes_on w = IsGoing rules facts.table.roots.items start w.entered.all.items w.tasks.items w.chain.items
-      × (cost (nodes_of rules) w.tasks.items + unentered w.entered.all.items (rule_views rules) < cost (nodes_of rules) (old.tasks.items ++ Visit node ∷ []) + unentered old.entered.all.items (rule_views rules))
+      × (cost (all_nodes rules) w.tasks.items + unentered w.entered.all.items (rule_views rules) < cost (all_nodes rules) (old.tasks.items ++ Visit node ∷ []) + unentered old.entered.all.items (rule_views rules))
 
   pub walk_called : (t : ℕ) → called_in (slice_get facts.table.kinds.items node) ≡ Some t → (t ≡ start → ⊥) → (is_set_at old.entered.all.items t ≡ true → new ≡ old) → (is_set_at old.entered.all.items t ≡ false → new.entered.all.items ≡ set old.entered.all.items t true)
       → (is_set_at old.entered.all.items t ≡ false → new.chain.items ≡ old.chain.items ++ t ∷ []) → (is_set_at old.entered.all.items t ≡ false → (root : ℕ) → slice_get facts.table.roots.items t ≡ Some root → new.tasks.items ≡ (old.tasks.items ++ Leave ∷ []) ++ Visit root ∷ [])
@@ -156,16 +157,16 @@ module _ (rules : List ParserRule) (facts : Facts) (right : AreFacts rules facts
       go : (b : Bool) → is_set_at old.entered.all.items t ≡ b → Goes_on new
       go true h =
           let (next, less) = known rules facts right passing are start old.entered.all.items node todo path state t e apart h in
-          let a = ap (λ z. cost (nodes_of rules) z) tasks in
-          let b = ap (λ z. cost (nodes_of rules) (z ++ Visit node ∷ [])) tasks in
+          let a = ap (λ z. cost (all_nodes rules) z) tasks in
+          let b = ap (λ z. cost (all_nodes rules) (z ++ Visit node ∷ [])) tasks in
           subst Goes_on (sym (on h)) (record { todo = todo; path = path; are_tasks = tasks; is_chain = chain; state = next }, omega arith)
       go false h =
           let small = (in_range rules facts right passing are start old.entered.all.items node todo path state t e).0 in
           let (root, got) = got_within facts.table.roots.items t small in
           let (next, less) = fresh rules facts right passing are start old.entered.all.items node todo path state t root e apart h got in
           let same : new.tasks.items ≡ ordered (Visit root ∷ Leave ∷ todo) = queued h root got ∙ ap (λ z. (z ++ Leave ∷ []) ++ Visit root ∷ []) tasks in
-          let a = ap (λ z. cost (nodes_of rules) z) same in
-          let b = ap (λ z. cost (nodes_of rules) (z ++ Visit node ∷ [])) tasks in
+          let a = ap (λ z. cost (all_nodes rules) z) same in
+          let b = ap (λ z. cost (all_nodes rules) (z ++ Visit node ∷ [])) tasks in
           let d = ap (λ z. unentered z (rule_views rules)) (entered h) in (
             record {
               todo = Visit root ∷ Leave ∷ todo;
@@ -179,10 +180,10 @@ module _ (rules : List ParserRule) (facts : Facts) (right : AreFacts rules facts
 
   pub walk_inner : (o : Option Kind) → o ≡ slice_get facts.table.kinds.items node → called_in o ≡ None → (queued : List Task) → queued ≡ old.tasks.items ++ inside_of passing o
       → IsGoing rules facts.table.roots.items start old.entered.all.items queued old.chain.items
-      × (cost (nodes_of rules) queued + unentered old.entered.all.items (rule_views rules) < cost (nodes_of rules) (old.tasks.items ++ Visit node ∷ []) + unentered old.entered.all.items (rule_views rules))
+      × (cost (all_nodes rules) queued + unentered old.entered.all.items (rule_views rules) < cost (all_nodes rules) (old.tasks.items ++ Visit node ∷ []) + unentered old.entered.all.items (rule_views rules))
   walk_inner o is_kind none queued pushed =
       let (new_todo, same, next, less) = inner rules facts right passing are start old.entered.all.items node todo path state (sym (ap called_in is_kind) ∙ none) in
       let all : queued ≡ ordered todo ++ inside_of passing (slice_get facts.table.kinds.items node) = pushed ∙ (ap (λ z. z ++ inside_of passing o) tasks ∙ ap (λ z. ordered todo ++ inside_of passing z) is_kind) in
-      let a = ap (λ z. cost (nodes_of rules) z) all in
-      let b = ap (λ z. cost (nodes_of rules) (z ++ Visit node ∷ [])) tasks in
+      let a = ap (λ z. cost (all_nodes rules) z) all in
+      let b = ap (λ z. cost (all_nodes rules) (z ++ Visit node ∷ [])) tasks in
       (record { todo = new_todo; path = path; are_tasks = all ∙ same; is_chain = chain; state = next }, omega arith)

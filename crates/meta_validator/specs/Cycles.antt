@@ -1,6 +1,6 @@
 -- Numbers that fall along left calls, and numbers that do not rise along them.
 use Rattle.std.specs.Prelude.{◌≡◌, ℕ, ◌+◌, ◌<◌, List, Some, true, ⊤, slice_get, unwrap_or}
-use Rattle.meta_validator.specs.Table.{is_set_at}
+use Rattle.meta_flags.specs.Least.{is_set_at}
 use Rattle.meta_validator.specs.declared.table.Kind.{Kind}
 use Rattle.meta_validator.specs.declared.table.Kind.TheVariants as is
 use Rattle.meta_validator.specs.declared.facts.Facts.{Facts}

@@ -6,11 +6,13 @@ use Rattle.meta_base.specs.Language.WellFormed.{IsNullable, CannotFail}
 use Rattle.meta_nodes.specs.Nodes.{view}
 use Rattle.meta_nodes.specs.declared.node.ParserRule.{ParserRule}
 use Rattle.meta_nodes.specs.Spanned.{Spanned}
-use Rattle.meta_validator.specs.NameMaps.{KnowsRules}
-use Rattle.meta_validator.specs.Names.{grammar_of, kind_in}
-use Rattle.meta_validator.specs.Numbering.{Stands, Says, AreNodes, nodes_of, size}
+use Rattle.meta_flags.specs.Least.{is_set_at}
+use Rattle.meta_table.specs.NameMaps.{KnowsRules}
+use Rattle.meta_table.specs.Names.{grammar_of}
+use Rattle.meta_validator.specs.Names.{kind_in}
+use Rattle.meta_table.specs.Nodes.{all_nodes, size}
+use Rattle.meta_validator.specs.Numbering.{Stands, Says, AreNodes}
 use Rattle.meta_validator.specs.Regions.{first_of}
-use Rattle.meta_validator.specs.Table.{is_set_at}
 use Rattle.meta_validator.specs.declared.table.Question.{Question}
 use Rattle.meta_validator.specs.declared.table.Question.TheVariants as asks
 use Rattle.meta_validator.specs.declared.table.Table.{Table}
@@ -27,8 +29,8 @@ pub record AreRoots (rules : List ParserRule) (nodes : List Spanned) (roots : Li
 
 -- the table of the nodes of all bodies
 pub record AreTabled (rules : List ParserRule) (table : Table) : Type 0 where
-  pub nodes : AreNodes (kind_in (grammar_of rules)) (nodes_of rules) table.kinds.items
-  pub roots : AreRoots rules (nodes_of rules) table.roots.items
+  pub nodes : AreNodes (kind_in (grammar_of rules)) (all_nodes rules) table.kinds.items
+  pub roots : AreRoots rules (all_nodes rules) table.roots.items
 
 -- a table in which the bodies of all rules stand
 pub record IsTableOf (rules : List ParserRule) (table : Table) : Type 0 where

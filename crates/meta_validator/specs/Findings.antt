@@ -1,6 +1,6 @@
 -- What the validator finds in rules: repetitions that never end, alternatives that are never reached, rules
 -- that are skipped although they may take nothing, left recursion, and tags on what gives no token.
-use Rattle.std.specs.Prelude.{◌≡◌, ℕ, ◌+◌, Some, None, slice_get, filter, not, ◌&&◌, IsPermutation, List, [], ◌∷◌, ◌++◌, map, flat_map, Bool, true, false, ◌||◌, bytes_eq, codes, length}
+use Rattle.std.specs.Prelude.{◌≡◌, ℕ, ◌+◌, Some, None, slice_get, filter, not, ◌&&◌, IsPermutation, List, [], ◌∷◌, ◌++◌, map, Bool, true, false, ◌||◌, bytes_eq, codes, length}
 use Rattle.std.specs.List.{range_with_len}
 use Rattle.std.specs.Ordering.{is_lt, ordering_then, nat_cmp}
 use Rattle.std.specs.Str.{encode_utf8_all}
@@ -9,7 +9,8 @@ use Rattle.meta_base.specs.Language.Text.{Text}
 use Rattle.meta_base.specs.Language.Expression.{Expression, Grammar}
 use Rattle.meta_base.specs.Language.WellFormed.{IsNullable, CannotFail, Leads}
 use Rattle.meta_nodes.specs.Erasure.{without_spans, rules_without_spans}
-use Rattle.meta_nodes.specs.Spanned.{Span, span_of, Spanned, Leaf, One, Two, Unary, Rep, RepOnce, RepMin, Choice, SpannedRule}
+use Rattle.meta_nodes.specs.Spanned.{Span, span_of, Spanned, One, Two, Unary, Rep, RepOnce, RepMin, Choice, SpannedRule}
+use Rattle.meta_table.specs.Nodes.{every_node}
 use Rattle.meta_validator.specs.LeftRecursion.{Closed, Means, Walks, told_chain}
 use Rattle.meta_validator.specs.Tags.{of_tags}
 
@@ -19,16 +20,6 @@ Finding = Complaint
 
 abbrev pub found_at : Span → List ℕ → Finding
 found_at place message = record { message = message; span = place }
-
--- a node and all nodes below it, each behind those inside it, the left one before the right
-abbrev pub postorder : Spanned → List Spanned
-postorder (Leaf s e) = Leaf s e ∷ []
-postorder (One s f x) = postorder x ++ One s f x ∷ []
-postorder (Two s f x y) = (postorder x ++ postorder y) ++ Two s f x y ∷ []
-
--- the nodes of all bodies, also of a rule that a later one of its name hides
-abbrev pub every_node : List SpannedRule → List Spanned
-every_node rules = flat_map (λ r. postorder r.body) rules
 
 -- `*`, `+` and `{n,}`
 abbrev pub is_endless : Unary → Bool

@@ -5,8 +5,8 @@ use Rattle.meta_base.specs.Language.Text.{Text}
 use Rattle.meta_nodes.specs.Nodes.{view}
 use Rattle.meta_nodes.specs.Spanned.{Spanned, Leaf, One, Two}
 use Rattle.meta_nodes.specs.declared.node.ParserNode.{ParserNode}
-use Rattle.meta_validator.specs.Findings.{postorder}
-use Rattle.meta_validator.specs.Numbering.{size, AreNodes}
+use Rattle.meta_table.specs.Nodes.{postorder, size}
+use Rattle.meta_validator.specs.Numbering.{AreNodes}
 use Rattle.meta_validator.specs.declared.table.Kind.{Kind}
 
 -- the nodes of a list, each behind all nodes inside it

@@ -8,7 +8,7 @@ use Rattle.meta_base.specs.Language.Expression.{Expression, Ident, Grammar}
 use Rattle.meta_base.specs.Language.WellFormed.{IsNullable, CannotFail}
 use Rattle.meta_nodes.specs.Erasure.{without_spans, rules_without_spans}
 use Rattle.meta_nodes.specs.Spanned.{Span, Spanned, Leaf, One, Two, Unary, Binary, Seq, Choice, SpannedRule}
-use Rattle.meta_validator.specs.Names.{last_place}
+use Rattle.meta_table.specs.Names.{last_place}
 use Rattle.meta_validator.specs.Walk.{without}
 
 -- a call of the first rule of a chain: the places of the rules of the chain, and where the call stands

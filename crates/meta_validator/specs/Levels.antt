@@ -1,7 +1,8 @@
 -- Levels of nodes: none is lower than those of the nodes on which it depends whether the node may take nothing.
 use Rattle.std.specs.Prelude.{◌≡◌, ℕ, ◌<◌, ◌≤◌, List, Option, Some, None, Bool, true, false, if◌then◌else◌, nat_eq, ⊤, slice_get}
+use Rattle.meta_flags.specs.Least.{is_set_at}
 use Rattle.meta_validator.specs.Cycles.{rank_at}
-use Rattle.meta_validator.specs.Table.{is_set_at, at_root, fires}
+use Rattle.meta_validator.specs.Table.{at_root, fires}
 use Rattle.meta_validator.specs.declared.facts.Facts.{Facts}
 use Rattle.meta_validator.specs.declared.table.Kind.{Kind}
 use Rattle.meta_validator.specs.declared.table.Kind.TheVariants as is

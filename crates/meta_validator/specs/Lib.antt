@@ -3,7 +3,6 @@ pub mod Marks
 pub mod Walk
 pub mod Reports
 pub mod Names
-pub mod NameMaps
 pub mod Numbering
 pub mod Layout
 pub mod Facts

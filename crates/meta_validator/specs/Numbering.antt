@@ -1,15 +1,14 @@
 -- The nodes of a body, each behind those inside it.
-use Rattle.std.specs.Prelude.{◌≡◌, ℕ, suc, ◌+◌, ◌<◌, List, [], ◌∷◌, length, Some, Bool, true, false, if◌then◌else◌, slice_get, nat_eq, ⊤}
+use Rattle.std.specs.Prelude.{◌≡◌, ℕ, suc, ◌+◌, ◌<◌, List, [], ◌∷◌, length, Some, Bool, true, false, if◌then◌else◌, slice_get, nat_eq}
 use Rattle.meta_base.specs.Language.Text.{Text}
 use Rattle.meta_base.specs.Language.Expression as plain
 use Rattle.meta_base.specs.Language.Expression.{Expression}
-use Rattle.meta_nodes.specs.Nodes.{view, view_at, rule_views}
-use Rattle.meta_nodes.specs.Spanned.{Span, Spanned, Leaf, One, Two, Unary, PosPred, NegPred, Opt, Rep, RepOnce, RepExact, RepMin, RepMax, RepMinMax, Push, Tag, Binary, Seq, Choice}
+use Rattle.meta_nodes.specs.Nodes.{view, view_at}
+use Rattle.meta_nodes.specs.Spanned.{Span, Spanned, Leaf, One, Two, Unary, PosPred, NegPred, Opt, Rep, RepOnce, RepExact, RepMin, RepMax, RepMinMax, Push, Tag, Binary}
 use Rattle.meta_nodes.specs.declared.node.ParserExpr.{ParserExpr}
 use Rattle.meta_nodes.specs.declared.node.ParserExpr.TheVariants as code
 use Rattle.meta_ast.specs.Ast.{text_of}
-use Rattle.meta_nodes.specs.declared.node.ParserRule.{ParserRule}
-use Rattle.meta_validator.specs.Findings.{every_node}
+use Rattle.meta_table.specs.Nodes.{size, IsSimple, choice_of}
 use Rattle.meta_validator.specs.declared.table.Kind.{Kind}
 use Rattle.meta_validator.specs.declared.table.Kind.TheVariants as is
 use Rattle.meta_validator.specs.declared.numbering.Operands.{Operands}
@@ -67,26 +66,6 @@ wrap_kind wraps.OnceAgain j = is.OnceAgain j
 abbrev pub both_kind : Bool → ℕ → ℕ → Kind
 both_kind false j k = is.Seq j k
 both_kind true j k = is.Choice j k
-
-abbrev pub choice_of : Binary → Bool
-choice_of Seq = false
-choice_of Choice = true
-
--- how many nodes there are, with those inside
-abbrev pub size : Spanned → ℕ
-size (Leaf s e) = 1
-size (One s f x) = suc (size x)
-size (Two s f x y) = suc (size x + size y)
-
--- an expression without operands
-abbrev pub IsSimple : Expression → Type 0
-IsSimple (plain.Str t) = ⊤
-IsSimple (plain.Insens t) = ⊤
-IsSimple (plain.Range t u) = ⊤
-IsSimple (plain.Ident n) = ⊤
-IsSimple (plain.PeekSlice i j) = ⊤
-IsSimple (plain.PushLiteral t) = ⊤
-IsSimple _ = ⊥
 
 -- an expression is made of these, wherever it stands
 abbrev pub IsMadeOf : ParserExpr → Operands → Type 0
@@ -156,7 +135,3 @@ pub record AreNodes (kind_of : Text → Kind) (nodes : List Spanned) (ks : List 
   pub alike : length ks ≡ length nodes
   pub fit : (i : ℕ) (x : Spanned) → slice_get nodes i ≡ Some x → (k : Kind) × (slice_get ks i ≡ Some k)
       × Fits kind_of nodes i k x
-
--- the nodes of all bodies
-abbrev pub nodes_of : List ParserRule → List Spanned
-nodes_of rules = every_node (rule_views rules)

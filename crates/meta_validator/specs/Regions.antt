@@ -6,9 +6,9 @@ use Rattle.meta_nodes.specs.Erasure.{without_spans}
 use Rattle.meta_nodes.specs.Nodes.{rule_views}
 use Rattle.meta_nodes.specs.Spanned.{Spanned, SpannedRule}
 use Rattle.meta_nodes.specs.declared.node.ParserRule.{ParserRule}
+use Rattle.meta_flags.specs.Least.{is_set_at}
 use Rattle.meta_validator.specs.LeftRecursion.{said, Means}
-use Rattle.meta_validator.specs.Numbering.{size, nodes_of}
-use Rattle.meta_validator.specs.Table.{is_set_at}
+use Rattle.meta_table.specs.Nodes.{size, all_nodes}
 use Rattle.meta_validator.specs.Walk.{without}
 
 -- the number of a rule's body
@@ -22,7 +22,7 @@ first_of roots (suc k) = suc (root_of roots k)
 
 -- the node of this number is one of the body of the rule at k, with all that is inside it
 pub record IsNodeOf (rules : List ParserRule) (roots : List ℕ) (k i : ℕ) (x : Spanned) : Type 0 where
-  pub node : slice_get (nodes_of rules) i ≡ Some x
+  pub node : slice_get (all_nodes rules) i ≡ Some x
   pub first : first_of roots k + size x ≤ i + 1
   pub last : i ≤ root_of roots k
 

@@ -5,9 +5,9 @@ use Rattle.meta_nodes.specs.Nodes.{piece_of}
 use Rattle.meta_nodes.specs.Spanned.{Span, span_of}
 use Rattle.meta_nodes.specs.declared.node.ParserRule.{ParserRule}
 use Rattle.meta_base.specs.declared.runtime.places.Span as code_span
+use Rattle.meta_flags.specs.Least.{is_set_at}
 use Rattle.meta_validator.specs.Findings.{Finding, found_at, is_skipped_name}
-use Rattle.meta_validator.specs.Numbering.{nodes_of}
-use Rattle.meta_validator.specs.Table.{is_set_at}
+use Rattle.meta_table.specs.Nodes.{all_nodes}
 use Rattle.meta_validator.specs.declared.facts.Facts.{Facts}
 use Rattle.meta_validator.specs.declared.findings.Finding as code
 use Rattle.meta_validator.specs.declared.table.Kind.{Kind}
@@ -22,7 +22,7 @@ findings_of fs = map finding_of fs
 
 -- the spans of the nodes
 abbrev pub AreSpans : List ParserRule → List code_span.Span → Type 0
-AreSpans rules spans = map piece_of spans ≡ map span_of (nodes_of rules)
+AreSpans rules spans = map piece_of spans ≡ map span_of (all_nodes rules)
 
 -- of what is repeated without end
 abbrev pub repeated_at : Facts → List ℕ → Span → ℕ → List Finding

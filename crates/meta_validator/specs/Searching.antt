@@ -6,11 +6,11 @@ use Rattle.meta_nodes.specs.Erasure.{without_spans}
 use Rattle.meta_nodes.specs.Nodes.{rule_views}
 use Rattle.meta_nodes.specs.Spanned.{Spanned, span_of, SpannedRule}
 use Rattle.meta_nodes.specs.declared.node.ParserRule.{ParserRule}
+use Rattle.meta_flags.specs.Least.{is_set_at}
 use Rattle.meta_validator.specs.Flags.{NoneSet}
 use Rattle.meta_validator.specs.LeftRecursion.{Closed, said, Means, Walks}
-use Rattle.meta_validator.specs.Numbering.{nodes_of, size}
+use Rattle.meta_table.specs.Nodes.{all_nodes, size}
 use Rattle.meta_validator.specs.Regions.{IsNodeOf}
-use Rattle.meta_validator.specs.Table.{is_set_at}
 use Rattle.meta_validator.specs.Walk.{Walked, WalkLeads}
 use Rattle.meta_validator.specs.declared.recursions.Task.{Task}
 use Rattle.meta_validator.specs.declared.recursions.Walk.{Walk}
@@ -89,7 +89,7 @@ module _ (rules : List ParserRule) (roots : List ℕ) (start : ℕ) where
 
   -- what the walk over the node of a number comes to
   abbrev pub Comes : List ℕ → ℕ → Option Closed → Type 0
-  Comes path i o = (x : Spanned) → slice_get (nodes_of rules) i ≡ Some x
+  Comes path i o = (x : Spanned) → slice_get (all_nodes rules) i ≡ Some x
       → Walks views start (ordered path) (last_name path) x o
 
   -- what all that is to be done comes to first
@@ -105,7 +105,7 @@ module _ (rules : List ParserRule) (roots : List ℕ) (start : ℕ) where
   Owes v [] k = ⊥
   Owes v (Leave ∷ todo) k = ⊥
   Owes v (Visit i ∷ todo) k =
-      ((x : Spanned) × (slice_get (nodes_of rules) i ≡ Some x) × Calls v x k) ⊎ Owes v todo k
+      ((x : Spanned) × (slice_get (all_nodes rules) i ≡ Some x) × Calls v x k) ⊎ Owes v todo k
 
   -- each node that is to be walked over is one of the body of the last rule of its path
   abbrev pub ArePlaced : List ℕ → List Task → Type 0
@@ -156,7 +156,7 @@ module _ (rules : List ParserRule) (roots : List ℕ) (start : ℕ) where
   -- a node closes the chain: its walk is what is sought
   pub record IsClosing (node : ℕ) (chain : List ℕ) : Type 0 where
     pub call : Spanned
-    pub here : slice_get (nodes_of rules) node ≡ Some call
+    pub here : slice_get (all_nodes rules) node ≡ Some call
     pub sought : IsSought (Some (record { chain = chain; call = span_of call }))
 
   -- no walk from the start comes back to it

@@ -1,13 +1,9 @@
--- Which nodes of a table answer a question with yes: the least relation, by what their kinds say.
-use Rattle.std.specs.Prelude.{◌≡◌, ℕ, List, Option, Some, None, Bool, true, false, ◌&&◌, ◌||◌, unwrap_or, slice_get}
+-- Which nodes of a table answer a question with yes, by what their kinds say.
+use Rattle.std.specs.Prelude.{ℕ, List, Option, Some, None, Bool, true, false, ◌&&◌, ◌||◌, slice_get}
 use Rattle.meta_validator.specs.declared.table.Kind.{Kind}
 use Rattle.meta_validator.specs.declared.table.Kind.TheVariants as is
 use Rattle.meta_validator.specs.declared.table.Question.{Question}
 use Rattle.meta_validator.specs.declared.table.Question.TheVariants as asks
-use Rattle.meta_validator.specs.declared.table.Table.{Table}
-
-abbrev pub is_set_at : List Bool → ℕ → Bool
-is_set_at bs i = unwrap_or (slice_get bs i) false
 
 abbrev pub is_of_taking : Question → Bool
 is_of_taking asks.TakesNothing = true
@@ -32,8 +28,3 @@ fires q roots p (is.Again j) = true
 fires q roots p (is.OnceAgain j) = p j
 fires q roots p (is.Seq j k) = p j && p k
 fires q roots p (is.Choice j k) = p j || p k
-
--- the answer for the node is yes: the least relation
-pub data Holds (q : Question) (t : Table) : ℕ → Type 0 where
-  holds : {i : ℕ} {k : Kind} (p : ℕ → Bool) → slice_get t.kinds.items i ≡ Some k
-      → fires q t.roots.items p k ≡ true → ((j : ℕ) → p j ≡ true → Holds q t j) → Holds q t i

@@ -2,8 +2,8 @@
 use Rattle.std.specs.Prelude.{◌≡◌, ℕ, List, Some, true, false, ⊤, slice_get}
 use Rattle.meta_ast.specs.Ast.{text_of}
 use Rattle.meta_nodes.specs.declared.node.ParserRule.{ParserRule}
+use Rattle.meta_flags.specs.Least.{is_set_at}
 use Rattle.meta_validator.specs.Findings.{is_skipped_name}
-use Rattle.meta_validator.specs.Table.{is_set_at}
 use Rattle.meta_validator.specs.declared.table.Kind.{Kind}
 use Rattle.meta_validator.specs.declared.table.Kind.TheVariants as is
 use Rattle.meta_validator.specs.declared.facts.Facts.{Facts}

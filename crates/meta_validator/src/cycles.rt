@@ -5,13 +5,14 @@
 ghost use Rattle.std.specs.Prelude.{◌≡◌, ◌<◌, ◌≤◌, ◌+◌, ◌*◌, IfOk, OnOk, length, true};
 ghost use Rattle.meta_base.specs.Language.Text.{Text};
 ghost use Rattle.meta_base.specs.Language.WellFormed.{Leads};
-ghost use Rattle.meta_validator.specs.Marks.{unset};
+ghost use Rattle.meta_flags.specs.Least.{unset};
 ghost use Rattle.meta_validator.specs.Facts.{AreFacts};
-ghost use Rattle.meta_validator.specs.Names.{grammar_of};
+ghost use Rattle.meta_table.specs.Names.{grammar_of};
 ghost use Rattle.meta_validator.specs.Cycles.{AllFall, Falls, FallsFrom, IsBelowRoot, NoneRises, rank_at};
 
 use crate::facts::Facts;
-use crate::table::{Kind, is_set};
+use crate::table::Kind;
+use meta_flags::is_set;
 use meta_nodes::ParserRule;
 use std::alloc::{AllocError, Global};
 

@@ -2,11 +2,12 @@
 ghost use Rattle.std.specs.Prelude.{◌≡◌, IfOk};
 ghost use Rattle.meta_validator.specs.Facts.{AreFacts};
 
-use crate::marks::{marked, who_listens};
-use crate::names::{Names, names_of};
+use crate::marks::marked;
 use crate::table::{Question, Table};
 use crate::tables::tabulated;
+use meta_flags::who_listens;
 use meta_nodes::ParserRule;
+use meta_table::{Names, names_of};
 use std::alloc::{AllocError, Global};
 
 /// What is known of the nodes of all rules.

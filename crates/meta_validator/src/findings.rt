@@ -4,16 +4,17 @@ ghost use Rattle.std.specs.Prelude.{◌≡◌, ◌++◌, ◌∷◌, [], IfOk, On
 ghost use Rattle.meta_nodes.specs.Nodes.{piece_of, rule_views};
 ghost use Rattle.meta_validator.specs.Facts.{AreFacts};
 ghost use Rattle.meta_validator.specs.Findings.{found_at, OfRepetition, OfChoice, OfSkipped, Reports};
-ghost use Rattle.meta_validator.specs.Names.{grammar_of};
-ghost use Rattle.meta_validator.specs.Numbering.{nodes_of};
+ghost use Rattle.meta_table.specs.Names.{grammar_of};
+ghost use Rattle.meta_table.specs.Nodes.{all_nodes};
 ghost use Rattle.meta_validator.specs.Reporting.{findings_of, AreSpans, repeated_at, repetition_at, alternative_of, unreachable_at, choice_at, skipped_at};
 
 use crate::facts::Facts;
-use crate::names::is_literal;
 use crate::numbering::push_spans;
-use crate::table::{Kind, is_set};
+use crate::table::Kind;
 use meta_base::runtime::Span;
+use meta_flags::is_set;
 use meta_nodes::ParserRule;
+use meta_table::is_literal;
 use std::alloc::{AllocError, Global};
 
 /// What is wrong, and where.
@@ -145,7 +146,7 @@ pub(crate) fn repetitions<'i>(
     requires facts { AreFacts rules.now facts.now }
     requires spans { AreSpans rules.now spans.now }
     ensures { IfOk result (λ found. Reports (OfRepetition (grammar_of rules.now))
-        (nodes_of rules.now) (findings_of found.items)) }
+        (all_nodes rules.now) (findings_of found.items)) }
 {
     let mut found = Vec::new(alloc);
     for node in 0..spans.len() {
@@ -223,7 +224,7 @@ pub(crate) fn choices<'i>(
     requires facts { AreFacts rules.now facts.now }
     requires spans { AreSpans rules.now spans.now }
     ensures { IfOk result (λ found. Reports (OfChoice (grammar_of rules.now))
-        (nodes_of rules.now) (findings_of found.items)) }
+        (all_nodes rules.now) (findings_of found.items)) }
 {
     let mut found = Vec::new(alloc);
     for node in 0..spans.len() {

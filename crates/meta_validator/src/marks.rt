@@ -1,35 +1,10 @@
-//! Which nodes answer a question with yes: rounds over all nodes that mark what follows from the marks,
-//! until a round marks nothing. A node that is marked at once tells those that depend on it, so that the
-//! second round marks nothing.
-ghost use Rattle.std.specs.Prelude.{◌≡◌, ◌<◌, ◌≤◌, ◌+◌, IfOk, OnOk, true, false};
-ghost use Rattle.meta_validator.specs.Marks.{unset, AreSound, AreClosed, IsClosedAt};
+//! Which nodes answer a question with yes: the least flags that follow from one another.
+ghost use Rattle.std.specs.Prelude.{IfOk};
+ghost use Rattle.meta_validator.specs.Marks.{AreSound, AreClosed};
 
-use crate::table::{Kind, Question, Table, is_set};
+use crate::table::{Kind, Question, Table};
+use meta_flags::{Inference, Listeners, Listening, Told, least_flags};
 use std::alloc::{AllocError, Global};
-
-/// For each node those whose answers depend on its own, all in one list.
-#[derive(Drop)]
-pub struct Listeners {
-    /// Where the listeners of each node start; they end where those of the next one start.
-    starts: Vec<usize>,
-    all: Vec<usize>,
-}
-
-impl Listeners {
-    /// The listeners of a node.
-    fn of(&self, node: usize) -> &[usize] {
-        let start = place_at(&self.starts, node);
-        let end = place_at(&self.starts, node.saturating_add(1));
-        self.all.get(start..end).unwrap_or(&[])
-    }
-}
-
-fn place_at(places: &[usize], node: usize) -> usize {
-    match places.get(node) {
-        Some(place) => *place,
-        None => 0,
-    }
-}
 
 /// The nodes on which the answer for a node depends, two at most.
 pub(crate) fn listened_to(table: &Table, kind: Kind) -> (Option<usize>, Option<usize>) {
@@ -46,132 +21,48 @@ pub(crate) fn listened_to(table: &Table, kind: Kind) -> (Option<usize>, Option<u
     }
 }
 
-fn count(counts: &mut [usize], node: Option<usize>) {
-    if let Some(node) = node {
-        if let Some(count) = counts.get_mut(node) {
-            *count = count.saturating_add(1);
-        }
+impl Listening for Table {
+    fn count(&self) -> usize {
+        self.kinds.len()
     }
-}
 
-/// How many listen to each node; and one number more.
-fn counts_of(alloc: Global, table: &Table) -> Result<Vec<usize>, AllocError> {
-    let mut counts = vec![in alloc; 0; table.kinds.len().saturating_add(1)]?;
-    for kind in &table.kinds {
-        let (first, second) = listened_to(table, *kind);
-        count(&mut counts, first);
-        count(&mut counts, second);
-    }
-    Ok(counts)
-}
-
-/// Each number becomes its sum with those in front of it; and the sum of all.
-fn add_up(counts: &mut [usize]) -> usize {
-    let mut sum: usize = 0;
-    for count in counts.iter_mut() {
-        sum = sum.saturating_add(*count);
-        *count = sum;
-    }
-    sum
-}
-
-/// Puts a listener of a node in front of those of that node that were put.
-fn put(starts: &mut [usize], all: &mut [usize], node: Option<usize>, listener: usize) {
-    if let Some(node) = node {
-        if let Some(start) = starts.get_mut(node) {
-            *start = start.saturating_sub(1);
-            if let Some(place) = all.get_mut(*start) {
-                *place = listener;
+    fn tell<T: Told>(&self, node: usize, told: &mut T) {
+        if let Some(kind) = self.kinds.get(node) {
+            let (first, second) = listened_to(self, *kind);
+            if let Some(first) = first {
+                told.listens_to(first);
+            }
+            if let Some(second) = second {
+                told.listens_to(second);
             }
         }
     }
 }
 
-/// Who listens to whom.
-pub(crate) fn who_listens(alloc: Global, table: &Table) -> Result<Listeners, AllocError> {
-    let mut starts = counts_of(alloc, table)?;
-    let sum = add_up(&mut starts);
-    let mut all = vec![in alloc; 0; sum]?;
-    for (node, kind) in table.kinds.iter().enumerate() {
-        let (first, second) = listened_to(table, *kind);
-        put(&mut starts, &mut all, first, node);
-        put(&mut starts, &mut all, second, node);
-    }
-    Ok(Listeners { starts, all })
+/// A question about the nodes of a table.
+#[derive(Clone, Copy)]
+struct Asked<'a> {
+    question: Question,
+    table: &'a Table,
 }
 
-/// Marks a node where its answer is yes by the marks; it then waits to tell its listeners. Whether it was
-/// marked now.
-fn mark(
-    table: &Table,
-    question: Question,
-    marks: &mut Vec<bool>,
-    waiting: &mut Vec<usize>,
-    node: usize,
-) -> Result<bool, AllocError>
-    requires { AreSound question table.now marks.old.items }
-    ensures sound { OnOk result (AreSound question table.now marks.new.items) }
-    ensures same { IfOk result (λ added. added ≡ false → (marks.new.items ≡ marks.old.items)
-        × IsClosedAt question table.now marks.new.items node) }
-    ensures fewer { IfOk result (λ added. added ≡ true → unset marks.new.items + 1 ≡ unset marks.old.items) }
-    ensures waits { IfOk result (λ added. added ≡ false → waiting.new.len ≡ waiting.old.len) }
-    ensures waits_more { IfOk result (λ added. added ≡ true → waiting.new.len ≡ waiting.old.len + 1) }
-{
-    if node >= table.kinds.len() {
-        return Ok(false);
-    }
-    if is_set(marks.as_slice(), node) {
-        return Ok(false);
-    }
-    if !table.fires(question, marks.as_slice(), table.kind_at(node)) {
-        return Ok(false);
-    }
-    waiting.push(node)?;
-    marks[node] = true;
-    Ok(true)
-}
+impl<'a> Inference for Asked<'a> {
+    ghost use Rattle.meta_validator.specs.Table.{fires};
 
-/// Lets all that wait tell their listeners.
-fn spread(
-    table: &Table,
-    listeners: &Listeners,
-    question: Question,
-    marks: &mut Vec<bool>,
-    waiting: &mut Vec<usize>,
-) -> Result<(), AllocError>
-    requires { AreSound question table.now marks.old.items }
-    ensures sound { OnOk result (AreSound question table.now marks.new.items) }
-    ensures fewer { OnOk result (unset marks.new.items ≤ unset marks.old.items) }
-{
-    while let Some(node) = waiting.pop() {
-        for listener in listeners.of(node) {
-            mark(table, question, marks, waiting, *listener)?;
-        }
-    }
-    Ok(())
-}
+    type Item = Kind;
 
-/// Marks each node whose answer is yes by the marks, and what follows of it. Whether any was marked.
-fn round(
-    table: &Table,
-    listeners: &Listeners,
-    question: Question,
-    marks: &mut Vec<bool>,
-    waiting: &mut Vec<usize>,
-) -> Result<bool, AllocError>
-    requires { AreSound question table.now marks.old.items }
-    ensures sound { OnOk result (AreSound question table.now marks.new.items) }
-    ensures closed { IfOk result (λ added. added ≡ false → AreClosed question table.now marks.new.items) }
-    ensures fewer { IfOk result (λ added. added ≡ true → unset marks.new.items < unset marks.old.items) }
-{
-    let mut added = false;
-    for node in 0..table.kinds.len() {
-        if mark(table, question, marks, waiting, node)? {
-            added = true;
-            spread(table, listeners, question, marks, waiting)?;
-        }
+    ghost items = { λ asked. asked.table.now.kinds.items };
+
+    ghost infers = { λ asked. fires asked.question asked.table.now.roots.items };
+
+    fn count(&self) -> usize {
+        self.table.kinds.len()
     }
-    Ok(added)
+
+    fn infers(&self, marks: &[bool], node: usize) -> bool {
+        self.table
+            .fires(self.question, marks, self.table.kind_at(node))
+    }
 }
 
 /// Which nodes answer a question with yes.
@@ -184,11 +75,5 @@ pub(crate) fn marked(
     ensures sound { IfOk result (λ marks. AreSound question table.now marks.items) }
     ensures closed { IfOk result (λ marks. AreClosed question table.now marks.items) }
 {
-    let mut marks = vec![in alloc; false; table.kinds.len()]?;
-    let mut waiting = Vec::new(alloc);
-    loop {
-        if !round(table, listeners, question, &mut marks, &mut waiting)? {
-            return Ok(marks);
-        }
-    }
+    least_flags(alloc, &Asked { question, table }, listeners)
 }

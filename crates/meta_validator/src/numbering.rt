@@ -5,16 +5,18 @@ ghost use Rattle.meta_ast.specs.Ast.{text_of};
 ghost use Rattle.meta_nodes.specs.Nodes.{view, view_at, piece_of};
 ghost use Rattle.meta_nodes.specs.Spanned as spanned;
 ghost use Rattle.meta_nodes.specs.Spanned.{Spanned, span_of};
-ghost use Rattle.meta_validator.specs.Names.{kind_in, grammar_of};
-ghost use Rattle.meta_validator.specs.NameMaps.{KnowsRules};
+ghost use Rattle.meta_table.specs.Names.{grammar_of};
+ghost use Rattle.meta_validator.specs.Names.{kind_in};
+ghost use Rattle.meta_table.specs.NameMaps.{KnowsRules};
 ghost use Rattle.meta_validator.specs.Numbering.{IsMadeOf, kind_of_code, text_kind, counted, repeated, wrap_kind, both_kind};
 ghost use Rattle.meta_validator.specs.Layout.{AreNumbered, AreLaidOut, IsBehind, start_of, all_below, forwards};
-ghost use Rattle.meta_validator.specs.Findings.{postorder};
+ghost use Rattle.meta_table.specs.Nodes.{postorder};
 
-use crate::names::{Names, kind_of_name};
+use crate::names::kind_of_name;
 use crate::table::Kind;
 use meta_base::runtime::Span;
 use meta_nodes::{ParserExpr, ParserNode, ParserRule};
+use meta_table::Names;
 use std::alloc::{AllocError, Global};
 
 /// What stands round one operand.

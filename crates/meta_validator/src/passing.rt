@@ -1,17 +1,18 @@
 //! What may take nothing where a call of the rule in whose body it stands counts as one that takes something.
 ghost use Rattle.std.specs.Prelude.{◌≡◌, ℕ, ◌+◌, ◌<◌, ◌≤◌, Some, true, false, IfOk, OnOk, length, slice_get};
+ghost use Rattle.meta_flags.specs.Least.{is_set_at};
 ghost use Rattle.meta_validator.specs.Facts.{AreFacts};
 ghost use Rattle.meta_validator.specs.Levels.{AllRest, AreSettled, IsSettled, own_answer, own_answer_at};
 ghost use Rattle.meta_validator.specs.Marks.{AreSound, AreClosed};
 ghost use Rattle.meta_validator.specs.Regions.{ArePassing, ArePassingBelow};
-ghost use Rattle.meta_validator.specs.Table.{is_set_at};
 ghost use Rattle.meta_validator.specs.Without.{AreMarksWithout, IsWithout, without_kind};
 
 use crate::cycles::number_at;
 use crate::facts::Facts;
 use crate::levels::levels_of;
-use crate::marks::{marked, who_listens};
-use crate::table::{Kind, Question, Table, is_set};
+use crate::marks::marked;
+use crate::table::{Kind, Question, Table};
+use meta_flags::{is_set, who_listens};
 use meta_nodes::ParserRule;
 use std::alloc::{AllocError, Global};
 

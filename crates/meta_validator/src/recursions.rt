@@ -6,28 +6,29 @@ ghost use Rattle.meta_base.specs.Language.Text.{Text};
 ghost use Rattle.meta_base.specs.Language.WellFormed.{Leads};
 ghost use Rattle.meta_nodes.specs.Nodes.{rule_views, rule_view, piece_of};
 ghost use Rattle.meta_nodes.specs.Spanned.{SpannedRule};
+ghost use Rattle.meta_flags.specs.Least.{is_set_at};
 ghost use Rattle.meta_validator.specs.Cycles.{NoneRises};
 ghost use Rattle.meta_validator.specs.Facts.{AreFacts};
 ghost use Rattle.meta_validator.specs.Findings.{OfRecursion, Reports, places};
 ghost use Rattle.meta_validator.specs.Flags.{NoneSet};
 ghost use Rattle.meta_validator.specs.LeftRecursion.{Means, arrows, name_at, told_chain};
-ghost use Rattle.meta_validator.specs.Names.{grammar_of};
-ghost use Rattle.meta_validator.specs.Numbering.{nodes_of};
+ghost use Rattle.meta_table.specs.Names.{grammar_of};
+ghost use Rattle.meta_table.specs.Nodes.{all_nodes};
 ghost use Rattle.meta_validator.specs.Regions.{ArePassing};
 ghost use Rattle.meta_validator.specs.Reporting.{AreSpans, finding_of, findings_of};
 ghost use Rattle.meta_validator.specs.Searching.{ordered, called_in, inside_of, cost, unentered, IsSearch, IsGoing, IsIdle, IsSought, IsClosing, NeverComesBack};
-ghost use Rattle.meta_validator.specs.Table.{is_set_at};
 
 use crate::cycles::{falls_from, has_no_cycle};
 use crate::facts::Facts;
 use crate::findings::{Finding, kind_of_node};
 use crate::flags::Flags;
 use crate::levels::left_levels;
-use crate::names::rule_number;
 use crate::passing::passing;
-use crate::table::{Kind, is_set};
+use crate::table::Kind;
 use meta_base::runtime::Span;
+use meta_flags::is_set;
 use meta_nodes::ParserRule;
+use meta_table::rule_number;
 use std::alloc::{AllocError, Global};
 use std::mem;
 
@@ -170,9 +171,9 @@ fn walk_node<'i>(
     ensures goes_on { IfOk result (λ closes. closes ≡ false → IsGoing rules.now facts.now.table.roots.items
         start walk.new.entered.all.items walk.new.tasks.items walk.new.chain.items) }
     ensures less { IfOk result (λ closes. closes ≡ false
-        → cost (nodes_of rules.now) walk.new.tasks.items
+        → cost (all_nodes rules.now) walk.new.tasks.items
         + unentered walk.new.entered.all.items (rule_views rules.now)
-        < cost (nodes_of rules.now) (walk.old.tasks.items ++ Task.Visit node ∷ [])
+        < cost (all_nodes rules.now) (walk.old.tasks.items ++ Task.Visit node ∷ [])
         + unentered walk.old.entered.all.items (rule_views rules.now)) }
 {
     let kind = kind_of_node(facts, node);
@@ -388,19 +389,25 @@ fn may_come_back<'i>(
     !falls_from(facts, levels, place)
 }
 
+/// What a search for a chain goes by: the facts of the rules, and which rules it may pass through.
+#[derive(Clone, Copy)]
+struct Guide<'f> {
+    facts: &'f Facts,
+    passing: &'f [bool],
+}
+
 /// What is found of the rule at a place, the last of its name, as one that calls itself.
 fn recursion_at<'i>(
     alloc: Global,
     rules: &[ParserRule<'i>],
-    facts: &Facts,
+    guide: Guide<'_>,
     spans: &[Span<'i>],
-    passing: &[bool],
     place: usize,
     walk: &mut Walk,
 ) -> Result<Option<Finding<'i>>, AllocError>
-    requires facts { AreFacts rules.now facts.now }
+    requires facts { AreFacts rules.now guide.facts.now }
     requires spans { AreSpans rules.now spans.now }
-    requires passing { ArePassing rules.now facts.now.table.roots.items passing.now }
+    requires passing { ArePassing rules.now guide.facts.now.table.roots.items guide.passing.now }
     requires inside { place < length rules.now }
     requires last { (r : SpannedRule) → slice_get (rule_views rules.now) place ≡ Some r
         → Means (rule_views rules.now) r.name place }
@@ -408,11 +415,11 @@ fn recursion_at<'i>(
     ensures idle { OnOk result (IsIdle rules.now walk.new) }
     ensures nothing { IfOk result (λ found. IfNone found (OfRecursion (rule_views rules.now) place [])) }
     ensures never { IfOk result (λ found. IfNone found
-        (NeverComesBack rules.now facts.now.table.roots.items place)) }
+        (NeverComesBack rules.now guide.entry.facts.now.table.roots.items place)) }
     ensures some { IfOk result (λ found. IfSome found
         (λ finding. OfRecursion (rule_views rules.now) place (finding_of finding ∷ []))) }
 {
-    match sought(alloc, rules, facts, passing, place, walk)? {
+    match sought(alloc, rules, guide.facts, guide.passing, place, walk)? {
         None => Ok(None),
         Some(closed) => {
             let span = spans[closed.call];
@@ -438,21 +445,17 @@ fn closed_chains<'i>(
 {
     let levels = left_levels(alloc, facts)?;
     let passing = passing(alloc, rules, facts)?;
+    let guide = Guide {
+        facts,
+        passing: passing.as_slice(),
+    };
     let mut walk = idle(alloc, rules)?;
     let mut found = Vec::new(alloc);
     for place in 0..rules.len() {
         if !may_come_back(rules, facts, levels.as_slice(), place) {
             continue;
         }
-        match recursion_at(
-            alloc,
-            rules,
-            facts,
-            spans,
-            passing.as_slice(),
-            place,
-            &mut walk,
-        )? {
+        match recursion_at(alloc, rules, guide, spans, place, &mut walk)? {
             None => continue,
             Some(finding) => found.push(finding)?,
         }

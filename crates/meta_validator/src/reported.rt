@@ -6,7 +6,7 @@ ghost use Rattle.meta_base.specs.Pieces.Span.{span_text};
 ghost use Rattle.meta_base.specs.Pieces.Survey.{survey_text};
 ghost use Rattle.meta_nodes.specs.Nodes.{piece_of, rule_views};
 ghost use Rattle.meta_validator.specs.Findings.{AreFound, AreAllFound, IsSortedBySpan, endless_at};
-ghost use Rattle.meta_validator.specs.Names.{grammar_of};
+ghost use Rattle.meta_table.specs.Names.{grammar_of};
 ghost use Rattle.meta_validator.specs.Reporting.{finding_of, findings_of};
 
 use crate::facts::facts_of;

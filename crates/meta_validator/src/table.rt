@@ -1,6 +1,9 @@
 //! The nodes of all rules, by number.
 ghost use Rattle.std.specs.Prelude.{◌≡◌, ◌<◌, slice_get};
-ghost use Rattle.meta_validator.specs.Table.{fires, is_set_at, at_root};
+ghost use Rattle.meta_flags.specs.Least.{is_set_at};
+ghost use Rattle.meta_validator.specs.Table.{fires, at_root};
+
+use meta_flags::is_set;
 
 /// What a node does, its operands by their numbers.
 #[derive(Clone, Copy)]
@@ -46,16 +49,6 @@ pub struct Table {
     pub kinds: Vec<Kind>,
     /// The number of each rule's body.
     pub roots: Vec<usize>,
-}
-
-/// Whether a flag is set.
-pub(crate) fn is_set(flags: &[bool], place: usize) -> bool
-    ensures { result ≡ is_set_at flags.now place }
-{
-    match flags.get(place) {
-        Some(flag) => *flag,
-        None => false,
-    }
 }
 
 impl Table {

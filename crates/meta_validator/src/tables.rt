@@ -2,14 +2,15 @@
 ghost use Rattle.std.specs.Prelude.{◌≡◌, IfOk};
 ghost use Rattle.meta_validator.specs.Facts.{AreTabled};
 ghost use Rattle.meta_validator.specs.Layout.{AreNumbered};
-ghost use Rattle.meta_validator.specs.NameMaps.{KnowsRules};
-ghost use Rattle.meta_validator.specs.Names.{grammar_of, kind_in};
-ghost use Rattle.meta_validator.specs.Numbering.{nodes_of};
+ghost use Rattle.meta_table.specs.NameMaps.{KnowsRules};
+ghost use Rattle.meta_table.specs.Names.{grammar_of};
+ghost use Rattle.meta_validator.specs.Names.{kind_in};
+ghost use Rattle.meta_table.specs.Nodes.{all_nodes};
 
-use crate::names::Names;
 use crate::numbering::number;
 use crate::table::Table;
 use meta_nodes::ParserRule;
+use meta_table::Names;
 use std::alloc::{AllocError, Global};
 
 /// The nodes of all rules, and which of them are the rules' bodies; and for each node the number of the first
@@ -21,7 +22,7 @@ pub(crate) fn tabulated<'i>(
 ) -> Result<(Table, Vec<usize>), AllocError>
     requires { KnowsRules rules.now names.now }
     ensures table { IfOk result (λ made. AreTabled rules.now made.0) }
-    ensures starts { IfOk result (λ made. AreNumbered (kind_in (grammar_of rules.now)) (nodes_of rules.now)
+    ensures starts { IfOk result (λ made. AreNumbered (kind_in (grammar_of rules.now)) (all_nodes rules.now)
         made.0.kinds.items made.1.items) }
 {
     let mut table = Table {

@@ -4,16 +4,16 @@ ghost use Rattle.std.specs.Option.{option_map};
 ghost use Rattle.meta_ast.specs.Ast.{text_of};
 ghost use Rattle.meta_base.specs.Language.Expression.{rule_of};
 ghost use Rattle.meta_nodes.specs.Nodes.{rule_views, view};
-ghost use Rattle.meta_validator.specs.NameMaps.{KnowsRules};
-ghost use Rattle.meta_validator.specs.Names.{grammar_of, rule_said};
+ghost use Rattle.meta_table.specs.NameMaps.{KnowsRules};
+ghost use Rattle.meta_table.specs.Names.{grammar_of, rule_said};
 ghost use Rattle.meta_validator.specs.Reporting.{findings_of};
 ghost use Rattle.meta_validator.specs.Tags as spec;
 
 use crate::findings::Finding;
-use crate::names::{Names, rule_number};
 use meta_ast::ast::RuleType;
 use meta_names::is_builtin;
 use meta_nodes::{ParserExpr, ParserNode, ParserRule, push_operands};
+use meta_table::{Names, rule_number};
 use std::alloc::{AllocError, Global};
 
 /// What is found of all tags: those on Silent rules, and on builtins. The order is that of the text.

@@ -6,21 +6,22 @@ ghost use Rattle.meta_nodes.specs.Erasure.{without_spans, rules_without_spans};
 ghost use Rattle.meta_nodes.specs.Nodes.{piece_of, rule_views, unplaced};
 ghost use Rattle.meta_validator.specs.Facts.{Asked};
 ghost use Rattle.meta_validator.specs.Findings.{AreAllFound};
-ghost use Rattle.meta_validator.specs.Names.{grammar_of};
+ghost use Rattle.meta_table.specs.Names.{grammar_of};
 ghost use Rattle.meta_validator.specs.Placed.{AreIn, ArePiecesOf};
 ghost use Rattle.meta_validator.specs.Reported.{AreReported};
 ghost use Rattle.meta_validator.specs.Reporting.{findings_of};
 
 use crate::findings::Finding;
-use crate::marks::{marked, who_listens};
-use crate::names::names_of;
+use crate::marks::marked;
 use crate::numbering::number;
 use crate::reported::{errors_in, errors_of, sorted_findings};
-use crate::table::{Question, is_set};
+use crate::table::Question;
 use crate::tables::tabulated;
 use meta_base::grammar::Rule;
 use meta_base::runtime::{Error, Fault, Span};
+use meta_flags::{is_set, who_listens};
 use meta_nodes::{ParserExpr, ParserRule};
+use meta_table::names_of;
 use std::alloc::{AllocError, Global};
 
 /// Whether an expression may succeed without taking anything, where its names mean these rules (the last of

@@ -38,8 +38,8 @@ BegunChangesNothing = (place : Span) (x y : Spanned) → is_begun (literals (alt
 
 -- a range whose first bound is above its last fails everywhere
 abbrev pub ReversedFails : Type 0
-ReversedFails = (x : Spanned) → is_reversed x ≡ true → (g : Grammar) (classes : Classes) (m : Mode) (s : State)
-    → FailsAlone g classes (without_spans x) m s
+ReversedFails = (x : Spanned) → is_reversed x ≡ true
+    → (g : Grammar) (classes : Classes) (m : Mode) (s : State) → FailsAlone g classes (without_spans x) m s
 
 -- a call of the name stands in an expression
 abbrev pub Calls : Spanned → Text → Type 0

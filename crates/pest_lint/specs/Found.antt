@@ -27,13 +27,18 @@ said_at message span = record { message = message; span = span }
 -- what is warned of: rules that no other rule calls, unless all rules are wanted, then alternatives that are
 -- never taken, then ranges that match nothing
 abbrev pub uncalled_of : Bool → List SpannedRule → List Complaint
-uncalled_of all rules = if all then [] else map (said_at (codes "no other rule calls this one")) (uncalled_rules rules)
+uncalled_of all rules =
+    if all then [] else map (said_at (codes "no other rule calls this one")) (uncalled_rules rules)
 
 abbrev pub unreachable_of : List SpannedRule → List Complaint
-unreachable_of rules = map (said_at (codes "this alternative is never taken: a literal before it begins all that it matches")) (unreachable_alternatives rules)
+unreachable_of rules =
+    map (said_at (codes "this alternative is never taken: a literal before it begins all that it matches"))
+    (unreachable_alternatives rules)
 
 abbrev pub reversed_of : List SpannedRule → List Complaint
-reversed_of rules = map (said_at (codes "this range matches nothing: its first character is above its last")) (reversed_ranges rules)
+reversed_of rules =
+    map (said_at (codes "this range matches nothing: its first character is above its last"))
+    (reversed_ranges rules)
 
 abbrev pub warnings_of : Bool → List SpannedRule → List Complaint
 warnings_of all rules = uncalled_of all rules ++ unreachable_of rules ++ reversed_of rules

@@ -21,7 +21,8 @@ abbrev pub TellsLine : {X E : Type 0} → List ℕ → Result X E → Option (Li
 TellsLine message written old new = OnOk written (Appends old new (message ++ 10 ∷ []))
 
 -- there is an answer for the grammar, its rule matches the text, and what the writer holds grew by the trees
-pub record PrintsTrees (grammar rule text : List ℕ) (format : Format) (old new : Option (List ℕ)) : Type 0 where
+pub record PrintsTrees (grammar rule text : List ℕ) (format : Format)
+    (old new : Option (List ℕ)) : Type 0 where
   pub builtins : List (Bor (List ℕ))
   pub rules : List OptimizedRule
   pub answers : IsAnswer grammar builtins rules

@@ -141,7 +141,6 @@ fn stopped_outcome(stop: Stop) -> Outcome
         Stop::Memory => Outcome::Memory,
         Stop::OutOfSteps => Outcome::Stopped("the text takes too many steps"),
         Stop::EmptyStack => Outcome::Stopped("PEEK or POP found nothing on the stack"),
-        Stop::Unsliced => Outcome::Stopped("what was matched is no part of the text"),
     }
 }
 

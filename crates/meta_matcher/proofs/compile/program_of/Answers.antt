@@ -3,6 +3,6 @@ use Rattle.meta_matcher.proofs.compile.program_of.Goals as goal
 
 pub returns-clause-sound : goal.returns-clause-sound
 returns-clause-sound g c =
-    let w = rw white_chars at c.find_rule-whitespace.ensures in
-    let m = rw comment_chars at c.find_rule-comment.ensures in
+    let w = rw white_chars at c.number_of-whitespace.ensures in
+    let m = rw comment_chars at c.number_of-comment.ensures in
     rw (← c.deref.ensures.value) (c.in_ok-rows.ensures.sound _ _ w m)

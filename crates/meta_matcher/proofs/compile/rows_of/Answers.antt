@@ -4,10 +4,10 @@ use Rattle.meta_matcher.proofs.compile.rows_of.Goals as goal
 
 pub returns-clause-sound : goal.returns-clause-sound
 returns-clause-sound c =
-    let l : length c.args.rules.now ≤ c.loop-rule.rule-index = c.loop-rule-test.false in
+    let l : length c.args.rules.now.rules.now ≤ c.loop-rule.rule-index = c.loop-rule-test.false in
     λ white note w m. program_sound _ _ _ _ _ (all_rows _ _ _ l c.loop-rule.invariant.says) c.loop-rule.invariant.sound w m
 
 pub returns-clause-means : goal.returns-clause-means
 returns-clause-means c =
-    let l : length c.args.rules.now ≤ c.loop-rule.rule-index = c.loop-rule-test.false in
+    let l : length c.args.rules.now.rules.now ≤ c.loop-rule.rule-index = c.loop-rule-test.false in
     rows_mean _ _ (all_rows _ _ _ l c.loop-rule.invariant.says)

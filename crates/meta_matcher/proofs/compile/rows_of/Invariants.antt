@@ -7,6 +7,6 @@ use Rattle.meta_matcher.proofs.compile.rows_of.Given as goal
 
 abbrev pub invariant-loop-rule : goal.invariant-loop-rule
 invariant-loop-rule l = record {
-  says : map (rule_of_row (names_in (optimized_rules_of l.rules))) l.rows.items ≡ map optimized_rule_of (take l.rule-index l.rules);
-  sound : (i : ℕ) (d : Row) → i < length l.rows.items → IsRow (optimized_rules_of l.rules) (names_in (optimized_rules_of l.rules)) l.properties (get_or l.rows.items i d);
+  says : map (rule_of_row (names_in (optimized_rules_of l.rules.rules.now))) l.rows.items ≡ map optimized_rule_of (take l.rule-index l.rules.rules.now);
+  sound : (i : ℕ) (d : Row) → i < length l.rows.items → IsRow (optimized_rules_of l.rules.rules.now) (names_in (optimized_rules_of l.rules.rules.now)) l.properties (get_or l.rows.items i d);
 }

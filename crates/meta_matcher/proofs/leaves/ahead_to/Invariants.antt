@@ -8,8 +8,8 @@ use Rattle.meta_base.specs.Language.Matching.{distance}
 use Rattle.meta_matcher.specs.Runs.{IsLeft, standing}
 use Rattle.meta_matcher.proofs.leaves.ahead_to.Given as goal
 
-abbrev pub invariant-loop-rest : goal.invariant-loop-rest
-invariant-loop-rest l = record {
+abbrev pub invariant-loop-c : goal.invariant-loop-c
+invariant-loop-c l = record {
   text : shadow (Utf8 l.rest);
   left : (whole : List ℕ) → IsLeft whole l.from → IsLeft whole l.rest;
   shorter : length l.rest ≤ length l.from;
@@ -17,5 +17,5 @@ invariant-loop-rest l = record {
       → moved (distance (map text_of l.texts.items) (chars l.from)) (standing whole l.from ts) ≡ moved (distance (map text_of l.texts.items) (chars l.rest)) (standing whole l.rest ts);
 }
 
-abbrev pub decreases-loop-rest : goal.decreases-loop-rest
-decreases-loop-rest l = length l.rest
+abbrev pub decreases-loop-c : goal.decreases-loop-c
+decreases-loop-c l = length l.rest

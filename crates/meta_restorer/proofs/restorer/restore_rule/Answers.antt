@@ -1,5 +1,6 @@
 use Rattle.std.proofs.Common.{◌≡◌, ◌∙◌, ap, sym, false, rules, subst}
 use Rattle.meta_ast.specs.Optimized.{optimized_expression_of, optimized_rule_of}
+use Rattle.meta_flags.specs.Least.{is_set_at}
 use Rattle.meta_restorer.specs.Noted.{IsWithin, shows}
 use Rattle.meta_restorer.specs.Telling.{told}
 use Rattle.meta_restorer.proofs.Looking.{shown}
@@ -16,8 +17,8 @@ returns-then-not-is_shown-clause-whole c =
     let marks = changes.marks.items in
     let rule = c.args.rule.now in
     let qs = changes.noted.numbers.items in
-    let off : shows marks qs c.args.share ≡ false = search rules in
-    ap (λ b. record (optimized_rule_of rule) { body = b }) (sym (restored_stays (told changes) (optimized_expression_of rule.expr) (sym (shown changes.names marks rule.expr qs c.args.share c.requires) ∙ off)))
+    let off : shows qs (is_set_at marks) c.args.share ≡ false = search rules in
+    ap (λ b. record (optimized_rule_of rule) { body = b }) (sym (restored_stays (told changes) (optimized_expression_of rule.expr) (sym (shown changes.names (is_set_at marks) rule.expr qs c.args.share c.requires) ∙ off)))
 
 pub restore-requires : goal.restore-requires
 restore-requires c = record {

@@ -1,6 +1,6 @@
 use Rattle.std.proofs.Common.{◌≡◌, ◌<◌, ℕ, Some, true, slice_get}
+use Rattle.meta_flags.specs.Least.{is_set_at}
 use Rattle.meta_stack.specs.Apart.{apart_kind}
-use Rattle.meta_stack.specs.Flags.{is_set_at}
 use Rattle.meta_stack.specs.Table.{nodes_of}
 use Rattle.meta_stack.specs.declared.table.Node.{Node}
 use Rattle.meta_stack.proofs.apart.all_apart.Given as goal

@@ -4,4 +4,4 @@ use Rattle.meta_stack.proofs.Work.{ended_value}
 use Rattle.meta_stack.proofs.copies.all_copies.Goals as goal
 
 pub returns-clause-all : goal.returns-clause-all
-returns-clause-all c meaning = ended_value c.args.table.now.limit (meaning c.args.body) c.args.table.now.skips _ (copies c.args.required c.args.optional c.args.endless) _ _ refl c.stands_alone.ensures
+returns-clause-all c meaning = ended_value c.args.table.now.limit (meaning c.args.repeated.body) c.args.table.now.skips _ (copies c.args.repeated.counts.required c.args.repeated.counts.optional c.args.repeated.counts.endless) _ _ refl c.stands_alone.ensures

@@ -25,4 +25,4 @@ returns c =
     let ss = c.args.turns.seen.items in
     let a = stack_of c.in-Some.from in
     let fresh : is_among (reverse (seen_stacks ss)) a ≡ false = among_reverse (seen_stacks ss) a ∙ (sym (c.is_among.ensures ∙ ap (λ l. is_among (seen_stacks l) a) c.deref.ensures.value) ∙ c.if-is_among.false) in
-    turn_waits c.args.table.now _ c.args.node c.args.stack c.args.turns _ c.in-Some.from (possible c.args.next) _ _ _ (ap possible c.in-Some.is) (omega arith) fresh refl c.in_ok-push.ensures.items c.in_ok-push-2.ensures.items refl
+    turn_waits c.args.table.now _ c.args.begun.node c.args.begun.stack c.args.turns _ c.in-Some.from (possible c.args.next) _ _ _ (ap possible c.in-Some.is) (omega arith) fresh refl c.in_ok-push.ensures.items c.in_ok-push-2.ensures.items refl

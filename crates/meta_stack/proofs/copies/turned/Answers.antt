@@ -7,4 +7,4 @@ use Rattle.meta_stack.proofs.copies.turned.Goals as goal
 
 pub returns : goal.returns
 returns c = where_ok c.next_turn.result (λ q g. goes_on_by c.args.table.now _ _ _ _ _ _ _ _ _ _ _ q
-    (λ meaning f. ap (turned_reading c.args.table.now meaning c.args.turns (stack_of c.args.stack) (possible c.args.reading.ok)) c.turned-turns.ensures ∙ f.made) (omega arith) g) c.next_turn.ensures
+    (λ meaning f. ap (turned_reading c.args.table.now meaning c.args.turn.turns (stack_of c.args.begun.stack) (possible c.args.reading.ok)) c.turned-turns.ensures ∙ f.made) (omega arith) g) c.next_turn.ensures

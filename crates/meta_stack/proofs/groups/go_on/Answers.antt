@@ -8,11 +8,11 @@ use Rattle.meta_stack.proofs.groups.go_on.Goals as goal
 
 pub returns-then-leads_on : goal.returns-then-leads_on
 returns-then-leads_on c =
-    let ls = c.args.links.now in
+    let ls = c.args.ways.links.now in
     let ns = c.args.nodes.now in
     let roots = c.args.roots.now in
-    let leaders = c.args.leaders.now in
-    let down = c.args.down in
+    let leaders = c.args.ways.leaders.now in
+    let down = c.args.ways.down in
     let flags = c.args.flags.now.items in
     let none : Link = record { source = 0; target = 0 } in
     let l = get_or ls c.args.place none in

@@ -3,4 +3,4 @@ use Rattle.meta_stack.specs.Leading.{AreLed}
 use Rattle.meta_stack.proofs.groups.reached_by.Given as goal
 
 abbrev pub invariant-loop-place : goal.invariant-loop-place
-invariant-loop-place l = AreLed l.nodes l.roots true l.leaders l.reached.items
+invariant-loop-place l = AreLed l.nodes l.roots true l.fn.leaders l.reached.items

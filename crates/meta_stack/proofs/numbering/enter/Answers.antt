@@ -1,6 +1,7 @@
 use Rattle.std.proofs.Common.{subst, ◌∙◌}
 use Rattle.meta_nodes.specs.Nodes.{piece_of}
-use Rattle.meta_stack.specs.Names.{kind_in, grammar_of}
+use Rattle.meta_table.specs.Names.{grammar_of}
+use Rattle.meta_stack.specs.Names.{kind_in}
 use Rattle.meta_stack.specs.Numbering.{IsMadeOf}
 use Rattle.meta_stack.proofs.Lacked.{leaf_step, only_step, both_step}
 use Rattle.meta_stack.proofs.Numbered.{leaf_done}

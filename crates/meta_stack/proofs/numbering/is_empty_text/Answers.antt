@@ -1,5 +1,5 @@
 use Rattle.std.proofs.Common.{◌∙◌}
-use Rattle.meta_stack.proofs.NameLemmas.{empty_text}
+use Rattle.meta_table.proofs.NameLemmas.{empty_text}
 use Rattle.meta_stack.proofs.numbering.is_empty_text.Goals as goal
 
 pub returns : goal.returns

@@ -1,7 +1,8 @@
 use Rattle.std.proofs.Common.{◌≡◌, ◌∙◌, ◌+◌, ◌<◌, ◌++◌, ◌∷◌, [], ap, arith, subst, refl, append-nil}
 use Rattle.meta_nodes.specs.Nodes.{view}
-use Rattle.meta_stack.specs.Names.{kind_in, grammar_of}
-use Rattle.meta_stack.specs.Numbering.{postorder}
+use Rattle.meta_table.specs.Names.{grammar_of}
+use Rattle.meta_stack.specs.Names.{kind_in}
+use Rattle.meta_table.specs.Nodes.{postorder}
 use Rattle.meta_stack.specs.Lacking.{SoFar, IsLast, effort_coming, effort_left}
 use Rattle.meta_stack.specs.declared.numbering.Coming.TheVariants as comes
 use Rattle.meta_stack.proofs.Lacked.{begun, ended}

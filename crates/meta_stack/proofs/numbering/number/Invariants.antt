@@ -1,8 +1,10 @@
 use Rattle.std.proofs.Common.{◌+◌, ◌++◌, List}
 use Rattle.meta_nodes.specs.Nodes.{view}
 use Rattle.meta_nodes.specs.Spanned.{Spanned}
-use Rattle.meta_stack.specs.Names.{kind_in, grammar_of}
-use Rattle.meta_stack.specs.Numbering.{AreNodes, postorder}
+use Rattle.meta_table.specs.Names.{grammar_of}
+use Rattle.meta_stack.specs.Names.{kind_in}
+use Rattle.meta_table.specs.Nodes.{postorder}
+use Rattle.meta_stack.specs.Numbering.{AreNodes}
 use Rattle.meta_stack.specs.Lacking.{SoFar, IsLast, effort_coming, effort_left}
 use Rattle.meta_stack.proofs.numbering.number.Given as goal
 

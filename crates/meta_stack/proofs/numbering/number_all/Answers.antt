@@ -1,8 +1,10 @@
 use Rattle.std.proofs.Common.{sym, subst, ap, ◌∙◌, take, get_or, ◌∷◌, [], ◌++◌, ◌+◌}
 use Rattle.std.proofs.lemmas.List.{take_more}
 use Rattle.meta_nodes.specs.Nodes.{view}
-use Rattle.meta_stack.specs.Names.{grammar_of, kind_in}
-use Rattle.meta_stack.specs.Numbering.{AreNodes, AreRoots, all_nodes, postorder}
+use Rattle.meta_table.specs.Names.{grammar_of}
+use Rattle.meta_stack.specs.Names.{kind_in}
+use Rattle.meta_table.specs.Nodes.{all_nodes, postorder}
+use Rattle.meta_stack.specs.Numbering.{AreNodes, AreRoots}
 use Rattle.meta_stack.proofs.Roots.{root_step, nodes_more}
 use Rattle.meta_stack.proofs.Numbered.{found_last}
 use Rattle.meta_stack.proofs.numbering.number_all.Goals as goal

@@ -1,5 +1,6 @@
 use Rattle.std.proofs.Common.{◌≡◌, [], take}
-use Rattle.meta_stack.specs.Names.{grammar_of, kind_in}
+use Rattle.meta_table.specs.Names.{grammar_of}
+use Rattle.meta_stack.specs.Names.{kind_in}
 use Rattle.meta_stack.specs.Numbering.{AreTabled}
 use Rattle.meta_stack.proofs.numbering.number_all.Given as goal
 

@@ -1,4 +1,4 @@
-use Rattle.std.proofs.Common.{◌≡◌, ◌∙◌, sym, ap, subst, refl, ◌-◌, Some, true, false}
+use Rattle.std.proofs.Common.{◌≡◌, ◌∙◌, sym, ap, subst, refl, Some, true, false}
 use Rattle.meta_stacks.specs.Reading.{surely, top_reading}
 use Rattle.meta_stack.specs.Table.{Called, Inside, LeadsTo, Lies, call_reading, followed_at}
 use Rattle.meta_stacks.specs.Views.{stack_of}

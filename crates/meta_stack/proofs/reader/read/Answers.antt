@@ -1,4 +1,4 @@
-use Rattle.std.proofs.Common.{◌≡◌, ◌∙◌, subst, refl, rules, ◌-◌, ◌<◌, [], length, append-nil}
+use Rattle.std.proofs.Common.{◌≡◌, ◌∙◌, subst, refl, rules, ◌<◌, [], length, append-nil}
 use Rattle.meta_stack.specs.Table.{nodes_of}
 use Rattle.meta_stack.specs.declared.waiting.Next.TheVariants as next
 use Rattle.meta_stack.proofs.Awaiting.{ReadSoFar, read_begun, read_done, read_on}

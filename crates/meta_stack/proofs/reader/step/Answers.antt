@@ -1,4 +1,4 @@
-use Rattle.std.proofs.Common.{◌∙◌, ◌-◌}
+use Rattle.std.proofs.Common.{◌∙◌}
 use Rattle.meta_stack.proofs.Follow.{step_value}
 use Rattle.meta_stack.proofs.reader.step.Goals as goal
 

@@ -6,7 +6,6 @@ use Rattle.meta_stack.specs.Following.{seen_stacks}
 use Rattle.meta_stacks.specs.Reported.{turn_starts}
 use Rattle.meta_stacks.specs.Views.{reading_of, stack_of, walk_of, possible}
 use Rattle.meta_stack.proofs.Follow.{turns_none, starts_none, turns_again, starts_again, turn_on, start_on, over_value, starts_over, among_reverse, seen_more}
-use Rattle.meta_stack.specs.declared.waiting.Next.TheVariants as next
 use Rattle.meta_stack.proofs.reader.turn.Goals as goal
 
 pub returns : goal.returns

@@ -2,7 +2,7 @@ use Rattle.std.proofs.Common.{◌≡◌, ◌<◌, Some, inl, inr, sym, subst, re
 use Rattle.std.proofs.lemmas.Option.{slice_get_read, slice_get_within}
 use Rattle.meta_stack.specs.Leading.{IsRanked}
 use Rattle.meta_stack.proofs.RankLemmas.{last_or_before}
-use Rattle.meta_stack.proofs.Resolved.{same_item}
+use Rattle.meta_table.proofs.Resolved.{same_item}
 use Rattle.meta_stack.proofs.recursion.are_ranked.Goals as goal
 
 pub loop-place-preserved : goal.loop-place-preserved

@@ -1,7 +1,7 @@
 use Rattle.std.proofs.Common.{◌≡◌, ◌↔◌, ◌∙◌, ◌+◌, ◌∷◌, ◌++◌, [], true, sym, ap, subst, refl, arith, length, slice_get}
 use Rattle.std.proofs.lemmas.List.{length_push}
+use Rattle.meta_flags.specs.Least.{is_set_at}
 use Rattle.meta_stack.specs.Answers.{at_place}
-use Rattle.meta_stack.specs.Flags.{is_set_at}
 use Rattle.meta_stack.specs.Leading.{AreRaised, LeadsBack}
 use Rattle.meta_stack.proofs.LeadingLemmas.{back_told, holds_leads, leads_set}
 use Rattle.meta_stack.proofs.RankLemmas.{AreSought, all_sought, one_sought}

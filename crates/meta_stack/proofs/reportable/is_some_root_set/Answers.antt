@@ -1,7 +1,7 @@
 use Rattle.std.proofs.Common.{◌≡◌, ◌∙◌, Some, inl, inr, sym, ap, subst, arith, slice_get}
 use Rattle.std.proofs.lemmas.Option.{slice_get_within}
+use Rattle.meta_flags.specs.Least.{is_set_at}
 use Rattle.meta_stack.specs.Answers.{at_place}
-use Rattle.meta_stack.specs.Flags.{is_set_at}
 use Rattle.meta_stack.proofs.RankLemmas.{last_or_before}
 use Rattle.meta_stack.proofs.reportable.is_some_root_set.Goals as goal
 

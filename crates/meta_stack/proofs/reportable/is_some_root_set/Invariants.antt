@@ -1,5 +1,5 @@
 use Rattle.std.proofs.Common.{◌≡◌, ℕ, ◌<◌, Some, false, slice_get}
-use Rattle.meta_stack.specs.Flags.{is_set_at}
+use Rattle.meta_flags.specs.Least.{is_set_at}
 use Rattle.meta_stack.proofs.reportable.is_some_root_set.Given as goal
 
 abbrev pub invariant-loop-rule : goal.invariant-loop-rule

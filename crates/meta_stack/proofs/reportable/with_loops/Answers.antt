@@ -1,8 +1,8 @@
 use Rattle.std.proofs.Common.{◌≡◌, ◌∙◌, ◌+◌, ◌∷◌, ◌++◌, [], ◌||◌, Some, sym, ap, subst, arith, length, slice_get, get_or}
 use Rattle.std.proofs.lemmas.List.{length_push}
 use Rattle.std.proofs.lemmas.Option.{slice_get-get_or, slice_get_within}
+use Rattle.meta_flags.specs.Least.{is_set_at}
 use Rattle.meta_stack.specs.Answers.{some_part}
-use Rattle.meta_stack.specs.Flags.{is_set_at}
 use Rattle.meta_stack.specs.Reportable.{may_loop}
 use Rattle.meta_stack.specs.Table.{parts_of}
 use Rattle.meta_stack.proofs.Silence.{AreToldTo, told_more}

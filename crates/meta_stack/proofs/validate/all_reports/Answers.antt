@@ -1,8 +1,8 @@
 use Rattle.std.proofs.Common.{MatchOption, [], map, subst, sym}
 use Rattle.std.specs.List.{filter}
+use Rattle.meta_flags.specs.Least.{is_set_at}
 use Rattle.meta_nodes.specs.Nodes.{piece_of, rule_views}
 use Rattle.meta_stack.specs.Certain.{ArePlain}
-use Rattle.meta_stack.specs.Flags.{is_set_at}
 use Rattle.meta_stack.specs.Reportable.{IsToVisit}
 use Rattle.meta_stack.specs.Visiting.{FindsAll}
 use Rattle.meta_stack.proofs.Whole.{all_plain}

@@ -1,6 +1,6 @@
 use Rattle.std.proofs.Common.{◌∙◌, sym, ap}
 use Rattle.meta_stack.specs.Expressions.{body_flag}
-use Rattle.meta_stack.proofs.NameLemmas.{ascii_place}
+use Rattle.meta_table.proofs.NameLemmas.{ascii_place}
 use Rattle.meta_stack.proofs.validate.is_body_set.Goals as goal
 
 pub returns-in-Some : goal.returns-in-Some

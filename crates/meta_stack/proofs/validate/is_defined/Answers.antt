@@ -1,5 +1,5 @@
 use Rattle.std.proofs.Common.{◌∙◌, ap, is_some}
-use Rattle.meta_stack.proofs.NameLemmas.{ascii_place}
+use Rattle.meta_table.proofs.NameLemmas.{ascii_place}
 use Rattle.meta_stack.proofs.validate.is_defined.Goals as goal
 
 pub returns : goal.returns

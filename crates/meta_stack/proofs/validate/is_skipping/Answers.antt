@@ -1,7 +1,7 @@
 use Rattle.std.proofs.Common.{◌≡◌, ◌∙◌, ◌||◌, sym, ap, is_some}
 use Rattle.meta_base.specs.Language.Expression.{rule_of, whitespace, comment}
-use Rattle.meta_stack.specs.Names.{grammar_of}
-use Rattle.meta_stack.proofs.Resolved.{is_named}
+use Rattle.meta_table.specs.Names.{grammar_of}
+use Rattle.meta_table.proofs.Resolved.{is_named}
 use Rattle.meta_stack.proofs.validate.is_skipping.Goals as goal
 
 pub returns-then-is_defined : goal.returns-then-is_defined

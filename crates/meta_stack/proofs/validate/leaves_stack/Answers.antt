@@ -1,7 +1,7 @@
 use Rattle.std.proofs.Common.{◌∙◌, ◌&&◌, not, sym, ap}
 use Rattle.meta_base.specs.Language.Expression.{whitespace, comment}
 use Rattle.meta_stack.specs.Expressions.{name_flag}
-use Rattle.meta_stack.specs.Names.{grammar_of}
+use Rattle.meta_table.specs.Names.{grammar_of}
 use Rattle.meta_stack.proofs.validate.leaves_stack.Goals as goal
 
 pub returns-then-not-is_body_set : goal.returns-then-not-is_body_set

@@ -1,11 +1,11 @@
 use Rattle.std.proofs.Common.{◌≡◌, ◌∙◌, ◌&&◌, List, ℕ, Some, slice_get, Bool, false, not, sym, ap, ap₂, subst, refl}
 use Rattle.meta_base.specs.Language.Expression.{whitespace, comment}
+use Rattle.meta_flags.specs.Least.{is_set_at}
 use Rattle.meta_stacks.specs.Reports.{SkippingAltersStack}
 use Rattle.meta_stack.specs.Answers.{AreSound, AreClosed}
 use Rattle.meta_stack.specs.Expressions.{name_flag}
-use Rattle.meta_stack.specs.Flags.{is_set_at}
 use Rattle.meta_stack.specs.Leading.{AreCalls}
-use Rattle.meta_stack.specs.Names.{grammar_of}
+use Rattle.meta_table.specs.Names.{grammar_of}
 use Rattle.meta_stack.specs.Reportable.{AreBehind, AreReportable}
 use Rattle.meta_stack.specs.declared.facts.Question.{Question}
 use Rattle.meta_stack.specs.declared.facts.Question.TheVariants as asks

@@ -3,7 +3,7 @@ use Rattle.std.specs.List.{filter}
 use Rattle.std.proofs.lemmas.List.{take_more}
 use Rattle.std.proofs.lemmas.List.Elements.{filter-append}
 use Rattle.std.proofs.lemmas.Option.{slice_get_read}
-use Rattle.meta_stack.specs.Flags.{is_set_at}
+use Rattle.meta_flags.specs.Least.{is_set_at}
 use Rattle.meta_stack.specs.Table.{nodes_of}
 use Rattle.meta_stack.specs.Visiting.{FindsAll}
 use Rattle.meta_stack.proofs.StaysApart.{movable}

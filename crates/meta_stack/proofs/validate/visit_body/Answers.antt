@@ -1,5 +1,5 @@
 use Rattle.std.proofs.Common.{◌≡◌, ◌∙◌, sym, ap, rules, true, ◌∷◌, []}
-use Rattle.meta_stack.specs.Flags.{is_set_at}
+use Rattle.meta_flags.specs.Least.{is_set_at}
 use Rattle.meta_stack.specs.Following.{seen_stacks}
 use Rattle.meta_stack.proofs.Whole.{more_found, more_none}
 use Rattle.meta_stack.proofs.validate.visit_body.Goals as goal

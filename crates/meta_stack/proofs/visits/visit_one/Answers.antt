@@ -1,6 +1,6 @@
 use Rattle.std.proofs.Common.{◌∙◌, ◌∷◌, ◌++◌, [], ap, subst, refl}
 use Rattle.meta_stack.specs.Table.{HasParts, PartsLie, copies}
-use Rattle.meta_stack.specs.Visiting.{Collects, IsAfter, IsReportedWhereItLoops, IsStartOf}
+use Rattle.meta_stack.specs.Visiting.{Collects, IsAfter, IsStartOf}
 use Rattle.meta_stack.specs.declared.visits.Pending.{Pending}
 use Rattle.meta_stack.proofs.Left.{visits_none, visits_both, visits_inside}
 use Rattle.meta_stack.proofs.visits.visit_one.Goals as goal
@@ -28,6 +28,6 @@ returns-in_ok-push-in-Inside c =
     let i = c.in-Inside in
     visits_inside t c.args.memory.now c.report.new.memory c.starts.new.memory c.args.left.now.items _ v w i.required i.optional i.endless c.args.found.now.items c.report.new.found.items
     (subst (HasParts t v.node) i.is c.parts_at.ensures.parts)
-    (subst (λ ss. IsReportedWhereItLoops t c.args.memory.now c.report.new.memory v.node i.body i.endless ss c.args.found.now.items c.report.new.found.items) c.deref-in-Inside.ensures.value c.in_ok-report-in-Inside.ensures)
-    (subst (λ ss. Collects t c.report.new.memory c.starts.new.memory (λ meaning. IsStartOf t.limit (meaning i.body) (copies i.required i.optional i.endless)) ss w.stacks.items) c.deref-in-Inside-2.ensures.value c.in_ok-stacks-in-Inside.ensures)
+    c.in_ok-report-in-Inside.ensures
+    (subst (λ ss. Collects t c.report.new.memory c.starts.new.memory (λ meaning. IsStartOf t.limit (meaning i.body) (copies i.required i.optional i.endless)) ss w.stacks.items) c.deref-in-Inside.ensures.value c.in_ok-stacks-in-Inside.ensures)
     (subst (PartsLie t v.node) i.is (c.parts_at.ensures.ordered c.requires.ordered)) c.in_ok-push-in-Inside.ensures.items

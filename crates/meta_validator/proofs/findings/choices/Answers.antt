@@ -1,7 +1,7 @@
 use Rattle.std.proofs.Common.{◌∙◌, sym, ap, subst, take, ◌++◌, ◌+◌}
 use Rattle.meta_validator.specs.Findings.{Reports, reports_none, OfChoice}
-use Rattle.meta_validator.specs.Names.{grammar_of}
-use Rattle.meta_validator.specs.Numbering.{nodes_of}
+use Rattle.meta_table.specs.Names.{grammar_of}
+use Rattle.meta_table.specs.Nodes.{all_nodes}
 use Rattle.meta_validator.specs.Reporting.{findings_of, choice_at}
 use Rattle.meta_validator.proofs.ReportingLemmas.{choice_step}
 use Rattle.meta_validator.proofs.findings.choices.Goals as goal
@@ -9,7 +9,7 @@ use Rattle.meta_validator.proofs.findings.choices.Goals as goal
 pub loop-node-init : goal.loop-node-init
 loop-node-init c =
     let R = OfChoice (grammar_of c.args.rules.now) in
-    subst (λ z. Reports R (take 0 (nodes_of c.args.rules.now)) (findings_of z)) (sym c.new-found.ensures.items) reports_none
+    subst (λ z. Reports R (take 0 (all_nodes c.args.rules.now)) (findings_of z)) (sym c.new-found.ensures.items) reports_none
 
 pub loop-node-preserved : goal.loop-node-preserved
 loop-node-preserved c =
@@ -17,5 +17,5 @@ loop-node-preserved c =
     let i = c.loop-node.node in
     let spans = c.args.spans.now in
     let h = choice_step c.args.rules.now c.args.facts.now c.requires.facts spans c.requires.spans i (findings_of c.loop-node.found.items) c.loop-node-test.true c.loop-node.invariant in
-    subst (λ z. Reports R (take (i + 1) (nodes_of c.args.rules.now)) z)
+    subst (λ z. Reports R (take (i + 1) (all_nodes c.args.rules.now)) z)
     (sym (c.in_ok-report_choice.ensures ∙ ap (λ k. findings_of c.loop-node.found.items ++ choice_at c.args.facts.now spans k) c.kind_of_node.ensures)) h

@@ -1,9 +1,9 @@
 use Rattle.std.proofs.Common.{take}
 use Rattle.meta_validator.specs.Findings.{OfRepetition, Reports}
-use Rattle.meta_validator.specs.Names.{grammar_of}
-use Rattle.meta_validator.specs.Numbering.{nodes_of}
+use Rattle.meta_table.specs.Names.{grammar_of}
+use Rattle.meta_table.specs.Nodes.{all_nodes}
 use Rattle.meta_validator.specs.Reporting.{findings_of}
 use Rattle.meta_validator.proofs.findings.repetitions.Given as goal
 
 abbrev pub invariant-loop-node : goal.invariant-loop-node
-invariant-loop-node l = Reports (OfRepetition (grammar_of l.rules)) (take l.node (nodes_of l.rules)) (findings_of l.found.items)
+invariant-loop-node l = Reports (OfRepetition (grammar_of l.rules)) (take l.node (all_nodes l.rules)) (findings_of l.found.items)

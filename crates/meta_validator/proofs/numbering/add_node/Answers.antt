@@ -1,7 +1,8 @@
 use Rattle.std.proofs.Common.{◌≡◌, ◌∙◌, ◌-◌, ◌++◌, ◌∷◌, [], ap, sym, subst, rules, length}
 use Rattle.meta_nodes.specs.Nodes.{view}
 use Rattle.meta_validator.specs.Layout.{AreNumbered, IsBehind, start_of}
-use Rattle.meta_validator.specs.Names.{grammar_of, kind_in}
+use Rattle.meta_table.specs.Names.{grammar_of}
+use Rattle.meta_validator.specs.Names.{kind_in}
 use Rattle.meta_validator.specs.Numbering.{IsMadeOf, wrap_kind, both_kind}
 use Rattle.meta_validator.proofs.LayoutLemmas.{put_leaf, put_one, put_two}
 use Rattle.meta_validator.proofs.Tying.{leaf_done}

@@ -2,7 +2,8 @@ use Rattle.std.proofs.Common.{◌≡◌, ◌∙◌, ◌++◌, ◌∷◌, [], ap,
 use Rattle.std.proofs.lemmas.List.{append_assoc, append-nil}
 use Rattle.meta_nodes.specs.Nodes.{view, piece_of}
 use Rattle.meta_validator.specs.Layout.{AreNumbered, forwards}
-use Rattle.meta_validator.specs.Names.{grammar_of, kind_in}
+use Rattle.meta_table.specs.Names.{grammar_of}
+use Rattle.meta_validator.specs.Names.{kind_in}
 use Rattle.meta_validator.proofs.LayoutLemmas.{forwards_push}
 use Rattle.meta_validator.proofs.numbering.add_nodes.Goals as goal
 

@@ -1,7 +1,8 @@
 use Rattle.std.proofs.Common.{◌≡◌, ◌++◌, List, vec_len}
 use Rattle.meta_nodes.specs.Spanned.{Spanned}
 use Rattle.meta_validator.specs.Layout.{AreNumbered, AreLaidOut, forwards}
-use Rattle.meta_validator.specs.Names.{grammar_of, kind_in}
+use Rattle.meta_table.specs.Names.{grammar_of}
+use Rattle.meta_validator.specs.Names.{kind_in}
 use Rattle.meta_validator.proofs.numbering.add_nodes.Given as goal
 
 abbrev pub invariant-loop-next : goal.invariant-loop-next

@@ -1,6 +1,7 @@
 use Rattle.std.proofs.Common.{◌∙◌, sym}
 use Rattle.meta_ast.specs.Ast.{text_of}
-use Rattle.meta_validator.proofs.NameLemmas.{empty_text, still_text, other_text}
+use Rattle.meta_table.proofs.NameLemmas.{empty_text}
+use Rattle.meta_validator.proofs.NameLemmas.{still_text, other_text}
 use Rattle.meta_validator.proofs.numbering.kind_of_text.Goals as goal
 
 pub returns-then-is_empty : goal.returns-then-is_empty

@@ -1,9 +1,10 @@
 use Rattle.std.proofs.Common.{◌≡◌, ◌∙◌, ◌++◌, ◌∷◌, [], ap, sym, subst}
 use Rattle.std.proofs.lemmas.List.{append_assoc}
 use Rattle.meta_nodes.specs.Nodes.{view_at}
-use Rattle.meta_validator.specs.Findings.{postorder}
+use Rattle.meta_table.specs.Nodes.{postorder}
 use Rattle.meta_validator.specs.Layout.{AreNumbered, AreLaidOut, all_below, forwards}
-use Rattle.meta_validator.specs.Names.{grammar_of, kind_in}
+use Rattle.meta_table.specs.Names.{grammar_of}
+use Rattle.meta_validator.specs.Names.{kind_in}
 use Rattle.meta_validator.proofs.LayoutLemmas.{laid_more, laid_all}
 use Rattle.meta_validator.proofs.numbering.number.Goals as goal
 

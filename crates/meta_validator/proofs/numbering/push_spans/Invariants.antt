@@ -1,7 +1,7 @@
 use Rattle.std.proofs.Common.{◌≡◌, ◌++◌, map, vec_len}
 use Rattle.meta_nodes.specs.Nodes.{view, piece_of}
 use Rattle.meta_nodes.specs.Spanned.{span_of}
-use Rattle.meta_validator.specs.Findings.{postorder}
+use Rattle.meta_table.specs.Nodes.{postorder}
 use Rattle.meta_validator.specs.Layout.{forwards}
 use Rattle.meta_validator.proofs.numbering.push_spans.Given as goal
 

@@ -1,8 +1,8 @@
 use Rattle.std.proofs.Common.{◌≡◌, ◌∙◌, ◌≤◌, ◌+◌, ◌++◌, ◌∷◌, [], ap, sym, subst, length, slice_get, arith}
 use Rattle.std.proofs.lemmas.List.{length_push}
+use Rattle.meta_flags.specs.Least.{is_set_at}
 use Rattle.meta_validator.specs.Levels.{own_answer_at}
 use Rattle.meta_validator.specs.Regions.{ArePassingSoFar}
-use Rattle.meta_validator.specs.Table.{is_set_at}
 use Rattle.meta_validator.proofs.PassingSteps.{passing_next, flag_before}
 use Rattle.meta_validator.proofs.RegionLemmas.{rule_at}
 use Rattle.meta_validator.proofs.Settled.{own_more}

@@ -1,6 +1,6 @@
 use Rattle.std.proofs.Common.{◌≡◌, ◌+◌, ◌-◌, ◌<◌, ◌≤◌, ℕ, length, vec_len}
+use Rattle.meta_flags.specs.Least.{is_set_at}
 use Rattle.meta_validator.specs.Regions.{first_of, ArePassingSoFar}
-use Rattle.meta_validator.specs.Table.{is_set_at}
 use Rattle.meta_validator.proofs.passing.add_own_flags.Given as goal
 
 abbrev pub invariant-loop-flags : goal.invariant-loop-flags

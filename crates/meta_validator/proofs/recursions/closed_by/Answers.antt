@@ -1,5 +1,5 @@
 use Rattle.std.proofs.Common.{◌≡◌, ◌∙◌, ◌++◌, ◌∷◌, [], ap, sym, subst, refl, append-nil, arith}
-use Rattle.meta_validator.specs.Numbering.{nodes_of}
+use Rattle.meta_table.specs.Nodes.{all_nodes}
 use Rattle.meta_validator.specs.Searching.{cost, rest, IsSearch}
 use Rattle.meta_validator.specs.declared.recursions.Task.TheVariants.{Visit, Leave}
 use Rattle.meta_validator.proofs.NodeSteps.{cost-append}
@@ -11,7 +11,7 @@ use Rattle.meta_validator.proofs.recursions.closed_by.Goals as goal
 
 pub loop-task-smaller-in-Leave : goal.loop-task-smaller-in-Leave
 loop-task-smaller-in-Leave c =
-    let nodes = nodes_of c.args.rules.now in
+    let nodes = all_nodes c.args.rules.now in
     let popped = c.pop.new.self.items in
     let items : c.loop-task.walk.tasks.items ≡ popped ++ Leave ∷ [] = c.in-Some.ensures.items ∙ ap (λ t. popped ++ t ∷ []) c.in-Leave.is in
     let a = ap (λ z. cost nodes z) items in

@@ -1,6 +1,6 @@
 use Rattle.std.proofs.Common.{◌+◌}
 use Rattle.meta_nodes.specs.Nodes.{rule_views}
-use Rattle.meta_validator.specs.Numbering.{nodes_of}
+use Rattle.meta_table.specs.Nodes.{all_nodes}
 use Rattle.meta_validator.specs.Searching.{cost, unentered, IsGoing}
 use Rattle.meta_validator.proofs.recursions.closed_by.Given as goal
 
@@ -8,4 +8,4 @@ abbrev pub invariant-loop-task : goal.invariant-loop-task
 invariant-loop-task l = IsGoing l.rules l.facts.table.roots.items l.start l.walk.entered.all.items l.walk.tasks.items l.walk.chain.items
 
 abbrev pub decreases-loop-task : goal.decreases-loop-task
-decreases-loop-task l = cost (nodes_of l.rules) l.walk.tasks.items + unentered l.walk.entered.all.items (rule_views l.rules)
+decreases-loop-task l = cost (all_nodes l.rules) l.walk.tasks.items + unentered l.walk.entered.all.items (rule_views l.rules)

@@ -2,10 +2,10 @@ use Rattle.std.proofs.Common.{sym, subst, ap, ◌∙◌, take, get_or, ◌∷◌
 use Rattle.std.proofs.lemmas.List.{take_more}
 use Rattle.meta_nodes.specs.Nodes.{view, piece_of}
 use Rattle.meta_validator.specs.Facts.{AreRoots}
-use Rattle.meta_validator.specs.Names.{grammar_of, kind_in}
+use Rattle.meta_table.specs.Names.{grammar_of}
+use Rattle.meta_validator.specs.Names.{kind_in}
 use Rattle.meta_validator.specs.Layout.{AreNumbered}
-use Rattle.meta_validator.specs.Numbering.{nodes_of}
-use Rattle.meta_validator.specs.Findings.{postorder}
+use Rattle.meta_table.specs.Nodes.{all_nodes, postorder}
 use Rattle.meta_validator.proofs.Roots.{root_step, nodes_more}
 use Rattle.meta_validator.proofs.LayoutLemmas.{length-postorder}
 use Rattle.meta_validator.proofs.Tying.{found_last}
@@ -17,16 +17,16 @@ loop-place-preserved c =
     let i = c.loop-place.place in
     let d = get_or rs i c.index-rules-place.result in
     let names = kind_in (grammar_of rs) in
-    let old = nodes_of (take i rs) in
+    let old = all_nodes (take i rs) in
     let nodes = c.in_ok-root.ensures.nodes old (piece_of d.node.span) c.loop-place.invariant.nodes in
     let long = sym nodes.kinds.alike ∙ c.in_ok-root.ensures.last in
     let at = found_last old (view d.node) c.in_ok-root.root long in
     let roots = root_step (take i rs) d old (postorder (view d.node)) c.loop-place.table.roots.items c.in_ok-root.root at long (length-postorder (view d.node)) c.loop-place.invariant.roots in
     let e = take_more rs i c.index-rules-place.result c.loop-place-test.true in
-    let m = ap (λ z. nodes_of z) e ∙ nodes_more (take i rs) d in
+    let m = ap (λ z. all_nodes z) e ∙ nodes_more (take i rs) d in
     record {
       nodes = subst (λ z. AreNumbered names z c.number.new.kinds.items c.number.new.starts.items) (sym m) nodes;
-      roots = subst (λ z. AreRoots (take (i + 1) rs) (nodes_of (take (i + 1) rs)) z) (sym c.in_ok-push.ensures.items)
-          (subst (λ z. AreRoots z (nodes_of (take (i + 1) rs)) (c.loop-place.table.roots.items ++ c.in_ok-root.root ∷ [])) (sym e)
+      roots = subst (λ z. AreRoots (take (i + 1) rs) (all_nodes (take (i + 1) rs)) z) (sym c.in_ok-push.ensures.items)
+          (subst (λ z. AreRoots z (all_nodes (take (i + 1) rs)) (c.loop-place.table.roots.items ++ c.in_ok-root.root ∷ [])) (sym e)
           (subst (λ z. AreRoots (take i rs ++ d ∷ []) z (c.loop-place.table.roots.items ++ c.in_ok-root.root ∷ [])) (sym m) roots));
     }

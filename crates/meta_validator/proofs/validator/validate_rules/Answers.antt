@@ -2,7 +2,7 @@ use Rattle.std.proofs.Common.{map, subst}
 use Rattle.meta_base.specs.Language.WellFormed.{IsWellFormed}
 use Rattle.meta_nodes.specs.Nodes.{piece_of, rule_views}
 use Rattle.meta_validator.specs.Findings.{AreAllFound}
-use Rattle.meta_validator.specs.Names.{grammar_of}
+use Rattle.meta_table.specs.Names.{grammar_of}
 use Rattle.meta_validator.specs.Reporting.{findings_of}
 use Rattle.meta_base.specs.Pieces.Saying.{Tell}
 use Rattle.meta_validator.proofs.SortedLemmas.{told_empty}

@@ -2,7 +2,7 @@ use Rattle.std.proofs.Common.{refl, ap, ◌∙◌, arith, chars, length, sym}
 use Rattle.std.proofs.lemmas.List.{length-drop, length-map}
 use Rattle.meta_matcher.specs.Stacked.{stack_of}
 use Rattle.meta_matcher.specs.Written.{entry_of, seen}
-use Rattle.meta_matcher.proofs.Waiting.{after_none, after_some, first_within}
+use Rattle.meta_matcher.proofs.Waiting.{after_none, after_some, answers, first_within}
 use Rattle.meta_matcher.proofs.machine.Machine.after_call.Goals as goal
 
 pub overflow_sub-end : goal.overflow_sub-end
@@ -18,9 +18,9 @@ close-requires c = λ e.
     omega (arith, l, length-map c.args.self.now.entries.items entry_of)
 
 pub returns-in_ok-close-in-Some : goal.returns-in_ok-close-in-Some
-returns-in_ok-close-in-Some c = after_some c.requires.follows refl c.in-Some.is (λ part whole f g. f.found _ _ _ g (rw (c.gives_token-gives.ensures, ap chars c.as_str.ensures.value) at c.in_ok-close-in-Some.ensures) refl refl)
+returns-in_ok-close-in-Some c = after_some c.requires.follows refl c.in-Some.is (λ part whole f g t. answers _ f.within t (f.found _ _ _ g (rw (c.gives_token-gives.ensures, ap chars c.as_str.ensures.value) at c.in_ok-close-in-Some.ensures) refl refl))
 
 pub returns-in_ok-note-in-None : goal.returns-in_ok-note-in-None
 returns-in_ok-note-in-None c =
     let n = rw (c.call_counts-counts.ensures, ap chars c.as_str-in-None.ensures.value) at c.in_ok-note-in-None.ensures.notes in
-    after_none c.requires.follows c.note.ensures.frames c.in-None.is (λ part whole f g. f.failed _ _ g (ap (λ es. seen es.items) c.note.ensures.entries ∙ c.cut.ensures) (ap stack_of c.note.ensures.stack) n)
+    after_none c.requires.follows c.note.ensures.frames c.in-None.is (λ part whole f g t. answers _ f.within t (f.failed _ _ g (ap (λ es. seen es.items) c.note.ensures.entries ∙ c.cut.ensures) (ap stack_of c.note.ensures.stack) n))

@@ -1,19 +1,19 @@
-use Rattle.std.proofs.Common.{rules, arith, refl, ap, ◌∙◌, ◌∷◌}
+use Rattle.std.proofs.Common.{refl, ap, ◌∙◌, ◌∷◌}
 use Rattle.std.specs.Prelude.{chars}
-use Rattle.meta_matcher.proofs.Waiting.{after_none, after_some}
+use Rattle.meta_matcher.proofs.Stacking.{left_between}
+use Rattle.meta_matcher.proofs.Waiting.{after_none, after_some, answers}
 use Rattle.meta_matcher.proofs.machine.Machine.after_push.Goals as goal
 
-pub overflow_sub-rest : goal.overflow_sub-rest
-overflow_sub-rest c =
+pub taken-taken-requires : goal.taken-taken-requires
+taken-taken-requires c =
     let g = rw c.in-Some.is at c.requires.follows.gives in
     let e = c.requires.follows.follows.from in
     let l = g.goes_on.shorter in
-    omega (arith, rw e at l)
+    record { left = left_between c.args.scene.now.text.now c.args.rest.now c.in-Some.after.now c.requires.follows.follows.left g.goes_on.left (rw e at l); shorter = rw e at l }
 
 pub returns-in_ok-self-in-Some : goal.returns-in_ok-self-in-Some
 returns-in_ok-self-in-Some c =
-    let h = c.in-Some-get.ensures.cases in
-    after_some c.requires.follows refl c.in-Some.is (λ part whole f g. f.found _ _ _ c.in-Some-get.taken.now g (grind (arith, h.0)) (search rules) refl refl (c.in_ok-self-in-Some.ensures ∙ ap (λ ts. chars c.in-Some-get.taken.now ∷ ts) c.in_ok-below-in-Some.ensures))
+    after_some c.requires.follows refl c.in-Some.is (λ part whole f g t. answers _ f.within t (f.found _ _ _ c.taken-taken.result.now g c.taken-taken.ensures c.taken-taken.utf8 refl refl (c.in_ok-self-in-Some.ensures ∙ ap (λ ts. chars c.taken-taken.result.now ∷ ts) c.in_ok-below-in-Some.ensures)))
 
 pub returns-in-None : goal.returns-in-None
-returns-in-None c = after_none c.requires.follows refl c.in-None.is (λ part whole f g. f.failed _ g)
+returns-in-None c = after_none c.requires.follows refl c.in-None.is (λ part whole f g t. answers _ f.within t (f.failed _ g))

@@ -4,7 +4,9 @@ use Rattle.meta_base.specs.Language.Meaning.{Run}
 use Rattle.meta_base.specs.Language.State.{NonAtomicMode}
 use Rattle.meta_ast.specs.Ast.{text_of}
 use Rattle.meta_matcher.specs.declared.frames.Frame.TheVariants as frame
+use Rattle.meta_matcher.specs.Machines.{steps_of}
 use Rattle.meta_matcher.proofs.Steps.{row_known, row_meant, row_within}
+use Rattle.meta_matcher.proofs.Timing.{in_time_now}
 use Rattle.meta_matcher.proofs.Waiting.{awaits_same, finds_no_blanks, follows_blank, pushed}
 use Rattle.meta_matcher.proofs.machine.Machine.blanks.Goals as goal
 
@@ -28,10 +30,10 @@ pub call-requires-clause-starts : goal.call-requires-clause-starts
 call-requires-clause-starts c =
     let h = rw c.in-Some.is at c.requires.sound.whitespace_is in
     let m = row_meant _ _ _ _ h c.index-row.ensures in
-    pushed {m = c.args.self.now} (frame.Blank c.args.rest) c.wait.ensures.now c.in_ok-wait-in-Some.ensures.frames (Run NonAtomicMode (Ident (text_of c.index-row.result.now.name))) c.args.rest.now
-    (awaits_same refl (λ whole s. follows_blank m.0 c.requires.left m.1 s) c.requires.skips)
+    rw c.wait.ensures.steps (pushed {m = c.args.self.now} (frame.Blank c.args.rest) c.wait.ensures.now c.in_ok-wait-in-Some.ensures.frames (Run NonAtomicMode (Ident (text_of c.index-row.result.now.name))) c.args.rest.now (steps_of c.args.self.now)
+    (awaits_same refl (λ whole s. follows_blank m.0 c.requires.left m.1 s) c.requires.skips))
 
 pub comments-requires-clause-ends : goal.comments-requires-clause-ends
 comments-requires-clause-ends c =
     let u = rw c.in-None.is at c.requires.sound.whitespace_is in
-    awaits_same refl (λ whole s b t k. s _ b c.args.rest.now t (finds_no_blanks c.requires.left u) k) c.requires.skips
+    awaits_same refl (λ whole s. s.found _ c.args.rest.now _ (finds_no_blanks _ c.requires.left u) (in_time_now _)) c.requires.skips

@@ -1,6 +1,6 @@
-use Rattle.std.proofs.Common.{◌-◌, refl, ap, chars, length}
+use Rattle.std.proofs.Common.{◌+◌, ◌-◌, refl, ap, chars, length}
 use Rattle.meta_base.specs.Language.Meaning.{Run}
-use Rattle.meta_matcher.specs.Machines.{grammar_in, names_within, said}
+use Rattle.meta_matcher.specs.Machines.{grammar_in, names_within, said, steps_of}
 use Rattle.meta_matcher.specs.Runs.{mode_of}
 use Rattle.meta_matcher.specs.declared.frames.Called.{Called}
 use Rattle.meta_matcher.specs.declared.frames.Frame.TheVariants as frame
@@ -14,6 +14,6 @@ returns c =
     record {
       bound = c.requires.row.bound;
       left = c.requires.left;
-      starts = pushed {m = record c.args.self.now { entries = c.open.new.entries }} (frame.Call k) c.wait.ensures.now c.in_ok-wait.ensures.frames (Run (mode_of c.body_mode-inner_mode.result) (said c.args.scene.now c.args.row.now.body)) c.args.rest.now
+      starts = pushed {m = record c.args.self.now { entries = c.open.new.entries }} (frame.Call k) c.wait.ensures.now c.in_ok-wait.ensures.frames (Run (mode_of c.body_mode-inner_mode.result) (said c.args.scene.now c.args.row.now.body)) c.args.rest.now (steps_of c.args.self.now + 1)
           (awaits_same refl (λ whole d. follows_call k c.requires.meant (row_mode (grammar_in c.args.scene.now) (names_within c.args.scene.now) c.args.scene.now.program.now.properties.items c.args.row.now _ _ c.requires.row c.body_mode-inner_mode.ensures.means) refl (rw (c.gives_token-gives.ensures, ap chars c.as_str.ensures.value) at c.in_ok-open.ensures) refl refl c.written-first.ensures c.count-told.ensures d) c.requires.starts);
     }

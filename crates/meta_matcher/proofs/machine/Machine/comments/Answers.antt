@@ -4,8 +4,9 @@ use Rattle.meta_base.specs.Language.Meaning.{Run}
 use Rattle.meta_base.specs.Language.State.{NonAtomicMode}
 use Rattle.meta_ast.specs.Ast.{text_of}
 use Rattle.meta_matcher.specs.declared.frames.Frame.TheVariants as frame
+use Rattle.meta_matcher.specs.Machines.{steps_of}
 use Rattle.meta_matcher.proofs.Steps.{row_known, row_meant, row_within}
-use Rattle.meta_matcher.proofs.Waiting.{awaits_same, finds_no_comments, follows_comment, pushed}
+use Rattle.meta_matcher.proofs.Waiting.{answers_at_once, awaits_same, finds_no_comments, follows_comment, pushed}
 use Rattle.meta_matcher.proofs.machine.Machine.comments.Goals as goal
 
 pub index-row-requires : goal.index-row-requires
@@ -28,10 +29,10 @@ pub call-requires-clause-starts : goal.call-requires-clause-starts
 call-requires-clause-starts c =
     let h = rw c.in-Some.is at c.requires.sound.comment_is in
     let m = row_meant _ _ _ _ h c.index-row.ensures in
-    pushed {m = c.args.self.now} (frame.Comment c.args.rest) c.wait.ensures.now c.in_ok-wait-in-Some.ensures.frames (Run NonAtomicMode (Ident (text_of c.index-row.result.now.name))) c.args.rest.now
-    (awaits_same refl (λ whole s. follows_comment m.0 c.requires.left m.1 s) c.requires.ends)
+    rw c.wait.ensures.steps (pushed {m = c.args.self.now} (frame.Comment c.args.rest) c.wait.ensures.now c.in_ok-wait-in-Some.ensures.frames (Run NonAtomicMode (Ident (text_of c.index-row.result.now.name))) c.args.rest.now (steps_of c.args.self.now)
+    (awaits_same refl (λ whole s. follows_comment m.0 c.requires.left m.1 s) c.requires.ends))
 
 pub returns-in-None : goal.returns-in-None
 returns-in-None c =
     let u = rw c.in-None.is at c.requires.sound.comment_is in
-    awaits_same refl (λ whole e. e _ _ (finds_no_comments c.requires.left u)) c.requires.ends
+    awaits_same refl (λ whole e. answers_at_once _ e.within (e.found _ _ (finds_no_comments _ c.requires.left u))) c.requires.ends

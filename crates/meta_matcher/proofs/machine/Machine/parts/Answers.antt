@@ -1,6 +1,8 @@
 use Rattle.std.proofs.Common.{refl, arith}
 use Rattle.meta_matcher.proofs.Steps.{row_known, row_meant, row_within}
-use Rattle.meta_matcher.proofs.Waiting.{awaits_same, decides_rep_once, decides_restored, decides_tagged, follows_left, follows_optional, follows_push}
+use Rattle.meta_matcher.proofs.Waiting.{awaits_same, decides_rep_once, decides_restored, decides_tagged, finishes_rep, follows_left, follows_optional, follows_push}
+use Rattle.meta_matcher.specs.declared.machine.Stop.TheVariants as stop
+use Rattle.meta_matcher.proofs.Timing.{led_astray}
 use Rattle.meta_matcher.proofs.machine.Machine.parts.Goals as goal
 
 pub index-row-requires : goal.index-row-requires
@@ -50,7 +52,7 @@ enter-requires-in-Push-clause-follows c =
 pub repetition-requires-clause-ends : goal.repetition-requires-clause-ends
 repetition-requires-clause-ends c =
     let w = rw c.in-Rep.is at c.requires.running.starts in
-    rw c.deref-in-Rep.ensures (awaits_same refl (λ whole d. d.found) w)
+    rw c.deref-in-Rep.ensures (awaits_same refl (λ whole d. finishes_rep d) w)
 
 pub returns-in-Restore : goal.returns-in-Restore
 returns-in-Restore c =
@@ -63,3 +65,9 @@ returns-in-Tag c =
     let w = rw c.in-Tag.is at c.requires.running.starts in
     let b = rw c.in-Tag.is at c.requires.running.bound in
     rw c.deref-in-Tag.ensures (record { bound = b; left = c.requires.running.left; starts = awaits_same refl (λ whole d. decides_tagged d) w })
+
+pub returns-in_err-call-in-Call : goal.returns-in_err-call-in-Call
+returns-in_err-call-in-Call c = led_astray _ _ _ c.from_residual.result stop.Memory c.from_residual.ensures.1 tt
+
+pub returns-in_err-repetition-in-Rep : goal.returns-in_err-repetition-in-Rep
+returns-in_err-repetition-in-Rep c = led_astray _ _ _ c.from_residual-in_err-repetition-in-Rep.result stop.Memory c.from_residual-in_err-repetition-in-Rep.ensures.1 tt

@@ -1,22 +1,22 @@
-use Rattle.std.proofs.Common.{refl, arith}
-use Rattle.meta_matcher.proofs.Waiting.{all_left, at_top, popped, starts_at_top}
+use Rattle.std.proofs.Common.{◌+◌, ◌*◌, arith}
+use Rattle.meta_matcher.specs.Machines.{round, steps_of}
+use Rattle.meta_matcher.proofs.Whole.{out_at_top, stops_at_top}
+use Rattle.meta_matcher.proofs.Waiting.{all_left, on_the_way_sooner, starts_at_top}
 use Rattle.meta_matcher.proofs.machine.Machine.run.Goals as goal
 
 pub call-requires-clause-left : goal.call-requires-clause-left
 call-requires-clause-left c = all_left c.args.scene.now.text.now
 
 pub call-requires-clause-starts : goal.call-requires-clause-starts
-call-requires-clause-starts c = starts_at_top c.args.scene.now c.args.self.now c.requires.no_frames c.requires.fresh
+call-requires-clause-starts c = starts_at_top c.args.scene.now c.args.self.now c.requires.no_frames c.requires.fresh c.requires.no_steps
 
-pub start-requires-clause-running : goal.start-requires-clause-running
-start-requires-clause-running c = rw c.in-Run.is at c.steps.invariant
+pub go_on-requires-clause-on_the_way : goal.go_on-requires-clause-on_the_way
+go_on-requires-clause-on_the_way c = on_the_way_sooner c.args.scene.now c.call.new.self (steps_of c.args.self.now + 1) (0 * round + 1) c.in_ok-first.first (omega arith) c.in_ok-first.ensures
 
-pub resume-requires-clause-follows : goal.resume-requires-clause-follows
-resume-requires-clause-follows c =
-    let w = rw c.in-Answer.is at c.steps.invariant in
-    popped c.args.scene.now c.steps.self _ c.in-Some.frame c.in-Answer.answer c.in-Some.ensures.items refl w
+pub returns-in_err-answer-clause-stopped : goal.returns-in_err-answer-clause-stopped
+returns-in_err-answer-clause-stopped c = stops_at_top c.args.scene.now c.args.steps c.from_residual-in_err-answer.result c.in_err-answer.field-0.0 c.from_residual-in_err-answer.ensures.1 c.in_err-answer.ensures
 
-pub returns-in-None : goal.returns-in-None
-returns-in-None c =
-    let w = rw c.in-Answer.is at c.steps.invariant in
-    at_top c.args.scene.now c.steps.self c.steps.self c.in-Answer.answer (omega (arith, c.in-None.ensures.cases)) refl w
+pub returns-in-Going-clause-stopped : goal.returns-in-Going-clause-stopped
+returns-in-Going-clause-stopped c =
+    let w = on_the_way_sooner c.args.scene.now c.go_on.new.self (0 * round + c.args.steps) c.args.steps c.in-Going.field-0 (omega arith) (rw c.in-Going.is at c.in_ok-answer.ensures) in
+    out_at_top c.args.scene.now c.go_on.new.self c.args.steps c.in-Going.field-0 w

@@ -1,5 +1,6 @@
+use Rattle.std.proofs.Common.{◌+◌}
 use Rattle.meta_base.specs.Language.Meaning.{Run}
-use Rattle.meta_matcher.specs.Machines.{said}
+use Rattle.meta_matcher.specs.Machines.{said, steps_of}
 use Rattle.meta_matcher.specs.Runs.{mode_of}
 use Rattle.meta_matcher.specs.declared.frames.Frame.TheVariants as frame
 use Rattle.meta_matcher.proofs.Waiting.{pushed}
@@ -9,5 +10,5 @@ pub returns : goal.returns
 returns c = record {
   bound = c.requires.follows.is.bound;
   left = c.requires.left;
-  starts = pushed {m = c.args.self.now} (frame.Turn c.args.repetition) c.wait.ensures.now c.in_ok-wait.ensures.frames (Run (mode_of c.args.repetition.mode) (said c.args.scene.now c.args.repetition.body.now)) c.args.rest.now c.requires.follows;
+  starts = pushed {m = c.args.self.now} (frame.Turn c.args.repetition) c.wait.ensures.now c.in_ok-wait.ensures.frames (Run (mode_of c.args.repetition.mode) (said c.args.scene.now c.args.repetition.body.now)) c.args.rest.now (steps_of c.args.self.now + 1) c.requires.follows;
 }

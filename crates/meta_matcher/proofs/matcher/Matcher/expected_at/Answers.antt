@@ -3,7 +3,7 @@ use Rattle.meta_matcher.specs.Programs.{IsRuleOf, grammar_of}
 use Rattle.meta_matcher.specs.Told.{told_of}
 use Rattle.meta_matcher.proofs.Steps.{row_known, row_meant}
 use Rattle.meta_matcher.proofs.Waiting.{nothing_yet}
-use Rattle.meta_matcher.proofs.Whole.{expected_of_top}
+use Rattle.meta_matcher.proofs.Whole.{expected_of_top, stopped_as}
 use Rattle.meta_matcher.proofs.matcher.Matcher.expected_at.Goals as goal
 
 pub run-requires-clause-row : goal.run-requires-clause-row
@@ -23,4 +23,9 @@ pub returns-in-Ok-clause-expected : goal.returns-in-Ok-clause-expected
 returns-in-Ok-clause-expected c =
     let h : IsRuleOf (grammar_of c.args.self.now.program.rows.items) (chars c.args.rule.now) c.in-Some.number = rw c.deref.ensures.value at c.in-Some.ensures in
     let m = (row_meant c.args.self.now.program.rows.items _ _ c.index-row.result.now h c.index-row.ensures).1 in
-    expected_of_top _ _ _ c.in-Ok.field-0 _ m c.in-Ok.ensures (sym (ap (λ v. told_of v.items) c.into_told.ensures))
+    expected_of_top _ _ _ c.in-Ok.field-0 _ m c.in-Ok.ensures.gives (sym (ap (λ v. told_of v.items) c.into_told.ensures))
+
+pub returns-clause-refused : goal.returns-clause-refused
+returns-clause-refused c =
+    let h : IsRuleOf (grammar_of c.args.self.now.program.rows.items) (chars c.args.rule.now) c.in-Some.number = rw c.deref.ensures.value at c.in-Some.ensures in
+    stopped_as _ _ _ _ c.in-Err.stop _ _ (row_meant c.args.self.now.program.rows.items _ _ c.index-row.result.now h c.index-row.ensures).1 c.in-Err.ensures.stopped

@@ -1,8 +1,8 @@
 use Rattle.std.proofs.Common.{◌≡◌, ◌∙◌, sym, ap, true, rules}
+use Rattle.meta_flags.specs.Least.{is_set_at}
 use Rattle.meta_stacks.specs.Stack.{unknown}
 use Rattle.meta_stacks.specs.Views.{stack_of}
 use Rattle.meta_stack.specs.Apart.{moved}
-use Rattle.meta_stack.specs.Flags.{is_set_at}
 use Rattle.meta_stack.proofs.memory.Memory.recalled.Goals as goal
 
 pub returns-in-Some : goal.returns-in-Some

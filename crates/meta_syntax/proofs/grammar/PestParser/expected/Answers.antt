@@ -4,7 +4,11 @@ use Rattle.meta_syntax.proofs.Parsing.{refused}
 use Rattle.meta_syntax.proofs.grammar.PestParser.expected.Goals as goal
 
 pub recognize-requires : goal.recognize-requires
-recognize-requires c = record { ready = record { left = search rules; remembers = c.new-recognizer.ensures.remembers c.args.text.now } }
+recognize-requires c = record {
+  entries = c.new-recognizer.ensures.entries;
+  furthest = c.new-recognizer.ensures.furthest;
+  remembers = c.new-recognizer.ensures.remembers c.args.text.now;
+}
 
 pub returns-in-Some-clause-nothing : goal.returns-in-Some-clause-nothing
 returns-in-Some-clause-nothing c = λ classes t us d. c.new.ensures.items

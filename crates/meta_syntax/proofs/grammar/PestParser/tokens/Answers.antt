@@ -3,7 +3,11 @@ use Rattle.meta_syntax.proofs.Parsing.{fails_on_character, refused, refuses, spe
 use Rattle.meta_syntax.proofs.grammar.PestParser.tokens.Goals as goal
 
 pub recognize-requires : goal.recognize-requires
-recognize-requires c = record { ready = record { left = search rules; remembers = c.new-recognizer.ensures.remembers c.args.text.now } }
+recognize-requires c = record {
+  entries = c.new-recognizer.ensures.entries;
+  furthest = c.new-recognizer.ensures.furthest;
+  remembers = c.new-recognizer.ensures.remembers c.args.text.now;
+}
 
 pub returns-in-Ok-Some-clause-trees : goal.returns-in-Ok-Some-clause-trees
 returns-in-Ok-Some-clause-trees c =

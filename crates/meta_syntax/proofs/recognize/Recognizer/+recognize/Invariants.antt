@@ -1,4 +1,4 @@
-use Rattle.std.proofs.Common.{◌+◌, ◌<◌, ◌≤◌, Some, ◌∷◌, length, max, take, if◌then◌else◌}
+use Rattle.std.proofs.Common.{◌+◌, ◌*◌, ◌<◌, ◌≤◌, Some, ◌∷◌, length, max, take, if◌then◌else◌}
 use denote.Shadow.{shadow}
 use denote.Text.{Utf8}
 use Rattle.meta_base.specs.Language.Expression.{Ident}
@@ -15,16 +15,19 @@ use Rattle.meta_syntax.proofs.Steps.{SoFar, blanks, comments}
 use Rattle.meta_syntax.proofs.recognize.Recognizer.+recognize.Given as goal
 
 abbrev pub decreases-call : goal.decreases-call
-decreases-call l = measure l.rest.now (skips_in_call l.rule l.mode) (rank_of l.rule + 2)
+decreases-call l = 2 * measure l.rest.now (skips_in_call l.rule l.mode) (rank_of l.rule + 2)
 
 abbrev pub decreases-called : goal.decreases-called
-decreases-called l = measure l.rest.now (skips_in_call l.rule l.mode) (rank_of l.rule + 1)
+decreases-called l = 2 * measure l.rest.now (skips_in_call l.rule l.mode) (rank_of l.rule + 1)
+
+abbrev pub decreases-deeper : goal.decreases-deeper
+decreases-deeper l = 2 * measure l.rest.now (skips_in_call l.rule l.mode) (rank_of l.rule + 1) + 1
 
 abbrev pub decreases-characters : goal.decreases-characters
-decreases-characters l = measure l.from.now (skips_in l.mode) (2 + cost l.body.now)
+decreases-characters l = 2 * measure l.from.now (skips_in l.mode) (2 + cost l.body.now)
 
 abbrev pub decreases-quoted : goal.decreases-quoted
-decreases-quoted l = measure l.from.now (skips_in l.mode) (6 + max (cost l.body.now) (cost l.spelled.now))
+decreases-quoted l = 2 * measure l.from.now (skips_in l.mode) (6 + max (cost l.body.now) (cost l.spelled.now))
 
 abbrev pub invariant-quoted-loop-next : goal.invariant-quoted-loop-next
 invariant-quoted-loop-next l = record {
@@ -39,7 +42,7 @@ abbrev pub decreases-quoted-loop-next : goal.decreases-quoted-loop-next
 decreases-quoted-loop-next l = length l.rest
 
 abbrev pub decreases-comment : goal.decreases-comment
-decreases-comment l = measure l.from.now (skips_in l.mode) (2 + cost l.spelled.now)
+decreases-comment l = 2 * measure l.from.now (skips_in l.mode) (2 + cost l.spelled.now)
 
 abbrev pub invariant-characters-loop-set : goal.invariant-characters-loop-set
 invariant-characters-loop-set l = record {
@@ -54,16 +57,16 @@ abbrev pub decreases-characters-loop-set : goal.decreases-characters-loop-set
 decreases-characters-loop-set l = length l.rest
 
 abbrev pub decreases-run : goal.decreases-run
-decreases-run l = measure l.rest.now (skips_in l.mode) (cost l.form.now)
+decreases-run l = 2 * measure l.rest.now (skips_in l.mode) (cost l.form.now)
 
 abbrev pub decreases-copies : goal.decreases-copies
-decreases-copies l = measure l.rest.now (skips_in l.mode) (1 + cost l.spelled.now)
+decreases-copies l = 2 * measure l.rest.now (skips_in l.mode) (1 + cost l.spelled.now)
 
 abbrev pub decreases-choice : goal.decreases-choice
-decreases-choice l = measure l.rest.now (skips_in l.mode) (1 + max (cost l.first.now) (cost l.second.now))
+decreases-choice l = 2 * measure l.rest.now (skips_in l.mode) (1 + max (cost l.first.now) (cost l.second.now))
 
 abbrev pub decreases-first_of : goal.decreases-first_of
-decreases-first_of l = measure l.rest.now (skips_in l.mode) (3 + greatest_rank (l.first ∷ l.others.now))
+decreases-first_of l = 2 * measure l.rest.now (skips_in l.mode) (3 + greatest_rank (l.first ∷ l.others.now))
 
 abbrev pub invariant-first_of-loop-rule : goal.invariant-first_of-loop-rule
 invariant-first_of-loop-rule l = record {
@@ -72,16 +75,16 @@ invariant-first_of-loop-rule l = record {
 }
 
 abbrev pub decreases-option : goal.decreases-option
-decreases-option l = measure l.rest.now (skips_in l.mode) (1 + cost l.body.now)
+decreases-option l = 2 * measure l.rest.now (skips_in l.mode) (1 + cost l.body.now)
 
 abbrev pub decreases-negation : goal.decreases-negation
-decreases-negation l = measure l.rest.now (skips_in l.mode) (1 + cost l.body.now)
+decreases-negation l = 2 * measure l.rest.now (skips_in l.mode) (1 + cost l.body.now)
 
 abbrev pub decreases-once_or_more : goal.decreases-once_or_more
-decreases-once_or_more l = measure l.rest.now (skips_in l.mode) (2 + cost l.body.now)
+decreases-once_or_more l = 2 * measure l.rest.now (skips_in l.mode) (2 + cost l.body.now)
 
 abbrev pub decreases-sequence : goal.decreases-sequence
-decreases-sequence l = measure l.from.now (skips_in l.mode) (2 + max (cost l.first.now) (if null l.first.now then cost l.others.now else 0))
+decreases-sequence l = 2 * measure l.from.now (skips_in l.mode) (2 + max (cost l.first.now) (if null l.first.now then cost l.others.now else 0))
 
 abbrev pub invariant-sequence-loop-next : goal.invariant-sequence-loop-next
 invariant-sequence-loop-next l = record {
@@ -100,19 +103,19 @@ abbrev pub decreases-sequence-loop-next : goal.decreases-sequence-loop-next
 decreases-sequence-loop-next l = count_of_parts l.left
 
 abbrev pub decreases-skip : goal.decreases-skip
-decreases-skip l = measure l.from.now (skips_in l.mode) 1
+decreases-skip l = 2 * measure l.from.now (skips_in l.mode) 1
 
 abbrev pub decreases-blanks : goal.decreases-blanks
-decreases-blanks l = measure l.from.now 1 0
+decreases-blanks l = 2 * measure l.from.now 1 0
 
 abbrev pub decreases-comments : goal.decreases-comments
-decreases-comments l = measure l.from.now 1 0
+decreases-comments l = 2 * measure l.from.now 1 0
 
 abbrev pub decreases-repetition : goal.decreases-repetition
-decreases-repetition l = measure l.rest.now (skips_in l.mode) (1 + cost l.body.now)
+decreases-repetition l = 2 * measure l.rest.now (skips_in l.mode) (1 + cost l.body.now)
 
 abbrev pub decreases-turns : goal.decreases-turns
-decreases-turns l = measure l.from.now 1 999
+decreases-turns l = 2 * measure l.from.now 1 999
 
 abbrev pub invariant-blanks-loop-after : goal.invariant-blanks-loop-after
 invariant-blanks-loop-after l = record {

@@ -14,10 +14,10 @@ returns-in-Some c = record {
       let x = rw c.in-Some.is at c.in_ok-after.ensures.means in
       let g = rw c.in-Some.is at c.in_ok-after.ensures.goes_on in
       c.parts.ensures.next
-      (question_of (Run (mode_of c.args.mode) (followed (Some (expression_of c.args.first.now)) c.args.others.now)) c.args.rest.now (null c.args.first.now && null c.args.others.now) c.args.self.now)
+      (question_of (Run (mode_of c.args.start.mode) (followed (Some (expression_of c.args.first.now)) c.args.others.now)) c.args.start.rest.now (null c.args.first.now && null c.args.others.now) c.args.self.now)
       top n work
-      (parts_begin c.args.text.now c.args.first.now c.args.others.now c.args.mode c.count_of_entries-mark.result c.args.rest.now c.in-Some.after.now _ _ _ _ c.requires.others c.requires.below c.count_of_entries-mark.ensures x g)
-      h (first_less c.args.first.now c.args.others.now c.args.text.now c.args.rest.now c.in-Some.after.now n c.requires.below g e) l;
+      (parts_begin c.args.text.now c.args.first.now c.args.others.now c.args.start.mode c.args.start.mark c.args.start.rest.now c.in-Some.after.now _ _ _ _ c.requires.others c.requires.below c.requires.marked x g)
+      h (first_less c.args.first.now c.args.others.now c.args.text.now c.args.start.rest.now c.in-Some.after.now n c.requires.below g e) l;
 }
 
 pub returns-in-None : goal.returns-in-None
@@ -25,7 +25,7 @@ returns-in-None c = record {
   next = λ top n work h e l.
       let x = rw c.in-None.is at c.in_ok-after.ensures.means in
       answer_next c.args.text.now c.args.frames.now.items c.copies.new.self None
-      (question_of (Run (mode_of c.args.mode) (followed (Some (expression_of c.args.first.now)) c.args.others.now)) c.args.rest.now (null c.args.first.now && null c.args.others.now) c.args.self.now)
+      (question_of (Run (mode_of c.args.start.mode) (followed (Some (expression_of c.args.first.now)) c.args.others.now)) c.args.start.rest.now (null c.args.first.now && null c.args.others.now) c.args.self.now)
       top n work c.in_ok-after.ensures.remembers
       (record { means = fails_followed (expression_of c.args.first.now) c.args.others.now x; goes_on = tt }) h l;
 }

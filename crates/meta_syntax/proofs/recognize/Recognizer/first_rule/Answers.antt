@@ -15,8 +15,8 @@ pub returns-in_default : goal.returns-in_default
 returns-in_default c = record {
   next = λ top work h l.
       answer_next c.args.text.now c.args.frames.now.items c.first_of.new.self c.in_ok-first_of.field-0
-      (question_of (Run (mode_of c.args.mode) (choice_among (Ident (name_of c.args.first)) c.args.others.now)) c.args.rest.now false c.args.self.now)
-      top (effort c.args.rest.now (calls_cost (c.args.first ∷ c.args.others.now))) work c.in_ok-first_of.ensures.remembers
+      (question_of (Run (mode_of c.args.start.mode) (choice_among (Ident (name_of c.args.first)) c.args.others.now)) c.args.start.rest.now false c.args.self.now)
+      top (effort c.args.start.rest.now (calls_cost (c.args.first ∷ c.args.others.now))) work c.in_ok-first_of.ensures.remembers
       (record { means = c.in_ok-first_of.ensures.means; goes_on = c.in_ok-first_of.ensures.goes_on }) h l;
 }
 
@@ -29,8 +29,8 @@ returns-in-Some-2 c = record {
       let x = rw c.in-Some-2.is at c.in_ok-after.ensures.means in
       let g = rw c.in-Some-2.is at c.in_ok-after.ensures.goes_on in
       answer_next c.args.text.now c.args.frames.now.items c.first_of-2.new.self (Some c.in-Some-2.after)
-      (question_of (Run (mode_of c.args.mode) (choice_among (Ident (name_of c.args.first)) c.args.others.now)) c.args.rest.now false c.args.self.now)
-      top (effort c.args.rest.now (calls_cost (c.args.first ∷ c.args.others.now))) work c.in_ok-after.ensures.remembers
+      (question_of (Run (mode_of c.args.start.mode) (choice_among (Ident (name_of c.args.first)) c.args.others.now)) c.args.start.rest.now false c.args.self.now)
+      top (effort c.args.start.rest.now (calls_cost (c.args.first ∷ c.args.others.now))) work c.in_ok-after.ensures.remembers
       (record { means = found_early (Ident (name_of c.args.first)) c.args.others.now c.in-Some.place x; goes_on = g }) h l;
 }
 
@@ -40,9 +40,9 @@ returns c = record {
       let x = rw c.in_default-2.is at c.in_ok-after.ensures.means in
       let i = c.in-Some.place in
       let far = work_on c.args.frames.now.items c.push.new.self.items
-      (record { wait = wait.FirstOf _; mode = c.args.mode; mark = 0; rest = c.args.rest })
+      (record { wait = wait.FirstOf _; start = c.args.start })
       c.in_ok-push.ensures.items in
       c.in_ok-step.ensures.next top work
-      (rule_asked c.args.text.now c.args.first c.args.others.now i _ _ c.args.mode c.args.rest c.args.self.now.entries.items c.first_of-2.new.self.entries.items c.args.self.now.furthest c.first_of-2.new.self.furthest h.0 top c.args.frames.now.items c.push.new.self.items c.in_ok-push.ensures.items c.requires.ready.left c.in-Some.ensures c.requires.others_take (taken_rest c.args.others.now (i + 1)) x h.1 h.2)
-      (rule_work c.args.first c.args.others.now i _ c.args.frames.now.items c.push.new.self.items c.args.rest.now work far c.in-Some.ensures l);
+      (rule_asked c.args.text.now c.args.first c.args.others.now i _ _ c.args.start.mode c.args.start.mark c.args.start.rest c.args.self.now.entries.items c.first_of-2.new.self.entries.items c.args.self.now.furthest c.first_of-2.new.self.furthest h.0 top c.args.frames.now.items c.push.new.self.items c.in_ok-push.ensures.items c.requires.ready.left c.in-Some.ensures c.requires.others_take (taken_rest c.args.others.now (i + 1)) x h.1 h.2)
+      (rule_work c.args.first c.args.others.now i _ c.args.frames.now.items c.push.new.self.items c.args.start.rest.now work far c.in-Some.ensures l);
 }

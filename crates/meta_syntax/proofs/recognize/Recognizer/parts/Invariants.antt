@@ -10,13 +10,13 @@ use Rattle.meta_syntax.proofs.recognize.Recognizer.parts.Given as goal
 abbrev pub invariant-loop-next : goal.invariant-loop-next
 invariant-loop-next l = record {
   text : shadow (Utf8 l.rest);
-  means : (k : Question) → IsPartWay l.text l.others l.mode l.mark l.fn.self.entries.items l.fn.self.furthest l.from k
-      → IsPartWay l.text l.left l.mode l.mark l.self.entries.items l.self.furthest l.rest k;
+  means : (k : Question) → IsPartWay l.text l.others l.start.mode l.start.mark l.fn.self.entries.items l.fn.self.furthest l.start.rest.now k
+      → IsPartWay l.text l.left l.start.mode l.start.mark l.self.entries.items l.self.furthest l.rest k;
   good : IsGood l.left;
   spelled : IsSpelled l.left;
   below : cost l.left < 1000;
   left : IsLeft l.text l.rest;
-  less : effort l.rest (cost l.left) ≤ effort l.from (cost l.others);
+  less : effort l.rest (cost l.left) ≤ effort l.start.rest.now (cost l.others);
   frames : l.frames.items ≡ l.fn.frames.items;
   remembers : RemembersTruly l.text l.self;
 }

@@ -26,7 +26,7 @@ returns-in-Some-others c = record {
       let x = rw c.in-Some.is at a in
       let z = g.found c.args.self.now.entries.items c.args.self.now.furthest c.in-Some.after x in
       let y = rw c.in-Some-others.is at z in
-      c.parts.ensures.next y.0 top (effort c.args.frame.rest.now (cost c.in-Sequence.field-0.now)) work y.1 (q, y.2, w) y.3 m;
+      c.parts.ensures.next y.0 top (effort c.args.frame.start.rest.now (cost c.in-Sequence.field-0.now)) work y.1 (q, y.2, w) y.3 m;
 }
 
 pub returns-in-None-others : goal.returns-in-None-others
@@ -37,7 +37,7 @@ returns-in-None-others c = record {
       let x = rw c.in-Some.is at a in
       let z = g.found c.args.self.now.entries.items c.args.self.now.furthest c.in-Some.after x in
       let y = rw c.in-None-others.is at z in
-      rw c.in-Some.is (answered_next c.args.text.now c.args.frames.now.items c.args.self.now (Some c.in-Some.after) q top (steps (effort c.args.frame.rest.now (cost c.in-Sequence.field-0.now))) work c.requires.remembers y w m (some_steps (effort c.args.frame.rest.now (cost c.in-Sequence.field-0.now))));
+      rw c.in-Some.is (answered_next c.args.text.now c.args.frames.now.items c.args.self.now (Some c.in-Some.after) q top (steps (effort c.args.frame.start.rest.now (cost c.in-Sequence.field-0.now))) work c.requires.remembers y w m (some_steps (effort c.args.frame.start.rest.now (cost c.in-Sequence.field-0.now))));
 }
 
 pub returns-in-None : goal.returns-in-None
@@ -46,8 +46,8 @@ returns-in-None c = record {
       let g = rw c.in-Sequence.is at f in
       let m = rw c.in-Sequence.is at l in
       let x = rw c.in-None.is at a in
-      answered_next c.args.text.now c.args.frames.now.items _ None q top (steps (effort c.args.frame.rest.now (cost c.in-Sequence.field-0.now))) work c.requires.remembers
-      (g.failed c.args.self.now.entries.items c.cut.new.entries.items c.args.self.now.furthest x c.cut.ensures) w m (some_steps (effort c.args.frame.rest.now (cost c.in-Sequence.field-0.now)));
+      answered_next c.args.text.now c.args.frames.now.items _ None q top (steps (effort c.args.frame.start.rest.now (cost c.in-Sequence.field-0.now))) work c.requires.remembers
+      (g.failed c.args.self.now.entries.items c.cut.new.entries.items c.args.self.now.furthest x c.cut.ensures) w m (some_steps (effort c.args.frame.start.rest.now (cost c.in-Sequence.field-0.now)));
 }
 
 pub returns-in_ok-found-in-None-answer-2 : goal.returns-in_ok-found-in-None-answer-2
@@ -70,7 +70,7 @@ returns-in-Some-answer-3 c = record {
       let x = rw c.in-Some-answer-3.is at a in
       let y = g.found c.args.self.now.entries.items c.args.self.now.furthest c.in-Some-answer-3.after x in
       let near = y.3 in
-      c.turn.ensures.next y.0 top (effort c.args.frame.rest.now 0) work y.1 (q, y.2, w) (omega (arith, near)) m;
+      c.turn.ensures.next y.0 top (effort c.args.frame.start.rest.now 0) work y.1 (q, y.2, w) (omega (arith, near)) m;
 }
 
 pub returns-in-None-answer-3 : goal.returns-in-None-answer-3
@@ -79,6 +79,6 @@ returns-in-None-answer-3 c = record {
       let g = rw c.in-Repetition.is at f in
       let m = rw c.in-Repetition.is at l in
       let x = rw c.in-None-answer-3.is at a in
-      answered_next c.args.text.now c.args.frames.now.items _ (Some c.args.frame.rest) q top (steps (effort c.args.frame.rest.now 0)) work c.requires.remembers
-      (g.failed c.args.self.now.entries.items c.cut-in-None-answer-3.new.entries.items c.args.self.now.furthest x c.cut-in-None-answer-3.ensures) w m (some_steps (effort c.args.frame.rest.now 0));
+      answered_next c.args.text.now c.args.frames.now.items _ (Some c.args.frame.start.rest) q top (steps (effort c.args.frame.start.rest.now 0)) work c.requires.remembers
+      (g.failed c.args.self.now.entries.items c.cut-in-None-answer-3.new.entries.items c.args.self.now.furthest x c.cut-in-None-answer-3.ensures) w m (some_steps (effort c.args.frame.start.rest.now 0));
 }

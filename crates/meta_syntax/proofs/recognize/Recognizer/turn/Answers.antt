@@ -14,7 +14,7 @@ returns c = record {
       let far = s.goes_on.shorter in
       let less = both_steps (effort c.args.after.now 0) (effort c.in_ok-next.next.now (cost c.args.body.now)) n (omega (arith, e)) (omega (arith, e, below, far)) in
       begin_next c.args.text.now c.args.frames.now.items c.push.new.self.items
-      (record { wait = wait.Repetition c.args.body; mode = c.args.mode; mark = c.count_of_entries-mark.result; rest = c.args.after })
+      (record { wait = wait.Repetition c.args.body; start = record { mode = c.args.mode; mark = c.count_of_entries-mark.result; rest = c.args.after } })
       c.skip.new.self c.args.body c.args.mode c.in_ok-next.next h.0 top (steps n) work
       c.in_ok-push.ensures.items t.turn.runnable
       (record { left = s.goes_on.left; remembers = s.remembers })

@@ -1,0 +1,113 @@
+//! Which items' flags hang on which others: for each item a list of those that listen to it. What is asked of
+//! the lists is only that they save time; no flag rests on them.
+use std::alloc::{AllocError, Global};
+
+/// Items that are known by number, each of which listens to some of them.
+pub trait Listening {
+    /// How many items there are.
+    fn count(&self) -> usize;
+
+    /// Tells each one to which an item listens.
+    fn tell<T: Told>(&self, item: usize, told: &mut T);
+}
+
+/// Whoever is told to which items one listens.
+pub trait Told {
+    /// It listens to this one.
+    fn listens_to(&mut self, item: usize);
+}
+
+/// For each item those that listen to it, all in one list.
+#[derive(Drop)]
+pub struct Listeners {
+    /// Where the listeners of each item start; they end where those of the next one start.
+    starts: Vec<usize>,
+    all: Vec<usize>,
+}
+
+impl Listeners {
+    /// The listeners of an item.
+    pub fn of(&self, item: usize) -> &[usize] {
+        let start = place_at(&self.starts, item);
+        let end = place_at(&self.starts, item.saturating_add(1));
+        self.all.get(start..end).unwrap_or(&[])
+    }
+}
+
+fn place_at(places: &[usize], item: usize) -> usize {
+    match places.get(item) {
+        Some(place) => *place,
+        None => 0,
+    }
+}
+
+/// How many listen to each item; and one number more.
+#[derive(Drop)]
+struct Counts {
+    counts: Vec<usize>,
+}
+
+impl Told for Counts {
+    fn listens_to(&mut self, item: usize) {
+        if let Some(count) = self.counts.get_mut(item) {
+            *count = count.saturating_add(1);
+        }
+    }
+}
+
+/// The listeners of all items, while each is put in front of those of its item that were put.
+#[derive(Drop)]
+struct Places {
+    starts: Vec<usize>,
+    all: Vec<usize>,
+    listener: usize,
+}
+
+impl Told for Places {
+    fn listens_to(&mut self, item: usize) {
+        if let Some(start) = self.starts.get_mut(item) {
+            *start = start.saturating_sub(1);
+            if let Some(place) = self.all.get_mut(*start) {
+                *place = self.listener;
+            }
+        }
+    }
+}
+
+/// How many listen to each item; and one number more.
+fn counts_of<L: Listening>(alloc: Global, listening: &L) -> Result<Vec<usize>, AllocError> {
+    let counts = vec![in alloc; 0; listening.count().saturating_add(1)]?;
+    let mut told = Counts { counts };
+    for item in 0..listening.count() {
+        listening.tell(item, &mut told);
+    }
+    Ok(told.counts)
+}
+
+/// Each number becomes its sum with those in front of it; and the sum of all.
+fn add_up(counts: &mut [usize]) -> usize {
+    let mut sum: usize = 0;
+    for count in counts.iter_mut() {
+        sum = sum.saturating_add(*count);
+        *count = sum;
+    }
+    sum
+}
+
+/// Who listens to whom.
+pub fn who_listens<L: Listening>(alloc: Global, listening: &L) -> Result<Listeners, AllocError> {
+    let mut starts = counts_of(alloc, listening)?;
+    let sum = add_up(&mut starts);
+    let all = vec![in alloc; 0; sum]?;
+    let mut told = Places {
+        starts,
+        all,
+        listener: 0,
+    };
+    for item in 0..listening.count() {
+        told.listener = item;
+        listening.tell(item, &mut told);
+    }
+    let Places { starts, all, .. } = told;
+    Ok(Listeners { starts, all })
+}

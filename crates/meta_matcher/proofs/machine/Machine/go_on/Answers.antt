@@ -1,0 +1,28 @@
+use Rattle.std.proofs.Common.{◌+◌, ◌*◌, refl, arith}
+use Rattle.meta_matcher.specs.Machines.{round}
+use Rattle.meta_matcher.specs.declared.frames.Control.TheVariants as control
+use Rattle.meta_matcher.proofs.Timing.{came_to_nothing}
+use Rattle.meta_matcher.proofs.Waiting.{at_top, counted, on_the_way_sooner, popped}
+use Rattle.meta_matcher.proofs.machine.Machine.go_on.Goals as goal
+
+pub start-requires-clause-running : goal.start-requires-clause-running
+start-requires-clause-running c = counted c.args.scene.now c.steps.self _ (c.args.rounds * round + c.steps.since) (control.Run c.in-Run.form c.in-Run.mode c.in-Run.rest) refl refl (rw c.in-Run.is at c.steps.invariant)
+
+pub resume-requires-clause-follows : goal.resume-requires-clause-follows
+resume-requires-clause-follows c =
+    let w = rw c.in-Answer.is at c.steps.invariant in
+    popped c.args.scene.now c.steps.self _ c.in-Some.frame c.in-Answer.answer c.in-Some.ensures.items refl w
+
+pub returns-in-None : goal.returns-in-None
+returns-in-None c =
+    let w = rw c.in-Answer.is at c.steps.invariant in
+    at_top c.args.scene.now c.steps.self c.steps.self _ c.in-Answer.answer (omega (arith, c.in-None.ensures.cases)) refl w
+
+pub returns : goal.returns
+returns c = on_the_way_sooner c.args.scene.now c.steps.self (c.args.rounds * round + c.steps.since) (c.args.rounds * round + c.args.steps) c.steps.control (omega (arith, c.steps-test.false)) c.steps.invariant
+
+pub returns-in_err-control-in-Run : goal.returns-in_err-control-in-Run
+returns-in_err-control-in-Run c = came_to_nothing _ _ _ c.from_residual.result c.in_err-control-in-Run.field-0.0 c.from_residual.ensures.1 c.in_err-control-in-Run.ensures
+
+pub returns-in_err-control-in-Some : goal.returns-in_err-control-in-Some
+returns-in_err-control-in-Some c = came_to_nothing _ _ _ c.from_residual-in_err-control-in-Some.result c.in_err-control-in-Some.field-0.0 c.from_residual-in_err-control-in-Some.ensures.1 c.in_err-control-in-Some.ensures

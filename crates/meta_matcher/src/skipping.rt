@@ -1,0 +1,116 @@
+//! What is skipped at once, and what is matched at once where nothing is skipped.
+ghost use Rattle.std.specs.Prelude.{◌≡◌, ℕ, IfNone, IfSome, true};
+ghost use Rattle.meta_base.specs.Language.Expression.{Rep, RepOnce};
+ghost use Rattle.meta_base.specs.Language.Meaning.{Skipping};
+ghost use Rattle.meta_base.specs.Language.State.{NonAtomicMode};
+ghost use Rattle.meta_matcher.specs.Frames.{FindsFrom, starting};
+ghost use Rattle.meta_matcher.specs.Machines.{IsBoundIn, IsSoundIn, said};
+ghost use Rattle.meta_matcher.specs.Runs.{IsLeft, Now, mode_of};
+ghost use Rattle.meta_matcher.specs.Tight.{GivesAtOnce, IsTight};
+
+use crate::form::Form;
+use crate::frames::AtOnce;
+use crate::machine::Scene;
+use crate::modes::Mode;
+use crate::sets::{one_of, past_all};
+use meta_ast::ast::RuleType;
+
+/// Whether it is known that nothing is skipped in a mode.
+#[inline(always)]
+fn is_tight(scene: &Scene<'_>, mode: Mode) -> bool
+    requires sound { IsSoundIn scene.now }
+    ensures { result ≡ true → IsTight scene.now mode }
+{
+    match mode {
+        Mode::NonAtomic => match scene.program.whitespace {
+            Some(_) => false,
+            None => match scene.program.comment {
+                Some(_) => false,
+                None => true,
+            },
+        },
+        Mode::Atomic | Mode::CompoundAtomic => true,
+    }
+}
+
+/// As many of a form as there are, where it is a set and nothing is skipped.
+pub(crate) fn repeated<'a>(scene: &Scene<'_>, body: &Form, mode: Mode, rest: &'a str) -> AtOnce<'a>
+    requires sound { IsSoundIn scene.now }
+    requires bound { IsBoundIn scene.now body.now }
+    requires left { IsLeft scene.now.text.now rest.now }
+    ensures { GivesAtOnce scene.now (Rep (said scene.now body.now)) mode rest.entry.now result }
+{
+    match body {
+        Form::Set(flags, form) => {
+            if !is_tight(scene, mode) {
+                return AtOnce::Nested;
+            }
+            AtOnce::Answered(Some(past_all(flags, form, rest)))
+        }
+        _ => AtOnce::Nested,
+    }
+}
+
+/// One or more of a form, where it is a set and nothing is skipped.
+pub(crate) fn repeated_once<'a>(
+    scene: &Scene<'_>,
+    body: &Form,
+    mode: Mode,
+    rest: &'a str,
+) -> AtOnce<'a>
+    requires sound { IsSoundIn scene.now }
+    requires bound { IsBoundIn scene.now body.now }
+    requires left { IsLeft scene.now.text.now rest.now }
+    ensures { GivesAtOnce scene.now (RepOnce (said scene.now body.now)) mode rest.entry.now result }
+{
+    match body {
+        Form::Set(flags, form) => {
+            if !is_tight(scene, mode) {
+                return AtOnce::Nested;
+            }
+            match one_of(flags, form, rest) {
+                Some(after) => AtOnce::Answered(Some(past_all(flags, form, after))),
+                None => AtOnce::Answered(None),
+            }
+        }
+        _ => AtOnce::Nested,
+    }
+}
+
+/// What is left behind the blanks, where there are no comments, and a blank is one character without a token.
+#[inline]
+fn blanks_passed<'a>(scene: &Scene<'_>, rest: &'a str) -> Option<&'a str>
+    requires sound { IsSoundIn scene.now }
+    requires left { IsLeft scene.now.text.now rest.now }
+    ensures { IfSome result (λ after. (now : Now) (n : ℕ) → FindsFrom scene.now
+        (starting (Skipping NonAtomicMode) rest.entry.now now n) now after.now) }
+{
+    if let Some(_) = scene.program.comment {
+        return None;
+    }
+    match scene.program.whitespace {
+        Some(number) => {
+            let row = &scene.program.rows[number];
+            match (row.kind, &row.body) {
+                (RuleType::Silent, Form::Set(flags, form)) => Some(past_all(flags, form, rest)),
+                _ => None,
+            }
+        }
+        None => Some(rest),
+    }
+}
+
+/// What is left behind what is skipped in a mode, where that is found at once.
+#[inline(always)]
+pub(crate) fn passed<'a>(scene: &Scene<'_>, mode: Mode, rest: &'a str) -> Option<&'a str>
+    requires sound { IsSoundIn scene.now }
+    requires left { IsLeft scene.now.text.now rest.now }
+    ensures later { IfNone result (mode_of mode ≡ NonAtomicMode) }
+    ensures at_once { IfSome result (λ after. (now : Now) (n : ℕ) → FindsFrom scene.now
+        (starting (Skipping (mode_of mode)) rest.entry.now now n) now after.now) }
+{
+    match mode {
+        Mode::NonAtomic => blanks_passed(scene, rest),
+        Mode::Atomic | Mode::CompoundAtomic => Some(rest),
+    }
+}

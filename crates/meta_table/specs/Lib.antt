@@ -1,0 +1,3 @@
+pub mod Names
+pub mod NameMaps
+pub mod Nodes

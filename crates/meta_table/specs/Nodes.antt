@@ -1,0 +1,42 @@
+-- The nodes of all bodies, in one order.
+use Rattle.std.specs.Prelude.{ℕ, suc, ◌+◌, List, [], ◌∷◌, ◌++◌, flat_map, Bool, true, false, ⊤}
+use Rattle.meta_base.specs.Language.Expression as plain
+use Rattle.meta_base.specs.Language.Expression.{Expression}
+use Rattle.meta_nodes.specs.Nodes.{rule_views}
+use Rattle.meta_nodes.specs.Spanned.{Spanned, Leaf, One, Two, Binary, Seq, Choice, SpannedRule}
+use Rattle.meta_nodes.specs.declared.node.ParserRule.{ParserRule}
+
+-- how many nodes there are, with those inside
+abbrev pub size : Spanned → ℕ
+size (Leaf s e) = 1
+size (One s f x) = suc (size x)
+size (Two s f x y) = suc (size x + size y)
+
+-- a node and all nodes below it, each behind those inside it, the left one before the right
+abbrev pub postorder : Spanned → List Spanned
+postorder (Leaf s e) = Leaf s e ∷ []
+postorder (One s f x) = postorder x ++ One s f x ∷ []
+postorder (Two s f x y) = (postorder x ++ postorder y) ++ Two s f x y ∷ []
+
+-- the nodes of all bodies, also of a rule that a later one of its name hides
+abbrev pub every_node : List SpannedRule → List Spanned
+every_node rules = flat_map (λ r. postorder r.body) rules
+
+-- the same of the rules of code
+abbrev pub all_nodes : List ParserRule → List Spanned
+all_nodes rules = every_node (rule_views rules)
+
+-- an expression without operands
+abbrev pub IsSimple : Expression → Type 0
+IsSimple (plain.Str t) = ⊤
+IsSimple (plain.Insens t) = ⊤
+IsSimple (plain.Range t u) = ⊤
+IsSimple (plain.Ident n) = ⊤
+IsSimple (plain.PeekSlice i j) = ⊤
+IsSimple (plain.PushLiteral t) = ⊤
+IsSimple _ = ⊥
+
+-- whether it is a choice
+abbrev pub choice_of : Binary → Bool
+choice_of Seq = false
+choice_of Choice = true
