@@ -17,7 +17,8 @@ use std::alloc::{AllocError, Global};
 /// Flags tell of so many characters, which are those of ASCII.
 const FLAGS: u8 = 128;
 
-/// How many levels of a body are looked at for the characters with which it may begin: alternatives count one each.
+/// How many levels of a body are looked at for the characters with which it may begin: alternatives count
+/// one each.
 const LEVELS: u8 = 200;
 
 /// Whether a text is one character.
@@ -140,7 +141,8 @@ pub(crate) fn stops_of(alloc: Global, texts: &Vec<String>) -> Result<Vec<bool>, 
     Ok(flags)
 }
 
-/// Whether a form that matches one character, if it does, matches this one; where it is of another kind it may.
+/// Whether a form that matches one character, if it does, matches this one; where it is of another kind it
+/// may.
 fn may_match(form: &Form, c: char) -> bool
     ensures { result ≡ false → characters_of form.now c ≡ false }
 {
@@ -151,8 +153,8 @@ fn may_match(form: &Form, c: char) -> bool
     }
 }
 
-/// Whether a form may begin with a character, as far as that is seen from so many levels. Where not, it fails at
-/// once, and calls no rule before.
+/// Whether a form may begin with a character, as far as that is seen from so many levels. Where not, it fails
+/// at once, and calls no rule before.
 #[cycle(may_begin)]
 fn may_begin(form: &Form, c: char, levels: u8) -> bool
     ensures { result ≡ false → may_begin form.now c ≡ false }
