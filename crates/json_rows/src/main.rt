@@ -1,7 +1,7 @@
-//! Rows: each line of standard input is a text in JSON. It is read as rules and as optimized rules, and what is read
-//! is written again; or it is told why it is refused. But of a line that begins with `tokens` and a rule's name the
-//! rest is a text, of which the tokens are written; and of one that begins with `nodes` a grammar, of which the rules
-//! are written with their places.
+//! Rows: each line of standard input is a text in JSON. It is read as rules and as optimized rules, and what
+//! is read is written again; or it is told why it is refused. But of a line that begins with `tokens` and a
+//! rule's name the rest is a text, of which the tokens are written; and of one that begins with `nodes` a
+//! grammar, of which the rules are written with their places.
 #![tactic(auto)]
 
 use meta_ast::{ast, optimized};
@@ -11,7 +11,7 @@ use meta_json::{
     read_rules, refusal_text, rule_named, rules_text, tokens_text,
 };
 use meta_nodes::release;
-use meta_reader::parser::{ParserRule, PestParser, Rule, consume_rules_with_spans, parse};
+use meta_reader::rules::{ParserRule, PestParser, Rule, consume_rules_with_spans, parse};
 use std::alloc::{AllocError, Global};
 use std::io;
 

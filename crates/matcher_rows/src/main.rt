@@ -1,8 +1,8 @@
 //! Prints what rules match, row by row: the matcher over the front end.
 //!
 //! Standard input has the rows, a line each: the name of a rule, the text that it is run on, and the grammar,
-//! with ` ; ` between them. A line that begins with `#` says what the rows below it show. Each line is printed
-//! as it stands, and below a row what the rule matches.
+//! with ` ; ` between them. A line that begins with `#` says what the rows below it show. Each line is
+//! printed as it stands, and below a row what the rule matches.
 #![tactic(auto)]
 
 ghost use Rattle.meta_matcher.specs.Answers.{IsSoundMatcher};

@@ -4,8 +4,8 @@ use Rattle.meta_base.specs.Language.Expression.{Expression}
 use Rattle.meta_base.specs.Language.Expression as e
 use Rattle.meta_ast.specs.Operands.{operands, over, count_of_nodes}
 use Rattle.meta_ast.specs.Frames.{Unary, PosPred, NegPred, Opt, Rep, RepOnce, RepExact, RepMin, RepMax, RepMinMax, Push, NodeTag, around, joined, AllClose, Opens, leaf, one, two, Closes, enclosed, put_together, turned, work_aside, work_left}
-use Rattle.meta_ast.specs.declared.walks.Joint.{Joint}
-use Rattle.meta_ast.specs.declared.walks.Joint.TheVariants as joint
+use Rattle.meta_ast.specs.declared.shape.Joint.{Joint}
+use Rattle.meta_ast.specs.declared.shape.Joint.TheVariants as joint
 use Rattle.meta_ast.specs.declared.walks.Frame.{Frame}
 use Rattle.meta_ast.specs.declared.walks.Frame.TheVariants as frame
 use Rattle.meta_ast.specs.declared.walks.Onward.{Onward}

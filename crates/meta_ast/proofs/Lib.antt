@@ -7,6 +7,5 @@ pub mod Waiting
 pub mod Unchanged
 pub mod Rebuilding
 pub mod Weights
-pub mod Sameness
-pub mod OptimizedSameness
+pub mod Pairs
 pub mod Pieces

@@ -7,7 +7,7 @@ use Rattle.meta_ast.specs.Operands.{operands, over}
 use Rattle.meta_ast.specs.Maps.{Progress, Becomes, answered, refused, stayed, TopDown, EachTopDown, BottomUp, EachBottomUp, met, none_met, next_met, left, none_left, next_left}
 use Rattle.meta_ast.specs.Frames.{Unary, around, joined, Opens, leaf, one, two, Closes, enclosed, put_together, turned, AllClose, ClosesTopDown, ClosesBottomUp, EndsTopDown, EndsBottomUp}
 use Rattle.meta_ast.proofs.Frames.{operands-around, over-around, operands-joined, over-joined, over-nil, over-operands, last_closes, split_last}
-use Rattle.meta_ast.specs.declared.walks.Joint.{Joint}
+use Rattle.meta_ast.specs.declared.shape.Joint.{Joint}
 use Rattle.meta_ast.specs.declared.walks.Frame.{Frame}
 use Rattle.meta_ast.specs.declared.walks.Frame.TheVariants as frame
 use Rattle.meta_ast.specs.declared.walks.Onward.{Onward}

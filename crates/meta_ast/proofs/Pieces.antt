@@ -1,5 +1,5 @@
 -- What is still to be written, with one piece more.
-use Rattle.std.proofs.Common.{◌≡◌, ◌≤◌, ℕ, ◌+◌, ◌*◌, List, [], ◌∷◌, ◌++◌, refl, sym, ap, ◌∙◌, append-nil, append_assoc, arith}
+use Rattle.std.proofs.Common.{◌≡◌, ◌≤◌, ℕ, ◌+◌, List, [], ◌∷◌, ◌++◌, refl, sym, ap, ◌∙◌, append-nil, append_assoc, arith}
 use Rattle.meta_ast.specs.PrintedBytes.{ByPlace}
 use Rattle.meta_ast.specs.Pieces.{piece_bytes, piece_load, in_turn, load, Puts}
 use Rattle.meta_ast.specs.declared.printing.pieces.Piece.{Piece}

@@ -5,8 +5,8 @@ use Rattle.meta_base.specs.Language.Expression as e
 use Rattle.meta_ast.specs.Operands.{operands, preorder}
 use Rattle.meta_ast.specs.Frames.{Unary, PosPred, NegPred, Opt, Rep, RepOnce, RepExact, RepMin, RepMax, RepMinMax, Push, NodeTag, around, joined}
 use Rattle.meta_ast.specs.TopDownIterators.{waiting}
-use Rattle.meta_ast.specs.declared.walks.Joint.{Joint}
-use Rattle.meta_ast.specs.declared.walks.Joint.TheVariants as joint
+use Rattle.meta_ast.specs.declared.shape.Joint.{Joint}
+use Rattle.meta_ast.specs.declared.shape.Joint.TheVariants as joint
 
 preorder-around : (u : Unary) (x : Expression) → preorder (around u x) ≡ around u x ∷ preorder x
 preorder-around PosPred x = refl

@@ -1,5 +1,5 @@
 -- What is written of an expression, in UTF-8, is its printed text.
-use Rattle.std.proofs.Common.{◌≡◌, refl, sym, ◌∙◌, ap, ap₂, Box, ℕ, zero, suc, ℤ, pos, negsuc, ◌+◌, ◌/◌, ◌%◌, ◌<◌, lt-ltb, List, [], ◌∷◌, ◌++◌, Bool, true, false, ◌&&◌, nat_lt, Option, Some, None, codes, arith, if◌then◌else◌, ◌==◌, ltb-true, encode_utf8_all, map, append-nil, append_assoc, string_bytes}
+use Rattle.std.proofs.Common.{◌≡◌, refl, sym, ◌∙◌, ap, ap₂, ℕ, zero, suc, ℤ, pos, negsuc, ◌+◌, ◌/◌, ◌%◌, ◌<◌, lt-ltb, List, [], ◌∷◌, ◌++◌, Bool, true, false, ◌&&◌, nat_lt, Option, Some, None, codes, arith, if◌then◌else◌, ◌==◌, ltb-true, encode_utf8_all, map, append-nil, append_assoc, string_bytes}
 use Rattle.std.proofs.Math.Utf8.{encodes, encode}
 use Rattle.std.proofs.lemmas.Str.{encodes-append, encode_ascii, chars_past_char}
 use Rattle.std.specs.Str.{IsUtf8, chars}
@@ -10,7 +10,7 @@ use Rattle.std.specs.Fmt.{decimal, signed_decimal, digits, digits_onto, digit_gl
 use Rattle.meta_base.specs.Language.Text.{Text}
 use Rattle.meta_ast.specs.Ast.{text_of, expression_of}
 use Rattle.meta_ast.specs.Optimized.{optimized_expression_of}
-use Rattle.meta_ast.specs.declared.ast.Expr as plain
+use Rattle.meta_ast.specs.declared.ast.Expr as bare
 use Rattle.meta_ast.specs.declared.optimized.OptimizedExpr as optimized
 use Rattle.meta_ast.specs.Printing.{escaped, literal, parenthesized, Place, Alone, AfterTilde, AfterBar, BeforePostfix, inside_wrapper, sequence_at, choice_at, printed_at, printed, predicate_at, bound_literal, slice_end, alternatives}
 use Rattle.meta_ast.specs.PrintedBytes.{ByPlace, everywhere, enclosed, literal_bytes, one_more, alternatives_bytes, skip_bytes, range_bytes, slice_bytes, predicate_bytes, sequence_bytes, choice_bytes, push_literal_bytes, wrapper_bytes, written_bytes, optimized_bytes}
@@ -170,31 +170,31 @@ wrapper f AfterTilde = f Alone
 wrapper f AfterBar = f Alone
 wrapper f BeforePostfix = f BeforePostfix
 
-in_bytes : (x : plain.Expr) → AreInBytes (λ k. printed_at k (expression_of x)) (written_bytes x)
-in_bytes (plain.Str s) k = all_places k (itself _)
-in_bytes (plain.Insens s) k = all_places k (signs (codes "^") refl then itself _)
-in_bytes (plain.Range s u) k = all_places k (range (text_of s) (text_of u))
-in_bytes (plain.Ident s) k = all_places k (record { same = encodes-text_of s })
-in_bytes (plain.PeekSlice i j) k = all_places k (slice i j)
-in_bytes (plain.PosPred' p x) k = predicate (codes "&") refl (in_bytes x) k
-in_bytes (plain.NegPred' p x) k = predicate (codes "!") refl (in_bytes x) k
-in_bytes (plain.Seq' p x q y) k = sequence (in_bytes x) (in_bytes y) k
-in_bytes (plain.Choice' p x q y) k = choice (in_bytes x) (in_bytes y) k
-in_bytes (plain.Opt' p x) k = all_places k (postfix (codes "?") refl (in_bytes x))
-in_bytes (plain.Rep' p x) k = all_places k (postfix (codes "*") refl (in_bytes x))
-in_bytes (plain.RepOnce' p x) k = all_places k (postfix (codes "+") refl (in_bytes x))
-in_bytes (plain.RepExact' p x n) k =
+in_bytes : (x : bare.Expr) → AreInBytes (λ k. printed_at k (expression_of x)) (written_bytes x)
+in_bytes (bare.Str s) k = all_places k (itself _)
+in_bytes (bare.Insens s) k = all_places k (signs (codes "^") refl then itself _)
+in_bytes (bare.Range s u) k = all_places k (range (text_of s) (text_of u))
+in_bytes (bare.Ident s) k = all_places k (record { same = encodes-text_of s })
+in_bytes (bare.PeekSlice i j) k = all_places k (slice i j)
+in_bytes (bare.PosPred' p x) k = predicate (codes "&") refl (in_bytes x) k
+in_bytes (bare.NegPred' p x) k = predicate (codes "!") refl (in_bytes x) k
+in_bytes (bare.Seq' p x q y) k = sequence (in_bytes x) (in_bytes y) k
+in_bytes (bare.Choice' p x q y) k = choice (in_bytes x) (in_bytes y) k
+in_bytes (bare.Opt' p x) k = all_places k (postfix (codes "?") refl (in_bytes x))
+in_bytes (bare.Rep' p x) k = all_places k (postfix (codes "*") refl (in_bytes x))
+in_bytes (bare.RepOnce' p x) k = all_places k (postfix (codes "+") refl (in_bytes x))
+in_bytes (bare.RepExact' p x n) k =
     all_places k (grouped (in_bytes x BeforePostfix then signs (codes "{") refl then number n then signs (codes "}") refl) (three_behind (written_bytes x).before_postfix (codes "{") (decimal n) (codes "}")))
-in_bytes (plain.RepMin' p x m) k =
+in_bytes (bare.RepMin' p x m) k =
     all_places k (grouped (in_bytes x BeforePostfix then signs (codes "{") refl then number m then signs (codes ",}") refl) (three_behind (written_bytes x).before_postfix (codes "{") (decimal m) (codes ",}")))
-in_bytes (plain.RepMax' p x n) k =
+in_bytes (bare.RepMax' p x n) k =
     all_places k (grouped (in_bytes x BeforePostfix then signs (codes "{,") refl then number n then signs (codes "}") refl) (three_behind (written_bytes x).before_postfix (codes "{,") (decimal n) (codes "}")))
-in_bytes (plain.RepMinMax' p x m n) k =
+in_bytes (bare.RepMinMax' p x m n) k =
     all_places k (grouped (in_bytes x BeforePostfix then signs (codes "{") refl then number m then signs (codes ", ") refl then number n then signs (codes "}") refl) (five_behind (written_bytes x).before_postfix (codes "{") (decimal m) (codes ", ") (decimal n) (codes "}")))
-in_bytes (plain.Skip ss) k = all_places k (search_for ss.items)
-in_bytes (plain.Push' p x) k = all_places k (pushed (in_bytes x))
-in_bytes (plain.PushLiteral s) k = all_places k (pushed_literal s)
-in_bytes (plain.NodeTag' p x t) k = all_places k (tagged t (in_bytes x))
+in_bytes (bare.Skip ss) k = all_places k (search_for ss.items)
+in_bytes (bare.Push' p x) k = all_places k (pushed (in_bytes x))
+in_bytes (bare.PushLiteral s) k = all_places k (pushed_literal s)
+in_bytes (bare.NodeTag' p x t) k = all_places k (tagged t (in_bytes x))
 
 optimized_in_bytes : (x : optimized.OptimizedExpr) → AreInBytes (λ k. printed_at k (optimized_expression_of x)) (optimized_bytes x)
 optimized_in_bytes (optimized.Str s) k = all_places k (itself _)
@@ -215,7 +215,7 @@ optimized_in_bytes (optimized.PushLiteral s) k = all_places k (pushed_literal s)
 optimized_in_bytes (optimized.NodeTag' p x t) k = all_places k (tagged t (optimized_in_bytes x))
 optimized_in_bytes (optimized.RestoreOnErr' p x) k = wrapper (optimized_in_bytes x) k
 
-pub encodes-printed : (x : plain.Expr) → encode_utf8_all (printed (expression_of x)) ≡ (written_bytes x).alone
+pub encodes-printed : (x : bare.Expr) → encode_utf8_all (printed (expression_of x)) ≡ (written_bytes x).alone
 encodes-printed x = (in_bytes x Alone).same
 
 pub encodes-printed_optimized : (x : optimized.OptimizedExpr)

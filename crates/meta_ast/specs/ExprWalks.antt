@@ -5,8 +5,8 @@ use Rattle.meta_ast.specs.Ast.{expression_of, text_of}
 use Rattle.meta_ast.specs.TopDownIterators.{waiting}
 use Rattle.meta_ast.specs.Frames as frames
 use Rattle.meta_ast.specs.Frames.{Unary}
-use Rattle.meta_ast.specs.declared.ast.walked.Sign.{Sign}
-use Rattle.meta_ast.specs.declared.ast.walked.Sign.TheVariants.{PosPred, NegPred, Opt, Rep, RepOnce, RepExact, RepMin, RepMax, RepMinMax, Push, NodeTag}
+use Rattle.meta_ast.specs.declared.ast.shaped.Sign.{Sign}
+use Rattle.meta_ast.specs.declared.ast.shaped.Sign.TheVariants.{PosPred, NegPred, Opt, Rep, RepOnce, RepExact, RepMin, RepMax, RepMinMax, Push, NodeTag}
 use Rattle.meta_ast.specs.declared.ast.walked.ExprTopDownIterator.{ExprTopDownIterator}
 
 -- the expressions that an iterator has still to give

@@ -6,8 +6,8 @@ use Rattle.meta_base.specs.Language.Expression as e
 use Rattle.meta_base.specs.declared.runtime.faults.Fault.{Fault}
 use Rattle.meta_ast.specs.Operands.{operands, count_of_nodes}
 use Rattle.meta_ast.specs.Maps.{Progress, Becomes, TopDown, BottomUp}
-use Rattle.meta_ast.specs.declared.walks.Joint.{Joint}
-use Rattle.meta_ast.specs.declared.walks.Joint.TheVariants as joint
+use Rattle.meta_ast.specs.declared.shape.Joint.{Joint}
+use Rattle.meta_ast.specs.declared.shape.Joint.TheVariants as joint
 use Rattle.meta_ast.specs.declared.walks.Node.{Node}
 use Rattle.meta_ast.specs.declared.walks.Node.TheVariants as node
 use Rattle.meta_ast.specs.declared.walks.Frame.{Frame}

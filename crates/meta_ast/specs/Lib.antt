@@ -11,7 +11,7 @@ pub mod ExprWalks
 pub mod OptimizedWalks
 pub mod Rebuilding
 pub mod Weight
+pub mod Shapes
+pub mod OptimizedSigns
 pub mod Copying
-pub mod OptimizedCopying
 pub mod Sameness
-pub mod OptimizedSameness

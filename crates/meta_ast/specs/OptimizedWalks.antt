@@ -6,15 +6,15 @@ use Rattle.meta_ast.specs.Optimized.{optimized_expression_of}
 use Rattle.meta_ast.specs.TopDownIterators.{waiting}
 use Rattle.meta_ast.specs.Frames as frames
 use Rattle.meta_ast.specs.Frames.{Unary}
-use Rattle.meta_ast.specs.declared.optimized.walked.Sign.{Sign}
-use Rattle.meta_ast.specs.declared.optimized.walked.Sign.TheVariants.{PosPred, NegPred, Opt, Rep, RepOnce, Push, NodeTag}
+use Rattle.meta_ast.specs.declared.optimized.shaped.PlainSign.{PlainSign}
+use Rattle.meta_ast.specs.declared.optimized.shaped.PlainSign.TheVariants.{PosPred, NegPred, Opt, Rep, RepOnce, Push, NodeTag}
 use Rattle.meta_ast.specs.declared.optimized.walked.OptimizedExprTopDownIterator.{OptimizedExprTopDownIterator}
 
 -- the expressions that an iterator has still to give
 abbrev pub optimized_expressions_left : OptimizedExprTopDownIterator → List Expression
 optimized_expressions_left i = waiting optimized_expression_of i.stack.value.items
 
-abbrev pub optimized_unary_of : Sign → Unary
+abbrev pub optimized_unary_of : PlainSign → Unary
 optimized_unary_of PosPred = frames.PosPred
 optimized_unary_of NegPred = frames.NegPred
 optimized_unary_of Opt = frames.Opt

@@ -1,6 +1,5 @@
 -- What is written of expressions that are taken apart, and of what is still to be written.
 use Rattle.std.specs.Prelude.{◌≡◌, ◌≤◌, ℕ, ◌+◌, ◌*◌, List, [], ◌∷◌, ◌++◌, codes, encode_utf8_all}
-use Rattle.std.specs.Borrow.{Bor}
 use Rattle.std.specs.Str.{chars}
 use Rattle.meta_ast.specs.Printing.{literal}
 use Rattle.meta_ast.specs.PrintedBytes.{ByPlace, everywhere, skip_bytes, range_bytes, slice_bytes, counts_bytes, predicate_bytes, sequence_bytes, choice_bytes, postfix_bytes, tagged_bytes, wrapper_bytes}
@@ -21,7 +20,8 @@ leaf_bytes (leaf.Range s u) = range_bytes (chars s.now) (chars u.now)
 leaf_bytes (leaf.Ident s) = s.now
 leaf_bytes (leaf.PeekSlice i j) = slice_bytes i j
 leaf_bytes (leaf.Skip ss) = skip_bytes ss.now
-leaf_bytes (leaf.PushLiteral s) = codes "PUSH_LITERAL(" ++ encode_utf8_all (literal 34 (chars s.now)) ++ codes ")"
+leaf_bytes (leaf.PushLiteral s) =
+    codes "PUSH_LITERAL(" ++ encode_utf8_all (literal 34 (chars s.now)) ++ codes ")"
 
 -- what is written at a place
 abbrev pub bytes_at : Place → ByPlace → List ℕ

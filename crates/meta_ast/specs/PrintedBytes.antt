@@ -9,7 +9,7 @@ use Rattle.meta_ast.specs.Ast.{text_of}
 use Rattle.meta_ast.specs.Printing.{literal, bound_literal, slice_end}
 use Rattle.meta_ast.specs.declared.printing.Counts.{Counts}
 use Rattle.meta_ast.specs.declared.printing.Counts.TheVariants as counts
-use Rattle.meta_ast.specs.declared.ast.Expr as plain
+use Rattle.meta_ast.specs.declared.ast.Expr as bare
 use Rattle.meta_ast.specs.declared.optimized.OptimizedExpr as optimized
 
 -- an expression by itself, on the right of a `~` and of a `|`, and before a postfix operator
@@ -95,27 +95,27 @@ wrapper_bytes x =
     record { alone = x.alone; after_tilde = x.alone; after_bar = x.alone; before_postfix = x.before_postfix }
 
 -- an expression; the `p` and `q` are where its boxes lie
-abbrev pub written_bytes : plain.Expr → ByPlace
-written_bytes (plain.Str s) = everywhere (literal_bytes s)
-written_bytes (plain.Insens s) = everywhere (codes "^" ++ literal_bytes s)
-written_bytes (plain.Range s u) = everywhere (range_bytes (text_of s) (text_of u))
-written_bytes (plain.Ident s) = everywhere (string_bytes s)
-written_bytes (plain.PeekSlice i j) = everywhere (slice_bytes i j)
-written_bytes (plain.PosPred' p x) = predicate_bytes (codes "&") (written_bytes x)
-written_bytes (plain.NegPred' p x) = predicate_bytes (codes "!") (written_bytes x)
-written_bytes (plain.Seq' p x q y) = sequence_bytes (written_bytes x) (written_bytes y)
-written_bytes (plain.Choice' p x q y) = choice_bytes (written_bytes x) (written_bytes y)
-written_bytes (plain.Opt' p x) = postfix_bytes (written_bytes x) (codes "?")
-written_bytes (plain.Rep' p x) = postfix_bytes (written_bytes x) (codes "*")
-written_bytes (plain.RepOnce' p x) = postfix_bytes (written_bytes x) (codes "+")
-written_bytes (plain.RepExact' p x n) = postfix_bytes (written_bytes x) (counts_bytes (counts.Exactly n))
-written_bytes (plain.RepMin' p x m) = postfix_bytes (written_bytes x) (counts_bytes (counts.AtLeast m))
-written_bytes (plain.RepMax' p x n) = postfix_bytes (written_bytes x) (counts_bytes (counts.AtMost n))
-written_bytes (plain.RepMinMax' p x m n) = postfix_bytes (written_bytes x) (counts_bytes (counts.Between m n))
-written_bytes (plain.Skip ss) = everywhere (skip_bytes ss.items)
-written_bytes (plain.Push' p x) = everywhere (codes "PUSH(" ++ (written_bytes x).alone ++ codes ")")
-written_bytes (plain.PushLiteral s) = everywhere (push_literal_bytes s)
-written_bytes (plain.NodeTag' p x t) = tagged_bytes (string_bytes t) (written_bytes x)
+abbrev pub written_bytes : bare.Expr → ByPlace
+written_bytes (bare.Str s) = everywhere (literal_bytes s)
+written_bytes (bare.Insens s) = everywhere (codes "^" ++ literal_bytes s)
+written_bytes (bare.Range s u) = everywhere (range_bytes (text_of s) (text_of u))
+written_bytes (bare.Ident s) = everywhere (string_bytes s)
+written_bytes (bare.PeekSlice i j) = everywhere (slice_bytes i j)
+written_bytes (bare.PosPred' p x) = predicate_bytes (codes "&") (written_bytes x)
+written_bytes (bare.NegPred' p x) = predicate_bytes (codes "!") (written_bytes x)
+written_bytes (bare.Seq' p x q y) = sequence_bytes (written_bytes x) (written_bytes y)
+written_bytes (bare.Choice' p x q y) = choice_bytes (written_bytes x) (written_bytes y)
+written_bytes (bare.Opt' p x) = postfix_bytes (written_bytes x) (codes "?")
+written_bytes (bare.Rep' p x) = postfix_bytes (written_bytes x) (codes "*")
+written_bytes (bare.RepOnce' p x) = postfix_bytes (written_bytes x) (codes "+")
+written_bytes (bare.RepExact' p x n) = postfix_bytes (written_bytes x) (counts_bytes (counts.Exactly n))
+written_bytes (bare.RepMin' p x m) = postfix_bytes (written_bytes x) (counts_bytes (counts.AtLeast m))
+written_bytes (bare.RepMax' p x n) = postfix_bytes (written_bytes x) (counts_bytes (counts.AtMost n))
+written_bytes (bare.RepMinMax' p x m n) = postfix_bytes (written_bytes x) (counts_bytes (counts.Between m n))
+written_bytes (bare.Skip ss) = everywhere (skip_bytes ss.items)
+written_bytes (bare.Push' p x) = everywhere (codes "PUSH(" ++ (written_bytes x).alone ++ codes ")")
+written_bytes (bare.PushLiteral s) = everywhere (push_literal_bytes s)
+written_bytes (bare.NodeTag' p x t) = tagged_bytes (string_bytes t) (written_bytes x)
 
 -- an optimized expression
 abbrev pub optimized_bytes : optimized.OptimizedExpr → ByPlace

@@ -1,34 +1,34 @@
--- Expressions that are to be compared.
+-- Trees that are to be compared.
 use Rattle.std.specs.Prelude.{ℕ, ◌+◌, Bool, true, ◌&&◌, List, [], ◌∷◌}
-use Rattle.meta_base.specs.Rewritings.Equality.{expression_eq}
-use Rattle.meta_ast.specs.Ast.{expression_of}
-use Rattle.meta_ast.specs.Weight.{weight}
-use Rattle.meta_ast.specs.declared.ast.compared.Both.{Both}
-use Rattle.meta_ast.specs.declared.ast.compared.Left.{Left}
-use Rattle.meta_ast.specs.declared.ast.compared.Left.TheVariants as left
+use Rattle.meta_ast.specs.declared.sameness.Both.{Both}
+use Rattle.meta_ast.specs.declared.sameness.Left.{Left}
+use Rattle.meta_ast.specs.declared.sameness.Left.TheVariants as left
 
--- whether two are
-abbrev pub is_equal : Both → Bool
-is_equal p = expression_eq (expression_of p.first.now) (expression_of p.second.now)
+-- `is_equal` is whether two trees are
+module _ {T : Type 0} (is_equal : T → T → Bool) where
+  abbrev pub are_both : Both T → Bool
+  are_both p = is_equal p.first.now.value p.second.now.value
 
--- whether all are, two by two
-abbrev pub are_equal : List Both → Bool
-are_equal [] = true
-are_equal (p ∷ ps) = is_equal p && are_equal ps
+  -- whether all are, two by two
+  abbrev pub are_equal : List (Both T) → Bool
+  are_equal [] = true
+  are_equal (p ∷ ps) = are_both p && are_equal ps
 
--- how much there is to be compared
-abbrev pub heaviness : List Both → ℕ
-heaviness [] = 0
-heaviness (p ∷ ps) = weight (expression_of p.first.now) + heaviness ps
+  -- whether two are, by what is left to be compared of them
+  abbrev pub is_same : Left T → Bool
+  is_same (left.Nothing answer) = answer
+  is_same (left.One p answer) = answer && are_both p
+  is_same (left.Two p q) = are_both p && are_both q
 
--- whether two are, by what is left to be compared of them
-abbrev pub is_same : Left → Bool
-is_same (left.Nothing answer) = answer
-is_same (left.One p answer) = is_equal p && answer
-is_same (left.Two p q) = is_equal p && is_equal q
+-- `heaviness` is how large a tree is
+module _ {T : Type 0} (heaviness : T → ℕ) where
+  -- how much there is to be compared
+  abbrev pub heaviness_of_all : List (Both T) → ℕ
+  heaviness_of_all [] = 0
+  heaviness_of_all (p ∷ ps) = heaviness p.first.now.value + heaviness_of_all ps
 
--- how much that is
-abbrev pub heaviness_left : Left → ℕ
-heaviness_left (left.Nothing answer) = 0
-heaviness_left (left.One p answer) = weight (expression_of p.first.now)
-heaviness_left (left.Two p q) = weight (expression_of p.first.now) + weight (expression_of q.first.now)
+  -- how much is left to be
+  abbrev pub heaviness_left : Left T → ℕ
+  heaviness_left (left.Nothing answer) = 0
+  heaviness_left (left.One p answer) = heaviness p.first.now.value
+  heaviness_left (left.Two p q) = heaviness p.first.now.value + heaviness q.first.now.value

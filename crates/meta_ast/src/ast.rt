@@ -6,9 +6,11 @@ mod cloned;
 mod compared;
 mod printed;
 mod released;
+mod shaped;
 mod walked;
 
 pub use released::release;
+pub use shaped::Sign;
 pub use walked::ExprTopDownIterator;
 
 /// A rule of a grammar: `name = { expr }`, with the modifier of its type before the brace.

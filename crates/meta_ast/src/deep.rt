@@ -1,7 +1,8 @@
 //! Values that may be very deep or wide, let go by a loop wherever they go out of scope.
 //!
-//! A value of nested boxes that goes out of scope is let go by a call a level, and can run out of the machine's
-//! stack. So what a function has at hand while a request for memory can be refused is kept in a [`Deep`].
+//! A value of nested boxes that goes out of scope is let go by a call a level, and can run out of the
+//! machine's stack. So what a function has at hand while a request for memory can be refused is kept in a
+//! [`Deep`].
 ghost use Rattle.std.specs.Prelude.{◌≡◌, ◌∷◌, ◌++◌, [], IfOk, OnErr, OnOk};
 
 use std::alloc::{AllocError, Global};
@@ -77,8 +78,8 @@ impl<T: Release> Deep<T> {
 }
 
 impl<T: Release> Deep<Vec<T>> {
-    /// Puts a value behind those of the list. Where memory is refused, the value is let go and the list is as it
-    /// was.
+    /// Puts a value behind those of the list. Where memory is refused, the value is let go and the list is as
+    /// it was.
     pub fn push(&mut self, item: Deep<T>) -> Result<(), AllocError>
         ensures pushed { OnOk result (self.new.value.items ≡ self.old.value.items ++ (item.value ∷ [])) }
         ensures unchanged { OnErr result (self.new.value.items ≡ self.old.value.items) }

@@ -7,5 +7,7 @@ pub mod derived;
 pub mod optimized;
 pub mod printing;
 pub mod rebuilt;
+pub mod sameness;
+pub mod shape;
 pub mod texts;
 mod walks;

@@ -5,9 +5,11 @@ mod cloned;
 mod compared;
 mod printed;
 mod released;
+mod shaped;
 mod walked;
 
 pub use released::release;
+pub use shaped::{PlainSign, Sign};
 pub use walked::OptimizedExprTopDownIterator;
 
 /// An optimized rule of a grammar.

@@ -13,18 +13,12 @@ ghost use Rattle.meta_base.specs.Language.Expression.{Expression};
 ghost use Rattle.meta_ast.specs.Frames.{Unary, around, joined, IsOpened};
 
 use crate::deep::{Deep, Release};
+use crate::shape::Joint;
 pub(crate) use bottom_up::map_bottom_up;
 use meta_base::runtime::Fault;
 pub(crate) use preorder::take_first;
 use std::alloc::{AllocError, Global};
 pub(crate) use top_down::map_top_down;
-
-/// What stands between two operands.
-#[derive(Drop)]
-pub(crate) enum Joint {
-    Sequence,
-    Choice,
-}
 
 /// An expression that was taken apart.
 #[derive(Drop)]
@@ -98,10 +92,7 @@ pub(crate) fn boxed<E: Release>(alloc: Global, operand: Deep<E>) -> Result<Deep<
     ensures boxed { IfOk result (λ b. b.value.value ≡ operand.value) }
     ensures memory { IfErr result (λ fault. fault ≡ Fault.Memory alloc_error) }
 {
-    match operand.boxed(alloc) {
-        Ok(boxed) => Ok(boxed),
-        Err(error) => Err(Fault::Memory(error)),
-    }
+    Ok(operand.boxed(alloc)?)
 }
 
 /// Two operands without their boxes.

@@ -17,9 +17,9 @@ use Rattle.std.proofs.lemmas.Str.{chars-append, chars-nil, IsUtf8-drop, IsCharBo
 use Rattle.std.proofs.Math.Seq.{drop-append-add, take-add}
 use Rattle.std.proofs.Math.ListN.{length-drop, length-append}
 use Rattle.meta_base.specs.Pieces.LineColumn.{is_line_feed, last_line, first_line, line_number, line_around}
-use Rattle.meta_base.specs.Pieces.Marks.{AreMarks, IsMark, column_behind, start}
+use Rattle.meta_base.specs.Pieces.Landmarks.{AreLandmarks, IsLandmark, column_behind, start}
 use Rattle.meta_base.specs.Pieces.PrintedError.{is_printed, printed_line}
-use Rattle.meta_base.specs.declared.runtime.surveys.Mark.{Mark}
+use Rattle.meta_base.specs.declared.runtime.surveys.Landmark.{Landmark}
 
 pub order : (a b : ℕ) → (a ≤ b) ⊎ (b < a)
 order a b = ⊎_elim (λ h. inl h.1) (λ h. inr h.1) (leb_tells a b)
@@ -142,24 +142,24 @@ one_line text i j inside_i inside_j same =
     ⊎_elim (λ le. line_goes_on text i j le inside_j same) (λ lt. sym (line_goes_on text j i (omega arith) inside_i (sym same))) (order i j)
 
 -- where every text begins
-pub start_is_mark : (text : List ℕ) → IsUtf8 text → IsMark text start
-start_is_mark text utf8 = record {
+pub start_is_landmark : (text : List ℕ) → IsUtf8 text → IsLandmark text start
+start_is_landmark text utf8 = record {
   between = IsCharBoundary-start text utf8;
   line_column = let n : length (chars (last_line (take 0 text))) ≡ 0 = ap length chars-nil in rw n refl;
   from_one = omega arith;
   fits = omega arith;
 }
 
-pub known_line : (text : List ℕ) (a b : Mark) → IsMark text a → IsMark text b → a.line ≡ b.line → printed_line text a.place ≡ printed_line text b.place
+pub known_line : (text : List ℕ) (a b : Landmark) → IsLandmark text a → IsLandmark text b → a.line ≡ b.line → printed_line text a.place ≡ printed_line text b.place
 known_line text a b of_a of_b same =
     let e : line_number text a.place ≡ line_number text b.place = sym (ap (λ p. p.0) of_a.line_column) ∙ same ∙ ap (λ p. p.0) of_b.line_column in
     ap (λ line. encode_utf8_all (filter is_printed (chars line))) (one_line text a.place b.place of_a.between.0 of_b.between.0 e)
 
-pub one_mark : (text : List ℕ) (m : Mark) → IsMark text m → AreMarks text (m ∷ [])
-one_mark text m is = All-cons (IsMark text) m [] is (λ k d h. absurd (omega arith))
+pub one_landmark : (text : List ℕ) (m : Landmark) → IsLandmark text m → AreLandmarks text (m ∷ [])
+one_landmark text m is = All-cons (IsLandmark text) m [] is (λ k d h. absurd (omega arith))
 
-pub marks_more : (text : List ℕ) (ms : List Mark) (m : Mark) → AreMarks text ms → IsMark text m → AreMarks text (ms ++ m ∷ [])
-marks_more text ms m are is = All-push (IsMark text) ms m are is
+pub landmarks_more : (text : List ℕ) (ms : List Landmark) (m : Landmark) → AreLandmarks text ms → IsLandmark text m → AreLandmarks text (ms ++ m ∷ [])
+landmarks_more text ms m are is = All-push (IsLandmark text) ms m are is
 
 -- a shared line is the line itself
 pub same_line : (r : Result (Arc (String Global) Global) AllocError) (line : Arc (String Global) Global) (bytes : List ℕ)

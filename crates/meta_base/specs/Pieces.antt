@@ -1,7 +1,7 @@
 -- Pieces of a text, trees over them, and errors that tell of them.
 pub mod Comparing
 pub mod LineColumn
-pub mod Marks
+pub mod Landmarks
 pub mod MetaRules
 pub mod NamedTrees
 pub mod Pairs

@@ -5,8 +5,8 @@ use std::alloc::AllocError;
 ///
 /// `№` stands for the number, `½` for its half, `↑` for the next number, `↻` for the next one or 0 after the
 /// last, `⇄` for another one of them, and `⇆` for the one that follows on the way from the first to the last,
-/// the second, the last but one and so on; behind the last on this way it is the number of all. `①` to `⑧` stand
-/// for a letter where the number has such a binary digit, and else for nothing.
+/// the second, the last but one and so on; behind the last on this way it is the number of all. `①` to `⑧`
+/// stand for a letter where the number has such a binary digit, and else for nothing.
 pub fn push_line(
     out: &mut String,
     line: &str,

@@ -2,9 +2,9 @@
 use crate::lines::push_line;
 use std::alloc::{AllocError, Global};
 
-/// A shape that grammars have: what stands before so many lines, such a line, as `push_line` has it, what stands
-/// behind them, as it is written for the number of lines; and the same of other lines, of which there are `each`
-/// for one of the first.
+/// A shape that grammars have: what stands before so many lines, such a line, as `push_line` has it, what
+/// stands behind them, as it is written for the number of lines; and the same of other lines, of which there
+/// are `each` for one of the first.
 pub struct Shape {
     name: &'static str,
     begin: &'static str,

@@ -7,9 +7,9 @@ use meta_base::runtime::Fault;
 use meta_names::validate_pairs;
 use meta_nodes::{ParserRule, erase_spans};
 use meta_optimizer::{concatenate, optimize};
-use meta_reader::parser::consume_rules_with_spans;
+use meta_reader::rules::consume_rules_with_spans;
 use meta_restorer::restore_rules;
-use meta_stack::validate_stack_repetition;
+use meta_stack_pass::validate_stack_repetition;
 use meta_syntax::grammar::PestParser;
 use meta_validator::validator::validate_rules;
 use pest_meta::parse_and_optimize;
@@ -89,7 +89,7 @@ fn nodes_of<'i>(alloc: Global, text: &'i str) -> Result<Vec<ParserRule<'i>>, Fau
 /// The rules of a text, which nobody has validated.
 fn rules_of(alloc: Global, text: &str) -> Result<Vec<ast::Rule>, Fault> {
     let nodes = nodes_of(alloc, text)?;
-    erase_spans(alloc, nodes).map_err(Fault::Memory)
+    Ok(erase_spans(alloc, nodes)?)
 }
 
 /// The optimized rules of a text, without wrappers.

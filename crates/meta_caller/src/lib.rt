@@ -31,10 +31,7 @@ pub fn named_places(alloc: Global, grammar: &str) -> Result<Vec<(String, (usize,
 {
     let pairs = parse(alloc, Rule::grammar_rules, grammar)?;
     let rules = consume_rules_with_spans(alloc, pairs)?;
-    match places(alloc, rules) {
-        Ok(places) => Ok(places),
-        Err(error) => Err(Fault::Memory(error)),
-    }
+    Ok(places(alloc, rules)?)
 }
 
 /// The names of rules, each with the line and the column at which it stands.

@@ -20,8 +20,8 @@ pushing =
     ∷ []
 
 -- a literal push pushes its text, be it empty or at the end of what is read, and takes nothing; it has no
--- other outcome, and gives no tree; a POP behind it takes the text; where a sequence fails behind it, its text
--- is off the stack again
+-- other outcome, and gives no tree; a POP behind it takes the text; where a sequence fails behind it, its
+-- text is off the stack again
 pub record LiteralPushes (classes : Classes) : Type 0 where
   pub pushes : Matches [] classes (PushLiteral (codes "x")) NonAtomicMode (stacked (codes "y"))
       (ends_at (record { position = 0; rest = codes "y"; stack = codes "x" ∷ codes "b" ∷ codes "a" ∷ [] }))

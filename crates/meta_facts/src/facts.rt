@@ -237,8 +237,8 @@ pub fn counts_when_given_up()
     ensures { (classes : Classes) → CountsWhenGivenUp classes }
 {}
 
-/// Of two calls that failed at one place, one within the other, the outer is expected; a silent rule tells what is
-/// called in it.
+/// Of two calls that failed at one place, one within the other, the outer is expected; a silent rule tells
+/// what is called in it.
 pub fn tells_the_outer()
     ensures { (classes : Classes) → TellsTheOuter classes }
 {}

@@ -13,8 +13,8 @@ use Rattle.meta_base.specs.declared.runtime.errors.InputLocation.{InputLocation}
 use Rattle.meta_base.specs.declared.runtime.errors.InputLocation.TheVariants as location
 use Rattle.meta_base.specs.declared.runtime.errors.LineColLocation.{LineColLocation}
 use Rattle.meta_base.specs.declared.runtime.errors.LineColLocation.TheVariants as line_col
-use Rattle.meta_ast.specs.declared.ast.Rule as plain_rule
-use Rattle.meta_ast.specs.declared.ast.Expr as plain
+use Rattle.meta_ast.specs.declared.ast.Rule as bare_rule
+use Rattle.meta_ast.specs.declared.ast.Expr as bare
 use Rattle.meta_ast.specs.declared.optimized.OptimizedExpr as optimized
 use Rattle.meta_ast.specs.declared.optimized.OptimizedRule.{OptimizedRule}
 use Rattle.meta_json.specs.Errors.{answer_data, error_data, error_members, errors_data, line_col_data, location_data, names_data, rule_names_data, said_members}
@@ -68,27 +68,27 @@ one_free a b h k = both_false (a || (b || false)) false (then_free a b h k) refl
 skip_free : (a : Bool) → a ≡ false → ((a || false) || false) ≡ false
 skip_free a h = both_false (a || false) false (both_false a false h refl) refl
 
-pub nodes_free : (e : plain.Expr) → items_have_float (items_of (nodes_of e)) ≡ false
-nodes_free (plain.Str s) = refl
-nodes_free (plain.Insens s) = refl
-nodes_free (plain.Range s t) = refl
-nodes_free (plain.Ident s) = refl
-nodes_free (plain.PeekSlice i j) = one_free (has_float (place_data i)) (has_float (end_data j)) (place_float i) (end_free j)
-nodes_free (plain.PosPred' p x) = nodes_free x
-nodes_free (plain.NegPred' p x) = nodes_free x
-nodes_free (plain.Opt' p x) = nodes_free x
-nodes_free (plain.Rep' p x) = nodes_free x
-nodes_free (plain.RepOnce' p x) = nodes_free x
-nodes_free (plain.Push' p x) = nodes_free x
-nodes_free (plain.PushLiteral s) = refl
-nodes_free (plain.NodeTag' p x s) = nodes_free x
-nodes_free (plain.Seq' p x q y) = append_free (nodes_of x) (nodes_of y) (nodes_free x) (nodes_free y)
-nodes_free (plain.Choice' p x q y) = append_free (nodes_of x) (nodes_of y) (nodes_free x) (nodes_free y)
-nodes_free (plain.RepExact' p x n) = nodes_free x
-nodes_free (plain.RepMin' p x n) = nodes_free x
-nodes_free (plain.RepMax' p x n) = nodes_free x
-nodes_free (plain.RepMinMax' p x m n) = nodes_free x
-nodes_free (plain.Skip ss) = skip_free (has_float (texts_data ss.items)) (texts_free ss.items)
+pub nodes_free : (e : bare.Expr) → items_have_float (items_of (nodes_of e)) ≡ false
+nodes_free (bare.Str s) = refl
+nodes_free (bare.Insens s) = refl
+nodes_free (bare.Range s t) = refl
+nodes_free (bare.Ident s) = refl
+nodes_free (bare.PeekSlice i j) = one_free (has_float (place_data i)) (has_float (end_data j)) (place_float i) (end_free j)
+nodes_free (bare.PosPred' p x) = nodes_free x
+nodes_free (bare.NegPred' p x) = nodes_free x
+nodes_free (bare.Opt' p x) = nodes_free x
+nodes_free (bare.Rep' p x) = nodes_free x
+nodes_free (bare.RepOnce' p x) = nodes_free x
+nodes_free (bare.Push' p x) = nodes_free x
+nodes_free (bare.PushLiteral s) = refl
+nodes_free (bare.NodeTag' p x s) = nodes_free x
+nodes_free (bare.Seq' p x q y) = append_free (nodes_of x) (nodes_of y) (nodes_free x) (nodes_free y)
+nodes_free (bare.Choice' p x q y) = append_free (nodes_of x) (nodes_of y) (nodes_free x) (nodes_free y)
+nodes_free (bare.RepExact' p x n) = nodes_free x
+nodes_free (bare.RepMin' p x n) = nodes_free x
+nodes_free (bare.RepMax' p x n) = nodes_free x
+nodes_free (bare.RepMinMax' p x m n) = nodes_free x
+nodes_free (bare.Skip ss) = skip_free (has_float (texts_data ss.items)) (texts_free ss.items)
 
 pub optimized_nodes_free : (e : optimized.OptimizedExpr) → items_have_float (items_of (optimized_nodes_of e)) ≡ false
 optimized_nodes_free (optimized.Str s) = refl
@@ -109,7 +109,7 @@ optimized_nodes_free (optimized.Seq' p x q y) = append_free (optimized_nodes_of 
 optimized_nodes_free (optimized.Choice' p x q y) = append_free (optimized_nodes_of x) (optimized_nodes_of y) (optimized_nodes_free x) (optimized_nodes_free y)
 optimized_nodes_free (optimized.Skip ss) = skip_free (has_float (texts_data ss.items)) (texts_free ss.items)
 
-pub rules_without_floats : (rules : List plain_rule.Rule) → has_float (rules_data rules) ≡ false
+pub rules_without_floats : (rules : List bare_rule.Rule) → has_float (rules_data rules) ≡ false
 rules_without_floats rules = map_free _ (λ r. both_false _ false (nodes_free r.expr) refl) rules
 
 pub optimized_without_floats : (rules : List OptimizedRule) → has_float (optimized_rules_data rules) ≡ false

@@ -7,8 +7,8 @@ use Rattle.serde_json.specs.Find.{of_integer}
 use Rattle.serde_json.specs.View.{items_of}
 use Rattle.meta_ast.specs.declared.ast.RuleType.{RuleType}
 use Rattle.meta_ast.specs.declared.ast.RuleType.TheVariants.{Normal, Silent, Atomic, CompoundAtomic, NonAtomic}
-use Rattle.meta_ast.specs.declared.ast.Rule as plain_rule
-use Rattle.meta_ast.specs.declared.ast.Expr as plain
+use Rattle.meta_ast.specs.declared.ast.Rule as bare_rule
+use Rattle.meta_ast.specs.declared.ast.Expr as bare
 use Rattle.meta_ast.specs.declared.optimized.OptimizedExpr as optimized
 use Rattle.meta_ast.specs.declared.optimized.OptimizedRule as optimized_rule
 
@@ -40,28 +40,28 @@ abbrev pub texts_data : List (String Global) → Data
 texts_data ss = array (items_of (map text_data ss))
 
 -- an expression's nodes, each before its operands; the `p` and `q` are where its boxes lie
-abbrev pub nodes_of : plain.Expr → List Data
-nodes_of (plain.Str s) = form_with (codes "str") (text_data s) ∷ []
-nodes_of (plain.Insens s) = form_with (codes "insens") (text_data s) ∷ []
-nodes_of (plain.Range s t) = form_with_two (codes "range") (text_data s) (text_data t) ∷ []
-nodes_of (plain.Ident s) = form_with (codes "ident") (text_data s) ∷ []
-nodes_of (plain.PeekSlice i j) = form_with_two (codes "peek_slice") (place_data i) (end_data j) ∷ []
-nodes_of (plain.PosPred' p x) = form (codes "pos_pred") ∷ nodes_of x
-nodes_of (plain.NegPred' p x) = form (codes "neg_pred") ∷ nodes_of x
-nodes_of (plain.Seq' p x q y) = form (codes "seq") ∷ nodes_of x ++ nodes_of y
-nodes_of (plain.Choice' p x q y) = form (codes "choice") ∷ nodes_of x ++ nodes_of y
-nodes_of (plain.Opt' p x) = form (codes "opt") ∷ nodes_of x
-nodes_of (plain.Rep' p x) = form (codes "rep") ∷ nodes_of x
-nodes_of (plain.RepOnce' p x) = form (codes "rep_once") ∷ nodes_of x
-nodes_of (plain.RepExact' p x n) = form_with (codes "rep_exact") (count_data n) ∷ nodes_of x
-nodes_of (plain.RepMin' p x m) = form_with (codes "rep_min") (count_data m) ∷ nodes_of x
-nodes_of (plain.RepMax' p x n) = form_with (codes "rep_max") (count_data n) ∷ nodes_of x
-nodes_of (plain.RepMinMax' p x m n) =
+abbrev pub nodes_of : bare.Expr → List Data
+nodes_of (bare.Str s) = form_with (codes "str") (text_data s) ∷ []
+nodes_of (bare.Insens s) = form_with (codes "insens") (text_data s) ∷ []
+nodes_of (bare.Range s t) = form_with_two (codes "range") (text_data s) (text_data t) ∷ []
+nodes_of (bare.Ident s) = form_with (codes "ident") (text_data s) ∷ []
+nodes_of (bare.PeekSlice i j) = form_with_two (codes "peek_slice") (place_data i) (end_data j) ∷ []
+nodes_of (bare.PosPred' p x) = form (codes "pos_pred") ∷ nodes_of x
+nodes_of (bare.NegPred' p x) = form (codes "neg_pred") ∷ nodes_of x
+nodes_of (bare.Seq' p x q y) = form (codes "seq") ∷ nodes_of x ++ nodes_of y
+nodes_of (bare.Choice' p x q y) = form (codes "choice") ∷ nodes_of x ++ nodes_of y
+nodes_of (bare.Opt' p x) = form (codes "opt") ∷ nodes_of x
+nodes_of (bare.Rep' p x) = form (codes "rep") ∷ nodes_of x
+nodes_of (bare.RepOnce' p x) = form (codes "rep_once") ∷ nodes_of x
+nodes_of (bare.RepExact' p x n) = form_with (codes "rep_exact") (count_data n) ∷ nodes_of x
+nodes_of (bare.RepMin' p x m) = form_with (codes "rep_min") (count_data m) ∷ nodes_of x
+nodes_of (bare.RepMax' p x n) = form_with (codes "rep_max") (count_data n) ∷ nodes_of x
+nodes_of (bare.RepMinMax' p x m n) =
     form_with_two (codes "rep_min_max") (count_data m) (count_data n) ∷ nodes_of x
-nodes_of (plain.Skip ss) = form_with (codes "skip") (texts_data ss.items) ∷ []
-nodes_of (plain.Push' p x) = form (codes "push") ∷ nodes_of x
-nodes_of (plain.PushLiteral s) = form_with (codes "push_literal") (text_data s) ∷ []
-nodes_of (plain.NodeTag' p x s) = form_with (codes "node_tag") (text_data s) ∷ nodes_of x
+nodes_of (bare.Skip ss) = form_with (codes "skip") (texts_data ss.items) ∷ []
+nodes_of (bare.Push' p x) = form (codes "push") ∷ nodes_of x
+nodes_of (bare.PushLiteral s) = form_with (codes "push_literal") (text_data s) ∷ []
+nodes_of (bare.NodeTag' p x s) = form_with (codes "node_tag") (text_data s) ∷ nodes_of x
 
 -- an optimized expression's
 abbrev pub optimized_nodes_of : optimized.OptimizedExpr → List Data
@@ -101,7 +101,7 @@ rule_data name ty nodes = object (member (codes "expr") (array (items_of nodes))
     (member (codes "name") (string name) (member (codes "type") (string (type_name ty)) no_members)))
 
 -- lists of rules
-abbrev pub rules_data : List plain_rule.Rule → Data
+abbrev pub rules_data : List bare_rule.Rule → Data
 rules_data rules = array (items_of (map (λ r. rule_data (string_bytes r.name) r.ty (nodes_of r.expr)) rules))
 
 abbrev pub optimized_rules_data : List optimized_rule.OptimizedRule → Data

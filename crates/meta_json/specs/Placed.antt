@@ -10,8 +10,8 @@ use Rattle.meta_nodes.specs.declared.node.ParserExpr.{ParserExpr}
 use Rattle.meta_nodes.specs.declared.node.ParserExpr.TheVariants as is
 use Rattle.meta_nodes.specs.declared.node.ParserRule.{ParserRule}
 
--- an expression's nodes, each before its operands; the `p` and `q` are where its boxes lie, the `s` and `t` where
--- its operands stand
+-- an expression's nodes, each before its operands; the `p` and `q` are where its boxes lie, the `s` and `t`
+-- where its operands stand
 abbrev pub nodes_of_placed : ParserExpr → List Data
 nodes_of_placed (is.Str u) = form_with (codes "str") (text_data u) ∷ []
 nodes_of_placed (is.Insens u) = form_with (codes "insens") (text_data u) ∷ []

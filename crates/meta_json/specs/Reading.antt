@@ -5,7 +5,7 @@ use Rattle.serde_json.specs.Find.{get}
 use Rattle.serde_json.specs.Read.{read}
 use Rattle.serde_json.specs.View.{items_of}
 use Rattle.meta_ast.specs.declared.ast.RuleType.{RuleType}
-use Rattle.meta_ast.specs.declared.ast.Rule as plain
+use Rattle.meta_ast.specs.declared.ast.Rule as bare
 use Rattle.meta_ast.specs.declared.optimized.OptimizedRule.{OptimizedRule}
 use Rattle.meta_json.specs.Format.{nodes_of, optimized_nodes_of, type_name}
 
@@ -30,7 +30,7 @@ rule_members name ty nodes = record {
   body = Some (array (items_of nodes));
 }
 
-abbrev pub members_of_rule : plain.Rule → Members
+abbrev pub members_of_rule : bare.Rule → Members
 members_of_rule r = rule_members (string_bytes r.name) r.ty (nodes_of r.expr)
 
 abbrev pub members_of_optimized : OptimizedRule → Members
@@ -41,7 +41,7 @@ abbrev pub Lists : List ℕ → List Members → Type 0
 Lists text wanted = (ds : List Data) × (read text ≡ Some (array (items_of ds))) × (map members_of ds ≡ wanted)
 
 -- the text has these rules
-abbrev pub AreRules : List ℕ → List plain.Rule → Type 0
+abbrev pub AreRules : List ℕ → List bare.Rule → Type 0
 AreRules text rules = Lists text (map members_of_rule rules)
 
 abbrev pub AreOptimizedRules : List ℕ → List OptimizedRule → Type 0

@@ -1,4 +1,5 @@
-//! Expressions as lists of nodes, each before its operands, and read back. No nesting takes depth of the stack.
+//! Expressions as lists of nodes, each before its operands, and read back. No nesting takes depth of the
+//! stack.
 ghost use Rattle.std.specs.Prelude.{◌≡◌, ◌<◌, ◌+◌, ◌++◌, ℕ, List, [], ◌∷◌, IfOk, OnOk, map};
 ghost use Rattle.serde_json.specs.Data.{Data};
 ghost use Rattle.serde_json.specs.View.{view};
@@ -35,8 +36,8 @@ pub(crate) trait AsNodes {
 
 /// Expressions that are read from nodes too.
 pub(crate) trait FromNodes: AsNodes + Release {
-    /// The expression of a node with the first of these operands, the last of which comes first. It takes those
-    /// that it needs.
+    /// The expression of a node with the first of these operands, the last of which comes first. It takes
+    /// those that it needs.
     fn of_node(
         alloc: Global,
         node: Node<'_>,

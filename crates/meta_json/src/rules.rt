@@ -83,8 +83,8 @@ pub(crate) fn name_of_type(ty: RuleType) -> &'static str
     }
 }
 
-/// The rules that a text in JSON has. Refused for want of memory; where the text is no JSON, or no list; and at the
-/// first object that is no rule.
+/// The rules that a text in JSON has. Refused for want of memory; where the text is no JSON, or no list; and
+/// at the first object that is no rule.
 pub fn read_rules(alloc: Global, text: &str) -> Result<Vec<Rule>, Refusal>
     ensures { IfOk result (λ rules. AreRules text.now rules.items) }
 {

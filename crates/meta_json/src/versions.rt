@@ -7,8 +7,8 @@ ghost use Rattle.meta_json.specs.Versions.{version_data};
 use serde_json::{Value, json};
 use std::alloc::{AllocError, Global};
 
-/// The number of the format and the version of the original crate that is ported, as JSON. The only error is a want
-/// of memory.
+/// The number of the format and the version of the original crate that is ported, as JSON. The only error is
+/// a want of memory.
 pub fn version_text(alloc: Global) -> Result<String, AllocError>
     ensures { IfOk result (λ text. string_bytes text ≡ compact_text version_data) }
 {

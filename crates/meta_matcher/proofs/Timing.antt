@@ -23,7 +23,7 @@ use Rattle.meta_matcher.specs.Frames.{Comes, FailsFrom, FindsFrom, Follows, IsIn
 use Rattle.meta_matcher.specs.Machines.{IsBoundIn, grammar_in, now_of, said}
 use Rattle.meta_matcher.specs.Runs.{Now, mode_of, standing}
 use Rattle.meta_matcher.specs.Sizes.{size}
-use Rattle.meta_matcher.proofs.Parts.{HasOne, HasThree, HasTwo, positive}
+use Rattle.meta_matcher.proofs.Parts.{HasOne, HasThree, HasTwo, form_of_opt, positive}
 use Rattle.meta_matcher.proofs.Stacking.{peek_builtin, pop_builtin}
 use Rattle.meta_matcher.proofs.Steps.{by_builtin}
 
@@ -126,7 +126,7 @@ module _ {scene : Scene} where
   frame_within : (f : Frame) (part whole : Start) → Follows scene f part whole → IsWithin scene 1 part whole
   frame_within (frame.First s) part whole x = x.within
   frame_within (frame.Gap s) part whole x = x.within
-  frame_within (frame.Second mark) part whole x = x.within
+  frame_within (frame.Second saved) part whole x = x.within
   frame_within (frame.Left right m rest) part whole x = x.within
   frame_within (frame.Optional rest) part whole x = x.within
   frame_within (frame.Turn r) part whole x = x.within
@@ -172,4 +172,7 @@ module _ {scene : Scene} where
   stuck_at_once form.Pop m md rest n stop.Memory u e w = tt
   stuck_at_once form.Pop m md rest n stop.OutOfSteps u e w = e
   stuck_at_once form.Pop m md rest n stop.EmptyStack u e w = no_text md (codes "POP") Pop rest (now_of m) n pop_builtin u (λ classes. ap (λ us. pop_outcome us (standing scene.text.now rest (now_of m).stack)) e) w
+  stuck_at_once (form.Opt' p a) m md rest n why u e w =
+      let inside = within_then (within_less 0 (omega arith) (within_one n (omega arith) refl (λ classes o d. form_of_opt d))) w in
+      stuck_at_once a m md rest n why u e inside
   stuck_at_once _ m md rest n why u e w = rw e tt

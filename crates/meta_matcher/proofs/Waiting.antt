@@ -1,7 +1,7 @@
 -- What waits once a part of a form is begun.
-use Rattle.std.proofs.Common.{◌≡◌, refl, ◌∙◌, ap, ℕ, ◌+◌, ◌-◌, ◌≤◌, ◌<◌, ◌⊎◌, List, [], ◌∷◌, ◌++◌, true, ◌&&◌, Option, Some, None, arith, length, reverse}
+use Rattle.std.proofs.Common.{◌≡◌, refl, ◌∙◌, ap, ℕ, ◌+◌, ◌-◌, ◌≤◌, ◌<◌, ◌⊎◌, List, [], ◌∷◌, ◌++◌, true, ◌&&◌, Option, Some, None, arith, length, reverse, sym, take}
 use Rattle.std.specs.Borrow.{Bor}
-use Rattle.std.proofs.lemmas.List.{length-append, reverse-append}
+use Rattle.std.proofs.lemmas.List.{length-append, reverse-append, take-take}
 use Rattle.meta_ast.specs.Ast.{text_of}
 use Rattle.meta_syntax.specs.Entries.{Entry, open_start}
 use Rattle.meta_matcher.specs.Programs.{Fits, rule_of_row}
@@ -14,7 +14,7 @@ use Rattle.meta_matcher.specs.declared.frames.Called.{Called}
 use Rattle.meta_matcher.specs.declared.frames.Control.{Control}
 use Rattle.meta_matcher.specs.declared.frames.Control.TheVariants as control
 use Rattle.meta_matcher.specs.declared.frames.Frame.{Frame}
-use Rattle.meta_matcher.specs.declared.frames.Mark.{Mark}
+use Rattle.meta_matcher.specs.declared.frames.Saved.{Saved}
 use Rattle.meta_matcher.specs.declared.frames.Predicate.{Predicate}
 use Rattle.meta_matcher.specs.declared.frames.Repetition.{Repetition}
 use Rattle.meta_matcher.specs.declared.frames.Sequence.{Sequence}
@@ -23,16 +23,34 @@ use Rattle.meta_matcher.specs.declared.machine.Machine.{Machine}
 use Rattle.meta_matcher.specs.declared.machine.Scene.{Scene}
 use Rattle.meta_matcher.specs.declared.modes.Mode as mode
 use Rattle.meta_matcher.specs.declared.modes.Mode.TheVariants as in_mode
-use Rattle.meta_matcher.specs.Frames.{Awaits, Decides, FailsFrom, FindsFrom, Finishes, Follows, GivesFrom, HasFrom, IsAhead, IsAnswered, IsBlank, IsBoundSecond, IsCall, IsComment, IsFirst, IsInTime, IsLeftSide, IsNegated, IsOnTheWay, IsOptional, IsPushed, IsResumed, IsSecond, IsStarting, IsTurn, IsTurnGap, IsWaiting, IsWithin, Skips, Start, blanks, comments, said_second, gives_in, starting, top_of}
-use Rattle.meta_matcher.specs.Machines.{IsBoundIn, IsMark, grammar_in, names_within, now_of, is_comment, is_whitespace, said, setting_of, steps_of}
-use Rattle.meta_matcher.specs.Runs.{Gives, GoesOn, IsLeft, Now, Progress, forgetting, mode_of}
+use Rattle.meta_matcher.specs.Frames.{Awaits, Decides, FailsFrom, FindsFrom, Finishes, Follows, GivesFrom, HasFrom, IsAhead, IsAnswered, IsBlank, IsBoundSecond, IsCall, IsComment, IsFirst, IsGap, IsInTime, IsLeftSide, IsNegated, IsOnTheWay, IsOptional, IsPushed, IsResumed, IsSecond, IsStarting, IsTurn, IsTurnGap, IsWaiting, IsWithin, Skips, Start, blanks, comments, said_second, gives_in, starting, top_of}
+use Rattle.meta_matcher.specs.Machines.{IsBoundIn, IsSaved, grammar_in, names_within, now_of, is_comment, is_whitespace, said, setting_of, steps_of}
+use Rattle.meta_matcher.specs.Runs.{Finds, Gives, GoesOn, IsLeft, IsReset, Now, Progress, Setting, forgetting, mode_of}
+use Rattle.meta_matcher.specs.Stacked.{stack_of}
 use Rattle.meta_matcher.proofs.Steps.{failed_row, fails_ahead, fails_blank, fails_first, fails_gap, fails_not, fails_rep_once, fails_reset, fails_restored, fails_right, fails_second, fails_tagged, fails_undefined, finds_ahead, finds_blank, finds_comment, finds_last_turn, finds_left, finds_more, finds_no_opt, finds_no_rep, finds_no_skipping, finds_no_turn, finds_not, finds_opt, finds_rep, finds_rep_once, finds_restored, finds_right, finds_seq, finds_skipped, finds_tagged, finds_turn, found_row}
 use Rattle.meta_matcher.proofs.Stacking.{fails_push, finds_push}
 use Rattle.meta_matcher.proofs.Parts.{blank_of_blanks, blanks_of_blanks, blanks_of_comments, blanks_of_skipping, body_of_call, comment_of_comments, comments_of_comments, comments_of_skipping, first_of_seq, form_of_ahead, form_of_not, form_of_opt, form_of_push, form_of_rep, form_of_rep_once, form_of_restore, form_of_tag, form_of_turns, gap_of_seq, gap_of_turns, left_of_choice, positive, right_of_choice, second_of_seq, turns_of_rep, turns_of_turns}
-use Rattle.meta_matcher.proofs.Timing.{in_time_less, in_time_now, in_time_same, in_time_soon, in_time_whole, within_failed, within_itself, within_less, within_one, within_sooner, within_then, within_three, within_top, within_two}
+use Rattle.meta_matcher.proofs.Timing.{in_time_before, in_time_less, in_time_now, in_time_same, in_time_soon, in_time_whole, within_failed, within_itself, within_less, within_one, within_sooner, within_then, within_three, within_top, within_two}
 
 more : (text r s t : List ℕ) → GoesOn text r s → GoesOn text s t → GoesOn text r t
 more text r s t x y = record { left = y.left; shorter = omega (arith, x.shorter, y.shorter) }
+
+-- entries are only added by what is found
+pub grows : {g : Setting} {k : Task} {text rest after : List ℕ} {a b : Now} → Finds g k text rest a b after → length a.entries ≤ length b.entries
+grows {a = a} f = let l = ap length f.added ∙ length-append a.entries _ in omega (arith, l)
+
+-- entries and stack as they were before, and what is noted
+cut_back : Now → Now → Now
+cut_back a b = record { entries = take (length a.entries) b.entries; stack = a.stack; notes = b.notes }
+
+reset_to : (a b : Now) → IsReset (length a.entries) a.stack b (cut_back a b)
+unfolding cut_back
+reset_to a b = record { entries = refl; stack = refl; notes = refl }
+
+-- what is put back to an earlier place may be put back to a later one before
+reset_twice : (a b c : Now) {n : ℕ} {ts : List Text} → n ≤ length a.entries → IsReset n ts b c → IsReset n ts (cut_back a b) c
+unfolding cut_back
+reset_twice a b c {n} l r = record { entries = r.entries ∙ sym (take-take n (length a.entries) b.entries l); stack = r.stack; notes = r.notes }
 
 here : (text r : List ℕ) → IsLeft text r → GoesOn text r r
 here text r l = record { left = l; shorter = omega arith }
@@ -62,8 +80,15 @@ module _ {scene : Scene} where
   pub decides_sooner : {k : Task} {rest : List ℕ} {a : Now} (n j : ℕ) {whole : Start} → j ≤ n → Decides scene (starting k rest a n) whole → Decides scene (starting k rest a j) whole
   decides_sooner n j l d = record { within = within_sooner n j l d.within; found = λ b t f. d.found b t (record { found = f.found; goes_on = f.goes_on }); failed = d.failed }
 
-  pub second_sooner : {mark : Mark} {k : Task} {rest : List ℕ} {a : Now} (n j : ℕ) {whole : Start} → j ≤ n → IsSecond scene mark (starting k rest a n) whole → IsSecond scene mark (starting k rest a j) whole
-  second_sooner n j l d = record { within = within_sooner n j l d.within; found = λ b t f. d.found b t (record { found = f.found; goes_on = f.goes_on }); failed = d.failed }
+  pub second_sooner : {saved : Saved} {k : Task} {rest : List ℕ} {a : Now} (n j : ℕ) {whole : Start} → j ≤ n → IsSecond scene saved (starting k rest a n) whole → IsSecond scene saved (starting k rest a j) whole
+  second_sooner n j l d = record { grown = d.grown; within = within_sooner n j l d.within; found = λ b t f. d.found b t (record { found = f.found; goes_on = f.goes_on }); failed = d.failed }
+
+  -- an option whose form was run
+  pub finds_option : {m : Mode} {x : Expression} {rest after : List ℕ} {a b : Now} {n : ℕ} → FindsFrom scene (starting (Run m x) rest a n) b after → FindsFrom scene (starting (Run m (Opt x)) rest a n) b after
+  finds_option f = record { found = finds_opt f.found; goes_on = f.goes_on }
+
+  pub finds_no_option : {m : Mode} {x : Expression} {rest : List ℕ} {a b : Now} {n : ℕ} → IsLeft scene.text.now rest → FailsFrom scene (starting (Run m x) rest a n) b → FindsFrom scene (starting (Run m (Opt x)) rest a n) b rest
+  finds_no_option {rest = rest} l f = record { found = finds_no_opt f; goes_on = here scene.text.now rest l }
 
   module _ {m : Mode} {x : Expression} {rest : List ℕ} {a : Now} {n : ℕ} {whole : Start} where
     pub decides_tagged : {t : Text} → Decides scene (starting (Run m (NodeTag x t)) rest a n) whole → Decides scene (starting (Run m x) rest a (n + 1)) whole
@@ -106,36 +131,76 @@ module _ {scene : Scene} where
       failed = λ b f. d.failed b (fails_push f);
     }
 
-  pub follows_first : (s : Sequence) {x : Expression} {rest : List ℕ} {a : Now} {n : ℕ} {whole : Start} → IsBoundSecond scene s.second → IsMark s.mark a → Decides scene (starting (Run (mode_of s.mode) (Seq x (said_second scene s.second))) rest a n) whole → IsFirst scene s (starting (Run (mode_of s.mode) x) rest a (n + 1)) whole
-  follows_first s {x} {rest} {n = n} bound mark d = record {
+  pub follows_first : (s : Sequence) {x : Expression} {rest : List ℕ} {a : Now} {n : ℕ} {whole : Start} → IsBoundSecond scene s.second → IsSaved s.saved a → Decides scene (starting (Run (mode_of s.mode) (Seq x (said_second scene s.second))) rest a n) whole → IsFirst scene s (starting (Run (mode_of s.mode) x) rest a (n + 1)) whole
+  follows_first s {x} {rest} {n = n} bound saved d = record {
     within = within_then (within_one (n + 1) (omega arith) refl (λ classes o d. first_of_seq d)) d.within;
     found = λ b t i f u. record {
       bound = bound;
       within = within_then (within_two (omega arith) i f u (λ classes t us o f d. gap_of_seq f d)) d.within;
       found = λ c w j k v. record {
+        grown = omega (arith, saved.entries, grows f.found, grows k.found);
         within = within_then (within_three (omega arith) i j f u k v (λ classes t u us vs o f k d. second_of_seq f k d)) d.within;
         found = λ e z h. d.found e z (record { found = finds_seq f.found k.found h.found; goes_on = more scene.text.now rest w z (more scene.text.now rest t w f.goes_on k.goes_on) h.goes_on });
-        failed = λ e z h r. d.failed z (fails_second f.found k.found h r mark.entries mark.stack);
+        failed = λ e z h r. d.failed z (fails_second f.found k.found h r saved.entries saved.stack);
       };
-      failed = λ c e k r. d.failed e (fails_gap f.found k r mark.entries mark.stack);
+      failed = λ c e k r. d.failed e (fails_gap f.found k r saved.entries saved.stack);
     };
-    failed = λ b f. d.failed b (fails_first f);
+    failed = λ b c f r. d.failed c (fails_reset (fails_first f) r saved.entries saved.stack);
   }
 
-  pub follows_left : {m : mode.Mode} {right : Form} {x : Expression} {rest : List ℕ} {a : Now} {n : ℕ} {whole : Start} → IsBoundIn scene right → IsLeft scene.text.now rest → Decides scene (starting (Run (mode_of m) (Choice x (said scene right))) rest a n) whole → IsLeftSide scene right m rest (starting (Run (mode_of m) x) rest a (n + 1)) whole
-  follows_left {n = n} bound l d = record {
+  -- the same behind an earlier form of the sequence: all is put back to where that began
+  pub follows_next : (s : Sequence) {x : Expression} {rest : List ℕ} {a : Now} {n : ℕ} {whole : Start} (i : ℕ) → i ≤ n + 1 → IsBoundSecond scene s.second → IsSecond scene s.saved (starting (Run (mode_of s.mode) (Seq x (said_second scene s.second))) rest a n) whole → IsFirst scene s (starting (Run (mode_of s.mode) x) rest a i) whole
+  follows_next s {x} {rest} {a} {n} {whole} i le bound d =
+      let inside : IsWithin scene 0 (starting (Run (mode_of s.mode) (Seq x (said_second scene s.second))) rest a n) whole = within_less 0 (omega arith) d.within in
+      record {
+        within = within_then (within_one i le refl (λ classes o d. first_of_seq d)) inside;
+        found = λ b t j f u. record {
+          bound = bound;
+          within = within_then (within_two le j f u (λ classes t us o f d. gap_of_seq f d)) inside;
+          found = λ c w q k v. record {
+            grown = omega (arith, d.grown, grows f.found, grows k.found);
+            within = within_then (within_three le j q f u k v (λ classes t u us vs o f k d. second_of_seq f k d)) inside;
+            found = λ e z h. d.found e z (record { found = finds_seq f.found k.found h.found; goes_on = more scene.text.now rest w z (more scene.text.now rest t w f.goes_on k.goes_on) h.goes_on });
+            failed = λ e z h r. d.failed (cut_back a e) z (fails_second f.found k.found h (reset_to a e) refl refl) (reset_twice a e z d.grown r);
+          };
+          failed = λ c e k r. d.failed (cut_back a c) e (fails_gap f.found k (reset_to a c) refl refl) (reset_twice a c e d.grown r);
+        };
+        failed = λ b c f r. d.failed b c (fails_first f) r;
+      }
+
+  -- a form behind the first is within the whole
+  pub within_next : {saved : Saved} {m : Mode} {x y : Expression} {rest : List ℕ} {a : Now} {n : ℕ} {whole : Start} → IsSecond scene saved (starting (Run m (Seq x y)) rest a n) whole → IsWithin scene 0 (starting (Run m x) rest a n) whole
+  within_next {n = n} d = within_then (within_less 0 (omega arith) (within_one n (omega arith) refl (λ classes o d. first_of_seq d))) (within_less 0 (omega arith) d.within)
+
+  -- it failed: so does the whole, with all put back
+  pub next_fails : {saved : Saved} {m : Mode} {x y : Expression} {rest : List ℕ} {a b : Now} {k : Machine} {n : ℕ} {whole : Start} → IsSecond scene saved (starting (Run m (Seq x y)) rest a n) whole → FailsFrom scene (starting (Run m x) rest a 0) b → IsReset saved.entries (stack_of saved.stack) b (now_of k) → IsAnswered scene k n None whole
+  next_fails {b = b} {k} {n} d f r = record {
+    gives = d.failed b (now_of k) (fails_first f) r;
+    in_time = in_time_whole n d.within (in_time_now n);
+  }
+
+  -- a form behind the first was found at once: the skipping comes, or the next form behind it
+  module _ (s : Sequence) {x : Expression} {rest middle : List ℕ} {a b : Now} {n : ℕ} {whole : Start} (bound : IsBoundSecond scene s.second) (f : FindsFrom scene (starting (Run (mode_of s.mode) x) rest a 0) b middle) (d : IsSecond scene s.saved (starting (Run (mode_of s.mode) (Seq x (said_second scene s.second))) rest a n) whole) where
+    pub next_gap : (i : ℕ) → i ≤ n + 1 → IsGap scene s (starting (Skipping (mode_of s.mode)) middle b i) whole
+    next_gap i le = (follows_next s i le bound d).found b middle i (record { found = f.found; goes_on = f.goes_on }) (in_time_now i)
+
+    pub next_form : {after : List ℕ} → FindsFrom scene (starting (Skipping (mode_of s.mode)) middle b n) b after → IsSecond scene s.saved (starting (Run (mode_of s.mode) (said_second scene s.second)) after b n) whole
+    next_form {after} k = (next_gap n (omega arith)).found b after n k (in_time_now n)
+
+  pub follows_left : {m : mode.Mode} {right : Form} {x : Expression} {rest : List ℕ} {a : Now} {n : ℕ} {whole : Start} (i : ℕ) → i ≤ n + 1 → IsBoundIn scene right → IsLeft scene.text.now rest → Decides scene (starting (Run (mode_of m) (Choice x (said scene right))) rest a n) whole → IsLeftSide scene right m rest (starting (Run (mode_of m) x) rest a i) whole
+  follows_left i le bound l d = record {
     bound = bound;
     left = l;
-    within = within_then (within_one (n + 1) (omega arith) refl (λ classes o d. left_of_choice d)) d.within;
+    within = within_then (within_one i le refl (λ classes o d. left_of_choice d)) d.within;
     found = λ b t f. d.found b t (record { found = finds_left f.found; goes_on = f.goes_on });
-    failed = λ b i f u. record {
-      within = within_then (within_less 0 (omega arith) (within_failed (omega arith) i f u (λ classes o f d. right_of_choice f d))) d.within;
+    failed = λ b j f u. record {
+      within = within_then (within_less 0 (omega arith) (within_failed le j f u (λ classes o f d. right_of_choice f d))) d.within;
       found = λ c t h. d.found c t (record { found = finds_right f h.found; goes_on = h.goes_on });
       failed = λ c h. d.failed c (fails_right f h);
     };
   }
 
-  module _ (r : Repetition) {a : Now} {n : ℕ} {whole : Start} (bound : IsBoundIn scene r.body.now) (l : IsLeft scene.text.now r.rest.now) (mark : IsMark r.mark a) where
+  module _ (r : Repetition) {a : Now} {n : ℕ} {whole : Start} (bound : IsBoundIn scene r.body.now) (l : IsLeft scene.text.now r.rest.now) (saved : IsSaved r.saved a) where
     pub follows_turn : Finishes scene (starting (Run (mode_of r.mode) (Rep (said scene r.body.now))) r.rest.now a n) whole → IsTurn scene r (starting (Run (mode_of r.mode) (said scene r.body.now)) r.rest.now a (n + 1)) whole
     follows_turn ends = record {
       bound = bound;
@@ -144,7 +209,7 @@ module _ {scene : Scene} where
         within = within_then (within_less 0 (omega arith) (within_two (omega arith) i f u (λ classes t us o f d. turns_of_rep f d))) ends.within;
         found = λ c w h. ends.found c w (record { found = finds_rep f.found h.found; goes_on = more scene.text.now r.rest.now t w f.goes_on h.goes_on });
       };
-      failed = λ b c f z. ends.found c r.rest.now (record { found = finds_no_rep (fails_reset f z mark.entries mark.stack); goes_on = here scene.text.now r.rest.now l });
+      failed = λ b c f z. ends.found c r.rest.now (record { found = finds_no_rep (fails_reset f z saved.entries saved.stack); goes_on = here scene.text.now r.rest.now l });
     }
 
     -- the skipping may begin a step later
@@ -158,23 +223,23 @@ module _ {scene : Scene} where
           within = within_then (within_less 0 (omega arith) (within_three le j q k u f v (λ classes t u us vs o f k d. turns_of_turns f k d))) ends.within;
           found = λ e z h. ends.found e z (record { found = finds_turn k.found f.found h.found; goes_on = more scene.text.now r.rest.now w z (more scene.text.now r.rest.now t w k.goes_on f.goes_on) h.goes_on });
         };
-        failed = λ c e f z. ends.found e r.rest.now (record { found = finds_last_turn k.found f z mark.entries mark.stack; goes_on = here scene.text.now r.rest.now l });
+        failed = λ c e f z. ends.found e r.rest.now (record { found = finds_last_turn k.found f z saved.entries saved.stack; goes_on = here scene.text.now r.rest.now l });
       };
-      failed = λ b c k z. ends.found c r.rest.now (record { found = finds_no_turn k z mark.entries mark.stack; goes_on = here scene.text.now r.rest.now l });
+      failed = λ b c k z. ends.found c r.rest.now (record { found = finds_no_turn k z saved.entries saved.stack; goes_on = here scene.text.now r.rest.now l });
     }
 
-  module _ (p : Predicate) {m : Mode} {x : Expression} {a : Now} {n : ℕ} {whole : Start} (l : IsLeft scene.text.now p.rest.now) (mark : IsMark p.mark a) where
+  module _ (p : Predicate) {m : Mode} {x : Expression} {a : Now} {n : ℕ} {whole : Start} (l : IsLeft scene.text.now p.rest.now) (saved : IsSaved p.saved a) where
     pub follows_not : (first : ℕ) → first ≡ length a.notes.told → Decides scene (starting (Run m (NegPred x)) p.rest.now a n) whole → IsNegated scene p first (starting (Run m x) p.rest.now a (n + 1)) whole
     follows_not first k d = record {
       within = within_then (within_one (n + 1) (omega arith) refl (λ classes o d. form_of_not d)) d.within;
-      found = λ b c t f z. d.failed c (fails_not first k f.found z mark.entries mark.stack);
+      found = λ b c t f z. d.failed c (fails_not first k f.found z saved.entries saved.stack);
       failed = λ b f. d.found (forgetting first b) p.rest.now (record { found = finds_not first k f; goes_on = here scene.text.now p.rest.now l });
     }
 
     pub follows_ahead : Decides scene (starting (Run m (PosPred x)) p.rest.now a n) whole → IsAhead scene p (starting (Run m x) p.rest.now a (n + 1)) whole
     follows_ahead d = record {
       within = within_then (within_one (n + 1) (omega arith) refl (λ classes o d. form_of_ahead d)) d.within;
-      found = λ b c t f z. d.found c p.rest.now (record { found = finds_ahead f.found z mark.entries mark.stack; goes_on = here scene.text.now p.rest.now l });
+      found = λ b c t f z. d.found c p.rest.now (record { found = finds_ahead f.found z saved.entries saved.stack; goes_on = here scene.text.now p.rest.now l });
       failed = λ b f. d.failed b (fails_ahead f);
     }
 
@@ -336,6 +401,21 @@ module _ {scene : Scene} {m n : Machine} {follows : Start → Start → Type 0} 
 pub answers : {scene : Scene} {m : Machine} (n : ℕ) {part whole : Start} {answer : Option (Bor (List ℕ))} → IsWithin scene 1 part whole → IsInTime scene part n → GivesFrom scene whole (now_of m) answer → IsAnswered scene m n answer whole
 answers n w t g = record { gives = g; in_time = in_time_whole n w t }
 
+-- an answer to a task that was begun in this step
+pub answers_now : {scene : Scene} {m : Machine} (n : ℕ) {k : Task} {rest : List ℕ} {a : Now} {whole : Start} {answer : Option (Bor (List ℕ))} → IsWithin scene 0 (starting k rest a n) whole → GivesFrom scene whole (now_of m) answer → IsAnswered scene m n answer whole
+answers_now n w g = record { gives = g; in_time = in_time_same (n + 1) w (in_time_before (n + 1) (in_time_soon n)) }
+
+-- an alternative was run at once: the choice has its answer, or the alternatives behind it decide
+module _ {scene : Scene} (m : mode.Mode) (right : Form) {x : Expression} {rest : List ℕ} {a : Now} {n : ℕ} {whole : Start} (bound : IsBoundIn scene right) (l : IsLeft scene.text.now rest) (d : Decides scene (starting (Run (mode_of m) (Choice x (said scene right))) rest a n) whole) where
+  pub found_left : {k : Machine} (after : Bor (List ℕ)) → FindsFrom scene (starting (Run (mode_of m) x) rest a 0) (now_of k) after.now → IsAnswered scene k n (Some after) whole
+  found_left after f = answers_now n d.within (d.found _ after.now (record { found = finds_left f.found; goes_on = f.goes_on }))
+
+  pub within_left : IsWithin scene 0 (starting (Run (mode_of m) x) rest a n) whole
+  within_left = within_less 0 (omega arith) (follows_left {m = m} {right = right} n (omega arith) bound l d).within
+
+  pub right_decides : {b : Now} → FailsFrom scene (starting (Run (mode_of m) x) rest a 0) b → Decides scene (starting (Run (mode_of m) (said scene right)) rest b n) whole
+  right_decides {b} f = (follows_left {m = m} {right = right} n (omega arith) bound l d).failed b n f (in_time_now n)
+
 -- an answer that was given at once
 pub answers_at_once : {scene : Scene} {m : Machine} (n : ℕ) {k : Task} {rest : List ℕ} {a : Now} {whole : Start} {answer : Option (Bor (List ℕ))} → IsWithin scene 0 (starting k rest a n) whole → GivesFrom scene whole (now_of m) answer → IsAnswered scene m (n + 1) answer whole
 answers_at_once n w g = record { gives = g; in_time = in_time_same ((n + 1) + 1) w (in_time_soon n) }
@@ -370,17 +450,23 @@ at_top scene m n i answer e now w =
 -- what is on the way does not change with the count of the steps
 pub counted : (scene : Scene) (m n : Machine) (i : ℕ) (c : Control) → n.frames ≡ m.frames → now_of n ≡ now_of m → IsOnTheWay scene m i c → IsOnTheWay scene n i c
 counted scene m n i (control.Run f md rest) e now r = record { bound = r.bound; left = r.left; starts = awaits_same e (λ whole d. rw now d) r.starts }
+counted scene m n i (control.Parts f md rest) e now r = record { running = record { bound = r.running.bound; left = r.running.left; starts = awaits_same e (λ whole d. rw now d) r.running.starts }; nested = r.nested }
 counted scene m n i (control.Answer answer) e now w = awaits_same e (λ whole a. record { gives = rw now a.gives; in_time = a.in_time }) w
 
 -- what is on the way after some steps is so before them
 pub on_the_way_sooner : (scene : Scene) (m : Machine) (n i : ℕ) (c : Control) → i ≤ n → IsOnTheWay scene m n c → IsOnTheWay scene m i c
 on_the_way_sooner scene m n i (control.Run f md rest) l r = record { bound = r.bound; left = r.left; starts = awaits_same refl (λ whole d. decides_sooner n i l d) r.starts }
+on_the_way_sooner scene m n i (control.Parts f md rest) l r = record { running = record { bound = r.running.bound; left = r.running.left; starts = awaits_same refl (λ whole d. decides_sooner n i l d) r.running.starts }; nested = r.nested }
 on_the_way_sooner scene m n i (control.Answer answer) l w = awaits_same refl (λ whole a. record { gives = a.gives; in_time = in_time_less (n + 1) (i + 1) (omega arith) a.in_time }) w
 
 -- what is on the way at the end of the steps
 pub out_of_steps : (scene : Scene) (m : Machine) (n : ℕ) (c : Control) → IsOnTheWay scene m n c → (classes : Classes) → Fits scene.program.now.properties.items classes → (o : Outcome) (d : HasFrom scene classes (top_of scene) o) → n < most_steps d
 out_of_steps scene m n (control.Run f md rest) r classes fits o d =
     let w = within_then r.starts.is.within (within_top (reverse m.frames.items) r.starts.whole r.starts.waiting) in
+    let x = w.each classes fits o d in
+    omega (arith, positive x.1, x.2)
+out_of_steps scene m n (control.Parts f md rest) r classes fits o d =
+    let w = within_then r.running.starts.is.within (within_top (reverse m.frames.items) r.running.starts.whole r.running.starts.waiting) in
     let x = w.each classes fits o d in
     omega (arith, positive x.1, x.2)
 out_of_steps scene m n (control.Answer answer) r classes fits o d =

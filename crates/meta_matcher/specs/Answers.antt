@@ -50,29 +50,34 @@ IsStopped g ps n text steps stop.OutOfSteps =
 IsStopped g ps n text steps stop.EmptyStack =
     (classes : Classes) → Fits ps classes → (o : Outcome) → Has g n text classes o → ⊥
 
--- no rule has the name; or the rule fails, whatever the classes are, and this is the place of the failure; or
--- the run, of so many steps at most, was stopped
-abbrev pub IsRefused : Grammar → List Property → Text → List ℕ → ℕ → Refusal → Type 0
-IsRefused g ps n text steps (is.UnknownRule name) = (rule_of g n ≡ None) × (chars name.now ≡ n)
-IsRefused g ps n text steps (is.NoMatch place) =
+-- the rule fails, whatever the classes are, and this is the place of the failure
+abbrev pub FailsAt : Grammar → List Property → Text → List ℕ → ℕ → Type 0
+FailsAt g ps n text place =
     (classes : Classes) → Fits ps classes → (d : Has g n text classes Failure) × (place ≡ furthest d)
-IsRefused g ps n text steps (is.Stopped why) = IsStopped g ps n text steps why
+
+-- no rule has the name; or what is said of a place holds of that of the failure; or what is said of a stop
+-- holds of the one that came
+abbrev pub IsRefusedAs : Grammar → Text → (ℕ → Type 0) → (Stop → Type 0) → Refusal → Type 0
+IsRefusedAs g n fails stops (is.UnknownRule name) = (rule_of g n ≡ None) × (chars name.now ≡ n)
+IsRefusedAs g n fails stops (is.NoMatch place) = fails place
+IsRefusedAs g n fails stops (is.Stopped why) = stops why
+
+-- no rule has the name; or the rule fails there; or the run, of so many steps at most, was stopped
+abbrev pub IsRefused : Grammar → List Property → Text → List ℕ → ℕ → Refusal → Type 0
+IsRefused g ps n text steps why =
+    IsRefusedAs g n (FailsAt g ps n text) (IsStopped g ps n text steps) why
 
 -- the same where the run ends, so that it was stopped by want of memory alone
 abbrev pub IsRefusedAtTheEnd : Grammar → List Property → Text → List ℕ → Refusal → Type 0
-IsRefusedAtTheEnd g ps n text (is.UnknownRule name) = (rule_of g n ≡ None) × (chars name.now ≡ n)
-IsRefusedAtTheEnd g ps n text (is.NoMatch place) =
-    (classes : Classes) → Fits ps classes → (d : Has g n text classes Failure) × (place ≡ furthest d)
-IsRefusedAtTheEnd g ps n text (is.Stopped why) = why ≡ stop.Memory
+IsRefusedAtTheEnd g ps n text why =
+    IsRefusedAs g n (FailsAt g ps n text) (λ stopped. stopped ≡ stop.Memory) why
 
--- the names are those that are expected at a place, whatever the classes are: each once, in the order of their
--- calls, where the rule fails or matches
+-- the same where a failure is an answer: no rule has the name, or the run was stopped
+abbrev pub IsUnanswered : Grammar → List Property → Text → List ℕ → ℕ → Refusal → Type 0
+IsUnanswered g ps n text steps why = IsRefusedAs g n (λ place. ⊥) (IsStopped g ps n text steps) why
+
+-- the names are those that are expected at a place, whatever the classes are: each once, in the order of
+-- their calls, where the rule fails or matches
 abbrev pub AreExpectedAt : Grammar → List Property → Text → List ℕ → ℕ → List (Bor (List ℕ)) → Type 0
 AreExpectedAt g ps n text place names = (classes : Classes) → Fits ps classes
     → (o : Outcome) × (d : Has g n text classes o) × (told_of names ≡ each_once (expected_at place d))
-
--- no rule has the name; or the run, of so many steps at most, was stopped
-abbrev pub IsUnanswered : Grammar → List Property → Text → List ℕ → ℕ → Refusal → Type 0
-IsUnanswered g ps n text steps (is.UnknownRule name) = (rule_of g n ≡ None) × (chars name.now ≡ n)
-IsUnanswered g ps n text steps (is.NoMatch place) = ⊥
-IsUnanswered g ps n text steps (is.Stopped why) = IsStopped g ps n text steps why

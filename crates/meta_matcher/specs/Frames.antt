@@ -8,7 +8,7 @@ use Rattle.meta_base.specs.Language.State.{Between, Classes, NonAtomicMode, Outc
 use Rattle.meta_matcher.specs.declared.form.Form.{Form}
 use Rattle.meta_matcher.specs.declared.form.Form.TheVariants as form
 use Rattle.meta_matcher.specs.declared.modes.Mode.{Mode}
-use Rattle.meta_matcher.specs.declared.frames.Mark.{Mark}
+use Rattle.meta_matcher.specs.declared.frames.Saved.{Saved}
 use Rattle.meta_matcher.specs.declared.frames.Second as second
 use Rattle.meta_matcher.specs.declared.frames.Second.TheVariants as is
 use Rattle.meta_matcher.specs.declared.frames.Sequence.{Sequence}
@@ -86,10 +86,11 @@ IsOutOfTexts stop.Memory m = ⊤
 IsOutOfTexts stop.OutOfSteps m = ⊥
 IsOutOfTexts stop.EmptyStack m = stack_of m.stack ≡ []
 
--- memory was wanting, or the form is `PEEK` or `POP` and the stack is empty
+-- memory was wanting, or the form is `PEEK` or `POP`, or one of these with a `?`, and the stack is empty
 abbrev pub IsStuckAtOnce : Form → Machine → Stop → Type 0
 IsStuckAtOnce form.Peek m why = IsOutOfTexts why m
 IsStuckAtOnce form.Pop m why = IsOutOfTexts why m
+IsStuckAtOnce (form.Opt' p a) m why = IsStuckAtOnce a m why
 IsStuckAtOnce _ m why = why ≡ stop.Memory
 
 module _ (scene : Scene) where
@@ -137,10 +138,11 @@ module _ (scene : Scene) where
     pub failed : (b : Now) → FailsFrom part b → FailsFrom whole b
 
   -- the second form of a sequence is run: where it fails, so does the sequence, with all put back
-  pub record IsSecond (mark : Mark) (part whole : Start) : Type 0 where
+  pub record IsSecond (saved : Saved) (part whole : Start) : Type 0 where
+    pub grown : saved.entries ≤ length part.now.entries
     pub within : IsWithin 1 part whole
     pub found : Ends part whole
-    pub failed : (b c : Now) → FailsFrom part b → IsReset mark.entries (stack_of mark.stack) b c
+    pub failed : (b c : Now) → FailsFrom part b → IsReset saved.entries (stack_of saved.stack) b c
         → FailsFrom whole c
 
   -- the skipping is run: the second form comes where it ends
@@ -148,16 +150,17 @@ module _ (scene : Scene) where
     pub bound : IsBoundSecond scene s.second
     pub within : IsWithin 1 part whole
     pub found : (b : Now) (after : List ℕ) (n : ℕ) → FindsFrom part b after → IsInTime part n
-        → IsSecond s.mark (starting (Run (mode_of s.mode) (said_second scene s.second)) after b n) whole
-    pub failed : (b c : Now) → FailsFrom part b → IsReset s.mark.entries (stack_of s.mark.stack) b c
+        → IsSecond s.saved (starting (Run (mode_of s.mode) (said_second scene s.second)) after b n) whole
+    pub failed : (b c : Now) → FailsFrom part b → IsReset s.saved.entries (stack_of s.saved.stack) b c
         → FailsFrom whole c
 
-  -- the first form is run: the skipping comes where it ends
+  -- the first form is run, or one behind it: the skipping comes where it ends
   pub record IsFirst (s : Sequence) (part whole : Start) : Type 0 where
     pub within : IsWithin 1 part whole
     pub found : (b : Now) (after : List ℕ) (n : ℕ) → FindsFrom part b after → IsInTime part n
         → IsGap s (starting (Skipping (mode_of s.mode)) after b n) whole
-    pub failed : (b : Now) → FailsFrom part b → FailsFrom whole b
+    pub failed : (b c : Now) → FailsFrom part b → IsReset s.saved.entries (stack_of s.saved.stack) b c
+        → FailsFrom whole c
 
   -- the left side of a choice is run: where it fails, the right side decides
   pub record IsLeftSide (right : Form) (mode : Mode) (rest : List ℕ) (part whole : Start) : Type 0 where
@@ -180,7 +183,7 @@ module _ (scene : Scene) where
     pub within : IsWithin 1 part whole
     pub found : (b : Now) (after : List ℕ) (n : ℕ) → FindsFrom part b after → IsInTime part n
         → Finishes (starting (Turns (mode_of r.mode) (said scene r.body.now)) after b n) whole
-    pub failed : (b c : Now) → FailsFrom part b → IsReset r.mark.entries (stack_of r.mark.stack) b c
+    pub failed : (b c : Now) → FailsFrom part b → IsReset r.saved.entries (stack_of r.saved.stack) b c
         → FindsFrom whole c r.rest.now
 
   -- the skipping before it is run
@@ -188,20 +191,20 @@ module _ (scene : Scene) where
     pub within : IsWithin 1 part whole
     pub found : (b : Now) (after : List ℕ) (n : ℕ) → FindsFrom part b after → IsInTime part n
         → IsTurn r (starting (Run (mode_of r.mode) (said scene r.body.now)) after b n) whole
-    pub failed : (b c : Now) → FailsFrom part b → IsReset r.mark.entries (stack_of r.mark.stack) b c
+    pub failed : (b c : Now) → FailsFrom part b → IsReset r.saved.entries (stack_of r.saved.stack) b c
         → FindsFrom whole c r.rest.now
 
   -- the form of a predicate is run: all that it did is put back, and what is told below a `!` is forgotten
   pub record IsNegated (p : Predicate) (told : ℕ) (part whole : Start) : Type 0 where
     pub within : IsWithin 1 part whole
     pub found : (b c : Now) (after : List ℕ) → FindsFrom part b after
-        → IsReset p.mark.entries (stack_of p.mark.stack) (forgetting told b) c → FailsFrom whole c
+        → IsReset p.saved.entries (stack_of p.saved.stack) (forgetting told b) c → FailsFrom whole c
     pub failed : (b : Now) → FailsFrom part b → FindsFrom whole (forgetting told b) p.rest.now
 
   pub record IsAhead (p : Predicate) (part whole : Start) : Type 0 where
     pub within : IsWithin 1 part whole
     pub found : (b c : Now) (after : List ℕ) → FindsFrom part b after
-        → IsReset p.mark.entries (stack_of p.mark.stack) b c → FindsFrom whole c p.rest.now
+        → IsReset p.saved.entries (stack_of p.saved.stack) b c → FindsFrom whole c p.rest.now
     pub failed : (b : Now) → FailsFrom part b → FailsFrom whole b
 
   -- a form is run whose text is pushed
@@ -256,7 +259,7 @@ module _ (scene : Scene) where
   abbrev pub Follows : Frame → Start → Start → Type 0
   Follows (frame.First s) part whole = IsFirst s part whole
   Follows (frame.Gap s) part whole = IsGap s part whole
-  Follows (frame.Second mark) part whole = IsSecond mark part whole
+  Follows (frame.Second saved) part whole = IsSecond saved part whole
   Follows (frame.Left right mode rest) part whole = IsLeftSide right.now mode rest.now part whole
   Follows (frame.Optional rest) part whole = IsOptional rest.now part whole
   Follows (frame.Turn r) part whole = IsTurn r part whole
@@ -299,6 +302,11 @@ module _ (scene : Scene) where
     pub left : IsLeft scene.text.now rest
     pub starts : Awaits m (Decides (starting (Run (mode_of mode) (said scene f)) rest (now_of m) n))
 
+  -- the same of a form that has parts
+  pub record IsParting (m : Machine) (n : ℕ) (f : Form) (mode : Mode) (rest : List ℕ) : Type 0 where
+    pub running : IsRunning m n f mode rest
+    pub nested : IsNested f
+
   -- the answer that is given once n steps were taken, which the next one takes
   pub record IsAnswered (m : Machine) (n : ℕ) (answer : Option (Bor (List ℕ))) (whole : Start) : Type 0 where
     pub gives : GivesFrom whole (now_of m) answer
@@ -307,6 +315,7 @@ module _ (scene : Scene) where
   -- what the machine does once n steps were taken leads to what comes of the rule that is called
   abbrev pub IsOnTheWay : Machine → ℕ → Control → Type 0
   IsOnTheWay m n (control.Run f mode rest) = IsRunning m n f.now mode rest.now
+  IsOnTheWay m n (control.Parts f mode rest) = IsParting m n f.now mode rest.now
   IsOnTheWay m n (control.Answer answer) = Awaits m (IsAnswered m n answer)
 
   -- a run is stopped by want of memory, or on the empty stack, where the rule that is called has no outcome

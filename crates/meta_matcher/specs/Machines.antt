@@ -1,18 +1,20 @@
 -- What a machine keeps, and what its functions say.
-use Rattle.std.specs.Prelude.{◌≡◌, ◌+◌, ◌*◌, ℕ, List, Option, length}
+use Rattle.std.specs.Prelude.{◌≡◌, ◌+◌, ◌*◌, ℕ, List, Option, Some, length}
 use Rattle.std.specs.Borrow.{Bor}
+use Rattle.meta_ast.specs.Ast.{text_of}
 use Rattle.meta_base.specs.Language.Text.{Text}
-use Rattle.meta_base.specs.Language.Expression.{Expression, Grammar, whitespace, comment}
+use Rattle.meta_base.specs.Language.Expression.{Expression, Grammar, whitespace, comment, rule_of}
 use Rattle.meta_base.specs.Language.Meaning.{Task}
 use Rattle.meta_matcher.specs.declared.form.Form.{Form}
+use Rattle.meta_matcher.specs.declared.form.Program.{Program}
 use Rattle.meta_matcher.specs.declared.form.Row.{Row}
-use Rattle.meta_matcher.specs.declared.frames.Mark.{Mark}
+use Rattle.meta_matcher.specs.declared.frames.Saved.{Saved}
 use Rattle.meta_matcher.specs.declared.machine.Machine.{Machine}
 use Rattle.meta_matcher.specs.declared.machine.Scene.{Scene}
 use Rattle.meta_matcher.specs.Written.{seen}
 use Rattle.meta_matcher.specs.Stacked.{stack_of}
 use Rattle.meta_matcher.specs.Told.{told_of}
-use Rattle.meta_matcher.specs.Programs.{IsBound, IsRow, IsSound, expression_of, grammar_of, names_of}
+use Rattle.meta_matcher.specs.Programs.{IsBound, IsRow, IsSound, expression_of, grammar_of, names_of, rule_of_row}
 use Rattle.meta_matcher.specs.Runs.{Gives, Now, Setting}
 
 -- what a machine has so far
@@ -64,15 +66,25 @@ abbrev pub IsRowIn : Scene → Row → Type 0
 IsRowIn scene row =
     IsRow (grammar_in scene) (names_within scene) scene.program.now.properties.items row
 
+-- the scene has a program, a text, a place that is asked for, and the row that a name means
+pub record IsSceneOf (program : Program) (n : Text) (text : List ℕ) (asked : ℕ) (scene : Scene) : Type 0 where
+  pub same_program : scene.program.now ≡ program
+  pub same_text : scene.text.now ≡ text
+  pub same_place : scene.asked ≡ asked
+  pub named : text_of scene.row.now.name ≡ n
+  pub row : IsRowIn scene scene.row.now
+  pub meant : rule_of (grammar_in scene) (text_of scene.row.now.name)
+      ≡ Some (rule_of_row (names_within scene) scene.row.now)
+
 -- the task was found to fail, or to succeed, as the answer says
 abbrev pub GivesIn : Scene → Task → List ℕ → Machine → Machine → Option (Bor (List ℕ)) → Type 0
 GivesIn scene k rest old new answer =
     Gives (setting_of scene) k scene.text.now rest (now_of old) (now_of new) answer
 
 -- how many entries there were, and which stack
-pub record IsMark (mark : Mark) (now : Now) : Type 0 where
-  pub entries : mark.entries ≡ length now.entries
-  pub stack : stack_of mark.stack ≡ now.stack
+pub record IsSaved (saved : Saved) (now : Now) : Type 0 where
+  pub entries : saved.entries ≡ length now.entries
+  pub stack : stack_of saved.stack ≡ now.stack
 
 -- the names that are skipped
 pub data IsBlankName : Text → Type 0 where

@@ -44,7 +44,8 @@ abbrev pub span : (ℕ → Bool) → Text → ℕ
 span set [] = 0
 span set (c ∷ u) = let n = span set u in if set c then suc n else 0
 
--- what is noted of failures: the furthest place of one, and which names are told at the place that is asked for
+-- what is noted of failures: the furthest place of one, and which names are told at the place that is asked
+-- for
 pub record Notes : Type 0 where
   pub furthest : ℕ
   pub told : List Text
@@ -61,8 +62,8 @@ pub record Setting : Type 0 where
   pub properties : List Property
   pub asked : ℕ
 
--- the task k from s was found to have the outcome o; its furthest failure was noted, and what is expected in it
--- at the place was told
+-- the task k from s was found to have the outcome o; its furthest failure was noted, and what is expected in
+-- it at the place was told
 pub record Ran (g : Grammar) (classes : Classes) (place : ℕ) (k : Task) (s : State) (o : Outcome)
     (old new : Notes) : Type 0 where
   pub found : Does g classes k s o

@@ -1,5 +1,5 @@
-//! The forms of expressions. They are made by a loop with a list of what stands around an operand, so no nesting of
-//! a grammar takes the machine's stack.
+//! The forms of expressions. They are made by a loop with a list of what stands around an operand, so no
+//! nesting of a grammar takes the machine's stack.
 ghost use Rattle.std.specs.Prelude.{◌≡◌, ◌<◌, ◌≤◌, ◌*◌, IfOk, List};
 ghost use Rattle.meta_base.specs.Language.Expression.{Expression, Grammar};
 ghost use Rattle.meta_base.specs.Language.Text.{Text};
@@ -144,8 +144,8 @@ fn ended<'e>(
     Ok(closed(around, form))
 }
 
-/// The form of an expression. Refused for want of memory, for a name that means nothing, and for a bound of a range
-/// that is not one character.
+/// The form of an expression. Refused for want of memory, for a name that means nothing, and for a bound of a
+/// range that is not one character.
 pub(crate) fn form_of(
     alloc: Global,
     rules: &Indexed<'_>,

@@ -5,7 +5,7 @@ use crate::stack::Stack;
 
 /// What there was at some place, to be put back.
 #[derive(Drop)]
-pub struct Mark<'a> {
+pub struct Saved<'a> {
     /// How many entries there were.
     pub entries: usize,
     /// The stack.
@@ -21,13 +21,13 @@ pub enum Second<'a> {
     Repeated(&'a Form),
 }
 
-/// A sequence whose first form is run, or is done.
+/// A sequence one of whose forms is run, or is done: what comes behind that form.
 #[derive(Drop)]
 pub struct Sequence<'a> {
     pub second: Second<'a>,
     pub mode: Mode,
-    /// What there was before the first form.
-    pub mark: Mark<'a>,
+    /// What there was before the sequence.
+    pub saved: Saved<'a>,
 }
 
 /// A repetition, at the beginning of one of its turns.
@@ -38,7 +38,7 @@ pub struct Repetition<'a> {
     /// What is left of the text before the turn.
     pub rest: &'a str,
     /// What there was before the turn.
-    pub mark: Mark<'a>,
+    pub saved: Saved<'a>,
 }
 
 /// A predicate.
@@ -47,7 +47,7 @@ pub struct Predicate<'a> {
     /// What is left of the text before it.
     pub rest: &'a str,
     /// What there was before it.
-    pub mark: Mark<'a>,
+    pub saved: Saved<'a>,
 }
 
 /// A call of a rule.
@@ -67,12 +67,12 @@ pub struct Called<'a> {
 /// What waits for the answer of what is run.
 #[derive(Drop)]
 pub enum Frame<'a> {
-    /// The first form of a sequence is run.
+    /// A form of a sequence is run, but not the last.
     First(Sequence<'a>),
     /// What lies between the forms of a sequence is skipped.
     Gap(Sequence<'a>),
-    /// The second form of a sequence is run, and here is what there was before the first.
-    Second(Mark<'a>),
+    /// The last form of a sequence is run, and here is what there was before the sequence.
+    Second(Saved<'a>),
     /// The left side of a choice is run: the right side, its mode, and what is left of the text.
     Left(&'a Form, Mode, &'a str),
     /// The form of an option is run, with this left of the text.
@@ -100,6 +100,8 @@ pub enum Frame<'a> {
 pub enum Control<'a> {
     /// It runs a form in a mode on what is left of the text.
     Run(&'a Form, Mode, &'a str),
+    /// The same with a form that has parts, and was not matched at once.
+    Parts(&'a Form, Mode, &'a str),
     /// It gives the last frame an answer: what is left of the text, or `None` for a failure.
     Answer(Option<&'a str>),
 }

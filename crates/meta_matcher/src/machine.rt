@@ -5,14 +5,14 @@ ghost use Rattle.meta_base.specs.Language.Expression.{Ident, PeekSlice, PushLite
 ghost use Rattle.meta_base.specs.Language.Meaning.{Run};
 ghost use Rattle.meta_matcher.specs.declared.form.Form.TheVariants.{Call};
 ghost use Rattle.meta_matcher.specs.Frames.{ComesAtOnce, FailsFrom, IsOutOfTexts, IsStuckAtOnce, starting};
-ghost use Rattle.meta_matcher.specs.Machines.{GivesIn, IsBoundIn, IsMark, IsSoundIn, grammar_in, now_of, said, steps_of};
+ghost use Rattle.meta_matcher.specs.Machines.{GivesIn, IsBoundIn, IsSaved, IsSoundIn, grammar_in, now_of, said, steps_of};
 ghost use Rattle.meta_matcher.specs.Runs.{IsLeft, IsReset, Progress, forgetting, mode_of, noting};
 ghost use Rattle.meta_matcher.specs.Stacked.{stack_of};
 ghost use Rattle.meta_matcher.specs.declared.machine.Stop.TheVariants.{Memory};
 
 use crate::entries::{Entry, close, cut, open, written};
 use crate::form::{Form, Program, Row};
-use crate::frames::{AtOnce, Frame, Mark};
+use crate::frames::{AtOnce, Frame, Saved};
 use crate::leaves::{ahead_to, character, insens, literal, literals, newline, one, slice, within};
 use crate::modes::{Mode, call_counts, is_seen_from, noted};
 use crate::sets::{is_barred, one_of};
@@ -356,11 +356,11 @@ impl<'a> Machine<'a> {
 
     /// What there is.
     #[inline(always)]
-    pub fn mark(&self) -> Result<Mark<'a>, AllocError>
-        ensures { IfOk result (λ mark. IsMark mark (now_of self.now)) }
+    pub fn saved(&self) -> Result<Saved<'a>, AllocError>
+        ensures { IfOk result (λ saved. IsSaved saved (now_of self.now)) }
     {
         let stack = shared(&self.stack)?;
-        Ok(Mark {
+        Ok(Saved {
             entries: written(&self.entries),
             stack,
         })
@@ -368,19 +368,19 @@ impl<'a> Machine<'a> {
 
     /// Puts back what there was.
     #[inline(always)]
-    pub fn back_to(&mut self, mark: Mark<'a>)
+    pub fn back_to(&mut self, saved: Saved<'a>)
         ensures frames { self.new.frames ≡ self.old.frames }
         ensures steps { self.new.steps ≡ self.old.steps }
-        ensures reset { IsReset mark.entry.entries (stack_of mark.entry.stack)
+        ensures reset { IsReset saved.entry.entries (stack_of saved.entry.stack)
             (now_of self.old) (now_of self.new) }
     {
-        let Mark { entries, stack } = mark;
+        let Saved { entries, stack } = saved;
         cut(&mut self.entries, entries);
         self.stack = stack;
     }
 
-    /// Whether a call of a rule is refused at once, since its body cannot begin with the character that stands
-    /// here. Its failure is then noted.
+    /// Whether a call of a rule is refused at once, since its body cannot begin with the character that
+    /// stands here. Its failure is then noted.
     #[inline(always)]
     fn is_refused(
         &mut self,
@@ -395,8 +395,8 @@ impl<'a> Machine<'a> {
         ensures frames { self.new.frames ≡ self.old.frames }
         ensures steps { self.new.steps ≡ self.old.steps }
         ensures fails { IfOk result (λ refused. refused ≡ true → FailsFrom scene.entry.now
-            (starting (Run (mode_of mode) (said scene.entry.now (Call number))) rest.entry.now (now_of self.old) 0)
-            (now_of self.new)) }
+            (starting (Run (mode_of mode) (said scene.entry.now (Call number))) rest.entry.now
+            (now_of self.old) 0) (now_of self.new)) }
         ensures kept { IfOk result (λ refused. refused ≡ false → now_of self.new ≡ now_of self.old) }
     {
         let row = &scene.program.rows[number];
@@ -410,11 +410,42 @@ impl<'a> Machine<'a> {
         Ok(true)
     }
 
+    /// Runs a form at once where `simple` does, and an option of such a form. The answer is what is left of
+    /// the text after it, or `None` where it fails. Another form with parts is left alone.
+    #[inline]
+    pub fn at_once(
+        &mut self,
+        scene: &Scene<'a>,
+        form: &'a Form,
+        mode: Mode,
+        rest: &'a str,
+    ) -> Result<AtOnce<'a>, Stop>
+        requires sound { IsSoundIn scene.now }
+        requires bound { IsBoundIn scene.now form.now }
+        requires left { IsLeft scene.now.text.now rest.now }
+        ensures frames { self.new.frames ≡ self.old.frames }
+        ensures steps { self.new.steps ≡ self.old.steps }
+        ensures stopped { IfErr result (IsStuckAtOnce form.entry.now self.old) }
+        ensures means { IfOk result
+            (ComesAtOnce scene.entry.now form.entry.now mode rest.entry.now self.old self.new) }
+    {
+        match form {
+            Form::Opt(body) => match self.simple(scene, body, mode, rest)? {
+                AtOnce::Answered(answer) => match answer {
+                    Some(after) => Ok(AtOnce::Answered(Some(after))),
+                    None => Ok(AtOnce::Answered(Some(rest))),
+                },
+                AtOnce::Nested => Ok(AtOnce::Nested),
+            },
+            _ => self.simple(scene, form, mode, rest),
+        }
+    }
+
     /// Runs a form that has no parts, or is as many of a set as there are, and refuses a call where its rule
     /// cannot begin here, at the front of a sequence too. The answer is what is left of the text after it, or
     /// `None` where it fails. Another form with parts is left alone.
     #[inline]
-    pub fn at_once(
+    fn simple(
         &mut self,
         scene: &Scene<'a>,
         form: &'a Form,

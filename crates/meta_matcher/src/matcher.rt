@@ -1,6 +1,7 @@
 //! Rules that are run on whole texts.
-ghost use Rattle.std.specs.Prelude.{◌≡◌, IfErr, IfOk, chars};
+ghost use Rattle.std.specs.Prelude.{◌≡◌, IfErr, IfNone, IfOk, IfSome, chars};
 ghost use Rattle.meta_ast.specs.Optimized.{optimized_rules_of};
+ghost use Rattle.meta_base.specs.Language.Expression.{rule_of};
 ghost use Rattle.meta_base.specs.Language.State.{Classes};
 ghost use Rattle.meta_matcher.specs.Programs.{Fits, IsSkippedRule, grammar_of};
 
@@ -59,6 +60,7 @@ fn find_row(rows: &[Row], name: &str) -> Option<usize>
 impl Matcher {
     ghost use Rattle.meta_matcher.specs.Answers.{AreExpectedAt, IsMatched, IsRefused, IsRefusedAtTheEnd, IsSoundMatcher, IsUnanswered};
     ghost use Rattle.meta_matcher.specs.Endings.{EndsOn};
+    ghost use Rattle.meta_matcher.specs.Machines.{IsSceneOf};
 
     /// The rules, with each name resolved once: to the last rule of that name, or to a builtin where no rule
     /// has it. A name that is neither, and a bound of a range that is not one character, are refused; so is
@@ -77,13 +79,32 @@ impl Matcher {
         Ok(Matcher { program })
     }
 
+    /// The rule of a name and a text, with the place at which names are told: `None` where no rule has the
+    /// name.
+    fn scene_of<'a>(&'a self, rule: &'a str, text: &'a str, asked: usize) -> Option<Scene<'a>>
+        requires sound { IsSoundMatcher self.now }
+        ensures known { IfSome result (IsSceneOf self.entry.now.program (chars rule.entry.now)
+            text.entry.now asked) }
+        ensures unknown { IfNone result (rule_of (grammar_of self.entry.now.program.rows.items)
+            (chars rule.entry.now) ≡ None) }
+    {
+        let number = find_row(&self.program.rows, rule)?;
+        let row = &self.program.rows[number];
+        Some(Scene {
+            program: &self.program,
+            row,
+            text,
+            asked,
+        })
+    }
+
     /// What the rule of a name matches in NonAtomic from the start of a text, with the empty stack, found in
     /// so many steps at most: a step begins with a form, or takes an answer. Refused are a name that no rule
     /// has, a text on which the rule fails, and what stops a run.
     ///
     /// A run that has an outcome comes to it, but for want of memory, if it may take two steps for each rule
-    /// of the relation of matching that a derivation of the outcome applies. `PEEK` or `POP` on the empty stack
-    /// is met only where there is no outcome.
+    /// of the relation of matching that a derivation of the outcome applies. `PEEK` or `POP` on the empty
+    /// stack is met only where there is no outcome.
     pub fn parse<'a>(
         &'a self,
         alloc: Global,
@@ -98,15 +119,8 @@ impl Matcher {
         ensures refused { IfErr result (IsRefused (grammar_of self.entry.now.program.rows.items)
             self.entry.now.program.properties.items (chars rule.entry.now) text.entry.now steps) }
     {
-        let Some(number) = find_row(&self.program.rows, rule) else {
+        let Some(scene) = self.scene_of(rule, text, NOWHERE) else {
             return Err(Refusal::UnknownRule(rule));
-        };
-        let row = &self.program.rows[number];
-        let scene = Scene {
-            program: &self.program,
-            row,
-            text,
-            asked: NOWHERE,
         };
         let mut machine = Machine::new(alloc);
         match machine.run(&scene, steps) {
@@ -119,8 +133,8 @@ impl Matcher {
         }
     }
 
-    /// The same with no limit on the steps, for a rule that has an outcome on the text, as those of an accepted
-    /// plain grammar have on every text: only want of memory stops the run.
+    /// The same with no limit on the steps, for a rule that has an outcome on the text, as those of an
+    /// accepted plain grammar have on every text: only want of memory stops the run.
     pub fn parse_to_the_end<'a>(
         &'a self,
         alloc: Global,
@@ -137,18 +151,10 @@ impl Matcher {
         ensures refused { IfErr result (IsRefusedAtTheEnd (grammar_of self.entry.now.program.rows.items)
             self.entry.now.program.properties.items (chars rule.entry.now) text.entry.now) }
     {
-        let Some(number) = find_row(&self.program.rows, rule) else {
+        let Some(scene) = self.scene_of(rule, text, NOWHERE) else {
             return Err(Refusal::UnknownRule(rule));
         };
-        let row = &self.program.rows[number];
-        let ending = Ending {
-            scene: Scene {
-                program: &self.program,
-                row,
-                text,
-                asked: NOWHERE,
-            },
-        };
+        let ending = Ending { scene };
         let mut machine = Machine::new(alloc);
         match machine.run_to_the_end(&ending) {
             Ok(Some(after)) => {
@@ -168,9 +174,10 @@ impl Matcher {
     /// `parse`: each once, in the order in which they are first called there. Where `parse` refuses a text by
     /// `NoMatch` of that place, they are what would have let it get further.
     ///
-    /// A rule is expected at a place if a call of it that began there failed, gives a token, was made in a mode
-    /// other than Atomic and not below a `!`, and is within no other such call. So is `EOI`, where it was asked
-    /// for there. The list is empty where all that failed there stood below a `!`, or was no such call.
+    /// A rule is expected at a place if a call of it that began there failed, gives a token, was made in a
+    /// mode other than Atomic and not below a `!`, and is within no other such call. So is `EOI`, where it
+    /// was asked for there. The list is empty where all that failed there stood below a `!`, or was no such
+    /// call.
     ///
     /// It is refused as by `parse`, but a text on which the rule fails has an answer.
     pub fn expected_at<'a>(
@@ -187,15 +194,8 @@ impl Matcher {
         ensures refused { IfErr result (IsUnanswered (grammar_of self.entry.now.program.rows.items)
             self.entry.now.program.properties.items (chars rule.entry.now) text.entry.now steps) }
     {
-        let Some(number) = find_row(&self.program.rows, rule) else {
+        let Some(scene) = self.scene_of(rule, text, place) else {
             return Err(Refusal::UnknownRule(rule));
-        };
-        let row = &self.program.rows[number];
-        let scene = Scene {
-            program: &self.program,
-            row,
-            text,
-            asked: place,
         };
         let mut machine = Machine::new(alloc);
         match machine.run(&scene, steps) {

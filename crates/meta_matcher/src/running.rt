@@ -15,7 +15,7 @@ use crate::ending::Ending;
 use crate::entries::{close, cut, open, written};
 use crate::form::{Form, Row};
 use crate::frames::{
-    AtOnce, Called, Came, Control, Frame, Mark, Predicate, Repetition, Second, Sequence,
+    AtOnce, Called, Came, Control, Frame, Predicate, Repetition, Saved, Second, Sequence,
 };
 use crate::machine::{Machine, Scene, Steps, Stop};
 use crate::modes::{Mode, body_mode, call_counts, gives_token};
@@ -69,7 +69,7 @@ impl<'a> Machine<'a> {
             AtOnce::Answered(answer) => self.resume(scene, frame, answer),
             AtOnce::Nested => {
                 self.wait(frame)?;
-                Ok(Control::Run(form, mode, rest))
+                Ok(Control::Parts(form, mode, rest))
             }
         }
     }
@@ -88,8 +88,8 @@ impl<'a> Machine<'a> {
         match frame {
             Frame::First(sequence) => self.after_first(scene, sequence, answer),
             Frame::Gap(sequence) => self.after_gap(scene, sequence, answer),
-            Frame::Second(mark) => Ok(self.after_second(scene, mark, answer)),
-            Frame::Left(right, mode, rest) => Ok(self.after_left(scene, right, mode, rest, answer)),
+            Frame::Second(saved) => Ok(self.after_second(scene, saved, answer)),
+            Frame::Left(right, mode, rest) => self.after_left(scene, right, mode, rest, answer),
             Frame::Optional(rest) => Ok(self.after_optional(scene, rest, answer)),
             Frame::Turn(repetition) => Ok(self.after_turn(scene, repetition, answer)?),
             Frame::TurnGap(repetition) => Ok(self.after_turn_gap(scene, repetition, answer)?),
@@ -119,12 +119,22 @@ impl<'a> Machine<'a> {
             (Run (mode_of mode) (Seq (said scene.now first.now) (said_second scene.now second))) rest.now }
         ensures { Leads scene.entry.now self.new (steps_of self.old + 1) result }
     {
-        let mark = self.mark()?;
-        let frame = Frame::First(Sequence { second, mode, mark });
-        self.enter(scene, frame, first, mode, rest)
+        let saved = self.saved()?;
+        let sequence = Sequence {
+            second,
+            mode,
+            saved,
+        };
+        match self.at_once(scene, first, mode, rest)? {
+            AtOnce::Answered(answer) => self.after_first(scene, sequence, answer),
+            AtOnce::Nested => {
+                self.wait(Frame::First(sequence))?;
+                Ok(Control::Parts(first, mode, rest))
+            }
+        }
     }
 
-    /// The first form of a sequence has an answer.
+    /// A form of a sequence that is not the last has an answer.
     #[inline(always)]
     fn after_first(
         &mut self,
@@ -144,7 +154,10 @@ impl<'a> Machine<'a> {
                     Ok(self.blanks(scene, after)?)
                 }
             },
-            None => Ok(Control::Answer(None)),
+            None => {
+                self.back_to(sequence.saved);
+                Ok(Control::Answer(None))
+            }
         }
     }
 
@@ -163,13 +176,13 @@ impl<'a> Machine<'a> {
         match answer {
             Some(after) => self.second(scene, sequence, after),
             None => {
-                self.back_to(sequence.mark);
+                self.back_to(sequence.saved);
                 Ok(Control::Answer(None))
             }
         }
     }
 
-    /// Runs the second form of a sequence, at once where it has no parts.
+    /// Runs what comes second in a sequence.
     #[inline(always)]
     fn second(
         &mut self,
@@ -180,42 +193,124 @@ impl<'a> Machine<'a> {
         requires sound { IsSoundIn scene.now }
         requires bound { IsBoundSecond scene.now sequence.second }
         requires left { IsLeft scene.now.text.now rest.now }
-        requires follows { Awaits scene.now self.old (IsSecond scene.now sequence.mark
+        requires follows { Awaits scene.now self.old (IsSecond scene.now sequence.saved
             (starting (Run (mode_of sequence.mode) (said_second scene.now sequence.second))
             rest.now (now_of self.old) (steps_of self.old + 1))) }
         ensures { Leads scene.entry.now self.new (steps_of self.old + 1) result }
     {
-        let Sequence { second, mode, mark } = sequence;
+        let Sequence {
+            second,
+            mode,
+            saved,
+        } = sequence;
         match second {
-            Second::Once(form) => match self.at_once(scene, form, mode, rest)? {
-                AtOnce::Answered(answer) => Ok(self.after_second(scene, mark, answer)),
-                AtOnce::Nested => {
-                    self.wait(Frame::Second(mark))?;
-                    Ok(Control::Run(form, mode, rest))
-                }
-            },
+            Second::Once(form) => self.further(scene, form, mode, saved, rest),
             Second::Repeated(body) => {
-                self.wait(Frame::Second(mark))?;
+                self.wait(Frame::Second(saved))?;
                 Ok(self.repetition(scene, body, mode, rest)?)
             }
         }
     }
 
-    /// The second form of a sequence has an answer.
+    /// Runs the forms of a sequence behind the first, for as long as they are matched at once. A form that
+    /// has parts is begun.
+    fn further(
+        &mut self,
+        scene: &Scene<'a>,
+        forms: &'a Form,
+        mode: Mode,
+        saved: Saved<'a>,
+        from: &'a str,
+    ) -> Result<Control<'a>, Stop>
+        requires sound { IsSoundIn scene.now }
+        requires bound { IsBoundIn scene.now forms.now }
+        requires left { IsLeft scene.now.text.now from.now }
+        requires follows { Awaits scene.now self.old (IsSecond scene.now saved
+            (starting (Run (mode_of mode) (said scene.now forms.now))
+            from.now (now_of self.old) (steps_of self.old + 1))) }
+        ensures { Leads scene.entry.now self.new (steps_of self.old + 1) result }
+    {
+        let mut form = forms;
+        let mut rest = from;
+        'forms: while let Form::Seq(first, next) = form {
+            match self.at_once(scene, first, mode, rest)? {
+                AtOnce::Answered(answer) => match answer {
+                    Some(after) => match passed(scene, mode, after) {
+                        Some(skipped) => {
+                            form = next;
+                            rest = skipped;
+                        }
+                        None => {
+                            let second = Second::Once(next);
+                            self.wait(Frame::Gap(Sequence {
+                                second,
+                                mode,
+                                saved,
+                            }))?;
+                            return Ok(self.blanks(scene, after)?);
+                        }
+                    },
+                    None => {
+                        self.back_to(saved);
+                        return Ok(Control::Answer(None));
+                    }
+                },
+                AtOnce::Nested => {
+                    let second = Second::Once(next);
+                    self.wait(Frame::First(Sequence {
+                        second,
+                        mode,
+                        saved,
+                    }))?;
+                    return Ok(Control::Parts(first, mode, rest));
+                }
+            }
+        }
+        self.last(scene, form, mode, saved, rest)
+    }
+
+    /// Runs the last form of a sequence, at once where it has no parts.
+    #[inline(always)]
+    fn last(
+        &mut self,
+        scene: &Scene<'a>,
+        form: &'a Form,
+        mode: Mode,
+        saved: Saved<'a>,
+        rest: &'a str,
+    ) -> Result<Control<'a>, Stop>
+        requires sound { IsSoundIn scene.now }
+        requires bound { IsBoundIn scene.now form.now }
+        requires left { IsLeft scene.now.text.now rest.now }
+        requires follows { Awaits scene.now self.old (IsSecond scene.now saved
+            (starting (Run (mode_of mode) (said scene.now form.now))
+            rest.now (now_of self.old) (steps_of self.old + 1))) }
+        ensures { Leads scene.entry.now self.new (steps_of self.old + 1) result }
+    {
+        match self.at_once(scene, form, mode, rest)? {
+            AtOnce::Answered(answer) => Ok(self.after_second(scene, saved, answer)),
+            AtOnce::Nested => {
+                self.wait(Frame::Second(saved))?;
+                Ok(Control::Parts(form, mode, rest))
+            }
+        }
+    }
+
+    /// The last form of a sequence has an answer.
     #[inline(always)]
     fn after_second(
         &mut self,
         scene: &Scene<'a>,
-        mark: Mark<'a>,
+        saved: Saved<'a>,
         answer: Option<&'a str>,
     ) -> Control<'a>
-        requires follows { IsResumed scene.now self.old (IsSecond scene.now mark) answer }
+        requires follows { IsResumed scene.now self.old (IsSecond scene.now saved) answer }
         ensures { IsOnTheWay scene.entry.now self.new (steps_of self.old + 1) result }
     {
         match answer {
             Some(after) => Control::Answer(Some(after)),
             None => {
-                self.back_to(mark);
+                self.back_to(saved);
                 Control::Answer(None)
             }
         }
@@ -230,14 +325,47 @@ impl<'a> Machine<'a> {
         mode: Mode,
         rest: &'a str,
         answer: Option<&'a str>,
-    ) -> Control<'a>
+    ) -> Result<Control<'a>, Stop>
+        requires sound { IsSoundIn scene.now }
         requires follows { IsResumed scene.now self.old
             (IsLeftSide scene.now right.now mode rest.now) answer }
-        ensures { IsOnTheWay scene.entry.now self.new (steps_of self.old + 1) result }
+        ensures { Leads scene.entry.now self.new (steps_of self.old + 1) result }
     {
         match answer {
-            Some(after) => Control::Answer(Some(after)),
-            None => Control::Run(right, mode, rest),
+            Some(after) => Ok(Control::Answer(Some(after))),
+            None => self.alternatives(scene, right, mode, rest),
+        }
+    }
+
+    /// Runs the alternatives of a choice behind the first, for as long as they fail at once. One that has
+    /// parts is begun.
+    fn alternatives(
+        &mut self,
+        scene: &Scene<'a>,
+        choice: &'a Form,
+        mode: Mode,
+        rest: &'a str,
+    ) -> Result<Control<'a>, Stop>
+        requires sound { IsSoundIn scene.now }
+        requires running { IsRunning scene.now self.old (steps_of self.old + 1) choice.now mode rest.now }
+        ensures { Leads scene.entry.now self.new (steps_of self.old + 1) result }
+    {
+        let mut form = choice;
+        'alternatives: while let Form::Choice(left, right) = form {
+            match self.at_once(scene, left, mode, rest)? {
+                AtOnce::Answered(answer) => match answer {
+                    Some(after) => return Ok(Control::Answer(Some(after))),
+                    None => form = right,
+                },
+                AtOnce::Nested => {
+                    self.wait(Frame::Left(right, mode, rest))?;
+                    return Ok(Control::Parts(left, mode, rest));
+                }
+            }
+        }
+        match self.at_once(scene, form, mode, rest)? {
+            AtOnce::Answered(answer) => Ok(Control::Answer(answer)),
+            AtOnce::Nested => Ok(Control::Parts(form, mode, rest)),
         }
     }
 
@@ -273,12 +401,12 @@ impl<'a> Machine<'a> {
             rest.now (now_of self.old) (steps_of self.old))) }
         ensures { IfOk result (IsOnTheWay scene.entry.now self.new (steps_of self.old + 1)) }
     {
-        let mark = self.mark()?;
+        let saved = self.saved()?;
         let repetition = Repetition {
             body,
             mode,
             rest,
-            mark,
+            saved,
         };
         self.turn(scene, repetition, rest)
     }
@@ -318,7 +446,7 @@ impl<'a> Machine<'a> {
         match answer {
             Some(after) => self.next_turn(scene, repetition.body, repetition.mode, after),
             None => {
-                self.back_to(repetition.mark);
+                self.back_to(repetition.saved);
                 Ok(Control::Answer(Some(repetition.rest)))
             }
         }
@@ -341,12 +469,12 @@ impl<'a> Machine<'a> {
             rest.now (now_of self.old) (steps_of self.old))) }
         ensures { IfOk result (IsOnTheWay scene.entry.now self.new (steps_of self.old + 1)) }
     {
-        let mark = self.mark()?;
+        let saved = self.saved()?;
         let repetition = Repetition {
             body,
             mode,
             rest,
-            mark,
+            saved,
         };
         match passed(scene, mode, rest) {
             Some(next) => self.turn(scene, repetition, next),
@@ -371,7 +499,7 @@ impl<'a> Machine<'a> {
         match answer {
             Some(after) => self.turn(scene, repetition, after),
             None => {
-                self.back_to(repetition.mark);
+                self.back_to(repetition.saved);
                 Ok(Control::Answer(Some(repetition.rest)))
             }
         }
@@ -392,8 +520,8 @@ impl<'a> Machine<'a> {
             (Run (mode_of mode) (NegPred (said scene.now body.now))) rest.now }
         ensures { Leads scene.entry.now self.new (steps_of self.old + 1) result }
     {
-        let mark = self.mark()?;
-        let frame = Frame::Not(Predicate { rest, mark }, count(&self.told));
+        let saved = self.saved()?;
+        let frame = Frame::Not(Predicate { rest, saved }, count(&self.told));
         self.enter(scene, frame, body, mode, rest)
     }
 
@@ -412,7 +540,7 @@ impl<'a> Machine<'a> {
         self.forget(told);
         match answer {
             Some(_) => {
-                self.back_to(predicate.mark);
+                self.back_to(predicate.saved);
                 Control::Answer(None)
             }
             None => Control::Answer(Some(predicate.rest)),
@@ -434,8 +562,8 @@ impl<'a> Machine<'a> {
             (Run (mode_of mode) (PosPred (said scene.now body.now))) rest.now }
         ensures { Leads scene.entry.now self.new (steps_of self.old + 1) result }
     {
-        let mark = self.mark()?;
-        let frame = Frame::Ahead(Predicate { rest, mark });
+        let saved = self.saved()?;
+        let frame = Frame::Ahead(Predicate { rest, saved });
         self.enter(scene, frame, body, mode, rest)
     }
 
@@ -452,7 +580,7 @@ impl<'a> Machine<'a> {
     {
         match answer {
             Some(_) => {
-                self.back_to(predicate.mark);
+                self.back_to(predicate.saved);
                 Control::Answer(Some(predicate.rest))
             }
             None => Control::Answer(None),
@@ -700,6 +828,7 @@ impl<'a> Machine<'a> {
             self.steps = Steps { rounds, since };
             control = match control {
                 Control::Run(form, mode, rest) => self.start(scene, form, mode, rest)?,
+                Control::Parts(form, mode, rest) => self.parts(scene, form, mode, rest)?,
                 Control::Answer(answer) => match self.frames.pop() {
                     Some(frame) => self.resume(scene, frame, answer)?,
                     None => return Ok(Came::Ended(answer)),

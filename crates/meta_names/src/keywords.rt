@@ -20,7 +20,7 @@ pub fn validate_rust_keywords(
         IfOk result (λ errors. Tell (rust_keyword_complaints places) errors.items) }
     ensures memory { IfErr result (λ fault. fault ≡ Fault.Memory alloc_error) }
 {
-    let words = places_of(alloc, rust_keywords(), definitions).map_err(Fault::Memory)?;
+    let words = places_of(alloc, rust_keywords(), definitions)?;
     errors(alloc, "", " is a rust keyword", &words)
 }
 
@@ -34,7 +34,7 @@ pub fn validate_pest_keywords(
         IfOk result (λ errors. Tell (pest_keyword_complaints places) errors.items) }
     ensures memory { IfErr result (λ fault. fault ≡ Fault.Memory alloc_error) }
 {
-    let words = places_of(alloc, pest_keywords(), definitions).map_err(Fault::Memory)?;
+    let words = places_of(alloc, pest_keywords(), definitions)?;
     errors(alloc, "", " is a pest keyword", &words)
 }
 
@@ -48,7 +48,7 @@ pub fn validate_already_defined(
         IfOk result (λ errors. Tell (duplicate_complaints places) errors.items) }
     ensures memory { IfErr result (λ fault. fault ≡ Fault.Memory alloc_error) }
 {
-    let again = later(alloc, definitions).map_err(Fault::Memory)?;
+    let again = later(alloc, definitions)?;
     errors(alloc, "rule ", " already defined", &again)
 }
 
@@ -63,7 +63,7 @@ pub(crate) fn pest_keywords_in(
         IfOk result (λ errors. Tell (pest_keyword_complaints places) errors.items) }
     ensures memory { IfErr result (λ fault. fault ≡ Fault.Memory alloc_error) }
 {
-    let found = places_of(alloc, pest_keywords(), definitions).map_err(Fault::Memory)?;
+    let found = places_of(alloc, pest_keywords(), definitions)?;
     errors_in(alloc, text, "", " is a pest keyword", &found)
 }
 
@@ -78,7 +78,7 @@ pub(crate) fn already_defined_in(
         IfOk result (λ errors. Tell (duplicate_complaints places) errors.items) }
     ensures memory { IfErr result (λ fault. fault ≡ Fault.Memory alloc_error) }
 {
-    let found = later(alloc, definitions).map_err(Fault::Memory)?;
+    let found = later(alloc, definitions)?;
     errors_in(alloc, text, "rule ", " already defined", &found)
 }
 

@@ -4,12 +4,12 @@
 
 mod found;
 mod keywords;
+mod pairs;
 mod said;
 mod tables;
 mod undefined;
-mod validate;
 
 pub use keywords::{validate_already_defined, validate_pest_keywords, validate_rust_keywords};
+pub use pairs::validate_pairs;
 pub use tables::{is_builtin, unicode_property_names};
 pub use undefined::validate_undefined;
-pub use validate::validate_pairs;

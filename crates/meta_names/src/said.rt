@@ -17,7 +17,7 @@ fn error(alloc: Global, before: &str, after: &str, place: Span<'_>) -> Result<Er
     ensures memory { IfErr result (λ fault. fault ≡ Fault.Memory alloc_error) }
 {
     let name = place.as_str();
-    let message = format!(in alloc; "{before}{name}{after}").map_err(Fault::Memory)?;
+    let message = format!(in alloc; "{before}{name}{after}")?;
     Error::new_from_span(alloc, ErrorVariant::CustomError { message }, place)
 }
 
@@ -36,10 +36,7 @@ pub(crate) fn errors(
     let mut errors = Vec::new(alloc);
     for place in places {
         let error = error(alloc, before, after, *place)?;
-        match errors.push(error) {
-            Ok(()) => {}
-            Err(_) => return Err(Fault::Memory(AllocError)),
-        }
+        errors.push(error)?;
     }
     Ok(errors)
 }
@@ -60,7 +57,7 @@ fn error_in(
     ensures survey { survey_text survey.new ≡ survey_text survey.old }
 {
     let name = place.as_str();
-    let message = format!(in alloc; "{before}{name}{after}").map_err(Fault::Memory)?;
+    let message = format!(in alloc; "{before}{name}{after}")?;
     Error::new_in_survey(alloc, ErrorVariant::CustomError { message }, survey, place)
 }
 
@@ -81,13 +78,10 @@ pub(crate) fn errors_in(
     if places.is_empty() {
         return Ok(errors);
     }
-    let mut survey = Survey::new(alloc, text).map_err(Fault::Memory)?;
+    let mut survey = Survey::new(alloc, text)?;
     for place in places {
         let error = error_in(alloc, &mut survey, before, after, *place)?;
-        match errors.push(error) {
-            Ok(()) => {}
-            Err(_) => return Err(Fault::Memory(AllocError)),
-        }
+        errors.push(error)?;
     }
     Ok(errors)
 }

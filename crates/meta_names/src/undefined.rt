@@ -23,7 +23,7 @@ pub fn validate_undefined<'i>(
         errors.items) }
     ensures memory { IfErr result (λ fault. fault ≡ Fault.Memory alloc_error) }
 {
-    let undefined = undefined(alloc, definitions, called).map_err(Fault::Memory)?;
+    let undefined = undefined(alloc, definitions, called)?;
     errors(alloc, "rule ", " is undefined", &undefined)
 }
 
@@ -40,7 +40,7 @@ pub(crate) fn undefined_in<'i>(
         errors.items) }
     ensures memory { IfErr result (λ fault. fault ≡ Fault.Memory alloc_error) }
 {
-    let found = undefined(alloc, definitions, called).map_err(Fault::Memory)?;
+    let found = undefined(alloc, definitions, called)?;
     errors_in(alloc, text, "rule ", " is undefined", &found)
 }
 

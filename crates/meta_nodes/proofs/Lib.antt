@@ -1,4 +1,3 @@
-pub mod Copies
 pub mod NodeTests
 pub mod Walks
 pub mod Sameness

@@ -1,28 +1,28 @@
 -- Expressions and rules without their spans.
 use Rattle.std.specs.Prelude.{List, map}
-use Rattle.meta_base.specs.Language.Expression as plain
+use Rattle.meta_base.specs.Language.Expression as bare
 use Rattle.meta_base.specs.Language.Expression.{Expression, Rule, Grammar}
 use Rattle.meta_nodes.specs.Spanned as spanned
 use Rattle.meta_nodes.specs.Spanned.{Spanned, Leaf, One, Two, Unary, Binary, SpannedRule}
 
 -- what stands round an operand, round an expression
 abbrev pub round : Unary → Expression → Expression
-round spanned.PosPred e = plain.PosPred e
-round spanned.NegPred e = plain.NegPred e
-round spanned.Opt e = plain.Opt e
-round spanned.Rep e = plain.Rep e
-round spanned.RepOnce e = plain.RepOnce e
-round (spanned.RepExact n) e = plain.RepExact e n
-round (spanned.RepMin m) e = plain.RepMin e m
-round (spanned.RepMax n) e = plain.RepMax e n
-round (spanned.RepMinMax m n) e = plain.RepMinMax e m n
-round spanned.Push e = plain.Push e
-round (spanned.Tag t) e = plain.NodeTag e t
+round spanned.PosPred e = bare.PosPred e
+round spanned.NegPred e = bare.NegPred e
+round spanned.Opt e = bare.Opt e
+round spanned.Rep e = bare.Rep e
+round spanned.RepOnce e = bare.RepOnce e
+round (spanned.RepExact n) e = bare.RepExact e n
+round (spanned.RepMin m) e = bare.RepMin e m
+round (spanned.RepMax n) e = bare.RepMax e n
+round (spanned.RepMinMax m n) e = bare.RepMinMax e m n
+round spanned.Push e = bare.Push e
+round (spanned.Tag t) e = bare.NodeTag e t
 
 -- what stands between two operands, between two expressions
 abbrev pub between : Binary → Expression → Expression → Expression
-between spanned.Seq a b = plain.Seq a b
-between spanned.Choice a b = plain.Choice a b
+between spanned.Seq a b = bare.Seq a b
+between spanned.Choice a b = bare.Choice a b
 
 -- the expression of a node
 abbrev pub without_spans : Spanned → Expression

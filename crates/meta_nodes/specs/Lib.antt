@@ -3,6 +3,5 @@ pub mod Nodes
 pub mod NodeEquality
 pub mod Walk
 pub mod Erasure
-pub mod Copying
+pub mod Shapes
 pub mod Erasing
-pub mod Sameness

@@ -1,6 +1,6 @@
 -- What nodes and rules of code say: expressions with their pieces of the text, which forget memory.
 use Rattle.std.specs.Prelude.{◌≡◌, List, [], map}
-use Rattle.meta_base.specs.Language.Expression as plain
+use Rattle.meta_base.specs.Language.Expression as bare
 use Rattle.meta_ast.specs.Ast.{text_of, rule_type_of}
 pub use Rattle.meta_base.specs.Pieces.Saying.{piece_of}
 use Rattle.meta_ast.specs.declared.ast.RuleType as code_type
@@ -13,11 +13,11 @@ use Rattle.meta_nodes.specs.declared.node.ParserRule.{ParserRule}
 
 -- an expression of code that stands at a place; the `p` and `q` are where its boxes lie
 abbrev pub view_at : Span → code.ParserExpr → Spanned
-view_at t (is.Str s) = Leaf t (plain.Str (text_of s))
-view_at t (is.Insens s) = Leaf t (plain.Insens (text_of s))
-view_at t (is.Range s u) = Leaf t (plain.Range (text_of s) (text_of u))
-view_at t (is.Ident s) = Leaf t (plain.Ident (text_of s))
-view_at t (is.PeekSlice m n) = Leaf t (plain.PeekSlice m n)
+view_at t (is.Str s) = Leaf t (bare.Str (text_of s))
+view_at t (is.Insens s) = Leaf t (bare.Insens (text_of s))
+view_at t (is.Range s u) = Leaf t (bare.Range (text_of s) (text_of u))
+view_at t (is.Ident s) = Leaf t (bare.Ident (text_of s))
+view_at t (is.PeekSlice m n) = Leaf t (bare.PeekSlice m n)
 view_at t (is.PosPred' p e s) = One t spanned.PosPred (view_at (piece_of s) e)
 view_at t (is.NegPred' p e s) = One t spanned.NegPred (view_at (piece_of s) e)
 view_at t (is.Seq' p e s q f u) = Two t spanned.Seq (view_at (piece_of s) e) (view_at (piece_of u) f)
@@ -30,7 +30,7 @@ view_at t (is.RepMin' p e s m) = One t (spanned.RepMin m) (view_at (piece_of s) 
 view_at t (is.RepMax' p e s n) = One t (spanned.RepMax n) (view_at (piece_of s) e)
 view_at t (is.RepMinMax' p e s m n) = One t (spanned.RepMinMax m n) (view_at (piece_of s) e)
 view_at t (is.Push' p e s) = One t spanned.Push (view_at (piece_of s) e)
-view_at t (is.PushLiteral s) = Leaf t (plain.PushLiteral (text_of s))
+view_at t (is.PushLiteral s) = Leaf t (bare.PushLiteral (text_of s))
 view_at t (is.NodeTag' p e s u) = One t (spanned.Tag (text_of u)) (view_at (piece_of s) e)
 
 -- a node of code
@@ -46,7 +46,7 @@ abbrev pub IsSameExpression : code.ParserExpr → code.ParserExpr → Type 0
 IsSameExpression a b = (place : Span) → view_at place a ≡ view_at place b
 
 -- a type of code
-abbrev pub type_of : code_type.RuleType → plain.RuleType
+abbrev pub type_of : code_type.RuleType → bare.RuleType
 type_of t = rule_type_of t
 
 -- a rule of code

@@ -1,16 +1,16 @@
 //! Equality of nodes, expressions and rules: by structure and place, and exactly that.
-ghost use Rattle.std.specs.Prelude.{◌≡◌, ◌↔◌, ◌+◌, ◌<◌, ◌≤◌, ◌&&◌, IsTrue, IfOk};
+ghost use Rattle.std.specs.Prelude.{◌≡◌, ◌↔◌, ◌<◌, IsTrue};
 ghost use Rattle.std.specs.Cmp.{on_equiv, partial_equiv_from_equiv};
+ghost use Rattle.meta_ast.specs.Sameness.{heaviness_left, is_same};
 ghost use Rattle.meta_ast.specs.Weight.{weight};
 ghost use Rattle.meta_nodes.specs.Erasure.{without_spans};
 ghost use Rattle.meta_nodes.specs.NodeEquality.{rule_eq, rule_eq_equiv, span_eq, spanned_eq, spanned_eq_equiv};
 ghost use Rattle.meta_nodes.specs.Nodes.{piece_of, rule_view, unplaced, view, IsSameExpression};
-ghost use Rattle.meta_nodes.specs.Sameness.{are_equal, heaviness, heaviness_left, is_equal, is_same};
 
 use crate::node::{ParserExpr, ParserNode, ParserRule};
+use meta_ast::sameness::{Both, Compared, Left, are_same, equal};
 use meta_ast::texts::same_text;
 use meta_base::runtime::Span;
-use std::alloc::{AllocError, Global};
 
 impl<'i> PartialEq for ParserRule<'i> {
     ghost eq = { λ a b. rule_eq (rule_view a) (rule_view b) };
@@ -41,7 +41,7 @@ impl<'i> PartialEq for ParserNode<'i> {
         ensures computed { result ≡ spanned_eq (view self.now) (view other.now) }
         ensures exact { IsTrue result ↔ (view self.now ≡ view other.now) }
     {
-        equal_nodes(self, other)
+        equal(self, other)
     }
 }
 
@@ -58,7 +58,7 @@ impl<'i> PartialEq for ParserExpr<'i> {
         ensures computed { result ≡ spanned_eq (unplaced self.now) (unplaced other.now) }
         ensures exact { IsTrue result ↔ IsSameExpression self.now other.now }
     {
-        equal(self, other)
+        are_same(&compared(self, other))
     }
 }
 
@@ -73,141 +73,23 @@ fn same_span(a: &Span<'_>, b: &Span<'_>) -> bool
     a == b
 }
 
-/// Whether two nodes are equal, where they stand and what they say.
-fn equal_nodes<'i>(a: &ParserNode<'i>, b: &ParserNode<'i>) -> bool
-    ensures { result ≡ spanned_eq (view a.now) (view b.now) }
-{
-    same_span(&a.span, &b.span) && equal(&a.expr, &b.expr)
-}
+impl<'i> Compared for ParserNode<'i> {
+    ghost is_equal = { λ a b. spanned_eq (view a) (view b) };
 
-/// Whether two expressions are equal, with a list of what is left to be compared; by calls where there is no
-/// memory for it.
-fn equal<'i>(a: &ParserExpr<'i>, b: &ParserExpr<'i>) -> bool
-    ensures { result ≡ spanned_eq (unplaced a.now) (unplaced b.now) }
-{
-    match allocator_of(a) {
-        None => same(a, b),
-        Some(alloc) => match equal_by_list(alloc, a, b) {
-            Ok(answer) => answer,
-            Err(_) => same(a, b),
-        },
-    }
-}
-
-/// The allocator of an expression's boxes.
-fn allocator_of(expr: &ParserExpr<'_>) -> Option<Global> {
-    use ParserExpr as E;
-    match expr {
-        E::PosPred(inner) | E::NegPred(inner) | E::Opt(inner) => Some(*Box::allocator(inner)),
-        E::Rep(inner) | E::RepOnce(inner) | E::Push(inner) => Some(*Box::allocator(inner)),
-        E::RepExact(inner, _) | E::RepMin(inner, _) => Some(*Box::allocator(inner)),
-        E::RepMax(inner, _) | E::RepMinMax(inner, _, _) => Some(*Box::allocator(inner)),
-        E::NodeTag(inner, _) => Some(*Box::allocator(inner)),
-        E::Seq(left, _) | E::Choice(left, _) => Some(*Box::allocator(left)),
-        _ => None,
-    }
-}
-
-/// Two nodes that are to be compared.
-#[derive(Clone, Copy)]
-struct Both<'n, 'i> {
-    first: &'n ParserNode<'i>,
-    second: &'n ParserNode<'i>,
-}
-
-/// What is left to be compared of two expressions.
-#[derive(Clone, Copy)]
-enum Left<'n, 'i> {
-    /// Nothing: this is the answer.
-    Nothing(bool),
-    /// Their operands, beside the answer on all else.
-    One(Both<'n, 'i>, bool),
-    Two(Both<'n, 'i>, Both<'n, 'i>),
-}
-
-/// Whether two expressions are equal, by a loop. The only fault is a want of memory.
-#[tactic(auto, using(crate::proofs::Sameness::lighter))]
-fn equal_by_list<'i>(
-    alloc: Global,
-    a: &ParserExpr<'i>,
-    b: &ParserExpr<'i>,
-) -> Result<bool, AllocError>
-    ensures { IfOk result (λ answer. answer ≡ spanned_eq (unplaced a.now) (unplaced b.now)) }
-{
-    let mut others = Vec::new(alloc);
-    let mut is_equal = put(compared(a, b), &mut others)?;
-    'both: while is_equal {
-        let Some(both) = others.pop() else {
-            return Ok(true);
-        };
-        is_equal = equal_outside(both, &mut others)?;
-    }
-    Ok(false)
-}
-
-/// Whether two nodes are equal but for their operands, which are put on a list. The only fault is a want of
-/// memory.
-fn equal_outside<'n, 'i>(
-    both: Both<'n, 'i>,
-    others: &mut Vec<Both<'n, 'i>>,
-) -> Result<bool, AllocError>
-    ensures same { IfOk result (λ answer. (answer && are_equal others.new.items)
-        ≡ (is_equal both.entry && are_equal others.old.items)) }
-    ensures work { IfOk result (λ _. heaviness others.new.items
-        < weight (without_spans (view both.entry.first.now)) + heaviness others.old.items) }
-{
-    if !same_span(&both.first.span, &both.second.span) {
-        return Ok(false);
-    }
-    let answer = put(compared(&both.first.expr, &both.second.expr), others)?;
-    Ok(answer)
-}
-
-/// Puts what is left to be compared on a list, and answers all else. The only fault is a want of memory.
-fn put<'n, 'i>(left: Left<'n, 'i>, others: &mut Vec<Both<'n, 'i>>) -> Result<bool, AllocError>
-    ensures same { IfOk result (λ answer. (answer && are_equal others.new.items)
-        ≡ (is_same left.entry && are_equal others.old.items)) }
-    ensures work { IfOk result (λ _. heaviness others.new.items
-        ≤ heaviness_left left.entry + heaviness others.old.items) }
-{
-    match left {
-        Left::Nothing(answer) => Ok(answer),
-        Left::One(operands, answer) => {
-            others.push(operands)?;
-            Ok(answer)
+    fn compared<'a>(&'a self, other: &'a ParserNode<'i>) -> Left<'a, ParserNode<'i>> {
+        if !same_span(&self.span, &other.span) {
+            return Left::Nothing(false);
         }
-        Left::Two(first, second) => {
-            others.push(second)?;
-            others.push(first)?;
-            Ok(true)
-        }
+        compared(&self.expr, &other.expr)
     }
-}
-
-/// Whether two expressions are equal, by calls.
-#[cycle(same)]
-fn same<'n, 'i>(a: &'n ParserExpr<'i>, b: &'n ParserExpr<'i>) -> bool
-    ensures { result ≡ spanned_eq (unplaced a.entry.now) (unplaced b.entry.now) }
-{
-    match compared(a, b) {
-        Left::Nothing(answer) => answer,
-        Left::One(operands, answer) => answer && same_nodes(operands),
-        Left::Two(first, second) => same_nodes(first) && same_nodes(second),
-    }
-}
-
-/// Whether two nodes are equal, by calls.
-#[cycle(same)]
-fn same_nodes<'n, 'i>(both: Both<'n, 'i>) -> bool
-    ensures { result ≡ is_equal both.entry }
-{
-    same_span(&both.first.span, &both.second.span) && same(&both.first.expr, &both.second.expr)
 }
 
 /// What is left to be compared of two expressions, once all but their operands is.
-fn compared<'n, 'i>(a: &'n ParserExpr<'i>, b: &'n ParserExpr<'i>) -> Left<'n, 'i>
-    ensures same { is_same result ≡ spanned_eq (unplaced a.entry.now) (unplaced b.entry.now) }
-    ensures work { heaviness_left result < weight (without_spans (unplaced a.entry.now)) }
+fn compared<'n, 'i>(a: &'n ParserExpr<'i>, b: &'n ParserExpr<'i>) -> Left<'n, ParserNode<'i>>
+    ensures same { is_same (λ x y. spanned_eq (view x) (view y)) result
+        ≡ spanned_eq (unplaced a.entry.now) (unplaced b.entry.now) }
+    ensures work { heaviness_left (λ node. weight (without_spans (view node))) result
+        < weight (without_spans (unplaced a.entry.now)) }
 {
     use ParserExpr as E;
     match (a, b) {

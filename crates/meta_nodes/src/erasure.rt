@@ -5,12 +5,16 @@ ghost use Rattle.meta_ast.specs.Ast.{expression_of, rule_of_code, rules_of};
 ghost use Rattle.meta_ast.specs.Weight.{weight};
 ghost use Rattle.meta_nodes.specs.Erasing.{with_operand, waits_of};
 ghost use Rattle.meta_nodes.specs.Erasure.{rule_without_spans, rules_without_spans, without_spans};
-ghost use Rattle.meta_nodes.specs.Nodes.{rule_view, rule_views, view};
+ghost use Rattle.meta_nodes.specs.Nodes.{rule_view, rule_views, unplaced, view, view_at};
+ghost use Rattle.meta_nodes.specs.Shapes.{IsLeaf};
+ghost use Rattle.meta_nodes.specs.Spanned.{Span as Place};
 
 use crate::node::{ParserExpr, ParserNode, ParserRule};
-use meta_ast::ast::{Expr, Rule};
+use crate::shaped::opened;
+use meta_ast::ast::{Expr, Rule, Sign};
 use meta_ast::deep::Deep;
 use meta_ast::rebuilt::{Rebuild, Step, rebuilt};
+use meta_ast::shape::{Joint, Shape, Shaped};
 use std::alloc::{AllocError, Global};
 
 /// The same rules, in order, without the spans of their names and nodes. The only fault is a want of memory.
@@ -45,25 +49,11 @@ fn erased_rule(alloc: Global, rule: ParserRule<'_>) -> Result<Rule, AllocError>
 /// What stands around an operand while its spans are left out.
 #[derive(Drop)]
 enum Around<'i> {
-    PosPred,
-    NegPred,
-    Opt,
-    Rep,
-    RepOnce,
-    RepExact(u32),
-    RepMin(u32),
-    RepMax(u32),
-    RepMinMax(u32, u32),
-    Push,
-    NodeTag(String),
-    /// A `~` whose left side is at hand, and the right one.
-    FirstOfSeq(Deep<ParserNode<'i>>),
-    /// The same of a `|`.
-    FirstOfChoice(Deep<ParserNode<'i>>),
-    /// A `~` whose right side is at hand, and what the left one is without spans.
-    SecondOfSeq(Deep<Box<Expr>>),
-    /// The same of a `|`.
-    SecondOfChoice(Deep<Box<Expr>>),
+    Sign(Sign),
+    /// The operand is the left one, and this the right one.
+    First(Joint, Deep<ParserNode<'i>>),
+    /// The operand is the right one, and this what the left one is without spans.
+    Second(Joint, Deep<Box<Expr>>),
 }
 
 impl<'i> Rebuild for Around<'i> {
@@ -88,35 +78,18 @@ impl<'i> Rebuild for Around<'i> {
     ghost waits = { λ around. waits_of around };
 
     fn open(node: ParserNode<'i>) -> Result<Step<ParserNode<'i>, Around<'i>, Expr>, AllocError> {
-        use ParserExpr as E;
-        let (around, operand) = match node.expr {
-            E::Str(text) => return Ok(Step::Made(Expr::Str(text))),
-            E::Insens(text) => return Ok(Step::Made(Expr::Insens(text))),
-            E::Range(first, last) => return Ok(Step::Made(Expr::Range(first, last))),
-            E::Ident(name) => return Ok(Step::Made(Expr::Ident(name))),
-            E::PushLiteral(text) => return Ok(Step::Made(Expr::PushLiteral(text))),
-            E::PeekSlice(start, end) => return Ok(Step::Made(Expr::PeekSlice(start, end))),
-            E::PosPred(inner) => (Around::PosPred, inner),
-            E::NegPred(inner) => (Around::NegPred, inner),
-            E::Opt(inner) => (Around::Opt, inner),
-            E::Rep(inner) => (Around::Rep, inner),
-            E::RepOnce(inner) => (Around::RepOnce, inner),
-            E::RepExact(inner, count) => (Around::RepExact(count), inner),
-            E::RepMin(inner, least) => (Around::RepMin(least), inner),
-            E::RepMax(inner, greatest) => (Around::RepMax(greatest), inner),
-            E::RepMinMax(inner, least, greatest) => (Around::RepMinMax(least, greatest), inner),
-            E::Push(inner) => (Around::Push, inner),
-            E::NodeTag(inner, tag) => (Around::NodeTag(tag), inner),
-            E::Seq(left, right) => {
-                let value = Box::into_inner(right);
-                (Around::FirstOfSeq(Deep { value }), left)
+        match opened(node.expr) {
+            Shape::Leaf(leaf) => Ok(Step::Made(erased_leaf(leaf))),
+            Shape::One(sign, operand) => {
+                let operand = Box::into_inner(operand);
+                Ok(Step::Inside(Around::Sign(sign), operand))
             }
-            E::Choice(left, right) => {
+            Shape::Two(joint, left, right) => {
                 let value = Box::into_inner(right);
-                (Around::FirstOfChoice(Deep { value }), left)
+                let around = Around::First(joint, Deep { value });
+                Ok(Step::Inside(around, Box::into_inner(left)))
             }
-        };
-        Ok(Step::Inside(around, Box::into_inner(operand)))
+        }
     }
 
     fn close(
@@ -124,30 +97,33 @@ impl<'i> Rebuild for Around<'i> {
         alloc: Global,
         operand: Expr,
     ) -> Result<Step<ParserNode<'i>, Around<'i>, Expr>, AllocError> {
-        let operand = Deep { value: operand }.boxed(alloc)?.into_inner();
-        let whole = match self {
-            Around::FirstOfSeq(right) => {
-                let left = Deep { value: operand };
-                return Ok(Step::Inside(Around::SecondOfSeq(left), right.into_inner()));
+        let operand = Deep { value: operand }.boxed(alloc)?;
+        match self {
+            Around::Sign(sign) => Ok(Step::Made(Expr::enclose(sign, operand.into_inner()))),
+            Around::First(joint, right) => {
+                let around = Around::Second(joint, operand);
+                Ok(Step::Inside(around, right.into_inner()))
             }
-            Around::FirstOfChoice(right) => {
-                let left = Deep { value: operand };
-                return Ok(Step::Inside(Around::SecondOfChoice(left), right.into_inner()));
+            Around::Second(joint, left) => {
+                let whole = Expr::join(joint, left.into_inner(), operand.into_inner());
+                Ok(Step::Made(whole))
             }
-            Around::PosPred => Expr::PosPred(operand),
-            Around::NegPred => Expr::NegPred(operand),
-            Around::Opt => Expr::Opt(operand),
-            Around::Rep => Expr::Rep(operand),
-            Around::RepOnce => Expr::RepOnce(operand),
-            Around::RepExact(count) => Expr::RepExact(operand, count),
-            Around::RepMin(least) => Expr::RepMin(operand, least),
-            Around::RepMax(greatest) => Expr::RepMax(operand, greatest),
-            Around::RepMinMax(least, greatest) => Expr::RepMinMax(operand, least, greatest),
-            Around::Push => Expr::Push(operand),
-            Around::NodeTag(tag) => Expr::NodeTag(operand, tag),
-            Around::SecondOfSeq(left) => Expr::Seq(left.into_inner(), operand),
-            Around::SecondOfChoice(left) => Expr::Choice(left.into_inner(), operand),
-        };
-        Ok(Step::Made(whole))
+        }
+    }
+}
+
+/// An expression without operands.
+fn erased_leaf(leaf: ParserExpr<'_>) -> Expr
+    requires { IsLeaf (unplaced leaf) }
+    ensures { (place : Place) → expression_of result ≡ without_spans (view_at place leaf.entry) }
+{
+    match leaf {
+        ParserExpr::Str(text) => Expr::Str(text),
+        ParserExpr::Insens(text) => Expr::Insens(text),
+        ParserExpr::Range(first, last) => Expr::Range(first, last),
+        ParserExpr::Ident(name) => Expr::Ident(name),
+        ParserExpr::PushLiteral(text) => Expr::PushLiteral(text),
+        ParserExpr::PeekSlice(start, end) => Expr::PeekSlice(start, end),
+        _ => unreachable!(),
     }
 }

@@ -25,10 +25,8 @@ impl<'i> ParserNode<'i> {
         let mut f = f;
         let node = Deep { value: self };
         let mut answers = Vec::new(alloc);
-        match walk(alloc, &node.value, &mut f, &mut answers) {
-            Ok(()) => Ok(answers),
-            Err(refused) => Err(Fault::Memory(refused)),
-        }
+        walk(alloc, &node.value, &mut f, &mut answers)?;
+        Ok(answers)
     }
 }
 
@@ -55,10 +53,8 @@ where
 {
     let node = Deep { value: node };
     let mut found = Vec::new(alloc);
-    match walk(alloc, &node.value, f, &mut found) {
-        Ok(()) => answers.append(&mut found).map_err(Fault::Memory),
-        Err(refused) => Err(Fault::Memory(refused)),
-    }
+    walk(alloc, &node.value, f, &mut found)?;
+    Ok(answers.append(&mut found)?)
 }
 
 /// Appends the answers of `f` at a node and at all below it. The only fault is a want of memory, and then
@@ -85,8 +81,8 @@ fn walk<'i, T: Drop, F: FnMut(ParserNode<'i>) -> Option<T>>(
     Ok(())
 }
 
-/// Puts the operands of a node on a stack, the left one on top: so a loop over the stack meets each node before
-/// what stands in it. The only fault is a want of memory.
+/// Puts the operands of a node on a stack, the left one on top: so a loop over the stack meets each node
+/// before what stands in it. The only fault is a want of memory.
 #[tactic(auto, using(crate::proofs::Walks::waiting_push))]
 pub fn push_operands<'n, 'i>(
     node: &'n ParserNode<'i>,

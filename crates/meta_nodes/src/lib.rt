@@ -7,6 +7,7 @@ mod erasure;
 mod filter;
 mod node;
 mod released;
+mod shaped;
 
 pub use crate::erasure::erase_spans;
 pub use crate::filter::{filter_internal, push_operands};

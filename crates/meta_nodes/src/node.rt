@@ -64,7 +64,8 @@ pub enum ParserExpr<'i> {
     RepMinMax(Box<ParserNode<'i>>, u32, u32),
     /// The node, whose text then lies on the stack: `PUSH(e)`.
     Push(Box<ParserNode<'i>>),
-    /// Pushes the text onto the stack, and takes nothing: `PUSH_LITERAL("a")`. It stands where its string stands.
+    /// Pushes the text onto the stack, and takes nothing: `PUSH_LITERAL("a")`. It stands where its string
+    /// stands.
     PushLiteral(String),
     /// The node under a tag, without the `#`; it means what the node means: `#tag = e`.
     NodeTag(Box<ParserNode<'i>>, String),

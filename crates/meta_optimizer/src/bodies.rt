@@ -49,8 +49,8 @@ fn add_body(bodies: &mut HashMap<String, Expr>, rule: &Rule) -> Result<(), Alloc
     }
 }
 
-/// What `skip` looks up in these rules: their bodies; none where no Atomic rule has anything in place of which
-/// a run may be put. The only fault is a want of memory.
+/// What `skip` looks up in these rules: their bodies; none where no Atomic rule has anything in place of
+/// which a run may be put. The only fault is a want of memory.
 pub(crate) fn bodies_for_skip(
     alloc: Global,
     rules: &Vec<Rule>,
@@ -80,7 +80,8 @@ fn are_free_of_turns(alloc: Global, rules: &Vec<Rule>) -> Result<bool, AllocErro
     Ok(true)
 }
 
-/// Whether there is nothing in a rule in place of which a run may be put; so it is in rules that are not Atomic.
+/// Whether there is nothing in a rule in place of which a run may be put; so it is in rules that are not
+/// Atomic.
 pub(crate) fn is_free_of_turns(alloc: Global, rule: &Rule) -> Result<bool, AllocError>
     ensures { IfOk result (λ yes. OnTrue yes (rule_type_of rule.now.ty ≡ Atomic
         → HasNoTurn (expression_of rule.now.expr))) }

@@ -28,10 +28,10 @@ pub fn concatenate(alloc: Global, rule: Rule) -> Result<Rule, Fault>
 {
     let Rule { name, ty, expr } = rule;
     match ty {
-        RuleType::Atomic => match joined(alloc, expr) {
-            Ok(expr) => Ok(Rule { name, ty, expr }),
-            Err(error) => Err(Fault::Memory(error)),
-        },
+        RuleType::Atomic => {
+            let expr = joined(alloc, expr)?;
+            Ok(Rule { name, ty, expr })
+        }
         _ => Ok(Rule { name, ty, expr }),
     }
 }

@@ -68,8 +68,8 @@ fn has_readable_count(expr: &Expr) -> bool
     }
 }
 
-// Whether nothing in an expression may be repeated 0 times at most, by calls. A `~` or `|` is walked along the
-// side on which its own sign stands.
+// Whether nothing in an expression may be repeated 0 times at most, by calls. A `~` or `|` is walked along
+// the side on which its own sign stands.
 #[cycle(is_readable_by_calls)]
 fn is_readable_by_calls(expr: &Expr) -> bool
     ensures { IsTrue result ↔ PartsAreReadable (expression_of expr.now) }

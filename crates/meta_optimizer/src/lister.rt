@@ -27,10 +27,8 @@ pub fn list(alloc: Global, rule: Rule) -> Result<Rule, Fault>
     ensures memory { IfErr result IsMemory }
 {
     let Rule { name, ty, expr } = rule;
-    match bottom_up(alloc, &Lister, expr) {
-        Ok(expr) => Ok(Rule { name, ty, expr }),
-        Err(error) => Err(Fault::Memory(error)),
-    }
+    let expr = bottom_up(alloc, &Lister, expr)?;
+    Ok(Rule { name, ty, expr })
 }
 
 #[derive(Drop)]

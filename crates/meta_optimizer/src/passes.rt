@@ -34,14 +34,10 @@ pub fn optimize(alloc: Global, rules: Vec<Rule>) -> Result<Vec<OptimizedRule>, F
     ensures memory { IfErr result IsMemory }
 {
     let rules = Deep { value: rules };
-    match bodies_for_skip(alloc, &rules.value) {
-        Ok(bodies) => {
-            let listing = optimized_rules(alloc, rules.into_inner(), &bodies.value);
-            drop(bodies);
-            restore_rules(alloc, listing?)
-        }
-        Err(error) => Err(Fault::Memory(error)),
-    }
+    let bodies = bodies_for_skip(alloc, &rules.value)?;
+    let listing = optimized_rules(alloc, rules.into_inner(), &bodies.value);
+    drop(bodies);
+    restore_rules(alloc, listing?)
 }
 
 // The passes up to the listing over all rules, names being looked up in `bodies`.
@@ -56,10 +52,7 @@ fn optimized_rules(
     ensures memory { IfErr result IsMemory }
 {
     let rules = Deep { value: rules };
-    let names = match names_with_strings(alloc, bodies) {
-        Ok(names) => names,
-        Err(error) => return Err(Fault::Memory(error)),
-    };
+    let names = names_with_strings(alloc, bodies)?;
     let mut answer = Ok(Deep {
         value: Vec::new(alloc),
     });
@@ -88,10 +81,8 @@ fn with_rule(
     let rule = Deep { value: rule };
     let mut answer = answer?;
     let rule = optimized_rule(alloc, rule.into_inner(), bodies, names)?;
-    match answer.push(Deep { value: rule }) {
-        Ok(()) => Ok(answer),
-        Err(error) => Err(Fault::Memory(error)),
-    }
+    answer.push(Deep { value: rule })?;
+    Ok(answer)
 }
 
 // The passes up to the listing over one rule, names being looked up in `bodies`, of which `names` tells.
@@ -115,8 +106,5 @@ fn optimized_rule(
     let rule = concatenate(alloc, rule)?;
     let rule = factor(alloc, rule)?;
     let rule = list(alloc, rule)?;
-    match rule_to_optimized_rule(alloc, rule) {
-        Ok(rule) => Ok(rule),
-        Err(error) => Err(Fault::Memory(error)),
-    }
+    Ok(rule_to_optimized_rule(alloc, rule)?)
 }

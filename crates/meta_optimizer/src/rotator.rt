@@ -26,10 +26,8 @@ pub fn rotate(alloc: Global, rule: Rule) -> Result<Rule, Fault>
     ensures memory { IfErr result IsMemory }
 {
     let Rule { name, ty, expr } = rule;
-    match top_down(alloc, &Rotator, expr) {
-        Ok(expr) => Ok(Rule { name, ty, expr }),
-        Err(error) => Err(Fault::Memory(error)),
-    }
+    let expr = top_down(alloc, &Rotator, expr)?;
+    Ok(Rule { name, ty, expr })
 }
 
 #[derive(Drop)]

@@ -33,15 +33,12 @@ pub fn skip(alloc: Global, rule: Rule, bodies: &HashMap<String, Expr>) -> Result
     ensures memory { IfErr result IsMemory }
 {
     let rule = Deep { value: rule };
-    match is_free_of_turns(alloc, &rule.value) {
-        Ok(true) => return Ok(rule.into_inner()),
-        Ok(false) => {}
-        Err(error) => return Err(Fault::Memory(error)),
+    let is_free = is_free_of_turns(alloc, &rule.value)?;
+    if is_free {
+        return Ok(rule.into_inner());
     }
-    match names_with_strings(alloc, bodies) {
-        Ok(names) => skip_with(alloc, rule.into_inner(), bodies, &names),
-        Err(error) => Err(Fault::Memory(error)),
-    }
+    let names = names_with_strings(alloc, bodies)?;
+    skip_with(alloc, rule.into_inner(), bodies, &names)
 }
 
 /// The same, where it is told already which names stand for strings.
@@ -63,10 +60,10 @@ pub(crate) fn skip_with(
 {
     let Rule { name, ty, expr } = rule;
     match ty {
-        RuleType::Atomic => match top_down(alloc, &Skipper { bodies, names }, expr) {
-            Ok(expr) => Ok(Rule { name, ty, expr }),
-            Err(error) => Err(Fault::Memory(error)),
-        },
+        RuleType::Atomic => {
+            let expr = top_down(alloc, &Skipper { bodies, names }, expr)?;
+            Ok(Rule { name, ty, expr })
+        }
         _ => Ok(Rule { name, ty, expr }),
     }
 }

@@ -41,10 +41,7 @@ pub(crate) fn top_down<P: Shrink>(alloc: Global, pass: &P, expr: Expr) -> Result
     if is_done {
         return Ok(expr);
     }
-    let mapped = expr.map_top_down(alloc, |node| match pass.shrink(alloc, node) {
-        Ok(answer) => Ok(answer),
-        Err(error) => Err(Fault::Memory(error)),
-    });
+    let mapped = expr.map_top_down(alloc, |node| Ok(pass.shrink(alloc, node)?));
     only_memory(mapped)
 }
 
@@ -64,10 +61,7 @@ pub(crate) fn bottom_up<P: Finish>(alloc: Global, pass: &P, expr: Expr) -> Resul
     if is_done {
         return Ok(expr);
     }
-    let mapped = expr.map_bottom_up(alloc, |node| match pass.finish(alloc, node) {
-        Ok(answer) => Ok(answer),
-        Err(error) => Err(Fault::Memory(error)),
-    });
+    let mapped = expr.map_bottom_up(alloc, |node| Ok(pass.finish(alloc, node)?));
     only_memory(mapped)
 }
 

@@ -30,10 +30,8 @@ pub fn unroll(alloc: Global, rule: Rule) -> Result<Rule, Fault>
     ensures memory { IfErr result IsMemory }
 {
     let Rule { name, ty, expr } = rule;
-    match bottom_up(alloc, &Unroller, expr) {
-        Ok(expr) => Ok(Rule { name, ty, expr }),
-        Err(error) => Err(Fault::Memory(error)),
-    }
+    let expr = bottom_up(alloc, &Unroller, expr)?;
+    Ok(Rule { name, ty, expr })
 }
 
 #[derive(Drop)]

@@ -9,7 +9,7 @@ use Rattle.meta_reader.specs.Pieces.{IsPiece, NestedInBytes, StandIn}
 use Rattle.meta_reader.specs.Reading as reading
 use Rattle.meta_reader.specs.Reading.{Reads, AnExpression, Alternatives, ASequence, ATerm, both}
 use Rattle.meta_base.specs.Pieces.MetaRules.{name_of}
-use Rattle.meta_syntax.specs.Shape.{Mark, IsExpression, IsChain, IsMore, IsTerm, barred, unbarred, chain, infix_operator, tilde, bar}
+use Rattle.meta_syntax.specs.Shape.{Lone, IsExpression, AreTerms, IsMore, IsTerm, barred, unbarred, terms, infix_operator, tilde, bar}
 use Rattle.meta_nodes.specs.Spanned.{Span, Spanned, Binary, Seq, Choice}
 use Rattle.meta_reader.specs.Levels.{InFront, SplitOff}
 use Rattle.meta_reader.specs.Views.{IsBehindBar, IsRest, at_bar, TakesTerm, takes_term}
@@ -48,10 +48,10 @@ pub without_bar : {text : List ℕ} {n : Text} {i j : ℕ} {inner us : Trees} (r
 without_bar r (barred h) e d = absurd (d (name_of-injective r rule_is.choice_operator (sym e)))
 without_bar r (unbarred h) e d = record { shape = h; nested = λ s. s; reads = λ x k. reading.unbarred k; flaws = refl; shorter = omega arith }
 
--- the first term of a chain, and what is behind it
-pub chain_tree : {text : List ℕ} {n : Text} {i j : ℕ} {inner us : Trees} → IsChain text (Tree n i j inner us)
+-- the first term of a terms, and what is behind it
+pub chain_tree : {text : List ℕ} {n : Text} {i j : ℕ} {inner us : Trees} → AreTerms text (Tree n i j inner us)
     → (n ≡ codes "term") × IsTerm text inner × IsMore text us
-chain_tree (chain h k) = (refl, h, k)
+chain_tree (terms h k) = (refl, h, k)
 
 -- a tilde and a term, or the end of a sequence
 pub no_tilde : {text : List ℕ} {n : Text} {i j : ℕ} {inner us : Trees} (r : Rule)
@@ -67,7 +67,7 @@ lone_tilde (infix_operator p h) = elim h [ ]
 pub tilde_term : {text : List ℕ} {n : Text} {i j k l : ℕ} {inner us vs : Trees}
     → IsMore text (Tree (codes "sequence_operator") i j us (Tree n k l inner vs))
     → TakesTerm text (Tree (codes "sequence_operator") i j us (Tree n k l inner vs)) inner vs
-tilde_term (infix_operator p (chain h k)) = takes_term h k
+tilde_term (infix_operator p (terms h k)) = takes_term h k
 
 -- from the start of one node to the end of another
 pub piece_across : (text : List ℕ) (m n : ParserNode) → m.span.text.now ≡ text → n.span.text.now ≡ text
@@ -99,11 +99,11 @@ module _ (text : List ℕ) where
   sequence_start {i} {j} {inner} d = record { front = Tree (codes "term") i j inner None'; split = refl; reads = reading.one_term d }
 
   pub sequence_step : {i j k l : ℕ} {us inner rest : Trees} {x y : Spanned}
-      → InFront text us (Mark (codes "sequence_operator") i j (Tree (codes "term") k l inner rest)) x
+      → InFront text us (Lone (codes "sequence_operator") i j (Tree (codes "term") k l inner rest)) x
       → Reads text ATerm inner y → InFront text us rest (both text Seq x y)
   sequence_step {i} {j} {k} {l} {inner = inner} {rest = rest} h d = record {
-    front = joined h.front (Mark (codes "sequence_operator") i j (Tree (codes "term") k l inner None'));
-    split = h.split ∙ sym (joined_assoc h.front (Mark (codes "sequence_operator") i j (Tree (codes "term") k l inner None')) rest);
+    front = joined h.front (Lone (codes "sequence_operator") i j (Tree (codes "term") k l inner None'));
+    split = h.split ∙ sym (joined_assoc h.front (Lone (codes "sequence_operator") i j (Tree (codes "term") k l inner None')) rest);
     reads = reading.sequence i j k l h.reads d;
   }
 
@@ -115,13 +115,13 @@ module _ (text : List ℕ) where
   stand_rest us vs ws e h = let s = nested_joined text vs ws h.from h.to (rw e at h.nested) in record { from = s.0; to = h.to; nested = s.2 }
 
   pub sequence_piece : {i j k l : ℕ} {us inner rest : Trees} (m n : ParserNode) → StandIn text us
-      → InFront text us (Mark (codes "sequence_operator") i j (Tree (codes "term") k l inner rest)) (view m)
+      → InFront text us (Lone (codes "sequence_operator") i j (Tree (codes "term") k l inner rest)) (view m)
       → Reads text ATerm inner (view n) → IsPiece text m.span.start n.span.end
   sequence_piece {i} {j} {k} {l} {us} {inner} {rest} m n s h d =
       let t = sequence_step h d in
       let v = stand_front us t.front rest t.split s in
-      let u = stand_front us h.front (Mark (codes "sequence_operator") i j (Tree (codes "term") k l inner rest)) h.split s in
-      let w = stand_rest us h.front (Mark (codes "sequence_operator") i j (Tree (codes "term") k l inner rest)) h.split s in
+      let u = stand_front us h.front (Lone (codes "sequence_operator") i j (Tree (codes "term") k l inner rest)) h.split s in
+      let w = stand_rest us h.front (Lone (codes "sequence_operator") i j (Tree (codes "term") k l inner rest)) h.split s in
       let z = stand_inner (stand_behind w) in
       joined_piece m n v.from v.to (same_text m u.from u.to h.reads u.nested) (same_text n z.from z.to d z.nested) t.reads v.nested
 
@@ -132,38 +132,38 @@ module _ (text : List ℕ) where
   expression_start {vs = vs} {front = front} b s e d = record { front = front; whole = vs; split = e; reads = reading.one_alternative d; behind = b.reads; standing = b.nested s }
 
   pub expression_step : {i j : ℕ} {us vs front rest : Trees} {x y : Spanned}
-      → SplitOff text us (Mark (codes "choice_operator") i j vs) x → vs ≡ joined front rest
+      → SplitOff text us (Lone (codes "choice_operator") i j vs) x → vs ≡ joined front rest
       → Reads text ASequence front y → SplitOff text us rest (both text Choice x y)
   expression_step {i} {j} {us} {vs} {front} {rest} h e d = record {
-    front = joined h.front (Mark (codes "choice_operator") i j front);
+    front = joined h.front (Lone (codes "choice_operator") i j front);
     whole = h.whole;
-    split = h.split ∙ rw e (sym (joined_assoc h.front (Mark (codes "choice_operator") i j front) rest));
+    split = h.split ∙ rw e (sym (joined_assoc h.front (Lone (codes "choice_operator") i j front) rest));
     reads = reading.choice i j h.reads d;
     behind = h.behind;
     standing = h.standing;
   }
 
   pub expression_piece : {i j : ℕ} {us vs front : Trees} (rest : Trees) (m n : ParserNode)
-      → SplitOff text us (Mark (codes "choice_operator") i j vs) (view m) → vs ≡ joined front rest
+      → SplitOff text us (Lone (codes "choice_operator") i j vs) (view m) → vs ≡ joined front rest
       → Reads text ASequence front (view n) → IsPiece text m.span.start n.span.end
   unfolding expression_step
   expression_piece {i} {j} {us} {vs} {front} rest m n h e d =
       let t = expression_step h e d in
       let v = stand_front h.whole t.front rest t.split h.standing in
-      let u = stand_front h.whole h.front (Mark (codes "choice_operator") i j vs) h.split h.standing in
-      let w = stand_behind (stand_rest h.whole h.front (Mark (codes "choice_operator") i j vs) h.split h.standing) in
+      let u = stand_front h.whole h.front (Lone (codes "choice_operator") i j vs) h.split h.standing in
+      let w = stand_behind (stand_rest h.whole h.front (Lone (codes "choice_operator") i j vs) h.split h.standing) in
       let z = stand_front vs front rest e w in
       joined_piece m n v.from v.to (same_text m u.from u.to h.reads u.nested) (same_text n z.from z.to d z.nested) t.reads v.nested
 
   pub expression_end : {us : Trees} {x : Spanned} → SplitOff text us None' x → Reads text AnExpression us x
   expression_end {us} {x} h = h.behind x (subst (λ vs. Reads text Alternatives vs x) (sym (h.split ∙ joined_nil h.front)) h.reads)
 
--- the rest of a sequence: a bar and a chain
+-- the rest of a sequence: a bar and terms
 pub rest_tree : {text : List ℕ} {n : Text} {i j : ℕ} {inner us : Trees} → IsRest text (Tree n i j inner us)
-    → (n ≡ codes "choice_operator") × (inner ≡ None') × IsChain text us
+    → (n ≡ codes "choice_operator") × (inner ≡ None') × AreTerms text us
 rest_tree (at_bar h) = (refl, refl, h)
 
-pub no_chain : {text : List ℕ} → IsChain text None' → ⊥
+pub no_chain : {text : List ℕ} → AreTerms text None' → ⊥
 no_chain h = elim h [ ]
 
 -- nothing is wrong with a bar or a term by itself

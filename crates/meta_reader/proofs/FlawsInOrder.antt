@@ -3,8 +3,8 @@ use Rattle.std.proofs.Common.{◌≡◌, refl, ◌∙◌, Option, Some, None, Re
 use Rattle.std.specs.Option.{option_or}
 use Rattle.meta_reader.specs.Flaws.{Flaw}
 use Rattle.meta_reader.specs.Views.{Answers, IsFirst}
-use Rattle.meta_reader.specs.declared.parser.flaws.ReadError.{ReadError}
-use Rattle.meta_reader.specs.declared.parser.flaws.ReadError.TheVariants.{Memory, Found}
+use Rattle.meta_reader.specs.declared.rules.flaws.ReadError.{ReadError}
+use Rattle.meta_reader.specs.declared.rules.flaws.ReadError.TheVariants.{Memory, Found}
 
 pub or_none : (o : Option Flaw) → option_or o None ≡ o
 or_none None = refl

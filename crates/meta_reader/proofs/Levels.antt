@@ -17,23 +17,23 @@ use Rattle.meta_reader.specs.Reading as reading
 use Rattle.meta_reader.specs.Reading.{Reads, Postfixed, AnExpression, ASequence, ATerm, ANode}
 use Rattle.meta_base.specs.Pieces.Span.{span_text}
 use Rattle.meta_reader.specs.Signs.{IsOperand, group, node, signed}
-use Rattle.meta_reader.specs.declared.parser.signs.Sign.{Sign}
+use Rattle.meta_reader.specs.declared.rules.signs.Sign.{Sign}
 use Rattle.meta_reader.specs.Views.{IsBehindBar, IsRest, IsFirst, StandsBefore, TakesTerm, takes_term, count_of}
-use Rattle.meta_reader.specs.declared.parser.flaws.ReadError.{ReadError}
-use Rattle.meta_reader.specs.declared.parser.levels.Beside.{Beside}
-use Rattle.meta_reader.specs.declared.parser.levels.Level.{Level}
-use Rattle.meta_reader.specs.declared.parser.levels.Next.{Next}
-use Rattle.meta_reader.specs.declared.parser.levels.Next.TheVariants as next_is
+use Rattle.meta_reader.specs.declared.rules.flaws.ReadError.{ReadError}
+use Rattle.meta_reader.specs.declared.rules.levels.Beside.{Beside}
+use Rattle.meta_reader.specs.declared.rules.levels.Level.{Level}
+use Rattle.meta_reader.specs.declared.rules.levels.Next.{Next}
+use Rattle.meta_reader.specs.declared.rules.levels.Next.TheVariants as next_is
 use Rattle.meta_base.specs.declared.grammar.Rule.{Rule}
 use Rattle.meta_base.specs.declared.runtime.trees.TokenTree.{TokenTree}
 use Rattle.std.specs.Borrow.{Bor}
-use Rattle.meta_reader.specs.declared.parser.levels.Within.{Within}
-use Rattle.meta_reader.specs.declared.parser.levels.Within.TheVariants as within_is
+use Rattle.meta_reader.specs.declared.rules.levels.Within.{Within}
+use Rattle.meta_reader.specs.declared.rules.levels.Within.TheVariants as within_is
 use Rattle.meta_reader.proofs.Chains.{sequence_start, sequence_step, sequence_piece, expression_start, expression_step, expression_piece, stand_rest, chain_tree, same_text, rest_tree, quiet_bar, quiet_term}
 use Rattle.meta_reader.proofs.FlawsInOrder.{first_in, first_as, or_none}
 use Rattle.meta_reader.proofs.Terms.{inside, outermost, Outermost, before_operators, push_piece}
 use Rattle.meta_reader.proofs.TreesStandInText.{stand_inner, stand_behind, stand_alone}
-use Rattle.meta_syntax.specs.Shape.{Mark, IsExpression, IsNode, ArePostfixes, terminal, pushed}
+use Rattle.meta_syntax.specs.Shape.{Lone, IsExpression, IsNode, ArePostfixes, terminal, pushed}
 
 -- where what is at hand stands
 
@@ -41,13 +41,13 @@ alternative_stands : {text : List ℕ} {us vs : Trees} {o : Option Spanned} → 
     → StandIn text us → StandIn text vs
 alternative_stands (first_alternative b) s = b.nested s
 alternative_stands {text} (next_alternative {bar_at = i} {bar_to = j} {vs = vs} h) s =
-    stand_behind (stand_rest text h.whole h.front (Mark (codes "choice_operator") i j vs) h.split h.standing)
+    stand_behind (stand_rest text h.whole h.front (Lone (codes "choice_operator") i j vs) h.split h.standing)
 
 term_stands : {text : List ℕ} {us vs : Trees} {o : Option Spanned} → BeginsTerm text us o vs
     → StandIn text us → StandIn text vs
 term_stands first_term s = s
 term_stands {text} (next_term {tilde_at = i} {tilde_to = j} {us = us} {vs = vs} h) s =
-    stand_behind (stand_rest text us h.front (Mark (codes "sequence_operator") i j vs) h.split s)
+    stand_behind (stand_rest text us h.front (Lone (codes "sequence_operator") i j vs) h.split s)
 
 pub stand_alternative : {text : List ℕ} {us vs : Trees} {o : Option Spanned} → IsAlternative text us o vs
     → StandIn text vs
@@ -190,8 +190,8 @@ pub push_node : {text : List ℕ} {i j : ℕ} {inner us : Trees} → IsOperand t
 push_node (node h k) = h
 
 pub paren_opens : {text : List ℕ} {n o : Text} {i j k l m q : ℕ} {inner ws us : Trees}
-    → IsOperand text (Mark (codes "opening_paren") i j (Tree n k l inner (Tree o m q ws us)))
-    → Opens text (Mark (codes "opening_paren") i j (Tree n k l inner (Tree o m q ws us)))
+    → IsOperand text (Lone (codes "opening_paren") i j (Tree n k l inner (Tree o m q ws us)))
+    → Opens text (Lone (codes "opening_paren") i j (Tree n k l inner (Tree o m q ws us)))
     (within_is.Parentheses i q) inner us
 paren_opens (group h k) = parentheses h k
 paren_opens (node (terminal h) k) = elim h [ ]

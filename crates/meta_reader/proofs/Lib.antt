@@ -5,7 +5,7 @@ pub mod Literals
 pub mod Nodes
 pub mod Operators
 pub mod TreesStandInText
-pub mod Rules
+pub mod ReadRules
 pub mod Signs
 pub mod Terminals
 pub mod Terms

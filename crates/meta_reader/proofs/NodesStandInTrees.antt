@@ -5,7 +5,7 @@ use Rattle.meta_base.specs.Language.State.{Trees, None', Tree, joined}
 use Rattle.meta_reader.specs.Pieces.{NestedInBytes}
 use Rattle.meta_reader.specs.Reading.{Category, Reads, Postfixed, done, more, barred, unbarred, one_alternative, choice, one_term, sequence, tagged, pos_pred, neg_pred, bare, grouped, leaf, pushed, literally_pushed}
 use Rattle.meta_nodes.specs.Spanned.{Span, Spanned, Leaf, One, Two, span_of, start_of, end_of, placed, ending}
-use Rattle.meta_syntax.specs.Shape.{Mark}
+use Rattle.meta_syntax.specs.Shape.{Lone}
 use Rattle.meta_reader.proofs.TreesStandInText.{nested_order}
 
 pub span_of-placed : (t : Span) (x : Spanned) → span_of (placed t x) ≡ t
@@ -45,13 +45,13 @@ module _ (text : List ℕ) where
   reads_within (unbarred d) i j h = reads_within d i j h
   reads_within (one_alternative d) i j h = reads_within d i j h
   reads_within (choice a b {us = us} {vs = vs} d e) i j h =
-      let s = nested_joined us (Mark (codes "choice_operator") a b vs) i j h in
+      let s = nested_joined us (Lone (codes "choice_operator") a b vs) i j h in
       let w = reads_within d i s.0 s.1 in
       let v = reads_within e b j s.2.4 in
       record { same_text = refl; after = w.after; order = omega (arith, w.order, w.before, s.2.0, s.2.3, v.after, v.order); before = v.before }
   reads_within (one_term {from = a} {to = b} d) i j h = wider i a b j (reads_within d a b h.3) h.0 h.4
   reads_within (sequence a b k l {us = us} {vs = vs} d e) i j h =
-      let s = nested_joined us (Mark (codes "sequence_operator") a b (Tree (codes "term") k l vs None')) i j h in
+      let s = nested_joined us (Lone (codes "sequence_operator") a b (Tree (codes "term") k l vs None')) i j h in
       let w = reads_within d i s.0 s.1 in
       let t = s.2.4 in
       let v = reads_within e k l t.3 in

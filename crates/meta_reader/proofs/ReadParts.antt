@@ -3,7 +3,7 @@ use Rattle.std.proofs.Common.{◌≡◌, ℕ, List, [], ◌∷◌, Option, Some,
 use Rattle.std.proofs.lemmas.List.Elements.{All-nil, All-cons, All-contains}
 use Rattle.std.specs.List.{All}
 use Rattle.meta_base.specs.Language.Text.{Text}
-use Rattle.meta_base.specs.Language.Expression as plain
+use Rattle.meta_base.specs.Language.Expression as bare
 use Rattle.meta_base.specs.Language.Expression.{Expression, Rule, Part, whole, of_pos_pred, of_neg_pred, of_seq_left, of_seq_right, of_choice_left, of_choice_right, of_opt, of_rep, of_rep_once, of_rep_exact, of_rep_min, of_rep_max, of_rep_min_max, of_push, of_tag}
 use Rattle.meta_base.specs.Language.State.{Trees, None', Tree, joined}
 use Rattle.meta_base.specs.Language.WellFormed.{InSomeRule}
@@ -22,11 +22,11 @@ pub record IsHandedDown (C : Trees → Type 0) : Type 0 where
 pub record IsGiven (text : List ℕ) (C : Trees → Type 0) (P : Expression → Type 0) : Type 0 where
   pub terminal : {r : Text} {i j : ℕ} {us : Trees} {e : Expression} (vs : Trees) → Terminal text r i j us e → C (Tree r i j us vs) → P e
   pub postfix : {r : Text} {us : Trees} {f : Unary} → Postfix text r us f → C us → (e : Expression) → P (round f e)
-  pub positive : (e : Expression) → P (plain.PosPred e)
-  pub negative : (e : Expression) → P (plain.NegPred e)
-  pub push : (e : Expression) → P (plain.Push e)
-  pub literal_push : {i j : ℕ} {us : Trees} (vs : Trees) → C (Tree (codes "string") i j us vs) → P (plain.PushLiteral (literal_value text us))
-  pub tag : {i j : ℕ} (us : Trees) → C (Tree (codes "tag_id") i j None' us) → (e : Expression) → P (plain.NodeTag e (tag_name text i j))
+  pub positive : (e : Expression) → P (bare.PosPred e)
+  pub negative : (e : Expression) → P (bare.NegPred e)
+  pub push : (e : Expression) → P (bare.Push e)
+  pub literal_push : {i j : ℕ} {us : Trees} (vs : Trees) → C (Tree (codes "string") i j us vs) → P (bare.PushLiteral (literal_value text us))
+  pub tag : {i j : ℕ} (us : Trees) → C (Tree (codes "tag_id") i j None' us) → (e : Expression) → P (bare.NodeTag e (tag_name text i j))
   pub between_two : (f : Binary) (a b : Expression) → P (between f a b)
 
 module _ (P : Expression → Type 0) where
@@ -97,7 +97,7 @@ module _ (text : List ℕ) (C : Trees → Type 0) (P : Expression → Type 0) (c
       go slice_between k p whole = k
 
   -- and so has a literal push
-  literal_so : {i j : ℕ} (us vs : Trees) → C (Tree (codes "string") i j us vs) → Throughout P (plain.PushLiteral (literal_value text us))
+  literal_so : {i j : ℕ} (us vs : Trees) → C (Tree (codes "string") i j us vs) → Throughout P (bare.PushLiteral (literal_value text us))
   literal_so us vs h p whole = g.literal_push vs h
 
   -- the trees in brackets of some kind

@@ -13,7 +13,7 @@ use Rattle.meta_base.specs.declared.grammar.Rule.{Rule}
 use Rattle.meta_base.specs.declared.grammar.Rule.TheVariants as rule_is
 use Rattle.meta_base.proofs.MetaNames.{name_of-injective}
 use Rattle.meta_base.specs.Pieces.Saying.{piece}
-use Rattle.meta_syntax.specs.Shape.{Mark, IsTerm, tagged, predicate, grouped, bare, terminal, positive, negative}
+use Rattle.meta_syntax.specs.Shape.{Lone, IsTerm, tagged, predicate, grouped, bare, terminal, positive, negative}
 use Rattle.meta_nodes.specs.Spanned.{Spanned, One, Unary, PosPred, NegPred, Tag, end_of}
 use Rattle.meta_nodes.specs.Nodes.{view, piece_of}
 use Rattle.meta_nodes.specs.declared.node.ParserNode.{ParserNode}
@@ -24,8 +24,8 @@ use Rattle.meta_reader.specs.Reading.{Reads, ATerm, tag_name, behind_first}
 use Rattle.meta_reader.specs.Signs as signs
 use Rattle.meta_reader.specs.Signs.{sign_of, signed, IsOperand, SignsStand, IsBehindSigns}
 use Rattle.meta_reader.specs.Views.{count_of}
-use Rattle.meta_reader.specs.declared.parser.signs.Sign.{Sign}
-use Rattle.meta_reader.specs.declared.parser.signs.SignKind.TheVariants as sign_is
+use Rattle.meta_reader.specs.declared.rules.signs.Sign.{Sign}
+use Rattle.meta_reader.specs.declared.rules.signs.SignKind.TheVariants as sign_is
 use Rattle.meta_reader.proofs.Chains.{same_text}
 use Rattle.meta_reader.proofs.Nodes.{start_of-view, end_of-view}
 use Rattle.meta_reader.proofs.SpansArePieces.{piece_in}

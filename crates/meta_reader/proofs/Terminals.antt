@@ -11,7 +11,7 @@ use Rattle.meta_reader.specs.Reading as reading
 use Rattle.meta_reader.specs.Reading.{Terminal, Reads, ANode, literal_value, integer}
 use Rattle.meta_base.specs.Pieces.MetaRules.{name_of}
 use Rattle.meta_nodes.specs.Spanned.{Leaf}
-use Rattle.meta_syntax.specs.Shape.{Mark, IsQuoted, in_quotes, in_single_quotes, IsTerminal, identifier, string, insensitive, range, slice, push_literal, IsInteger, MayBeNumber, IsSlice, in_brackets, IsSliceStart, IsSliceEnd}
+use Rattle.meta_syntax.specs.Shape.{Lone, IsQuoted, in_quotes, in_single_quotes, IsTerminal, identifier, string, insensitive, range, slice, push_literal, IsInteger, MayBeNumber, IsSlice, in_brackets, IsSliceStart, IsSliceEnd}
 use Rattle.meta_syntax.specs.Shape as shape
 use Rattle.meta_reader.specs.Views as views
 use Rattle.meta_reader.specs.Views.{TakesNumber, TakesBound}
@@ -68,7 +68,7 @@ no_number r shape.the_end e d = views.the_end
 
 -- the dots of a slice, and what ends it
 pub data AtDots (text : List ℕ) : Trees → Type 0 where
-  at_dots : {a b : ℕ} {us : Trees} → IsSliceEnd text us → AtDots text (Mark (codes "range_operator") a b us)
+  at_dots : {a b : ℕ} {us : Trees} → IsSliceEnd text us → AtDots text (Lone (codes "range_operator") a b us)
 
 pub in_slice : {text : List ℕ} {r : Text} {a b : ℕ} {inner us : Trees} → IsSlice text (Tree r a b inner us)
     → IsSliceStart text us

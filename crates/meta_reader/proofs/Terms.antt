@@ -10,7 +10,7 @@ use Rattle.meta_reader.specs.Pieces.{IsPiece, NestedInBytes, StandIn}
 use Rattle.meta_reader.specs.Reading as reading
 use Rattle.meta_reader.specs.Reading.{Reads, Postfixed, AnExpression, ATerm, ANode, tag_name}
 use Rattle.meta_base.specs.Pieces.MetaRules.{name_of}
-use Rattle.meta_syntax.specs.Shape.{Mark, IsTerm, IsNode, IsTerminal, ArePostfixes, tagged, predicate, bare, terminal, pushed, identifier, string, insensitive, range, slice, push_literal}
+use Rattle.meta_syntax.specs.Shape.{Lone, IsTerm, IsNode, IsTerminal, ArePostfixes, tagged, predicate, bare, terminal, pushed, identifier, string, insensitive, range, slice, push_literal}
 use Rattle.meta_nodes.specs.Spanned as spanned
 use Rattle.meta_nodes.specs.Spanned.{Spanned, One, PosPred, NegPred, Push, Tag, span_of, start_of, end_of, placed, starting, ending}
 use Rattle.meta_reader.specs.Signs.{IsOperand, group, node}
@@ -73,11 +73,11 @@ pub paren_tree : {text : List ℕ} {i j : ℕ} {inner us : Trees}
 paren_tree (group h k) = refl
 paren_tree (node (terminal h) k) = elim h [ ]
 
-pub lone_paren : {text : List ℕ} {i j : ℕ} → IsOperand text (Mark (codes "opening_paren") i j None') → ⊥
+pub lone_paren : {text : List ℕ} {i j : ℕ} → IsOperand text (Lone (codes "opening_paren") i j None') → ⊥
 lone_paren (node (terminal h) k) = elim h [ ]
 
 pub open_group : {text : List ℕ} {n : Text} {i j k l : ℕ} {inner : Trees}
-    → IsOperand text (Mark (codes "opening_paren") i j (Tree n k l inner None')) → ⊥
+    → IsOperand text (Lone (codes "opening_paren") i j (Tree n k l inner None')) → ⊥
 open_group (node (terminal h) k) = elim h [ ]
 
 -- the others: a node, and operators

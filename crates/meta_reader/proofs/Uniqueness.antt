@@ -9,7 +9,7 @@ use Rattle.meta_base.specs.Language.State.{Trees, None', Tree, joined}
 use Rattle.meta_base.specs.Pieces.Saying.{piece}
 use Rattle.meta_reader.specs.Reading as reading
 use Rattle.meta_reader.specs.Reading.{Category, AnExpression, Alternatives, ASequence, ATerm, ANode, Modifies, Postfix, Postfixed, done, more, Terminal, Reads, barred, unbarred, one_alternative, choice, one_term, sequence, tagged, pos_pred, neg_pred, bare, grouped, leaf, pushed, literally_pushed, tag_name, both, around, characters_between, ReadsRule, ReadsRules, line_doc, normal, modified, end_of_input, grammar_doc, documented, defined}
-use Rattle.meta_syntax.specs.Shape.{Mark}
+use Rattle.meta_syntax.specs.Shape.{Lone}
 use Rattle.meta_nodes.specs.Spanned.{Spanned, Unary, SpannedRule, Seq, Choice, ending, starting, end_of, Leaf, One, PosPred, NegPred, Push, Tag}
 
 -- names that a test tells apart
@@ -87,26 +87,26 @@ unfolding bars
 bars-joined None' vs = sym (zero-add (bars vs))
 bars-joined (Tree r i j inner us) vs = ap (λ n. if bytes_eq r (codes "choice_operator") then suc n else n) (bars-joined us vs) ∙ one_more (bytes_eq r (codes "choice_operator")) (bars us) (bars vs)
 
-bars-bar : (us vs : Trees) (i j : ℕ) → bars (joined us (Mark (codes "choice_operator") i j vs)) ≡ 0 → ⊥
+bars-bar : (us vs : Trees) (i j : ℕ) → bars (joined us (Lone (codes "choice_operator") i j vs)) ≡ 0 → ⊥
 unfolding bars
-bars-bar us vs i j h = let e = bars-joined us (Mark (codes "choice_operator") i j vs) in absurd (omega (arith, e, h))
+bars-bar us vs i j h = let e = bars-joined us (Lone (codes "choice_operator") i j vs) in absurd (omega (arith, e, h))
 
 -- a list splits at its last bar in one way
 last_bar : (us vs us' vs' : Trees) (i j k l : ℕ) → bars vs ≡ 0 → bars vs' ≡ 0
-    → joined us (Mark (codes "choice_operator") i j vs) ≡ joined us' (Mark (codes "choice_operator") k l vs')
+    → joined us (Lone (codes "choice_operator") i j vs) ≡ joined us' (Lone (codes "choice_operator") k l vs')
     → (us ≡ us') × (i ≡ k) × (j ≡ l) × (vs ≡ vs')
 last_bar None' vs None' vs' i j k l h h' e = (refl, cc, cc, cc)
-last_bar None' vs (Tree r a b inner us') vs' i j k l h h' e = let f : vs ≡ joined us' (Mark (codes "choice_operator") k l vs') = cc in absurd (bars-bar us' vs' k l (ap bars (sym f) ∙ h))
-last_bar (Tree r a b inner us) vs None' vs' i j k l h h' e = let f : vs' ≡ joined us (Mark (codes "choice_operator") i j vs) = cc in absurd (bars-bar us vs i j (ap bars (sym f) ∙ h'))
+last_bar None' vs (Tree r a b inner us') vs' i j k l h h' e = let f : vs ≡ joined us' (Lone (codes "choice_operator") k l vs') = cc in absurd (bars-bar us' vs' k l (ap bars (sym f) ∙ h))
+last_bar (Tree r a b inner us) vs None' vs' i j k l h h' e = let f : vs' ≡ joined us (Lone (codes "choice_operator") i j vs) = cc in absurd (bars-bar us vs i j (ap bars (sym f) ∙ h'))
 last_bar (Tree r a b inner us) vs (Tree r' a' b' inner' us') vs' i j k l h h' e =
-    let f : joined us (Mark (codes "choice_operator") i j vs) ≡ joined us' (Mark (codes "choice_operator") k l vs') = cc in
+    let f : joined us (Lone (codes "choice_operator") i j vs) ≡ joined us' (Lone (codes "choice_operator") k l vs') = cc in
     let g = last_bar us vs us' vs' i j k l h h' f in
     let u = g.0 in
     (cc, g.1, g.2, g.3)
 
 -- a list whose last two trees are known splits before them in one way
 two : ℕ → ℕ → ℕ → ℕ → Trees → Trees
-two i j k l vs = Mark (codes "sequence_operator") i j (Tree (codes "term") k l vs None')
+two i j k l vs = Lone (codes "sequence_operator") i j (Tree (codes "term") k l vs None')
 
 not_empty : (us vs : Trees) (i j k l : ℕ) → None' ≡ joined us (two i j k l vs) → ⊥
 unfolding two
@@ -137,7 +137,7 @@ one_is_not_two (Tree r c d inner us) vs ws i j k l a b e = let f : None' ≡ joi
 sequence-bars : {text : List ℕ} {us : Trees} {x : Spanned} → Reads text ASequence us x → bars us ≡ 0
 unfolding bars
 sequence-bars (one_term d) = refl
-sequence-bars (sequence i j k l {us = us} {vs = vs} d e) = bars-joined us (Mark (codes "sequence_operator") i j (Tree (codes "term") k l vs None')) ∙ ap (λ n. n + 0) (sequence-bars d)
+sequence-bars (sequence i j k l {us = us} {vs = vs} d e) = bars-joined us (Lone (codes "sequence_operator") i j (Tree (codes "term") k l vs None')) ∙ ap (λ n. n + 0) (sequence-bars d)
 
 -- the first tree of alternatives is a term
 starts_with : Text → Trees → Bool
@@ -153,15 +153,15 @@ sequence-starts : {text : List ℕ} {us : Trees} {x : Spanned} → Reads text AS
     → starts_with (codes "term") us ≡ true
 unfolding starts_with
 sequence-starts (one_term d) = refl
-sequence-starts (sequence i j k l {us = us} {vs = vs} d e) = starts-joined (codes "term") us (Mark (codes "sequence_operator") i j (Tree (codes "term") k l vs None')) (sequence-starts d)
+sequence-starts (sequence i j k l {us = us} {vs = vs} d e) = starts-joined (codes "term") us (Lone (codes "sequence_operator") i j (Tree (codes "term") k l vs None')) (sequence-starts d)
 
 alternatives-starts : {text : List ℕ} {us : Trees} {x : Spanned} → Reads text Alternatives us x
     → starts_with (codes "term") us ≡ true
 alternatives-starts (one_alternative d) = sequence-starts d
-alternatives-starts (choice i j {us = us} {vs = vs} d e) = starts-joined (codes "term") us (Mark (codes "choice_operator") i j vs) (alternatives-starts d)
+alternatives-starts (choice i j {us = us} {vs = vs} d e) = starts-joined (codes "term") us (Lone (codes "choice_operator") i j vs) (alternatives-starts d)
 
 bar_first : {text : List ℕ} {i j : ℕ} {us : Trees} {x : Spanned} {A : Type 0}
-    → Reads text Alternatives (Mark (codes "choice_operator") i j us) x → A
+    → Reads text Alternatives (Lone (codes "choice_operator") i j us) x → A
 unfolding starts_with
 bar_first d = absurd (false≢true (alternatives-starts d))
 
@@ -173,7 +173,7 @@ record Splits (text : List ℕ) (us : Trees) (x : Spanned) : Type 0 where
   back : Trees
   first : Spanned
   last : Spanned
-  split : us ≡ joined front (Mark (codes "choice_operator") start end back)
+  split : us ≡ joined front (Lone (codes "choice_operator") start end back)
   reads_front : Reads text Alternatives front first
   reads_back : Reads text ASequence back last
   whole : x ≡ both text Choice first last

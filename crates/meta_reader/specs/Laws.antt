@@ -1,6 +1,6 @@
 -- Laws of the reading.
 use Rattle.std.specs.Prelude.{◌≡◌, ℕ, List, None, All}
-use Rattle.meta_base.specs.Language.Expression as plain
+use Rattle.meta_base.specs.Language.Expression as bare
 use Rattle.meta_base.specs.Language.Expression.{Expression}
 use Rattle.meta_base.specs.Language.State.{Trees}
 use Rattle.meta_base.specs.Language.WellFormed.{HasReadableCounts}

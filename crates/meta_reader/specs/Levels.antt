@@ -15,14 +15,14 @@ use Rattle.meta_reader.specs.Pieces.{StandIn}
 use Rattle.meta_reader.specs.Reading.{Category, AnExpression, Alternatives, ASequence, ATerm, Reads, both}
 use Rattle.meta_reader.specs.Signs.{IsBehindSigns}
 use Rattle.meta_reader.specs.Views.{IsBehindBar, IsRest, count_of}
-use Rattle.meta_reader.specs.declared.parser.levels.Beside.{Beside}
-use Rattle.meta_reader.specs.declared.parser.levels.Level.{Level}
-use Rattle.meta_reader.specs.declared.parser.levels.Next.{Next}
-use Rattle.meta_reader.specs.declared.parser.levels.Next.TheVariants as next_is
-use Rattle.meta_reader.specs.declared.parser.levels.Within.{Within}
-use Rattle.meta_reader.specs.declared.parser.levels.Within.TheVariants as within_is
-use Rattle.meta_reader.specs.declared.parser.signs.Sign.{Sign}
-use Rattle.meta_syntax.specs.Shape.{Mark, IsExpression, IsChain, IsMore, IsTerm, IsTerminal, ArePostfixes}
+use Rattle.meta_reader.specs.declared.rules.levels.Beside.{Beside}
+use Rattle.meta_reader.specs.declared.rules.levels.Level.{Level}
+use Rattle.meta_reader.specs.declared.rules.levels.Next.{Next}
+use Rattle.meta_reader.specs.declared.rules.levels.Next.TheVariants as next_is
+use Rattle.meta_reader.specs.declared.rules.levels.Within.{Within}
+use Rattle.meta_reader.specs.declared.rules.levels.Within.TheVariants as within_is
+use Rattle.meta_reader.specs.declared.rules.signs.Sign.{Sign}
+use Rattle.meta_syntax.specs.Shape.{Lone, IsExpression, AreTerms, IsMore, IsTerm, IsTerminal, ArePostfixes}
 
 -- a node of code, if there is one
 abbrev pub node_view : Option (Deep ParserNode) → Option Spanned
@@ -56,19 +56,19 @@ pub record SplitOff (text : List ℕ) (us rest : Trees) (x : Spanned) : Type 0 w
 pub data BeginsTerm (text : List ℕ) : Trees → Option Spanned → Trees → Type 0 where
   first_term : {us : Trees} → BeginsTerm text us None us
   next_term : {tilde_at tilde_to : ℕ} {us vs : Trees} {x : Spanned}
-      → InFront text us (Mark (codes "sequence_operator") tilde_at tilde_to vs) x
+      → InFront text us (Lone (codes "sequence_operator") tilde_at tilde_to vs) x
       → BeginsTerm text us (Some x) vs
 
 -- with these trees an alternative begins: the first of an expression, or the next behind others and a bar
 pub data BeginsAlternative (text : List ℕ) (us : Trees) : Option Spanned → Trees → Type 0 where
   first_alternative : {vs : Trees} → IsBehindBar text us vs → BeginsAlternative text us None vs
   next_alternative : {bar_at bar_to : ℕ} {vs : Trees} {x : Spanned}
-      → SplitOff text us (Mark (codes "choice_operator") bar_at bar_to vs) x
+      → SplitOff text us (Lone (codes "choice_operator") bar_at bar_to vs) x
       → BeginsAlternative text us (Some x) vs
 
 -- an alternative of the expression `us` and what is behind it: `choice` is before it
 pub record IsAlternative (text : List ℕ) (us : Trees) (choice : Option Spanned) (vs : Trees) : Type 0 where
-  pub shape : IsChain text vs
+  pub shape : AreTerms text vs
   pub nested : StandIn text us
   pub flaws : first_flaw text us ≡ first_flaw text vs
   pub begins : BeginsAlternative text us choice vs
@@ -91,17 +91,17 @@ pub data Opens (text : List ℕ) : Trees → Within → Trees → Trees → Type
   parentheses : {open_at open_to body_at body_to close_at close_to : ℕ} {inner us : Trees}
       → IsExpression text inner → ArePostfixes text us
       → Opens text
-      (Mark (codes "opening_paren") open_at open_to
+      (Lone (codes "opening_paren") open_at open_to
       (Tree (codes "expression") body_at body_to inner
-      (Mark (codes "closing_paren") close_at close_to us)))
+      (Lone (codes "closing_paren") close_at close_to us)))
       (within_is.Parentheses open_at close_to) inner us
   push : {from to open_at open_to body_at body_to close_at close_to : ℕ} {inner us : Trees}
       → IsExpression text inner → ArePostfixes text us
       → Opens text
       (Tree (codes "_push") from to
-      (Mark (codes "opening_paren") open_at open_to
+      (Lone (codes "opening_paren") open_at open_to
       (Tree (codes "expression") body_at body_to inner
-      (Mark (codes "closing_paren") close_at close_to None')))
+      (Lone (codes "closing_paren") close_at close_to None')))
       us)
       (within_is.Push from) inner us
 

@@ -7,5 +7,5 @@ pub mod Views
 pub mod Signs
 pub mod Levels
 pub mod ShownNames
-pub mod PlainNames
+pub mod CommonNames
 pub mod Laws

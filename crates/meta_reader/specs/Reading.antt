@@ -6,7 +6,7 @@ use Rattle.meta_base.specs.Language.Text.{Text}
 use Rattle.meta_base.specs.Language.Expression.{Expression, Str, Insens, Range, Ident, PeekSlice, PushLiteral, RuleType, Normal, Silent, Atomic, CompoundAtomic, NonAtomic}
 use Rattle.meta_base.specs.Language.State.{Trees, None', Tree, joined}
 use Rattle.meta_base.specs.Pieces.Saying.{piece}
-use Rattle.meta_syntax.specs.Shape.{Mark, Braced}
+use Rattle.meta_syntax.specs.Shape.{Lone, Braced}
 use Rattle.meta_nodes.specs.Spanned.{Span, Spanned, Leaf, One, Two, Unary, PosPred, NegPred, Opt, Rep, RepOnce, RepExact, RepMin, RepMax, RepMinMax, Push, Tag, Binary, Seq, Choice, start_of, end_of, starting, ending, SpannedRule}
 use Rattle.meta_reader.specs.Literal.{unescaped}
 
@@ -65,31 +65,31 @@ module _ (text : List ℕ) where
     rep_once : {us : Trees} → Postfix (codes "repeat_once_operator") us RepOnce
     exact : {open_at open_to number_at number_to close_at close_to : ℕ}
         → Postfix (codes "repeat_exact")
-        (Mark (codes "opening_brace") open_at open_to
-        (Mark (codes "number") number_at number_to
-        (Mark (codes "closing_brace") close_at close_to None')))
+        (Lone (codes "opening_brace") open_at open_to
+        (Lone (codes "number") number_at number_to
+        (Lone (codes "closing_brace") close_at close_to None')))
         (RepExact (number number_at number_to))
     min : {open_at open_to number_at number_to comma_at comma_to close_at close_to : ℕ}
         → Postfix (codes "repeat_min")
-        (Mark (codes "opening_brace") open_at open_to
-        (Mark (codes "number") number_at number_to
-        (Mark (codes "comma") comma_at comma_to
-        (Mark (codes "closing_brace") close_at close_to None'))))
+        (Lone (codes "opening_brace") open_at open_to
+        (Lone (codes "number") number_at number_to
+        (Lone (codes "comma") comma_at comma_to
+        (Lone (codes "closing_brace") close_at close_to None'))))
         (RepMin (number number_at number_to))
     max : {open_at open_to comma_at comma_to number_at number_to close_at close_to : ℕ}
         → Postfix (codes "repeat_max")
-        (Mark (codes "opening_brace") open_at open_to
-        (Mark (codes "comma") comma_at comma_to
-        (Mark (codes "number") number_at number_to
-        (Mark (codes "closing_brace") close_at close_to None'))))
+        (Lone (codes "opening_brace") open_at open_to
+        (Lone (codes "comma") comma_at comma_to
+        (Lone (codes "number") number_at number_to
+        (Lone (codes "closing_brace") close_at close_to None'))))
         (RepMax (number number_at number_to))
     min_max : {open_at open_to least_at least_to comma_at comma_to most_at most_to close_at close_to : ℕ}
         → Postfix (codes "repeat_min_max")
-        (Mark (codes "opening_brace") open_at open_to
-        (Mark (codes "number") least_at least_to
-        (Mark (codes "comma") comma_at comma_to
-        (Mark (codes "number") most_at most_to
-        (Mark (codes "closing_brace") close_at close_to None')))))
+        (Lone (codes "opening_brace") open_at open_to
+        (Lone (codes "number") least_at least_to
+        (Lone (codes "comma") comma_at comma_to
+        (Lone (codes "number") most_at most_to
+        (Lone (codes "closing_brace") close_at close_to None')))))
         (RepMinMax (number least_at least_to) (number most_at most_to))
 
   -- a node, and what the postfix operators behind it make of it
@@ -109,70 +109,70 @@ module _ (text : List ℕ) where
     range : {from to low_at low_to dots_at dots_to high_at high_to : ℕ} {us vs : Trees}
         → Terminal (codes "range") from to
         (Tree (codes "character") low_at low_to us
-        (Mark (codes "range_operator") dots_at dots_to
+        (Lone (codes "range_operator") dots_at dots_to
         (Tree (codes "character") high_at high_to vs None')))
         (Range (literal_value us) (literal_value vs))
     slice : {from to open_at open_to dots_at dots_to close_at close_to : ℕ}
         → Terminal (codes "peek_slice") from to
-        (Mark (codes "opening_brack") open_at open_to
-        (Mark (codes "range_operator") dots_at dots_to
-        (Mark (codes "closing_brack") close_at close_to None')))
+        (Lone (codes "opening_brack") open_at open_to
+        (Lone (codes "range_operator") dots_at dots_to
+        (Lone (codes "closing_brack") close_at close_to None')))
         (PeekSlice (pos 0) None)
     slice_from : {from to open_at open_to low_at low_to dots_at dots_to close_at close_to : ℕ}
         → Terminal (codes "peek_slice") from to
-        (Mark (codes "opening_brack") open_at open_to
-        (Mark (codes "integer") low_at low_to
-        (Mark (codes "range_operator") dots_at dots_to
-        (Mark (codes "closing_brack") close_at close_to None'))))
+        (Lone (codes "opening_brack") open_at open_to
+        (Lone (codes "integer") low_at low_to
+        (Lone (codes "range_operator") dots_at dots_to
+        (Lone (codes "closing_brack") close_at close_to None'))))
         (PeekSlice (integer low_at low_to) None)
     slice_to : {from to open_at open_to dots_at dots_to high_at high_to close_at close_to : ℕ}
         → Terminal (codes "peek_slice") from to
-        (Mark (codes "opening_brack") open_at open_to
-        (Mark (codes "range_operator") dots_at dots_to
-        (Mark (codes "integer") high_at high_to
-        (Mark (codes "closing_brack") close_at close_to None'))))
+        (Lone (codes "opening_brack") open_at open_to
+        (Lone (codes "range_operator") dots_at dots_to
+        (Lone (codes "integer") high_at high_to
+        (Lone (codes "closing_brack") close_at close_to None'))))
         (PeekSlice (pos 0) (Some (integer high_at high_to)))
     slice_between : {from to open_at open_to low_at low_to dots_at dots_to : ℕ}
         {high_at high_to close_at close_to : ℕ}
         → Terminal (codes "peek_slice") from to
-        (Mark (codes "opening_brack") open_at open_to
-        (Mark (codes "integer") low_at low_to
-        (Mark (codes "range_operator") dots_at dots_to
-        (Mark (codes "integer") high_at high_to
-        (Mark (codes "closing_brack") close_at close_to None')))))
+        (Lone (codes "opening_brack") open_at open_to
+        (Lone (codes "integer") low_at low_to
+        (Lone (codes "range_operator") dots_at dots_to
+        (Lone (codes "integer") high_at high_to
+        (Lone (codes "closing_brack") close_at close_to None')))))
         (PeekSlice (integer low_at low_to) (Some (integer high_at high_to)))
 
   pub data Reads : Category → Trees → Spanned → Type 0 where
     -- a bar before the first alternative says nothing
     barred : {bar_at bar_to : ℕ} {us : Trees} {x : Spanned}
-        → Reads Alternatives us x → Reads AnExpression (Mark (codes "choice_operator") bar_at bar_to us) x
+        → Reads Alternatives us x → Reads AnExpression (Lone (codes "choice_operator") bar_at bar_to us) x
     unbarred : {us : Trees} {x : Spanned} → Reads Alternatives us x → Reads AnExpression us x
     -- a choice splits at its last bar, a sequence at its last tilde
     one_alternative : {us : Trees} {x : Spanned} → Reads ASequence us x → Reads Alternatives us x
     choice : (bar_at bar_to : ℕ) {us vs : Trees} {x y : Spanned}
         → Reads Alternatives us x → Reads ASequence vs y
-        → Reads Alternatives (joined us (Mark (codes "choice_operator") bar_at bar_to vs)) (both Choice x y)
+        → Reads Alternatives (joined us (Lone (codes "choice_operator") bar_at bar_to vs)) (both Choice x y)
     one_term : {us : Trees} {x : Spanned} {from to : ℕ}
         → Reads ATerm us x → Reads ASequence (Tree (codes "term") from to us None') x
     sequence : (tilde_at tilde_to term_at term_to : ℕ) {us vs : Trees} {x y : Spanned}
         → Reads ASequence us x → Reads ATerm vs y
         → Reads ASequence
-        (joined us (Mark (codes "sequence_operator") tilde_at tilde_to
+        (joined us (Lone (codes "sequence_operator") tilde_at tilde_to
         (Tree (codes "term") term_at term_to vs None')))
         (both Seq x y)
     -- a tag and a predicate take the rest of their term
     tagged : {us : Trees} {x : Spanned} {tag_at tag_to equals_at equals_to : ℕ}
         → Reads ATerm us x
         → Reads ATerm
-        (Mark (codes "tag_id") tag_at tag_to (Mark (codes "assignment_operator") equals_at equals_to us))
+        (Lone (codes "tag_id") tag_at tag_to (Lone (codes "assignment_operator") equals_at equals_to us))
         (One (piece text tag_at (end_of x)) (Tag (tag_name tag_at tag_to)) x)
     pos_pred : {us : Trees} {x : Spanned} {sign_at sign_to : ℕ}
         → Reads ATerm us x
-        → Reads ATerm (Mark (codes "positive_predicate_operator") sign_at sign_to us)
+        → Reads ATerm (Lone (codes "positive_predicate_operator") sign_at sign_to us)
         (One (piece text sign_at (end_of x)) PosPred x)
     neg_pred : {us : Trees} {x : Spanned} {sign_at sign_to : ℕ}
         → Reads ATerm us x
-        → Reads ATerm (Mark (codes "negative_predicate_operator") sign_at sign_to us)
+        → Reads ATerm (Lone (codes "negative_predicate_operator") sign_at sign_to us)
         (One (piece text sign_at (end_of x)) NegPred x)
     -- a node begins and ends with its token; in parentheses it ends with the second, and the outermost
     -- begins with the first
@@ -182,9 +182,9 @@ module _ (text : List ℕ) where
     grouped : {open_at open_to body_at body_to close_at close_to : ℕ} {inner us : Trees} {x y : Spanned}
         → Reads AnExpression inner x → Postfixed (ending close_to x) us y
         → Reads ATerm
-        (Mark (codes "opening_paren") open_at open_to
+        (Lone (codes "opening_paren") open_at open_to
         (Tree (codes "expression") body_at body_to inner
-        (Mark (codes "closing_paren") close_at close_to us)))
+        (Lone (codes "closing_paren") close_at close_to us)))
         (starting open_at y)
     leaf : {r : Text} {from to : ℕ} {inner : Trees} {e : Expression}
         → Terminal r from to inner e → Reads ANode (Tree r from to inner None') (Leaf (piece text from to) e)
@@ -193,18 +193,18 @@ module _ (text : List ℕ) where
         → Reads AnExpression inner x
         → Reads ANode
         (Tree (codes "_push") from to
-        (Mark (codes "opening_paren") open_at open_to
+        (Lone (codes "opening_paren") open_at open_to
         (Tree (codes "expression") body_at body_to inner
-        (Mark (codes "closing_paren") close_at close_to us)))
+        (Lone (codes "closing_paren") close_at close_to us)))
         None')
         (One (piece text from (end_of x)) Push x)
     -- a literal push stands where its string does
     literally_pushed : {from to open_at open_to string_at string_to close_at close_to : ℕ} {us : Trees}
         → Reads ANode
         (Tree (codes "_push_literal") from to
-        (Mark (codes "opening_paren") open_at open_to
+        (Lone (codes "opening_paren") open_at open_to
         (Tree (codes "string") string_at string_to us
-        (Mark (codes "closing_paren") close_at close_to None')))
+        (Lone (codes "closing_paren") close_at close_to None')))
         None')
         (Leaf (piece text string_at string_to) (PushLiteral (literal_value us)))
 
@@ -215,8 +215,8 @@ module _ (text : List ℕ) where
         {body : Trees} {x : Spanned}
         → Reads AnExpression body x
         → ReadsRule
-        (Mark (codes "identifier") from to
-        (Mark (codes "assignment_operator") equals_at equals_to
+        (Lone (codes "identifier") from to
+        (Lone (codes "assignment_operator") equals_at equals_to
         (Braced open_at open_to body_at body_to close_at close_to body)))
         (Some (record {
           name = characters_between from to;
@@ -228,9 +228,9 @@ module _ (text : List ℕ) where
         {sign_at sign_to : ℕ} {r : Text} {t : RuleType} {body : Trees} {x : Spanned}
         → Modifies r t → Reads AnExpression body x
         → ReadsRule
-        (Mark (codes "identifier") from to
-        (Mark (codes "assignment_operator") equals_at equals_to
-        (Mark r sign_at sign_to
+        (Lone (codes "identifier") from to
+        (Lone (codes "assignment_operator") equals_at equals_to
+        (Lone r sign_at sign_to
         (Braced open_at open_to body_at body_to close_at close_to body))))
         (Some (record {
           name = characters_between from to;
@@ -241,7 +241,7 @@ module _ (text : List ℕ) where
 
   -- the rules of a whole text; comments that document it give none
   pub data ReadsRules : Trees → List SpannedRule → Type 0 where
-    end_of_input : {from to : ℕ} → ReadsRules (Mark (codes "EOI") from to None') []
+    end_of_input : {from to : ℕ} → ReadsRules (Lone (codes "EOI") from to None') []
     grammar_doc : {from to : ℕ} {inner us : Trees} {rs : List SpannedRule}
         → ReadsRules us rs → ReadsRules (Tree (codes "grammar_doc") from to inner us) rs
     documented : {from to : ℕ} {inner us : Trees} {rs : List SpannedRule}

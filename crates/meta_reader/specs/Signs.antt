@@ -4,15 +4,15 @@ use Rattle.std.specs.Str.{IsCharBoundary}
 use Rattle.meta_base.specs.Language.Text.{Text}
 use Rattle.meta_base.specs.Language.State.{Trees, Tree}
 use Rattle.meta_base.specs.Pieces.Saying.{piece}
-use Rattle.meta_syntax.specs.Shape.{Mark, IsExpression, IsNode, ArePostfixes}
+use Rattle.meta_syntax.specs.Shape.{Lone, IsExpression, IsNode, ArePostfixes}
 use Rattle.meta_nodes.specs.Spanned.{Spanned, One, Unary, PosPred, NegPred, Tag, end_of}
 use Rattle.meta_reader.specs.Flaws.{first_flaw}
 use Rattle.meta_reader.specs.Pieces.{NestedInBytes, StandIn}
 use Rattle.meta_reader.specs.Reading.{Reads, ATerm}
 use Rattle.meta_reader.specs.Views.{count_of}
-use Rattle.meta_reader.specs.declared.parser.signs.Sign.{Sign}
-use Rattle.meta_reader.specs.declared.parser.signs.SignKind.{SignKind}
-use Rattle.meta_reader.specs.declared.parser.signs.SignKind.TheVariants as sign_is
+use Rattle.meta_reader.specs.declared.rules.signs.Sign.{Sign}
+use Rattle.meta_reader.specs.declared.rules.signs.SignKind.{SignKind}
+use Rattle.meta_reader.specs.declared.rules.signs.SignKind.TheVariants as sign_is
 
 -- what a sign puts round its operand
 abbrev pub sign_of : SignKind → Unary
@@ -32,9 +32,9 @@ pub data IsOperand (text : List ℕ) : Trees → Type 0 where
   group : {open_at open_to body_at body_to close_at close_to : ℕ} {inner us : Trees}
       → IsExpression text inner → ArePostfixes text us
       → IsOperand text
-      (Mark (codes "opening_paren") open_at open_to
+      (Lone (codes "opening_paren") open_at open_to
       (Tree (codes "expression") body_at body_to inner
-      (Mark (codes "closing_paren") close_at close_to us)))
+      (Lone (codes "closing_paren") close_at close_to us)))
   node : {r : Text} {from to : ℕ} {inner us : Trees}
       → IsNode text r inner → ArePostfixes text us → IsOperand text (Tree r from to inner us)
 

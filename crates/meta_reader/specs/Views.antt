@@ -11,7 +11,7 @@ use Rattle.meta_base.specs.Language.State.{joined}
 use Rattle.meta_base.specs.Pieces.Span.{span_text, span_end}
 use Rattle.meta_nodes.specs.Spanned as spanned
 use Rattle.meta_reader.specs.Pieces.{StandBehind, StandIn}
-use Rattle.meta_syntax.specs.Shape.{Mark, IsChain, IsMore, IsTerm, IsModifier}
+use Rattle.meta_syntax.specs.Shape.{Lone, AreTerms, IsMore, IsTerm, IsModifier}
 use Rattle.meta_nodes.specs.Spanned.{Spanned, Binary, Seq, Choice, One, Unary, Opt, Rep, RepOnce, RepExact, RepMin, RepMax, RepMinMax}
 use Rattle.meta_nodes.specs.Nodes.{piece_of, view, rule_view, rule_views}
 use Rattle.meta_base.specs.Pieces.NamedTrees.{named_trees_of}
@@ -26,15 +26,15 @@ use Rattle.meta_base.specs.declared.runtime.places.Span.{Span}
 use Rattle.meta_base.specs.Pieces.MetaRules.{name_of}
 use Rattle.meta_nodes.specs.declared.node.ParserNode.{ParserNode}
 use Rattle.meta_nodes.specs.declared.node.ParserRule.{ParserRule}
-use Rattle.meta_reader.specs.declared.parser.flaws.Cause as code_cause
-use Rattle.meta_reader.specs.declared.parser.flaws.Cause.TheVariants as cause_is
-use Rattle.meta_reader.specs.declared.parser.flaws.Flaw.{Flaw}
-use Rattle.meta_reader.specs.declared.parser.flaws.ReadError as error
-use Rattle.meta_reader.specs.declared.parser.flaws.ReadError.TheVariants as error_is
-use Rattle.meta_reader.specs.declared.parser.operators.Times as code_times
-use Rattle.meta_reader.specs.declared.parser.reading.Infix as code_infix
-use Rattle.meta_reader.specs.declared.parser.reading.Infix.TheVariants as infix_is
-use Rattle.meta_reader.specs.declared.parser.operators.Times.TheVariants as times_is
+use Rattle.meta_reader.specs.declared.rules.flaws.Cause as code_cause
+use Rattle.meta_reader.specs.declared.rules.flaws.Cause.TheVariants as cause_is
+use Rattle.meta_reader.specs.declared.rules.flaws.Flaw.{Flaw}
+use Rattle.meta_reader.specs.declared.rules.flaws.ReadError as error
+use Rattle.meta_reader.specs.declared.rules.flaws.ReadError.TheVariants as error_is
+use Rattle.meta_reader.specs.declared.rules.operators.Times as code_times
+use Rattle.meta_reader.specs.declared.rules.reading.Infix as code_infix
+use Rattle.meta_reader.specs.declared.rules.reading.Infix.TheVariants as infix_is
+use Rattle.meta_reader.specs.declared.rules.operators.Times.TheVariants as times_is
 
 abbrev pub cause_of : code_cause.Cause → flaws.Cause
 cause_of cause_is.NoScalarValue = flaws.NoScalarValue
@@ -151,13 +151,13 @@ AnswersPostfixes text us node result =
 -- the number that may stand first, and what follows it
 pub data TakesNumber (text : List ℕ) : state.Trees → Option ℤ → state.Trees → Type 0 where
   a_number : {from to : ℕ} {us : state.Trees}
-      → TakesNumber text (Mark (codes "integer") from to us) (Some (integer text from to)) us
+      → TakesNumber text (Lone (codes "integer") from to us) (Some (integer text from to)) us
   the_dots : {from to : ℕ} {us : state.Trees}
-      → TakesNumber text (Mark (codes "range_operator") from to us) None
-      (Mark (codes "range_operator") from to us)
+      → TakesNumber text (Lone (codes "range_operator") from to us) None
+      (Lone (codes "range_operator") from to us)
   the_end : {from to : ℕ}
-      → TakesNumber text (Mark (codes "closing_brack") from to state.None') None
-      (Mark (codes "closing_brack") from to state.None')
+      → TakesNumber text (Lone (codes "closing_brack") from to state.None') None
+      (Lone (codes "closing_brack") from to state.None')
 
 -- the same of an answer: the first flaw is the number's, or that of what follows
 pub record TakesBound (text : List ℕ) (us : state.Trees) (n : Option ℤ) (rest : state.Trees) : Type 0 where
@@ -176,33 +176,33 @@ count_of (state.Tree r i j inner others) = 1 + (count_of inner + count_of others
 
 -- the alternatives of an expression, behind a bar before the first
 pub record IsBehindBar (text : List ℕ) (us vs : state.Trees) : Type 0 where
-  pub shape : IsChain text vs
+  pub shape : AreTerms text vs
   pub nested : StandIn text us → StandIn text vs
   pub reads : (x : Spanned) → Reads text Alternatives vs x → Reads text AnExpression us x
   pub flaws : first_flaw text us ≡ first_flaw text vs
   pub shorter : count_of vs ≤ count_of us
 
--- behind a sequence: nothing, or a bar and a chain
+-- behind a sequence: nothing, or a bar and terms
 pub data IsRest (text : List ℕ) : state.Trees → Type 0 where
   at_end : IsRest text state.None'
-  at_bar : {from to : ℕ} {us : state.Trees} → IsChain text us
-      → IsRest text (Mark (codes "choice_operator") from to us)
+  at_bar : {from to : ℕ} {us : state.Trees} → AreTerms text us
+      → IsRest text (Lone (codes "choice_operator") from to us)
 
 -- a tilde, a term and more
 pub data TakesTerm (text : List ℕ) : state.Trees → state.Trees → state.Trees → Type 0 where
   takes_term : {tilde_at tilde_to term_at term_to : ℕ} {inner us : state.Trees} → IsTerm text inner
       → IsMore text us
-      → TakesTerm text (Mark (codes "sequence_operator") tilde_at tilde_to
+      → TakesTerm text (Lone (codes "sequence_operator") tilde_at tilde_to
       (state.Tree (codes "term") term_at term_to inner us)) inner us
 
 -- where a rule's modifier may stand: it does, or the opening brace follows at once
 pub data MayBeModifier : state.Trees → Type 0 where
-  a_modifier : {r : Text} {from to : ℕ} {us : state.Trees} → IsModifier r → MayBeModifier (Mark r from to us)
-  the_brace : {from to : ℕ} {us : state.Trees} → MayBeModifier (Mark (codes "opening_brace") from to us)
+  a_modifier : {r : Text} {from to : ℕ} {us : state.Trees} → IsModifier r → MayBeModifier (Lone r from to us)
+  the_brace : {from to : ℕ} {us : state.Trees} → MayBeModifier (Lone (codes "opening_brace") from to us)
 
 -- the type that a modifier gives, and what follows it
 pub data TakesModifier : state.Trees → meaning.RuleType → state.Trees → Type 0 where
   a_type : {r : Text} {t : meaning.RuleType} {from to : ℕ} {us : state.Trees} → Modifies r t
-      → TakesModifier (Mark r from to us) t us
-  no_type : {from to : ℕ} {us : state.Trees} → TakesModifier (Mark (codes "opening_brace") from to us)
-      meaning.Normal (Mark (codes "opening_brace") from to us)
+      → TakesModifier (Lone r from to us) t us
+  no_type : {from to : ℕ} {us : state.Trees} → TakesModifier (Lone (codes "opening_brace") from to us)
+      meaning.Normal (Lone (codes "opening_brace") from to us)

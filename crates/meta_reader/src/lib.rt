@@ -2,4 +2,4 @@
 #![tactic(auto)]
 
 pub mod laws;
-pub mod parser;
+pub mod rules;

@@ -39,13 +39,13 @@ noted_first (Some names) n ns = refl
 noted_first None n ns = refl
 
 module _ (names : Names) (p : ℕ → Bool) where
-  abbrev marked : List Text → Bool
-  marked ns = list_any (number_changes p) (numbers_of names ns)
+  abbrev flagged : List Text → Bool
+  flagged ns = list_any (number_changes p) (numbers_of names ns)
 
-  both : (a b c d : Bool) (ms ns : List Text) → a ≡ (b || marked ms) → c ≡ (d || marked ns) → (a || c) ≡ ((b || d) || marked (ms ++ ns))
+  both : (a b c d : Bool) (ms ns : List Text) → a ≡ (b || flagged ms) → c ≡ (d || flagged ns) → (a || c) ≡ ((b || d) || flagged (ms ++ ns))
   both a b c d ms ns e f =
-      let parts : marked (ms ++ ns) ≡ (marked ms || marked ns) = ap (list_any (number_changes p)) (map-append _ ms ns) ∙ list_any-append (number_changes p) (numbers_of names ms) (numbers_of names ns) in
-      ap (λ x. x || c) e ∙ (ap (λ x. (b || marked ms) || x) f ∙ (shuffled b (marked ms) d (marked ns) ∙ ap (λ x. (b || d) || x) (sym parts)))
+      let parts : flagged (ms ++ ns) ≡ (flagged ms || flagged ns) = ap (list_any (number_changes p)) (map-append _ ms ns) ∙ list_any-append (number_changes p) (numbers_of names ms) (numbers_of names ns) in
+      ap (λ x. x || c) e ∙ (ap (λ x. (b || flagged ms) || x) f ∙ (shuffled b (flagged ms) d (flagged ns) ∙ ap (λ x. (b || d) || x) (sym parts)))
     where
       shuffled : (a b c d : Bool) → ((a || b) || (c || d)) ≡ ((a || c) || (b || d))
       shuffled true b c d = refl
@@ -53,9 +53,9 @@ module _ (names : Names) (p : ℕ → Bool) where
       shuffled false true false d = refl
       shuffled false false c d = refl
 
-  -- an expression changes the stack by itself, or names a rule that is marked
+  -- an expression changes the stack by itself, or names a rule that is flagged
   pub split : (x : code.OptimizedExpr) → changes_by (name_changes names p) (optimized_expression_of x)
-      ≡ (changes_by is_changer (optimized_expression_of x) || marked (names_in (optimized_expression_of x)))
+      ≡ (changes_by is_changer (optimized_expression_of x) || flagged (names_in (optimized_expression_of x)))
   split (code.Str s) = refl
   split (code.Insens s) = refl
   split (code.Range s t) = refl

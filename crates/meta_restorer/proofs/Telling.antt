@@ -1,4 +1,4 @@
--- Marks that are right and closed tell which names change the stack.
+-- Flags that are right and closed tell which names change the stack.
 use Rattle.std.proofs.Common.{◌≡◌, ℕ, List, Option, Some, Bool, true, inl, inr, slice_get, refl, sym, ◌∙◌, ap, subst, String, Global}
 use Rattle.meta_base.specs.Language.Text.{Text}
 use Rattle.meta_base.specs.Language.Expression.{Expression, Ident, Rule, rule_of}
@@ -36,29 +36,29 @@ module _ (bs : List NamedBody) (names : Names) (noted : Noted) (known : KnowsNam
   holding (follows {i = i} {a = s} p at sh f) b e =
       changing (grammar_with bs) (name_changes names p) (by_number p (λ j d g k. holding (f j k) d g)) (optimized_expression_of b.1) (said b.1) (sym (shown_at names bs noted p i b s met e at) ∙ sh)
 
-  module _ (marks : List Bool) (closed : AreClosed noted marks) where
+  module _ (flags : List Bool) (closed : AreClosed noted flags) where
     abbrev p : Text → Bool
-    p = name_changes names (is_set_at marks)
+    p = name_changes names (is_set_at flags)
 
-    marked_rule : (n : Text) (s : String Global) (r : Rule) → n ≡ text_of s → rule_of (grammar_with bs) n ≡ Some r → (IsSaid r.body → changes_by p r.body ≡ true) → p n ≡ true
-    marked_rule n s r k e f = or_right (is_changer n) (number_changes (is_set_at marks) (number_of names n)) (ap (λ m. number_changes (is_set_at marks) (number_of names m)) k ∙ (ap (number_changes (is_set_at marks)) (known s) ∙ (ap (λ m. number_changes (is_set_at marks) (last_place (grammar_with bs) m)) (sym k) ∙ go (last_place (grammar_with bs) n) (resolved bs n))))
+    flagged_rule : (n : Text) (s : String Global) (r : Rule) → n ≡ text_of s → rule_of (grammar_with bs) n ≡ Some r → (IsSaid r.body → changes_by p r.body ≡ true) → p n ≡ true
+    flagged_rule n s r k e f = or_right (is_changer n) (number_changes (is_set_at flags) (number_of names n)) (ap (λ m. number_changes (is_set_at flags) (number_of names m)) k ∙ (ap (number_changes (is_set_at flags)) (known s) ∙ (ap (λ m. number_changes (is_set_at flags) (last_place (grammar_with bs) m)) (sym k) ∙ go (last_place (grammar_with bs) n) (resolved bs n))))
       where
-        go : (o : Option ℕ) → Named bs n o → number_changes (is_set_at marks) o ≡ true
+        go : (o : Option ℕ) → Named bs n o → number_changes (is_set_at flags) o ≡ true
         go o (absent a) = cc
         go o (named {i = i} b at a) =
             let same : rule_with b ≡ r = cc in
             let own : changes_by p (optimized_expression_of b.1) ≡ true = ap (λ (q : Rule). changes_by p q.body) same ∙ f (subst (λ (q : Rule). IsSaid q.body) same (said b.1)) in
             let (s, here) = got_alike bs noted.shares.items i b at (sym met.alike) in
-            closed i s here (shown_at names bs noted (is_set_at marks) i b s met at here ∙ own)
+            closed i s here (shown_at names bs noted (is_set_at flags) i b s met at here ∙ own)
 
     complete : {e : Expression} → ChangesStack (grammar_with bs) e → IsSaid e → changes_by p e ≡ true
     complete changes_push s = refl
     complete changes_push_literal s = refl
     complete (changes_tag d) s = complete d s
-    complete (changes_pop {n = n} b) s = or_left (is_changer n) (number_changes (is_set_at marks) (number_of names n)) (pop_named n b)
-    complete (changes_pop_all {n = n} b) s = or_left (is_changer n) (number_changes (is_set_at marks) (number_of names n)) (pop_all_named n b)
-    complete (changes_drop {n = n} b) s = or_left (is_changer n) (number_changes (is_set_at marks) (number_of names n)) (drop_named n b)
-    complete (changes_rule {n = n} {r = r} e d) (s, k) = marked_rule n s r k e (λ h. complete d h)
+    complete (changes_pop {n = n} b) s = or_left (is_changer n) (number_changes (is_set_at flags) (number_of names n)) (pop_named n b)
+    complete (changes_pop_all {n = n} b) s = or_left (is_changer n) (number_changes (is_set_at flags) (number_of names n)) (pop_all_named n b)
+    complete (changes_drop {n = n} b) s = or_left (is_changer n) (number_changes (is_set_at flags) (number_of names n)) (drop_named n b)
+    complete (changes_rule {n = n} {r = r} e d) (s, k) = flagged_rule n s r k e (λ h. complete d h)
     complete (changes_pos_pred d) s = complete d s
     complete (changes_neg_pred d) s = complete d s
     complete (changes_seq_left {a = a} {b = b} d) s = or_left (changes_by p a) (changes_by p b) (complete d s.0)
@@ -73,8 +73,8 @@ module _ (bs : List NamedBody) (names : Names) (noted : Noted) (known : KnowsNam
     complete (changes_rep_max d) s = complete d s
     complete (changes_rep_min_max d) s = complete d s
 
-    pub tells : AreSound noted marks → (n : String Global) → (p (text_of n) ≡ true → ChangesStack (grammar_with bs) (Ident (text_of n))) × (ChangesStack (grammar_with bs) (Ident (text_of n)) → p (text_of n) ≡ true)
+    pub tells : AreSound noted flags → (n : String Global) → (p (text_of n) ≡ true → ChangesStack (grammar_with bs) (Ident (text_of n))) × (ChangesStack (grammar_with bs) (Ident (text_of n)) → p (text_of n) ≡ true)
     tells sound n = (
-      (λ h. by_number (is_set_at marks) (λ i b at k. holding (sound.right i k) b at) n h),
+      (λ h. by_number (is_set_at flags) (λ i b at k. holding (sound.right i k) b at) n h),
       (λ d. complete d (n, refl)),
     )

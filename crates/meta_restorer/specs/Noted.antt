@@ -49,10 +49,10 @@ pub record AreNotedOf (names : Names) (bodies : List NamedBody) (n : Noted) : Ty
 abbrev pub Holds : Noted → ℕ → Type 0
 Holds n = Follows (shows n.numbers.items) n.shares.items
 
--- as many marks as rules, and each mark is right
+-- as many flags as rules, and each flag is right
 abbrev pub AreSound : Noted → List Bool → Type 0
 AreSound n = least.AreSound (shows n.numbers.items) n.shares.items
 
--- a rule that changes the stack by the marks is marked
+-- a rule that changes the stack by the flags is flagged
 abbrev pub AreClosed : Noted → List Bool → Type 0
 AreClosed n = least.AreClosed (shows n.numbers.items) n.shares.items

@@ -14,7 +14,7 @@ use Rattle.meta_restorer.specs.declared.changes.Changes.{Changes}
 
 -- whether a name changes the stack
 abbrev pub told : Changes → Text → Bool
-told c = name_changes c.names (is_set_at c.marks.items)
+told c = name_changes c.names (is_set_at c.flags.items)
 
 -- it is told rightly which names change the stack
 abbrev pub Tells : Changes → Grammar → Type 0

@@ -1,4 +1,4 @@
-//! Marks of the rules that are called, and expressions that nothing is met in.
+//! Flags of the rules that are called, and expressions that nothing is met in.
 ghost use Rattle.std.specs.Prelude.{◌≡◌, [], Bool, true, false};
 ghost use Rattle.meta_base.specs.Language.Text.{Text};
 ghost use Rattle.meta_ast.specs.Optimized.{optimized_expression_of};
@@ -9,18 +9,18 @@ ghost use Rattle.meta_restorer.specs.Calls.{names_in, number_changes};
 use meta_ast::optimized::OptimizedExpr;
 use meta_flags::is_set;
 
-/// Whether the rule of a name is marked.
-pub(crate) fn is_marked(marks: &[bool], rule: Option<usize>) -> bool
-    ensures { result ≡ number_changes (is_set_at marks.now) rule }
+/// Whether the rule of a name is flagged.
+pub(crate) fn is_flagged(flags: &[bool], rule: Option<usize>) -> bool
+    ensures { result ≡ number_changes (is_set_at flags.now) rule }
 {
     match rule {
-        Some(rule) => is_set(marks, rule),
+        Some(rule) => is_set(flags, rule),
         None => false,
     }
 }
 
 /// Whether an expression has no operand, or is a wrapper: so no name is met in it, and it stays as it is.
-pub(crate) fn is_plain(expr: &OptimizedExpr) -> bool
+pub(crate) fn is_settled(expr: &OptimizedExpr) -> bool
     ensures names { result ≡ true → names_in (optimized_expression_of expr.now) ≡ [] }
     ensures quiet { result ≡ true → (p : Text → Bool)
         → changes_by p (optimized_expression_of expr.now) ≡ false }

@@ -7,8 +7,8 @@ ghost use Rattle.meta_restorer.specs.Noted.{AreNotedOf};
 ghost use Rattle.meta_restorer.specs.Telling.{Tells, told};
 
 use crate::bodies::Body;
-use crate::calls::is_marked;
-use crate::marks::marked;
+use crate::calls::is_flagged;
+use crate::flags::flagged;
 use crate::names::{Names, is_changer_name, names_of};
 use crate::noted::{Noted, noted_of};
 use std::alloc::{AllocError, Global};
@@ -20,7 +20,7 @@ pub struct Changes {
     /// What is met in the body of each rule.
     pub noted: Noted,
     /// For each rule, by its number, whether it changes the stack.
-    pub marks: Vec<bool>,
+    pub flags: Vec<bool>,
 }
 
 /// Which rules change the stack.
@@ -31,11 +31,11 @@ pub(crate) fn changes_of<'a>(alloc: Global, bodies: &[Body<'a>]) -> Result<Chang
 {
     let names = names_of(alloc, bodies)?;
     let noted = noted_of(alloc, &names, bodies)?;
-    let marks = marked(alloc, &noted)?;
+    let flags = flagged(alloc, &noted)?;
     Ok(Changes {
         names,
         noted,
-        marks,
+        flags,
     })
 }
 
@@ -44,7 +44,7 @@ pub(crate) fn is_changing(changes: &Changes, name: &String, rule: Option<usize>)
     requires { rule ≡ number_of changes.now.names (text_of name.now) }
     ensures { result ≡ told changes.now (text_of name.now) }
 {
-    is_changer_name(name) || is_marked(&changes.marks, rule)
+    is_changer_name(name) || is_flagged(&changes.flags, rule)
 }
 
 /// Whether a call of a name changes the stack, the number of whose rule is noted at a place, which moves on.

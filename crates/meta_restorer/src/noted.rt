@@ -11,7 +11,7 @@ ghost use Rattle.meta_restorer.specs.Changing.{changes_by, is_changer};
 ghost use Rattle.meta_restorer.specs.Noted.{AreNotedOf, IsNotedAs, IsWithin, noted_by, shows};
 
 use crate::bodies::Body;
-use crate::calls::{is_marked, is_plain};
+use crate::calls::{is_flagged, is_settled};
 use crate::names::{Names, is_changer_name, number_of_name};
 use meta_ast::optimized::OptimizedExpr;
 use std::alloc::{AllocError, Global};
@@ -80,11 +80,11 @@ fn look(
             OptimizedExpr::Rep(inner) => here = inner,
             OptimizedExpr::RepOnce(inner) => here = inner,
             OptimizedExpr::Seq(left, right) | OptimizedExpr::Choice(left, right) => {
-                let is_left_plain = is_plain(left);
-                let is_right_plain = is_plain(right);
-                if is_left_plain {
+                let is_left_settled = is_settled(left);
+                let is_right_settled = is_settled(right);
+                if is_left_settled {
                     here = right;
-                } else if is_right_plain {
+                } else if is_right_settled {
                     here = left;
                 } else {
                     waiting.push(right)?;
@@ -160,16 +160,16 @@ pub(crate) fn noted_of<'a>(
     Ok(Noted { numbers, shares })
 }
 
-/// Whether a `PUSH`, `PUSH_LITERAL`, `POP`, `POP_ALL` or `DROP` is met, or a rule that is marked.
-pub(crate) fn is_shown(numbers: &[Option<usize>], share: Share, marks: &[bool]) -> bool
+/// Whether a `PUSH`, `PUSH_LITERAL`, `POP`, `POP_ALL` or `DROP` is met, or a rule that is flagged.
+pub(crate) fn is_shown(numbers: &[Option<usize>], share: Share, flags: &[bool]) -> bool
     requires { IsWithin numbers.now share }
-    ensures { result ≡ shows numbers.now (is_set_at marks.now) share }
+    ensures { result ≡ shows numbers.now (is_set_at flags.now) share }
 {
     if share.changes {
         return true;
     }
     for rule in &numbers[share.start..share.end] {
-        if is_marked(marks, *rule) {
+        if is_flagged(flags, *rule) {
             return true;
         }
     }

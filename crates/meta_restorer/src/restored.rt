@@ -7,7 +7,7 @@ ghost use Rattle.meta_restorer.specs.Telling.{IsNotedFrom, told};
 ghost use Rattle.meta_ast.specs.Optimized.{optimized_expression_of};
 
 use crate::around::{Restored, closed, nothing, opened, wrap};
-use crate::calls::is_plain;
+use crate::calls::is_settled;
 use crate::changes::{Changes, is_next_changing};
 use meta_ast::deep::Deep;
 use meta_ast::optimized::OptimizedExpr;
@@ -42,21 +42,21 @@ pub(crate) fn restore(
     }
     match expr {
         OptimizedExpr::Seq(left, right) => {
-            let is_left_plain = is_plain(left);
-            let is_right_plain = is_plain(right);
-            let is_first_changing = !is_left_plain
+            let is_left_settled = is_settled(left);
+            let is_right_settled = is_settled(right);
+            let is_first_changing = !is_left_settled
                 && restore(alloc, changes, place, levels - 1, left)?;
-            let is_second_changing = !is_right_plain
+            let is_second_changing = !is_right_settled
                 && restore(alloc, changes, place, levels - 1, right)?;
             Ok(is_first_changing || is_second_changing)
         }
         OptimizedExpr::Choice(left, right) => {
-            let is_left_plain = is_plain(left);
-            let is_right_plain = is_plain(right);
-            if !is_left_plain {
+            let is_left_settled = is_settled(left);
+            let is_right_settled = is_settled(right);
+            if !is_left_settled {
                 restore_wrapped(alloc, changes, place, levels - 1, left)?;
             }
-            if !is_right_plain {
+            if !is_right_settled {
                 restore_wrapped(alloc, changes, place, levels - 1, right)?;
             }
             Ok(false)

@@ -23,9 +23,9 @@ use meta_base::runtime::Fault;
 use std::alloc::{AllocError, Global};
 use std::collections::HashMap;
 
-/// Whether an expression changes the stack: a `PUSH`, `PUSH_LITERAL`, `POP`, `POP_ALL` or `DROP` is met in it, not below a
-/// wrapper, or in the body of a rule that is named there. `rules` holds the body of each rule at its name.
-/// The only fault is a want of memory.
+/// Whether an expression changes the stack: a `PUSH`, `PUSH_LITERAL`, `POP`, `POP_ALL` or `DROP` is met in
+/// it, not below a wrapper, or in the body of a rule that is named there. `rules` holds the body of each rule
+/// at its name. The only fault is a want of memory.
 pub fn child_modifies_state(
     alloc: Global,
     expr: &OptimizedExpr,
@@ -35,13 +35,8 @@ pub fn child_modifies_state(
         → Decides yes (ChangesStack g (optimized_expression_of expr.now))) }
     ensures memory { IfErr result IsMemory }
 {
-    match changes_in_map(alloc, rules) {
-        Ok(changes) => match is_changed(alloc, &changes, expr) {
-            Ok(yes) => Ok(yes),
-            Err(error) => Err(Fault::Memory(error)),
-        },
-        Err(error) => Err(Fault::Memory(error)),
-    }
+    let changes = changes_in_map(alloc, rules)?;
+    Ok(is_changed(alloc, &changes, expr)?)
 }
 
 /// The rule with wrappers: from the inside out, each operand of `?`, `*` and `+` and both sides of each `|`
@@ -65,13 +60,8 @@ pub fn restore_on_err(
     ensures memory { IfErr result IsMemory }
 {
     let rule = Deep { value: rule };
-    match changes_in_map(alloc, rules) {
-        Ok(changes) => match noted_rule(alloc, changes, rule) {
-            Ok(rule) => Ok(rule),
-            Err(error) => Err(Fault::Memory(error)),
-        },
-        Err(error) => Err(Fault::Memory(error)),
-    }
+    let changes = changes_in_map(alloc, rules)?;
+    Ok(noted_rule(alloc, changes, rule)?)
 }
 
 /// All rules with wrappers, as `restore_on_err` puts them: which rules change the stack is found out once,
@@ -84,21 +74,17 @@ pub fn restore_rules(alloc: Global, rules: Vec<OptimizedRule>) -> Result<Vec<Opt
     ensures memory { IfErr result IsMemory }
 {
     let mut rules = Deep { value: rules };
-    match is_any_changing(alloc, &rules.value) {
-        Ok(true) => {}
-        Ok(false) => return Ok(rules.into_inner()),
-        Err(error) => return Err(Fault::Memory(error)),
+    let any_changes = is_any_changing(alloc, &rules.value)?;
+    if !any_changes {
+        return Ok(rules.into_inner());
     }
-    match changes_in_rules(alloc, &rules.value) {
-        Ok(changes) => match restore_all(alloc, &changes, &mut rules.value) {
-            Ok(()) => Ok(rules.into_inner()),
-            Err(error) => Err(Fault::Memory(error)),
-        },
-        Err(error) => Err(Fault::Memory(error)),
-    }
+    let changes = changes_in_rules(alloc, &rules.value)?;
+    restore_all(alloc, &changes, &mut rules.value)?;
+    Ok(rules.into_inner())
 }
 
-// Whether a `PUSH`, `PUSH_LITERAL`, `POP`, `POP_ALL` or `DROP` is met in any rule; where none is, no rule changes the stack.
+// Whether a `PUSH`, `PUSH_LITERAL`, `POP`, `POP_ALL` or `DROP` is met in any rule; where none is, no rule
+// changes the stack.
 fn is_any_changing(alloc: Global, rules: &[OptimizedRule]) -> Result<bool, AllocError>
     ensures { IfOk result (λ yes. yes ≡ false → AreQuiet rules.now) }
 {
@@ -139,7 +125,7 @@ fn is_changed(alloc: Global, changes: &Changes, expr: &OptimizedExpr) -> Result<
 {
     let mut numbers = Vec::new(alloc);
     let share = note(alloc, &changes.names, expr, &mut numbers)?;
-    Ok(is_shown(&numbers, share, &changes.marks))
+    Ok(is_shown(&numbers, share, &changes.flags))
 }
 
 // Puts wrappers into a rule, where what is met in its body is noted. Where that changes nothing, it stays.
@@ -156,7 +142,7 @@ fn restore_rule(
     ensures whole { OnOk result (optimized_rule_of rule.new
         ≡ restored_rule_by (told changes.now) (optimized_rule_of rule.old)) }
 {
-    if !is_shown(&changes.noted.numbers, share, &changes.marks) {
+    if !is_shown(&changes.noted.numbers, share, &changes.flags) {
         return Ok(());
     }
     let mut place = share.start;

@@ -4,7 +4,8 @@ use crate::refusals::write_errors;
 use meta_base::grammar::Rule;
 use meta_base::runtime::{Error, Fault};
 use meta_nodes::release;
-use meta_stack::{ast, validate_stack_repetition};
+use meta_stack_pass::validate_stack_repetition;
+use pest_meta::ast;
 use pest_meta::validator::{is_non_failing, is_non_progressing, validate_ast};
 use std::alloc::{AllocError, Global};
 

@@ -4,7 +4,7 @@ ghost use Rattle.meta_base.specs.Pieces.Span.{span_end, span_start};
 
 use crate::reading::rules_of;
 use meta_base::runtime::Fault;
-use meta_reader::parser::{ParserExpr, ParserNode, filter_internal};
+use meta_reader::rules::{ParserExpr, ParserNode, filter_internal};
 use std::alloc::Global;
 
 /// Where a node and each one in it stand, in bytes.

@@ -108,7 +108,7 @@ fn rotated_length(alloc: Global, rule: Rule) -> Result<usize, Fault> {
     let rule = rotate(alloc, rule)?;
     let length = length(alloc, &rule.expr);
     rule.expr.release();
-    length.map_err(Fault::Memory)
+    Ok(length?)
 }
 
 /// Writes optimized rules, each with a line for how its body is printed.

@@ -2,7 +2,7 @@
 use meta_ast::ast::{Rule, RuleType};
 use meta_base::runtime::Fault;
 use meta_nodes::erase_spans;
-use meta_reader::parser::{ParserExpr, ParserNode, ParserRule, consume_rules_with_spans, parse};
+use meta_reader::rules::{ParserExpr, ParserNode, ParserRule, consume_rules_with_spans, parse};
 use std::alloc::{AllocError, Global};
 use std::fmt;
 
@@ -14,7 +14,7 @@ pub(crate) fn rules_of(alloc: Global, text: &str) -> Result<Vec<ParserRule<'_>>,
 
 /// The same rules without their spans.
 pub(crate) fn erased_rules(alloc: Global, text: &str) -> Result<Vec<Rule>, Fault> {
-    erase_spans(alloc, rules_of(alloc, text)?).map_err(Fault::Memory)
+    Ok(erase_spans(alloc, rules_of(alloc, text)?)?)
 }
 
 /// The rules of a text as they are printed.

@@ -2,7 +2,7 @@
 use meta_base::grammar::Rule;
 use meta_base::runtime::{Error, Fault, Pairs, Span};
 use meta_syntax::grammar::PestParser;
-use pest_meta::parser::{plain_name, rename_meta_rule};
+use pest_meta::parser::{common_name, rename_meta_rule};
 use std::alloc::{AllocError, Global};
 
 /// How deep pairs are written.
@@ -148,16 +148,16 @@ pub(crate) fn expected(
     out: &mut String,
 ) -> Result<(), Fault> {
     let rules = PestParser::expected(alloc, rule_of(alloc, rule)?, text)?;
-    write_plain(out, &rules)?;
+    write_common(out, &rules)?;
     Ok(())
 }
 
 /// Writes what people call each of some rules, or that there is none.
-fn write_plain(out: &mut String, rules: &[Rule]) -> Result<(), AllocError> {
+fn write_common(out: &mut String, rules: &[Rule]) -> Result<(), AllocError> {
     let mut separator = "";
     for rule in rules {
         out.push_str(separator)?;
-        out.push_str(plain_name(*rule))?;
+        out.push_str(common_name(*rule))?;
         separator = ", ";
     }
     if rules.is_empty() {
@@ -167,7 +167,7 @@ fn write_plain(out: &mut String, rules: &[Rule]) -> Result<(), AllocError> {
 }
 
 /// What people call a rule.
-pub(crate) fn plain(alloc: Global, rule: &str, out: &mut String) -> Result<(), Fault> {
-    out.push_str(plain_name(rule_of(alloc, rule)?))?;
+pub(crate) fn common(alloc: Global, rule: &str, out: &mut String) -> Result<(), Fault> {
+    out.push_str(common_name(rule_of(alloc, rule)?))?;
     Ok(())
 }

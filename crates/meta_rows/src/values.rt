@@ -50,7 +50,7 @@ fn with_spans(alloc: Global, text: &str, out: &mut String) -> Result<(), Fault> 
     let written = write_equalities(out, "rules with spans", &rules, &copies);
     meta_nodes::release(rules);
     meta_nodes::release(copies);
-    written.map_err(Fault::Memory)
+    Ok(written?)
 }
 
 fn without_spans(alloc: Global, text: &str, out: &mut String) -> Result<(), Fault> {
@@ -59,7 +59,7 @@ fn without_spans(alloc: Global, text: &str, out: &mut String) -> Result<(), Faul
     let written = write_equalities(out, "rules", &rules, &copies);
     ast::release(rules);
     ast::release(copies);
-    written.map_err(Fault::Memory)
+    Ok(written?)
 }
 
 fn behind_passes(alloc: Global, text: &str, out: &mut String) -> Result<(), Fault> {
@@ -68,5 +68,5 @@ fn behind_passes(alloc: Global, text: &str, out: &mut String) -> Result<(), Faul
     let written = write_equalities(out, "optimized rules", &rules, &copies);
     optimized::release(rules);
     optimized::release(copies);
-    written.map_err(Fault::Memory)
+    Ok(written?)
 }

@@ -88,24 +88,18 @@ fn turned_down(alloc: Global, expr: Expr) -> Result<Expr, Fault> {
         alloc,
         |e: Expr| -> Result<Expr, Fault>
             ensures { IfOk result (λ r. count_of_nodes (expression_of r) ≤ count_of_nodes (expression_of e)) }
-        { turned(alloc, e).map_err(Fault::Memory) },
+        { Ok(turned(alloc, e)?) },
     )
 }
 
 /// The expression with each node made optional after what stands in it.
 fn optional_up(alloc: Global, expr: Expr) -> Result<Expr, Fault> {
-    expr.map_bottom_up(alloc, |e| match Box::new(alloc, e) {
-        Ok(inner) => Ok(Expr::Opt(inner)),
-        Err(refused) => Err(Fault::Memory(refused.into())),
-    })
+    expr.map_bottom_up(alloc, |e| Ok(Expr::Opt(Box::new(alloc, e)?)))
 }
 
 /// The same of an optimized expression.
 fn optional_up_optimized(alloc: Global, expr: OptimizedExpr) -> Result<OptimizedExpr, Fault> {
-    expr.map_bottom_up(alloc, |e| match Box::new(alloc, e) {
-        Ok(inner) => Ok(OptimizedExpr::Opt(inner)),
-        Err(refused) => Err(Fault::Memory(refused.into())),
-    })
+    expr.map_bottom_up(alloc, |e| Ok(OptimizedExpr::Opt(Box::new(alloc, e)?)))
 }
 
 /// Writes an expression behind maps: whether those that change nothing keep it, how it is turned from the

@@ -11,8 +11,8 @@ use crate::literal::Literal;
 use meta_matcher::entries::Entry;
 use std::alloc::{AllocError, Global};
 
-/// What stands before an entry of a list: nothing, the start of a tree, or the end of one. Each has the number
-/// of its other entry.
+/// What stands before an entry of a list: nothing, the start of a tree, or the end of one. Each has the
+/// number of its other entry.
 #[derive(Clone, Copy)]
 enum Before {
     Nothing,

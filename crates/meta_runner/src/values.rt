@@ -25,8 +25,8 @@ struct Open<'a> {
 /// The trees of a text, given as the list of their starts and ends, and where the match ended, as a value.
 ///
 /// It is an object with `end` and the array `trees`. A tree is an object with `rule`, `start` and `end`, and
-/// with `children`, the trees that it holds, or with `text`, its part of the text, where it holds none. Places
-/// are in bytes. The only error is a want of memory.
+/// with `children`, the trees that it holds, or with `text`, its part of the text, where it holds none.
+/// Places are in bytes. The only error is a want of memory.
 pub fn tree_value(
     alloc: Global,
     text: &str,
@@ -50,7 +50,8 @@ fn answer_of(alloc: Global, end: usize, trees: Vec<Value>) -> Result<Value, Allo
 
 /// The trees of a list of their starts and ends.
 fn values_of(alloc: Global, text: &str, entries: &[Entry<'_>]) -> Result<Vec<Value>, AllocError>
-    ensures { IfOk result (λ values. items_view values.items ≡ built text.now no_items [] (seen entries.now)) }
+    ensures { IfOk result (λ values.
+        items_view values.items ≡ built text.now no_items [] (seen entries.now)) }
 {
     let mut done = Vec::new(alloc);
     let mut started = Vec::new(alloc);

@@ -16,7 +16,7 @@ use Rattle.meta_base.proofs.Steps.{after_none, ran_atomic, ran_left, ran_not_ahe
 use Rattle.meta_syntax.specs.declared.entries.Entry.{Entry}
 use Rattle.meta_syntax.specs.declared.modes.Mode.TheVariants as in_mode
 use Rattle.meta_syntax.specs.declared.sets.Set.TheVariants as set
-use Rattle.meta_syntax.specs.CommentEnds.{AreEnds, GoesOnTo, IsEnd, IsPlain, left_of}
+use Rattle.meta_syntax.specs.CommentEnds.{AreEnds, GoesOnTo, IsEnd, HasNoComment, left_of}
 use Rattle.meta_syntax.specs.Entries.{named_entries}
 use Rattle.meta_syntax.specs.MetaGrammar.{meta_grammar, body_of, any, rule_at}
 use Rattle.meta_syntax.specs.Runs.{Fails, FailsOrFinds, IsLeft, at, leaving}
@@ -182,8 +182,8 @@ module _ (text rest : List ℕ) (l : IsLeft text rest) (after : List ℕ) (k : I
     closed = λ classes p. here text rest l (goes_inside (ran_str e) (there text after k (x.closed classes p)) (y.closed classes p));
   }
 
-  -- behind a plain character
-  pub ends_further : (o : Option ℕ) → IsPlain text rest → Success (at text after) None' ≡ character_outcome (λ _. true) (at text rest) → IsEnd text (length after) o → IsEnd text (length rest) o
+  -- behind a outside character
+  pub ends_further : (o : Option ℕ) → HasNoComment text rest → Success (at text after) None' ≡ character_outcome (λ _. true) (at text rest) → IsEnd text (length after) o → IsEnd text (length rest) o
   ends_further None x e y = λ classes p. here text rest l (goes_plain (x.no_start classes p) (x.no_end classes p) (ran_any in_mode.Atomic e) (there text after k (y classes p)))
   ends_further (Some n) x e y = record {
     less = omega (arith, y.less, shorter);
@@ -192,16 +192,16 @@ module _ (text rest : List ℕ) (l : IsLeft text rest) (after : List ℕ) (k : I
   }
 
   -- a comment within is left open
-  pub plain_if_open : Success (at text after) None' ≡ text_outcome nat_eq (codes "/*") (at text rest) → Failure ≡ text_outcome nat_eq (codes "*/") (at text rest) → IsEnd text (length after) None → IsPlain text rest
+  pub plain_if_open : Success (at text after) None' ≡ text_outcome nat_eq (codes "/*") (at text rest) → Failure ≡ text_outcome nat_eq (codes "*/") (at text rest) → IsEnd text (length after) None → HasNoComment text rest
   plain_if_open b e x = record {
     no_start = λ classes p. left_open (ran_str b) (there text after k (x classes p));
     no_end = λ classes p. ran_str e;
   }
 
-pub plain_if_none : (text rest : List ℕ) → Failure ≡ text_outcome nat_eq (codes "/*") (at text rest) → Failure ≡ text_outcome nat_eq (codes "*/") (at text rest) → IsPlain text rest
+pub plain_if_none : (text rest : List ℕ) → Failure ≡ text_outcome nat_eq (codes "/*") (at text rest) → Failure ≡ text_outcome nat_eq (codes "*/") (at text rest) → HasNoComment text rest
 plain_if_none text rest b e = record { no_start = λ classes p. not_begun (ran_str b); no_end = λ classes p. ran_str e }
 
-pub ends_nowhere : (text rest : List ℕ) → IsLeft text rest → IsPlain text rest → Failure ≡ character_outcome (λ _. true) (at text rest) → IsEnd text (length rest) None
+pub ends_nowhere : (text rest : List ℕ) → IsLeft text rest → HasNoComment text rest → Failure ≡ character_outcome (λ _. true) (at text rest) → IsEnd text (length rest) None
 ends_nowhere text rest l x e = λ classes p. here text rest l (goes_nowhere (x.no_start classes p) (x.no_end classes p) (ran_any in_mode.Atomic e))
 
 -- one entry more

@@ -32,19 +32,19 @@ use Rattle.meta_syntax.proofs.Sequences.{fails_part, found_further, found_whole}
 use Rattle.meta_syntax.proofs.Steps.{call_failed, call_found, cut_opened, cut_past, fails_right, finds_left, finds_no_rep, finds_right}
 
 -- a list that was opened has the entry that was added first
-opened_below : (gives : Bool) (name : Text) (i mark : ℕ) (old opened now : List Entry) (us : Trees) → gives ≡ true → named_entries opened ≡ named_entries old ++ open_start gives name i → AddsEntries opened now us → mark ≡ length (named_entries old) → mark < length now
-opened_below gives name i mark old opened now us g o a e =
+opened_below : (gives : Bool) (name : Text) (i saved : ℕ) (old opened now : List Entry) (us : Trees) → gives ≡ true → named_entries opened ≡ named_entries old ++ open_start gives name i → AddsEntries opened now us → saved ≡ length (named_entries old) → saved < length now
+opened_below gives name i saved old opened now us g o a e =
     let o2 = rw g at o in
     let x = ap length o2 ∙ length-append (named_entries old) _ in
     let y = ap length a ∙ length-append (named_entries opened) _ in
     let z = length-map now entry_of in
     omega (arith, x, y, z, e)
 
-module _ (text : List ℕ) (rule : Rule) (kind : Kind) (m inner : mode.Mode) (mark : ℕ) (rest : Bor (List ℕ)) (form : Bor Form) (old opened : List Entry) (p : ℕ) (q : Question) (l : IsLeft text rest.now) (row : IsRow kind form.now rule) (b : mode_of inner ≡ body_mode (rule_at rule) (mode_of m)) (o : named_entries opened ≡ named_entries old ++ open_start (gives_token (kind_of kind) (mode_of m)) (name_of rule) (length text - length rest.now)) (e : mark ≡ length (named_entries old)) (h : Serves text (record { task = Run (mode_of m) (Ident (name_of rule)); rest = rest.now; empty = nullable rule; entries = old; furthest = p }) q) where
-  pub call_follows : Follows text (wait.Call rule kind) m mark rest (record { task = Run (mode_of inner) (expression_of form.now); rest = rest.now; empty = null form.now; entries = opened; furthest = p }) q
+module _ (text : List ℕ) (rule : Rule) (kind : Kind) (m inner : mode.Mode) (saved : ℕ) (rest : Bor (List ℕ)) (form : Bor Form) (old opened : List Entry) (p : ℕ) (q : Question) (l : IsLeft text rest.now) (row : IsRow kind form.now rule) (b : mode_of inner ≡ body_mode (rule_at rule) (mode_of m)) (o : named_entries opened ≡ named_entries old ++ open_start (gives_token (kind_of kind) (mode_of m)) (name_of rule) (length text - length rest.now)) (e : saved ≡ length (named_entries old)) (h : Serves text (record { task = Run (mode_of m) (Ident (name_of rule)); rest = rest.now; empty = nullable rule; entries = old; furthest = p }) q) where
+  pub call_follows : Follows text (wait.Call rule kind) m saved rest (record { task = Run (mode_of inner) (expression_of form.now); rest = rest.now; empty = null form.now; entries = opened; furthest = p }) q
   call_follows = record {
     here = l;
-    opened = λ es z after x g. opened_below _ _ _ mark old opened es x.means.trees g o x.means.added e;
+    opened = λ es z after x g. opened_below _ _ _ saved old opened es x.means.trees g o x.means.added e;
     found = λ es fs z after x c.
         let gone : GoesOn text rest.now (nullable rule) after.now = subst (λ k. GoesOn text rest.now k after.now) row.null x.goes_on in
         h fs z (Some after) (record {
@@ -58,7 +58,7 @@ module _ (text : List ℕ) (rule : Rule) (kind : Kind) (m inner : mode.Mode) (ma
     failed = λ es fs y z x c n. (
       h fs z None (record {
         means = record {
-          kept = cut_opened old opened es fs mark _ o x.means.kept c e;
+          kept = cut_opened old opened es fs saved _ o x.means.kept c e;
           ran = λ classes. call_failed rule _ _ _ _ row.defined b row.body row.kind _ (x.means.ran classes) refl n;
         };
         goes_on = tt;
@@ -88,8 +88,8 @@ module _ {text rest : List ℕ} {a b : Expression} {m : Mode} {es fs gs : List E
     goes_on = record { left = w.goes_on.left; shorter = w.goes_on.shorter; consumed = elim w.goes_on.consumed [ inl l ↦ inl l | inr e ↦ inr (or_second one two e) ] };
   }
 
-pub choice_follows : (text : List ℕ) (first second : Bor Form) (m : mode.Mode) (mark : ℕ) (rest : Bor (List ℕ)) (es : List Entry) (p : ℕ) (q : Question) → IsLeft text rest.now → IsRunnable second.now → Serves text (record { task = Run (mode_of m) (Choice (expression_of first.now) (expression_of second.now)); rest = rest.now; empty = null first.now || null second.now; entries = es; furthest = p }) q → Follows text (wait.Choice second) m mark rest (record { task = Run (mode_of m) (expression_of first.now); rest = rest.now; empty = null first.now; entries = es; furthest = p }) q
-choice_follows text first second m mark rest es p q l runnable h = record {
+pub choice_follows : (text : List ℕ) (first second : Bor Form) (m : mode.Mode) (saved : ℕ) (rest : Bor (List ℕ)) (es : List Entry) (p : ℕ) (q : Question) → IsLeft text rest.now → IsRunnable second.now → Serves text (record { task = Run (mode_of m) (Choice (expression_of first.now) (expression_of second.now)); rest = rest.now; empty = null first.now || null second.now; entries = es; furthest = p }) q → Follows text (wait.Choice second) m saved rest (record { task = Run (mode_of m) (expression_of first.now); rest = rest.now; empty = null first.now; entries = es; furthest = p }) q
+choice_follows text first second m saved rest es p q l runnable h = record {
   here = l;
   runnable = runnable;
   found = λ fs z after x. h fs z (Some after) (record {
@@ -104,8 +104,8 @@ taken_whole : (xs : List NamedEntry) (n : ℕ) → n ≡ length xs → take n xs
 taken_whole xs n e = subst (λ v. take n v ≡ xs) (append-nil xs) (cut_back xs [] n e)
 
 -- a repetition begins
-pub first_turn_follows : (text : List ℕ) (body : Bor Form) (m : mode.Mode) (mark : ℕ) (rest : Bor (List ℕ)) (es : List Entry) (p : ℕ) (q : Question) → IsLeft text rest.now → IsRunnableTurn body.now → mark ≡ length (named_entries es) → Serves text (record { task = Run (mode_of m) (Rep (expression_of body.now)); rest = rest.now; empty = true; entries = es; furthest = p }) q → Follows text (wait.Repetition body) m mark rest (record { task = Run (mode_of m) (expression_of body.now); rest = rest.now; empty = null body.now; entries = es; furthest = p }) q
-first_turn_follows text body m mark rest es p q l turn e h = record {
+pub first_turn_follows : (text : List ℕ) (body : Bor Form) (m : mode.Mode) (saved : ℕ) (rest : Bor (List ℕ)) (es : List Entry) (p : ℕ) (q : Question) → IsLeft text rest.now → IsRunnableTurn body.now → saved ≡ length (named_entries es) → Serves text (record { task = Run (mode_of m) (Rep (expression_of body.now)); rest = rest.now; empty = true; entries = es; furthest = p }) q → Follows text (wait.Repetition body) m saved rest (record { task = Run (mode_of m) (expression_of body.now); rest = rest.now; empty = null body.now; entries = es; furthest = p }) q
+first_turn_follows text body m saved rest es p q l turn e h = record {
   found = λ fs z after x. (
     record { task = Run (mode_of m) (Rep (expression_of body.now)); rest = rest.now; empty = true; entries = es; furthest = p },
     record {
@@ -121,14 +121,14 @@ first_turn_follows text body m mark rest es p q l turn e h = record {
     took (null body.now) turn.consumes x.goes_on.consumed,
   );
   failed = λ fs cut z x c. h cut z (Some rest) (record {
-    means = finds_no_rep (record { kept = c ∙ (ap (take mark) x.means.kept ∙ taken_whole (named_entries es) mark e); ran = x.means.ran });
+    means = finds_no_rep (record { kept = c ∙ (ap (take saved) x.means.kept ∙ taken_whole (named_entries es) saved e); ran = x.means.ran });
     goes_on = record { left = l; shorter = omega arith; consumed = inr refl };
   });
 }
 
 -- a further turn begins, behind the skipping
-pub turn_follows : (text : List ℕ) (body : Bor Form) (m : mode.Mode) (mark : ℕ) (rest next : Bor (List ℕ)) (es fs : List Entry) (p z : ℕ) (s q : Question) → HasTurned text body.now m es p rest.now s → Finds (Skipping (mode_of m)) text rest.now es fs p z next.now → GoesOn text rest.now true next.now → mark ≡ length (named_entries es) → Serves text s q → Follows text (wait.Repetition body) m mark rest (record { task = Run (mode_of m) (expression_of body.now); rest = next.now; empty = null body.now; entries = fs; furthest = z }) q
-turn_follows text body m mark rest next es fs p z s q t sk g e h = record {
+pub turn_follows : (text : List ℕ) (body : Bor Form) (m : mode.Mode) (saved : ℕ) (rest next : Bor (List ℕ)) (es fs : List Entry) (p z : ℕ) (s q : Question) → HasTurned text body.now m es p rest.now s → Finds (Skipping (mode_of m)) text rest.now es fs p z next.now → GoesOn text rest.now true next.now → saved ≡ length (named_entries es) → Serves text s q → Follows text (wait.Repetition body) m saved rest (record { task = Run (mode_of m) (expression_of body.now); rest = next.now; empty = null body.now; entries = fs; furthest = z }) q
+turn_follows text body m saved rest next es fs p z s q t sk g e h = record {
   found = λ gs y after x.
       let less = took (null body.now) t.turn.consumes x.goes_on.consumed in (
         s,
@@ -149,15 +149,15 @@ turn_follows text body m mark rest next es fs p z s q t sk g e h = record {
   failed = λ gs cut y x c. h cut y (Some rest) (record {
     means = record {
       trees = t.trees;
-      added = cut_past es fs gs cut mark _ sk.added x.means.kept c e ∙ t.added;
+      added = cut_past es fs gs cut saved _ sk.added x.means.kept c e ∙ t.added;
       ran = λ classes. let r = t.goes_on classes _ None' _ (ran_turns_end (sk.ran classes) (x.means.ran classes)) in rw joined_nil at r;
     };
     goes_on = record { left = t.here; shorter = t.shorter; consumed = inr t.empty };
   });
 }
 
-module _ {text : List ℕ} {m : mode.Mode} {mark : ℕ} {es fs gs : List Entry} {p z y : ℕ} {rest next : List ℕ} {s : Question} (left part : Form) (w : IsPartWay text left m mark es p rest s) (sk : Finds (Skipping (mode_of m)) text rest es fs p z next) (g : GoesOn text rest true next) where
-  pub part_fails : {cut : List Entry} (others : Option (Bor Form)) → AreParts left part others → named_entries cut ≡ take mark (named_entries gs) → Fails (Run (mode_of m) (expression_of part)) text next fs gs z y → IsAnswered text s cut y None
+module _ {text : List ℕ} {m : mode.Mode} {saved : ℕ} {es fs gs : List Entry} {p z y : ℕ} {rest next : List ℕ} {s : Question} (left part : Form) (w : IsPartWay text left m saved es p rest s) (sk : Finds (Skipping (mode_of m)) text rest es fs p z next) (g : GoesOn text rest true next) where
+  pub part_fails : {cut : List Entry} (others : Option (Bor Form)) → AreParts left part others → named_entries cut ≡ take saved (named_entries gs) → Fails (Run (mode_of m) (expression_of part)) text next fs gs z y → IsAnswered text s cut y None
   part_fails {cut} others h c x = record {
     means = subst (λ t. Fails t text s.rest s.entries cut s.furthest y) (sym w.task) (fails_part w.found sk part others h c w.marked x);
     goes_on = tt;
@@ -178,7 +178,7 @@ module _ {text : List ℕ} {m : mode.Mode} {mark : ℕ} {es fs gs : List Entry} 
       consumed (inr a) (inl b) = inl (omega (arith, b, g.shorter, w.shorter))
       consumed (inr a) (inr b) = inr (a (ap null (sym h.0) ∙ b))
 
-  pub part_further : (others : Bor Form) (after : List ℕ) → AreParts left part (Some others) → Finds (Run (mode_of m) (expression_of part)) text next fs gs z y after → GoesOn text next (null part) after → IsPartWay text others.now m mark gs y after s
+  pub part_further : (others : Bor Form) (after : List ℕ) → AreParts left part (Some others) → Finds (Run (mode_of m) (expression_of part)) text next fs gs z y after → GoesOn text next (null part) after → IsPartWay text others.now m saved gs y after s
   part_further others after h x k =
       let good_parts = sym h.good ∙ w.good in
       let good_others = and_second (good part) _ good_parts in
@@ -213,13 +213,13 @@ pub parts_less : (left part : Form) (others : Bor Form) (text next after : List 
 parts_less left part others text next after w h k = part_less left part others next after w h k.shorter k.consumed
 
 -- what is behind a part
-goes_behind : {text : List ℕ} {m : mode.Mode} {mark : ℕ} {es fs gs : List Entry} {p z y : ℕ} {rest next : List ℕ} {s : Question} (left part : Form) (others : Option (Bor Form)) (after : Bor (List ℕ)) (q : Question) → IsPartWay text left m mark es p rest s → Finds (Skipping (mode_of m)) text rest es fs p z next → GoesOn text rest true next → AreParts left part others → Serves text s q → Finds (Run (mode_of m) (expression_of part)) text next fs gs z y after.now → GoesOn text next (null part) after.now → GoesOnBehind text left others m mark next q gs y after
+goes_behind : {text : List ℕ} {m : mode.Mode} {saved : ℕ} {es fs gs : List Entry} {p z y : ℕ} {rest next : List ℕ} {s : Question} (left part : Form) (others : Option (Bor Form)) (after : Bor (List ℕ)) (q : Question) → IsPartWay text left m saved es p rest s → Finds (Skipping (mode_of m)) text rest es fs p z next → GoesOn text rest true next → AreParts left part others → Serves text s q → Finds (Run (mode_of m) (expression_of part)) text next fs gs z y after.now → GoesOn text next (null part) after.now → GoesOnBehind text left others m saved next q gs y after
 goes_behind left part None after q w sk g h serves x k = serves _ _ (Some after) (part_ends left part w sk g after h x k)
 goes_behind {s = s} left part (Some others) after q w sk g h serves x k =
     (s, part_further left part w sk g others after.now h x k, serves, parts_less left part others _ _ after.now w.good h k)
 
-pub part_follows : (text : List ℕ) (left part : Bor Form) (others : Option (Bor Form)) (m : mode.Mode) (mark : ℕ) (rest : List ℕ) (next : Bor (List ℕ)) (es fs : List Entry) (p z : ℕ) (s q : Question) → IsPartWay text left.now m mark es p rest s → AreParts left.now part.now others → Finds (Skipping (mode_of m)) text rest es fs p z next.now → GoesOn text rest true next.now → Serves text s q → Follows text (wait.Sequence left others) m mark next (record { task = Run (mode_of m) (expression_of part.now); rest = next.now; empty = null part.now; entries = fs; furthest = z }) q
-part_follows text left part others m mark rest next es fs p z s q w h sk g serves = record {
+pub part_follows : (text : List ℕ) (left part : Bor Form) (others : Option (Bor Form)) (m : mode.Mode) (saved : ℕ) (rest : List ℕ) (next : Bor (List ℕ)) (es fs : List Entry) (p z : ℕ) (s q : Question) → IsPartWay text left.now m saved es p rest s → AreParts left.now part.now others → Finds (Skipping (mode_of m)) text rest es fs p z next.now → GoesOn text rest true next.now → Serves text s q → Follows text (wait.Sequence left others) m saved next (record { task = Run (mode_of m) (expression_of part.now); rest = next.now; empty = null part.now; entries = fs; furthest = z }) q
+part_follows text left part others m saved rest next es fs p z s q w h sk g serves = record {
   found = λ gs y after x. goes_behind left.now part.now others after q w sk g h serves x.means x.goes_on;
   failed = λ gs cut y x c. serves cut y None (part_fails left.now part.now w sk g others h c x.means);
 }
@@ -238,8 +238,8 @@ all_take-take (r ∷ rs) (suc i) e = and_both (not (nullable r)) _ (and_first _ 
     and_both a b x y = rw (x, y) refl
 
 -- one of some rules is called, where those before it failed
-pub rule_follows : (text : List ℕ) (first : Rule) (others : List Rule) (i : ℕ) (d : Rule) (left : Bor (List Rule)) (m : mode.Mode) (mark : ℕ) (rest : Bor (List ℕ)) (es fs : List Entry) (p z : ℕ) (q : Question) → IsLeft text rest.now → i < length others → all_take others ≡ true → left.now ≡ drop (i + 1) others → Fails (Run (mode_of m) (choice_among (Ident (name_of first)) (take i others))) text rest.now es fs p z → Serves text (record { task = Run (mode_of m) (choice_among (Ident (name_of first)) others); rest = rest.now; empty = false; entries = es; furthest = p }) q → Follows text (wait.FirstOf left) m mark rest (record { task = Run (mode_of m) (Ident (name_of (get_or others i d))); rest = rest.now; empty = nullable (get_or others i d); entries = fs; furthest = z }) q
-rule_follows text first others i d left m mark rest es fs p z q l b k e f h = record {
+pub rule_follows : (text : List ℕ) (first : Rule) (others : List Rule) (i : ℕ) (d : Rule) (left : Bor (List Rule)) (m : mode.Mode) (saved : ℕ) (rest : Bor (List ℕ)) (es fs : List Entry) (p z : ℕ) (q : Question) → IsLeft text rest.now → i < length others → all_take others ≡ true → left.now ≡ drop (i + 1) others → Fails (Run (mode_of m) (choice_among (Ident (name_of first)) (take i others))) text rest.now es fs p z → Serves text (record { task = Run (mode_of m) (choice_among (Ident (name_of first)) others); rest = rest.now; empty = false; entries = es; furthest = p }) q → Follows text (wait.FirstOf left) m saved rest (record { task = Run (mode_of m) (Ident (name_of (get_or others i d))); rest = rest.now; empty = nullable (get_or others i d); entries = fs; furthest = z }) q
+rule_follows text first others i d left m saved rest es fs p z q l b k e f h = record {
   here = l;
   found = λ gs y after x. h gs y (Some after) (record {
     means = found_at (Ident (name_of first)) others i d b f x.means;
@@ -275,8 +275,8 @@ tried_all text others m es p rest q t fs z i h f =
     record { means = rw (t.task, t.here) g; goes_on = tt }
 
 -- the first part of a sequence was found
-pub parts_begin : (text : List ℕ) (first others : Form) (m : mode.Mode) (mark : ℕ) (rest after : List ℕ) (es fs : List Entry) (p z : ℕ) → IsRunnable others → cost others < 1000 → mark ≡ length (named_entries es) → Finds (Run (mode_of m) (expression_of first)) text rest es fs p z after → GoesOn text rest (null first) after → IsPartWay text others m mark fs z after (record { task = Run (mode_of m) (followed (Some (expression_of first)) others); rest = rest; empty = null first && null others; entries = es; furthest = p })
-parts_begin text first others m mark rest after es fs p z runnable below e x g = record {
+pub parts_begin : (text : List ℕ) (first others : Form) (m : mode.Mode) (saved : ℕ) (rest after : List ℕ) (es fs : List Entry) (p z : ℕ) → IsRunnable others → cost others < 1000 → saved ≡ length (named_entries es) → Finds (Run (mode_of m) (expression_of first)) text rest es fs p z after → GoesOn text rest (null first) after → IsPartWay text others m saved fs z after (record { task = Run (mode_of m) (followed (Some (expression_of first)) others); rest = rest; empty = null first && null others; entries = es; furthest = p })
+parts_begin text first others m saved rest after es fs p z runnable below e x g = record {
   good = runnable.good;
   spelled = runnable.spelled;
   below = below;
@@ -308,10 +308,10 @@ pub found_early : {text rest s : List ℕ} {m : Mode} {es fs : List Entry} {p z 
 found_early {text} {rest} {s} {m} {es} {fs} {p} {z} e rs i x = subst (λ a. Finds (Run m a) text rest es fs p z s) (among_parts e rs i) (found_among (choice_among e (take i rs)) (drop i rs) x)
 
 -- the call of a rule is asked for, with those behind it in a frame
-pub rule_asked : (text : List ℕ) (first : Rule) (others : List Rule) (i : ℕ) (d : Rule) (left : Bor (List Rule)) (m : mode.Mode) (mark : ℕ) (rest : Bor (List ℕ)) (es fs : List Entry) (p z : ℕ) (q top : Question) (gs hs : List Frame) → hs ≡ gs ++ record { wait = wait.FirstOf left; start = record { mode = m; mark = mark; rest = rest } } ∷ [] → IsLeft text rest.now → i < length others → all_take others ≡ true → left.now ≡ drop (i + 1) others → Fails (Run (mode_of m) (choice_among (Ident (name_of first)) (take i others))) text rest.now es fs p z → Serves text (record { task = Run (mode_of m) (choice_among (Ident (name_of first)) others); rest = rest.now; empty = false; entries = es; furthest = p }) q → IsWaiting text gs q top → IsAsked text hs (record { task = Run (mode_of m) (Ident (name_of (get_or others i d))); rest = rest.now; empty = nullable (get_or others i d); entries = fs; furthest = z }) top
-rule_asked text first others i d left m mark rest es fs p z q top gs hs e l b k n f h w =
-    asked_on text gs hs (record { wait = wait.FirstOf left; start = record { mode = m; mark = mark; rest = rest } }) _ q top e
-    (rule_follows text first others i d left m mark rest es fs p z q l b k n f h) w
+pub rule_asked : (text : List ℕ) (first : Rule) (others : List Rule) (i : ℕ) (d : Rule) (left : Bor (List Rule)) (m : mode.Mode) (saved : ℕ) (rest : Bor (List ℕ)) (es fs : List Entry) (p z : ℕ) (q top : Question) (gs hs : List Frame) → hs ≡ gs ++ record { wait = wait.FirstOf left; start = record { mode = m; saved = saved; rest = rest } } ∷ [] → IsLeft text rest.now → i < length others → all_take others ≡ true → left.now ≡ drop (i + 1) others → Fails (Run (mode_of m) (choice_among (Ident (name_of first)) (take i others))) text rest.now es fs p z → Serves text (record { task = Run (mode_of m) (choice_among (Ident (name_of first)) others); rest = rest.now; empty = false; entries = es; furthest = p }) q → IsWaiting text gs q top → IsAsked text hs (record { task = Run (mode_of m) (Ident (name_of (get_or others i d))); rest = rest.now; empty = nullable (get_or others i d); entries = fs; furthest = z }) top
+rule_asked text first others i d left m saved rest es fs p z q top gs hs e l b k n f h w =
+    asked_on text gs hs (record { wait = wait.FirstOf left; start = record { mode = m; saved = saved; rest = rest } }) _ q top e
+    (rule_follows text first others i d left m saved rest es fs p z q l b k n f h) w
 
 -- the turn of a repetition that can be run
 pub turn_of : (f : Form) → (good f && (not (null f) && nat_lt (cost f) 999)) ≡ true → IsSpelled f → IsRunnableTurn f

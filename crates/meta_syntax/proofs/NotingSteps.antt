@@ -40,17 +40,17 @@ then_two : (p : Sought) {q r z : Sought} (f h i : ℕ → List Text) → q ≡ w
 then_two p {q} f h i e k l = then_more p f (λ n. h n ++ i n) e (then_more q h i k l)
 
 -- a call that failed, of which nothing was told within but what was added to the names
-pub told_failing : (counts : Bool) (n : Text) (mark place : ℕ) (p q z : Sought) (within : List Text) → q ≡ with_names p within → mark ≡ length p.names → z ≡ telling counts n mark place q → z ≡ with_names p (if counts && nat_eq place p.place then n ∷ [] else within)
-told_failing counts n mark place p q z within e m h =
+pub told_failing : (counts : Bool) (n : Text) (saved place : ℕ) (p q z : Sought) (within : List Text) → q ≡ with_names p within → saved ≡ length p.names → z ≡ telling counts n saved place q → z ≡ with_names p (if counts && nat_eq place p.place then n ∷ [] else within)
+told_failing counts n saved place p q z within e m h =
     let h = rw e at h in h ∙ cases (counts && nat_eq place p.place)
   where
-    cases : (b : Bool) → (if b then record { place = p.place; names = take mark (p.names ++ within) ++ n ∷ [] } else with_names p within) ≡ with_names p (if b then n ∷ [] else within)
+    cases : (b : Bool) → (if b then record { place = p.place; names = take saved (p.names ++ within) ++ n ∷ [] } else with_names p within) ≡ with_names p (if b then n ∷ [] else within)
     cases true = ap (λ l. record { place = p.place; names = l ++ n ∷ [] }) (rw m (take-append_seam p.names within))
     cases false = refl
 
 -- names that were cut back
-pub cut_back_to : (p : Sought) {q : Sought} (ns names : List Text) (mark : ℕ) → q ≡ with_names p ns → names ≡ take mark q.names → mark ≡ length p.names → p ≡ record { place = q.place; names = names }
-cut_back_to p ns names mark e h m = rw (h, e, m, take-append_seam p.names ns) refl
+pub cut_back_to : (p : Sought) {q : Sought} (ns names : List Text) (saved : ℕ) → q ≡ with_names p ns → names ≡ take saved q.names → saved ≡ length p.names → p ≡ record { place = q.place; names = names }
+cut_back_to p ns names saved e h m = rw (h, e, m, take-append_seam p.names ns) refl
 
 module _ {g : Grammar} {classes : Classes} where
   pub noted_quietly : {k : Task} {s : State} {o : Outcome} {p : Sought} (d : Does g classes k s o) → expected_at p.place d ≡ [] → Noted g classes k s o p p
@@ -127,10 +127,10 @@ module _ {classes : Classes} where
   pub noted_end : (m : mode.Mode) {s t : State} {us : Trees} {p : Sought} → Success t us ≡ end_outcome (mode_of m) s.rest s → Noted meta_grammar classes (Run (mode_of m) (Ident (codes "EOI"))) s (Success t us) p p
   noted_end m {s} {p = p} e = record { found = other no_eoi (rw (by_builtin classes m _ _ s eoi_builtin, e) refl); noted = unsaid p }
 
-  pub noted_not_end : (m : mode.Mode) {s : State} {p z : Sought} (sees : Bool) (mark : ℕ) → Failure ≡ end_outcome (mode_of m) s.rest s → sees ≡ seen_from (mode_of m) → mark ≡ length p.names → z ≡ telling sees (codes "EOI") mark s.position p → Noted meta_grammar classes (Run (mode_of m) (Ident (codes "EOI"))) s Failure p z
-  noted_not_end m {s} {p} {z} sees mark e h k n = record {
+  pub noted_not_end : (m : mode.Mode) {s : State} {p z : Sought} (sees : Bool) (saved : ℕ) → Failure ≡ end_outcome (mode_of m) s.rest s → sees ≡ seen_from (mode_of m) → saved ≡ length p.names → z ≡ telling sees (codes "EOI") saved s.position p → Noted meta_grammar classes (Run (mode_of m) (Ident (codes "EOI"))) s Failure p z
+  noted_not_end m {s} {p} {z} sees saved e h k n = record {
     found = other no_eoi (rw (by_builtin classes m _ _ s eoi_builtin, e) refl);
-    noted = rw (always (seen_from (mode_of m)), ← h) (told_failing sees (codes "EOI") mark s.position p p z [] (unsaid p) k n);
+    noted = rw (always (seen_from (mode_of m)), ← h) (told_failing sees (codes "EOI") saved s.position p p z [] (unsaid p) k n);
   }
 
   module _ (rule : Rule) (m mode : Mode) (body : Expression) (kind : RuleType) (defined : is_defined rule ≡ true) (same_mode : mode ≡ body_mode (rule_at rule) m) (same_body : body ≡ body_of rule) (same_kind : kind ≡ type_of_rule rule) where
@@ -140,13 +140,13 @@ module _ {classes : Classes} where
     pub noted_call : {s t : State} {us : Trees} {p q : Sought} → Noted meta_grammar classes (Run mode body) s (Success t us) p q → Noted meta_grammar classes (Run m (Ident (name_of rule))) s (Success t (if gives_token (type_of_rule rule) m then Tree (name_of rule) s.position t.position us None' else us)) p q
     noted_call x = let y = within x in record { found = call (defined_rule rule defined) y.found; noted = y.noted }
 
-    pub noted_failed_call : {s : State} {p q z : Sought} (counts : Bool) (mark : ℕ) → Noted meta_grammar classes (Run mode body) s Failure p q → counts ≡ (seen_from m && gives_token kind m) → mark ≡ length p.names → z ≡ telling counts (name_of rule) mark s.position q → Noted meta_grammar classes (Run m (Ident (name_of rule))) s Failure p z
-    noted_failed_call {s} {p} {q} {z} counts mark x h k n =
+    pub noted_failed_call : {s : State} {p q z : Sought} (counts : Bool) (saved : ℕ) → Noted meta_grammar classes (Run mode body) s Failure p q → counts ≡ (seen_from m && gives_token kind m) → saved ≡ length p.names → z ≡ telling counts (name_of rule) saved s.position q → Noted meta_grammar classes (Run m (Ident (name_of rule))) s Failure p z
+    noted_failed_call {s} {p} {q} {z} counts saved x h k n =
         let y = within x in
         let c : counts ≡ (seen_from m && gives_token (type_of_rule rule) m) = rw same_kind at h in
         record {
           found = call (defined_rule rule defined) y.found;
-          noted = rw (← c) (told_failing counts (name_of rule) mark s.position p q z (expected_at p.place y.found) y.noted k n);
+          noted = rw (← c) (told_failing counts (name_of rule) saved s.position p q z (expected_at p.place y.found) y.noted k n);
         }
 
 -- forms without tokens
@@ -299,8 +299,8 @@ no_classes : Classes
 no_classes n c = false
 
 module _ {m : Mode} {a : Expression} {text rest : List ℕ} {p q : Sought} where
-  pub failed_not_cut : {s : List ℕ} (names : List Text) (mark : ℕ) → FindsNoting (Run m a) text rest p q s → names ≡ take mark q.names → mark ≡ length p.names → FailsNoting (Run m (NegPred a)) text rest p (record { place = q.place; names = names })
-  failed_not_cut names mark x h k = subst (λ z. FailsNoting (Run m (NegPred a)) text rest p z) (cut_back_to p _ names mark (x.ran no_classes).noted h k) (failed_not x)
+  pub failed_not_cut : {s : List ℕ} (names : List Text) (saved : ℕ) → FindsNoting (Run m a) text rest p q s → names ≡ take saved q.names → saved ≡ length p.names → FailsNoting (Run m (NegPred a)) text rest p (record { place = q.place; names = names })
+  failed_not_cut names saved x h k = subst (λ z. FailsNoting (Run m (NegPred a)) text rest p z) (cut_back_to p _ names saved (x.ran no_classes).noted h k) (failed_not x)
 
-  pub found_not_cut : (names : List Text) (mark : ℕ) → FailsNoting (Run m a) text rest p q → names ≡ take mark q.names → mark ≡ length p.names → FindsNoting (Run m (NegPred a)) text rest p (record { place = q.place; names = names }) rest
-  found_not_cut names mark x h k = subst (λ z. FindsNoting (Run m (NegPred a)) text rest p z rest) (cut_back_to p _ names mark (x.ran no_classes).noted h k) (found_not x)
+  pub found_not_cut : (names : List Text) (saved : ℕ) → FailsNoting (Run m a) text rest p q → names ≡ take saved q.names → saved ≡ length p.names → FindsNoting (Run m (NegPred a)) text rest p (record { place = q.place; names = names }) rest
+  found_not_cut names saved x h k = subst (λ z. FindsNoting (Run m (NegPred a)) text rest p z rest) (cut_back_to p _ names saved (x.ran no_classes).noted h k) (found_not x)

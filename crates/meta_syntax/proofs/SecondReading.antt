@@ -93,8 +93,8 @@ begin_next text fs gs f r form m rest q top n work e runnable ready h w l h2 = r
 pub all_left : (text rest : List ℕ) → IsLeft text rest → GoesOn text rest true rest
 all_left text rest l = record { left = l; shorter = omega arith; consumed = inr refl }
 
-module _ (text : List ℕ) (rule : Rule) (kind : Kind) (m inner : mode.Mode) (mark : ℕ) (rest : Bor (List ℕ)) (form : Bor Form) (p : Sought) (q : Question) (l : IsLeft text rest.now) (row : IsRow kind form.now rule) (b : mode_of inner ≡ body_mode (rule_at rule) (mode_of m)) (e : mark ≡ length p.names) (h : Serves text (record { task = Run (mode_of m) (Ident (name_of rule)); rest = rest.now; empty = nullable rule; sought = p }) q) where
-  pub call_follows : Follows text (wait.Call rule kind) (record { mode = m; mark = mark; rest = rest }) (record { task = Run (mode_of inner) (expression_of form.now); rest = rest.now; empty = null form.now; sought = p }) q
+module _ (text : List ℕ) (rule : Rule) (kind : Kind) (m inner : mode.Mode) (saved : ℕ) (rest : Bor (List ℕ)) (form : Bor Form) (p : Sought) (q : Question) (l : IsLeft text rest.now) (row : IsRow kind form.now rule) (b : mode_of inner ≡ body_mode (rule_at rule) (mode_of m)) (e : saved ≡ length p.names) (h : Serves text (record { task = Run (mode_of m) (Ident (name_of rule)); rest = rest.now; empty = nullable rule; sought = p }) q) where
+  pub call_follows : Follows text (wait.Call rule kind) (record { mode = m; saved = saved; rest = rest }) (record { task = Run (mode_of inner) (expression_of form.now); rest = rest.now; empty = null form.now; sought = p }) q
   call_follows = record {
     here = l;
     found = λ now after x.
@@ -104,7 +104,7 @@ module _ (text : List ℕ) (rule : Rule) (kind : Kind) (m inner : mode.Mode) (ma
           goes_on = gone;
         });
     failed = λ now x later t. h later None (record {
-      means = record { ran = λ classes. noted_failed_call rule _ _ _ _ row.defined b row.body row.kind _ mark (x.means.ran classes) refl e t };
+      means = record { ran = λ classes. noted_failed_call rule _ _ _ _ row.defined b row.body row.kind _ saved (x.means.ran classes) refl e t };
       goes_on = tt;
     });
   }
@@ -118,8 +118,8 @@ module _ {text rest : List ℕ} {a b : Expression} {m : Mode} {p now later : Sou
     goes_on = record { left = w.goes_on.left; shorter = w.goes_on.shorter; consumed = elim w.goes_on.consumed [ inl l ↦ inl l | inr e ↦ inr (or_second one two e) ] };
   }
 
-pub choice_follows : (text : List ℕ) (first second : Bor Form) (m : mode.Mode) (mark : ℕ) (rest : Bor (List ℕ)) (p : Sought) (q : Question) → IsLeft text rest.now → IsRunnable second.now → Serves text (record { task = Run (mode_of m) (Choice (expression_of first.now) (expression_of second.now)); rest = rest.now; empty = null first.now || null second.now; sought = p }) q → Follows text (wait.Choice second) (record { mode = m; mark = mark; rest = rest }) (record { task = Run (mode_of m) (expression_of first.now); rest = rest.now; empty = null first.now; sought = p }) q
-choice_follows text first second m mark rest p q l runnable h = record {
+pub choice_follows : (text : List ℕ) (first second : Bor Form) (m : mode.Mode) (saved : ℕ) (rest : Bor (List ℕ)) (p : Sought) (q : Question) → IsLeft text rest.now → IsRunnable second.now → Serves text (record { task = Run (mode_of m) (Choice (expression_of first.now) (expression_of second.now)); rest = rest.now; empty = null first.now || null second.now; sought = p }) q → Follows text (wait.Choice second) (record { mode = m; saved = saved; rest = rest }) (record { task = Run (mode_of m) (expression_of first.now); rest = rest.now; empty = null first.now; sought = p }) q
+choice_follows text first second m saved rest p q l runnable h = record {
   here = l;
   found = λ now after x. h now (Some after) (record {
     means = found_left x.means;
@@ -128,8 +128,8 @@ choice_follows text first second m mark rest p q l runnable h = record {
   failed = λ now x. (runnable, λ later o w. h later o (second_answers (null first.now) (null second.now) x.means o w));
 }
 
-pub option_follows : (text : List ℕ) (body : Bor Form) (m : mode.Mode) (mark : ℕ) (rest : Bor (List ℕ)) (p : Sought) (q : Question) → IsLeft text rest.now → Serves text (record { task = Run (mode_of m) (Opt (expression_of body.now)); rest = rest.now; empty = true; sought = p }) q → Follows text wait.Option (record { mode = m; mark = mark; rest = rest }) (record { task = Run (mode_of m) (expression_of body.now); rest = rest.now; empty = null body.now; sought = p }) q
-option_follows text body m mark rest p q l h = record {
+pub option_follows : (text : List ℕ) (body : Bor Form) (m : mode.Mode) (saved : ℕ) (rest : Bor (List ℕ)) (p : Sought) (q : Question) → IsLeft text rest.now → Serves text (record { task = Run (mode_of m) (Opt (expression_of body.now)); rest = rest.now; empty = true; sought = p }) q → Follows text wait.Option (record { mode = m; saved = saved; rest = rest }) (record { task = Run (mode_of m) (expression_of body.now); rest = rest.now; empty = null body.now; sought = p }) q
+option_follows text body m saved rest p q l h = record {
   here = l;
   found = λ now after x. h now (Some after) (record {
     means = found_opt x.means;
@@ -138,16 +138,16 @@ option_follows text body m mark rest p q l h = record {
   failed = λ now x. h now (Some rest) (record { means = found_no_opt x.means; goes_on = all_left text rest.now l });
 }
 
-pub negation_follows : (text : List ℕ) (body : Bor Form) (m : mode.Mode) (mark : ℕ) (rest : Bor (List ℕ)) (p : Sought) (q : Question) → IsLeft text rest.now → mark ≡ length p.names → Serves text (record { task = Run (mode_of m) (NegPred (expression_of body.now)); rest = rest.now; empty = true; sought = p }) q → Follows text wait.Negation (record { mode = m; mark = mark; rest = rest }) (record { task = Run (mode_of m) (expression_of body.now); rest = rest.now; empty = null body.now; sought = p }) q
-negation_follows text body m mark rest p q l e h = record {
+pub negation_follows : (text : List ℕ) (body : Bor Form) (m : mode.Mode) (saved : ℕ) (rest : Bor (List ℕ)) (p : Sought) (q : Question) → IsLeft text rest.now → saved ≡ length p.names → Serves text (record { task = Run (mode_of m) (NegPred (expression_of body.now)); rest = rest.now; empty = true; sought = p }) q → Follows text wait.Negation (record { mode = m; saved = saved; rest = rest }) (record { task = Run (mode_of m) (expression_of body.now); rest = rest.now; empty = null body.now; sought = p }) q
+negation_follows text body m saved rest p q l e h = record {
   here = l;
-  found = λ now after x names t. h _ None (record { means = failed_not_cut names mark x.means t e; goes_on = tt });
-  failed = λ now x names t. h _ (Some rest) (record { means = found_not_cut names mark x.means t e; goes_on = all_left text rest.now l });
+  found = λ now after x names t. h _ None (record { means = failed_not_cut names saved x.means t e; goes_on = tt });
+  failed = λ now x names t. h _ (Some rest) (record { means = found_not_cut names saved x.means t e; goes_on = all_left text rest.now l });
 }
 
 -- a repetition begins
-pub first_turn_follows : (text : List ℕ) (body : Bor Form) (m : mode.Mode) (mark : ℕ) (rest : Bor (List ℕ)) (p : Sought) (q : Question) → IsLeft text rest.now → IsRunnableTurn body.now → Serves text (record { task = Run (mode_of m) (Rep (expression_of body.now)); rest = rest.now; empty = true; sought = p }) q → Follows text (wait.Repetition body) (record { mode = m; mark = mark; rest = rest }) (record { task = Run (mode_of m) (expression_of body.now); rest = rest.now; empty = null body.now; sought = p }) q
-first_turn_follows text body m mark rest p q l turn h = record {
+pub first_turn_follows : (text : List ℕ) (body : Bor Form) (m : mode.Mode) (saved : ℕ) (rest : Bor (List ℕ)) (p : Sought) (q : Question) → IsLeft text rest.now → IsRunnableTurn body.now → Serves text (record { task = Run (mode_of m) (Rep (expression_of body.now)); rest = rest.now; empty = true; sought = p }) q → Follows text (wait.Repetition body) (record { mode = m; saved = saved; rest = rest }) (record { task = Run (mode_of m) (expression_of body.now); rest = rest.now; empty = null body.now; sought = p }) q
+first_turn_follows text body m saved rest p q l turn h = record {
   here = l;
   found = λ now after x. (
     record { task = Run (mode_of m) (Rep (expression_of body.now)); rest = rest.now; empty = true; sought = p },
@@ -166,8 +166,8 @@ first_turn_follows text body m mark rest p q l turn h = record {
 }
 
 -- a further turn begins, behind the skipping
-pub turn_follows : (text : List ℕ) (body : Bor Form) (m : mode.Mode) (mark : ℕ) (rest next : Bor (List ℕ)) (p z : Sought) (s q : Question) → HasTurned text body.now m p rest.now s → FindsNoting (Skipping (mode_of m)) text rest.now p z next.now → GoesOn text rest.now true next.now → Serves text s q → Follows text (wait.Repetition body) (record { mode = m; mark = mark; rest = rest }) (record { task = Run (mode_of m) (expression_of body.now); rest = next.now; empty = null body.now; sought = z }) q
-turn_follows text body m mark rest next p z s q t sk g h = record {
+pub turn_follows : (text : List ℕ) (body : Bor Form) (m : mode.Mode) (saved : ℕ) (rest next : Bor (List ℕ)) (p z : Sought) (s q : Question) → HasTurned text body.now m p rest.now s → FindsNoting (Skipping (mode_of m)) text rest.now p z next.now → GoesOn text rest.now true next.now → Serves text s q → Follows text (wait.Repetition body) (record { mode = m; saved = saved; rest = rest }) (record { task = Run (mode_of m) (expression_of body.now); rest = next.now; empty = null body.now; sought = z }) q
+turn_follows text body m saved rest next p z s q t sk g h = record {
   here = t.here;
   found = λ now after x.
       let less = took (null body.now) t.turn.consumes x.goes_on.consumed in (
@@ -203,8 +203,8 @@ module _ {text : List ℕ} {m : Mode} {rest from next : List ℕ} {p now later z
     goes_on = record { left = w.goes_on.left; shorter = omega (arith, l, g, w.goes_on.shorter); consumed = inl (omega (arith, l, g, w.goes_on.shorter)) };
   }
 
-pub once_follows : (text : List ℕ) (body : Bor Form) (m : mode.Mode) (mark : ℕ) (rest : Bor (List ℕ)) (p : Sought) (q : Question) → IsLeft text rest.now → IsRunnableTurn body.now → Serves text (record { task = Run (mode_of m) (RepOnce (expression_of body.now)); rest = rest.now; empty = null body.now; sought = p }) q → Follows text (wait.OnceOrMore body) (record { mode = m; mark = mark; rest = rest }) (record { task = Run (mode_of m) (expression_of body.now); rest = rest.now; empty = null body.now; sought = p }) q
-once_follows text body m mark rest p q l turn h = record {
+pub once_follows : (text : List ℕ) (body : Bor Form) (m : mode.Mode) (saved : ℕ) (rest : Bor (List ℕ)) (p : Sought) (q : Question) → IsLeft text rest.now → IsRunnableTurn body.now → Serves text (record { task = Run (mode_of m) (RepOnce (expression_of body.now)); rest = rest.now; empty = null body.now; sought = p }) q → Follows text (wait.OnceOrMore body) (record { mode = m; saved = saved; rest = rest }) (record { task = Run (mode_of m) (expression_of body.now); rest = rest.now; empty = null body.now; sought = p }) q
+once_follows text body m saved rest p q l turn h = record {
   here = l;
   found = λ now after x.
       let less = took (null body.now) turn.consumes x.goes_on.consumed in (
@@ -247,8 +247,8 @@ behind_less part others text rest after below g = less g.consumed
         let d : parts_cost part others ≡ 1 + max (cost part) (cost others) = rw f refl in
         omega (arith, d, k)
 
-pub sequence_follows : (text : List ℕ) (first others : Bor Form) (m : mode.Mode) (mark : ℕ) (rest : Bor (List ℕ)) (p : Sought) (q : Question) → IsLeft text rest.now → IsRunnable others.now → cost others.now < 1000 → Serves text (record { task = Run (mode_of m) (followed (Some (expression_of first.now)) others.now); rest = rest.now; empty = null first.now && null others.now; sought = p }) q → Follows text (wait.Sequence first others) (record { mode = m; mark = mark; rest = rest }) (record { task = Run (mode_of m) (expression_of first.now); rest = rest.now; empty = null first.now; sought = p }) q
-sequence_follows text first others m mark rest p q l runnable below h = record {
+pub sequence_follows : (text : List ℕ) (first others : Bor Form) (m : mode.Mode) (saved : ℕ) (rest : Bor (List ℕ)) (p : Sought) (q : Question) → IsLeft text rest.now → IsRunnable others.now → cost others.now < 1000 → Serves text (record { task = Run (mode_of m) (followed (Some (expression_of first.now)) others.now); rest = rest.now; empty = null first.now && null others.now; sought = p }) q → Follows text (wait.Sequence first others) (record { mode = m; saved = saved; rest = rest }) (record { task = Run (mode_of m) (expression_of first.now); rest = rest.now; empty = null first.now; sought = p }) q
+sequence_follows text first others m saved rest p q l runnable below h = record {
   here = l;
   found = λ now after x. (
     record { task = Run (mode_of m) (followed (Some (expression_of first.now)) others.now); rest = rest.now; empty = null first.now && null others.now; sought = p },
@@ -308,8 +308,8 @@ last_serves text left part m rest next p z s w h sk g now None x = part_fails le
 last_serves text left part m rest next p z s w h sk g now (Some after) x = part_ends left part w sk g after h x.means x.goes_on
 
 -- a further part of a sequence, with others behind it
-pub part_follows : (text : List ℕ) (left : Form) (part others : Bor Form) (m : mode.Mode) (mark : ℕ) (rest : List ℕ) (next : Bor (List ℕ)) (p z : Sought) (s q : Question) → IsPartWay text left m p rest s → AreParts left part.now (Some others) → FindsNoting (Skipping (mode_of m)) text rest p z next.now → GoesOn text rest true next.now → Serves text s q → Follows text (wait.Sequence part others) (record { mode = m; mark = mark; rest = next }) (record { task = Run (mode_of m) (expression_of part.now); rest = next.now; empty = null part.now; sought = z }) q
-part_follows text left part others m mark rest next p z s q w h sk g serves = record {
+pub part_follows : (text : List ℕ) (left : Form) (part others : Bor Form) (m : mode.Mode) (saved : ℕ) (rest : List ℕ) (next : Bor (List ℕ)) (p z : Sought) (s q : Question) → IsPartWay text left m p rest s → AreParts left part.now (Some others) → FindsNoting (Skipping (mode_of m)) text rest p z next.now → GoesOn text rest true next.now → Serves text s q → Follows text (wait.Sequence part others) (record { mode = m; saved = saved; rest = next }) (record { task = Run (mode_of m) (expression_of part.now); rest = next.now; empty = null part.now; sought = z }) q
+part_follows text left part others m saved rest next p z s q w h sk g serves = record {
   here = g.left;
   found = λ now after x.
       let more = part_further left part.now w sk g others after.now h x.means x.goes_on in
@@ -366,8 +366,8 @@ takes_first first others e = not_nullable (nullable first) (and_first _ _ e)
     not_nullable true e = cc
     not_nullable false e = refl
 
-pub rule_follows : (text : List ℕ) (first : Rule) (others : Bor (List Rule)) (m : mode.Mode) (mark : ℕ) (rest : Bor (List ℕ)) (p : Sought) (s q : Question) → IsLeft text rest.now → IsTrying text first others.now m p rest.now s → Serves text s q → Follows text (wait.FirstOf others) (record { mode = m; mark = mark; rest = rest }) (record { task = Run (mode_of m) (Ident (name_of first)); rest = rest.now; empty = nullable first; sought = p }) q
-rule_follows text first others m mark rest p s q l t h = record {
+pub rule_follows : (text : List ℕ) (first : Rule) (others : Bor (List Rule)) (m : mode.Mode) (saved : ℕ) (rest : Bor (List ℕ)) (p : Sought) (s q : Question) → IsLeft text rest.now → IsTrying text first others.now m p rest.now s → Serves text s q → Follows text (wait.FirstOf others) (record { mode = m; saved = saved; rest = rest }) (record { task = Run (mode_of m) (Ident (name_of first)); rest = rest.now; empty = nullable first; sought = p }) q
+rule_follows text first others m saved rest p s q l t h = record {
   here = l;
   found = λ now after x.
       let less = took (nullable first) (takes_first first others.now t.takes) x.goes_on.consumed in

@@ -250,10 +250,10 @@ module _ {classes : Classes} (rule : Rule) (settled : is_settled rule ≡ true) 
   pub settled_found : {m : Mode} {s t : State} {us : Trees} {p : Sought} → Does meta_grammar classes (Run m (Ident (name_of rule))) s (Success t us) → Noted meta_grammar classes (Run m (Ident (name_of rule))) s (Success t us) p p
   settled_found {m} {p = p} d = record { found = d; noted = rw (told_called p.place m (name_of rule) refl d) (unsaid p) }
 
-  pub settled_failed : {m : Mode} {s : State} {p z : Sought} (kind : RuleType) (counts : Bool) (mark : ℕ) → kind ≡ type_of_rule rule → Does meta_grammar classes (Run m (Ident (name_of rule))) s Failure → counts ≡ (seen_from m && gives_token kind m) → mark ≡ length p.names → z ≡ telling counts (name_of rule) mark s.position p → Noted meta_grammar classes (Run m (Ident (name_of rule))) s Failure p z
-  settled_failed {m} {s} {p} {z} kind counts mark e d h k n =
+  pub settled_failed : {m : Mode} {s : State} {p z : Sought} (kind : RuleType) (counts : Bool) (saved : ℕ) → kind ≡ type_of_rule rule → Does meta_grammar classes (Run m (Ident (name_of rule))) s Failure → counts ≡ (seen_from m && gives_token kind m) → saved ≡ length p.names → z ≡ telling counts (name_of rule) saved s.position p → Noted meta_grammar classes (Run m (Ident (name_of rule))) s Failure p z
+  settled_failed {m} {s} {p} {z} kind counts saved e d h k n =
       let c : counts ≡ (seen_from m && gives_token (type_of_rule rule) m) = rw e at h in
       record {
         found = d;
-        noted = rw (told_called p.place m (name_of rule) refl d, ← c) (told_failing counts (name_of rule) mark s.position p p z [] (unsaid p) k n);
+        noted = rw (told_called p.place m (name_of rule) refl d, ← c) (told_failing counts (name_of rule) saved s.position p p z [] (unsaid p) k n);
       }

@@ -23,7 +23,7 @@ use Rattle.meta_syntax.proofs.Numerals.{number_taken, integer_taken, is_number, 
 use Rattle.meta_syntax.proofs.Quiet.{is_loud, is_quiet, quiet_rule, quiet}
 use Rattle.meta_syntax.proofs.ShapeOfTrees.{shows, closed}
 use Rattle.meta_syntax.proofs.Taken.{takes}
-use Rattle.meta_syntax.proofs.Yields.{IsNone, none, Both, both, Many, no_more, also, IsMark, mark, is_dark, Holds, Named, Yields, Inside, Stretches}
+use Rattle.meta_syntax.proofs.Yields.{IsNone, none, Both, both, Many, no_more, also, IsLone, lone, is_dark, Holds, Named, Yields, Inside, Stretches}
 
 -- the trees of a success are P
 abbrev pub IfSuccess : (Trees → Type 0) → Outcome → Type 0
@@ -123,14 +123,14 @@ the_end : (r : Rule) → is_defined r ≡ false → r ≡ is.EOI
 the_end is.EOI h = refl
 the_end _ h = cc
 
-end_gives : (m : Mode) (v : Text) (s : State) → seen_from m ≡ true → IfSuccess (IsMark (codes "EOI")) (end_outcome m v s)
-end_gives NonAtomicMode [] s h = mark
+end_gives : (m : Mode) (v : Text) (s : State) → seen_from m ≡ true → IfSuccess (IsLone (codes "EOI")) (end_outcome m v s)
+end_gives NonAtomicMode [] s h = lone
 end_gives AtomicMode [] s h = cc
-end_gives CompoundAtomicMode [] s h = mark
-end_gives Between [] s h = mark
+end_gives CompoundAtomicMode [] s h = lone
+end_gives Between [] s h = lone
 end_gives m (c ∷ v) s h = tt
 
-eoi_gives : (classes : Classes) (m : Mode) (s : State) (o : Outcome) → seen_from m ≡ true → other_outcome classes m (codes "EOI") s ≡ Some o → IfSuccess (IsMark (codes "EOI")) o
+eoi_gives : (classes : Classes) (m : Mode) (s : State) (o : Outcome) → seen_from m ≡ true → other_outcome classes m (codes "EOI") s ≡ Some o → IfSuccess (IsLone (codes "EOI")) o
 eoi_gives classes NonAtomicMode s o h e = along _ _ o (rw eoi_builtin at e) (end_gives NonAtomicMode s.rest s refl)
 eoi_gives classes AtomicMode s o h e = cc
 eoi_gives classes CompoundAtomicMode s o h e = along _ _ o (rw eoi_builtin at e) (end_gives CompoundAtomicMode s.rest s refl)

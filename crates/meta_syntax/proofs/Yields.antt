@@ -8,7 +8,7 @@ use Rattle.meta_base.specs.declared.grammar.Rule.{Rule}
 use Rattle.meta_base.specs.declared.grammar.Rule.TheVariants as is
 use Rattle.meta_syntax.specs.MetaGrammar.{type_of_rule, body_of}
 use Rattle.meta_syntax.specs.Runs.{is_blank}
-use Rattle.meta_syntax.specs.Shape.{Mark, IsNumber, IsInteger, IsPrefix, IsInfix, IsModifier, IsQuoted, IsCounted, IsPostfix, IsSlice, IsTerminal, IsExpression, IsTerm, IsNode, IsRule, AreGrammarTrees}
+use Rattle.meta_syntax.specs.Shape.{Lone, IsNumber, IsInteger, IsPrefix, IsInfix, IsModifier, IsQuoted, IsCounted, IsPostfix, IsSlice, IsTerminal, IsExpression, IsTerm, IsNode, IsRule, AreGrammarTrees}
 use Rattle.meta_syntax.proofs.Naming.{rule_named}
 
 -- no trees; some and then others; any number
@@ -23,14 +23,14 @@ pub data Many (P : Trees → Type 0) : Trees → Type 0 where
   also : {us vs : Trees} → P us → Many P vs → Many P (joined us vs)
 
 -- one tree that holds none: of a rule, with places that are P, or of a rule that is P
-pub data IsMark (n : Text) : Trees → Type 0 where
-  mark : {i j : ℕ} → IsMark n (Mark n i j None')
+pub data IsLone (n : Text) : Trees → Type 0 where
+  lone : {i j : ℕ} → IsLone n (Lone n i j None')
 
 pub data IsPlaced (n : Text) (P : ℕ → ℕ → Type 0) : Trees → Type 0 where
-  placed : {i j : ℕ} → P i j → IsPlaced n P (Mark n i j None')
+  placed : {i j : ℕ} → P i j → IsPlaced n P (Lone n i j None')
 
-pub data IsMarkOf (P : Text → Type 0) : Trees → Type 0 where
-  mark_of : {r : Text} {i j : ℕ} → P r → IsMarkOf P (Mark r i j None')
+pub data IsLoneOf (P : Text → Type 0) : Trees → Type 0 where
+  lone_of : {r : Text} {i j : ℕ} → P r → IsLoneOf P (Lone r i j None')
 
 -- one tree that holds what is P: of a rule, or of any
 pub data IsTree (n : Text) (P : Trees → Type 0) : Trees → Type 0 where
@@ -52,14 +52,14 @@ module _ (text : List ℕ) where
   abbrev pub Holds : Rule → Trees → Type 0
   Holds is.grammar_rules us = AreGrammarTrees text us
   Holds is.grammar_rule us = IsTree (codes "grammar_rule") (IsRule text) us
-  Holds is.modifier us = IsMarkOf IsModifier us
-  Holds is.node_tag us = Both (IsMark (codes "tag_id")) (IsMark (codes "assignment_operator")) us
+  Holds is.modifier us = IsLoneOf IsModifier us
+  Holds is.node_tag us = Both (IsLone (codes "tag_id")) (IsLone (codes "assignment_operator")) us
   Holds is.expression us = IsTree (codes "expression") (IsExpression text) us
   Holds is.term us = IsTree (codes "term") (IsTerm text) us
-  Holds is.node us = Both (Both (IsMark (codes "opening_paren")) (IsTree (codes "expression") (IsExpression text))) (IsMark (codes "closing_paren")) us ⊎ IsTreeOf (IsNode text) us
+  Holds is.node us = Both (Both (IsLone (codes "opening_paren")) (IsTree (codes "expression") (IsExpression text))) (IsLone (codes "closing_paren")) us ⊎ IsTreeOf (IsNode text) us
   Holds is.terminal us = IsTreeOf (IsNode text) us
-  Holds is.prefix_operator us = IsMarkOf IsPrefix us
-  Holds is.infix_operator us = IsMarkOf IsInfix us
+  Holds is.prefix_operator us = IsLoneOf IsPrefix us
+  Holds is.infix_operator us = IsLoneOf IsInfix us
   Holds is.postfix_operator us = IsTreeOf (IsPostfix text) us
   Holds is.repeat_exact us = IsTree (codes "repeat_exact") (IsCounted text (codes "repeat_exact")) us
   Holds is.repeat_min us = IsTree (codes "repeat_min") (IsCounted text (codes "repeat_min")) us
@@ -74,8 +74,8 @@ module _ (text : List ℕ) where
   Holds is.insensitive_string us = IsTree (codes "insensitive_string") (IsTerminal text (codes "insensitive_string")) us
   Holds is.range us = IsTree (codes "range") (IsTerminal text (codes "range")) us
   Holds is.character us = IsTree (codes "character") IsQuoted us
-  Holds is.grammar_doc us = IsTree (codes "grammar_doc") (IsMark (codes "inner_doc")) us
-  Holds is.line_doc us = IsTree (codes "line_doc") (IsMark (codes "inner_doc")) us
+  Holds is.grammar_doc us = IsTree (codes "grammar_doc") (IsLone (codes "inner_doc")) us
+  Holds is.line_doc us = IsTree (codes "line_doc") (IsLone (codes "inner_doc")) us
   Holds is.WHITESPACE us = IsNone us
   Holds is.COMMENT us = IsNone us
   Holds is.space us = IsNone us
@@ -84,7 +84,7 @@ module _ (text : List ℕ) where
   Holds is.newline us = Unit {0}
   Holds is.line_comment us = Unit {0}
   Holds is.block_comment us = Unit {0}
-  Holds r us = IsMark (name_of r) us
+  Holds r us = IsLone (name_of r) us
 
   -- a name that is no rule's yields nothing at the start
   abbrev pub Named : Option Rule → Text → Trees → Type 0

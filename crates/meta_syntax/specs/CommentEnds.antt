@@ -18,7 +18,7 @@ pub record GoesOnTo (classes : Classes) (s : State) (o : Outcome) (furthest : �
   pub ends : Ran meta_grammar classes (Run AtomicMode (Str (codes "*/"))) last o furthest furthest
 
 -- here no comment begins that is closed, and none ends
-pub record IsPlain (text rest : List ℕ) : Type 0 where
+pub record HasNoComment (text rest : List ℕ) : Type 0 where
   pub no_start : (classes : Classes) (furthest : ℕ) → Ran meta_grammar classes
       (Run AtomicMode (rule block_comment)) (at text rest) Failure furthest furthest
   pub no_end : (classes : Classes) (furthest : ℕ) → Ran meta_grammar classes

@@ -32,9 +32,9 @@ with_names s ns = record { place = s.place; names = s.names ++ ns }
 -- with the name of a call that failed, where it counts and began at the place, instead of all names but the
 -- first ones
 abbrev pub telling : Bool → Text → ℕ → ℕ → Sought → Sought
-telling counts n mark position s =
+telling counts n saved position s =
     if counts && nat_eq position s.place
-    then record { place = s.place; names = take mark s.names ++ n ∷ [] }
+    then record { place = s.place; names = take saved s.names ++ n ∷ [] }
     else s
 
 -- the task k from s was found to have the outcome o, and what is expected in it was added

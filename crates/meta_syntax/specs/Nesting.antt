@@ -55,7 +55,7 @@ pub record FoundBefore (m : Mode) (whole : Expression) (text from : List ℕ) (e
   pub goes_on : followed (Some done) left ≡ whole
 
 -- a sequence was found up to here, these parts are left, and the question is about the whole of it
-pub record IsPartWay (text : List ℕ) (left : Form) (m : mode.Mode) (mark : ℕ) (es : List Entry) (p : ℕ)
+pub record IsPartWay (text : List ℕ) (left : Form) (m : mode.Mode) (saved : ℕ) (es : List Entry) (p : ℕ)
     (rest : List ℕ) (q : Question) : Type 0 where
   pub good : IsGood left
   pub spelled : IsSpelled left
@@ -64,7 +64,7 @@ pub record IsPartWay (text : List ℕ) (left : Form) (m : mode.Mode) (mark : ℕ
   pub whole : Expression
   pub task : q.task ≡ Run (mode_of m) whole
   pub found : FoundBefore (mode_of m) whole text q.rest q.entries q.furthest left rest es p
-  pub marked : mark ≡ length (named_entries q.entries)
+  pub marked : saved ≡ length (named_entries q.entries)
   pub shorter : length rest ≤ length q.rest
   pub begun : (length rest < length q.rest) ⊎ (null left ≡ true → q.empty ≡ true)
 
@@ -97,35 +97,35 @@ effort rest n = length rest * 1000 + n
 -- what is behind a part of a sequence: nothing, so that the answer is that of the whole; or further parts
 abbrev pub GoesOnBehind : List ℕ → Form → Option (Bor Form) → mode.Mode → ℕ → List ℕ → Question
     → List Entry → ℕ → Bor (List ℕ) → Type 0
-GoesOnBehind text part None m mark rest q es p after = IsAnswered text q es p (Some after)
-GoesOnBehind text part (Some others) m mark rest q es p after =
-    (s : Question) × IsPartWay text others.now m mark es p after.now s × Serves text s q
+GoesOnBehind text part None m saved rest q es p after = IsAnswered text q es p (Some after)
+GoesOnBehind text part (Some others) m saved rest q es p after =
+    (s : Question) × IsPartWay text others.now m saved es p after.now s × Serves text s q
     × (effort after.now (cost others.now) < effort rest (cost part))
 
 -- what an answer to the question `k` makes of what waits for it: an answer to the question `q`, or what is
 -- left to be done for one
 abbrev pub Follows : List ℕ → Wait → mode.Mode → ℕ → Bor (List ℕ) → Question → Question → Type 0
-Follows text (wait.Call rule kind) m mark rest k q = record {
+Follows text (wait.Call rule kind) m saved rest k q = record {
   here : IsLeft text rest.now;
   opened : (es : List Entry) (p : ℕ) (after : Bor (List ℕ)) → IsAnswered text k es p (Some after)
-      → gives_token (kind_of kind) (mode_of m) ≡ true → mark < length es;
+      → gives_token (kind_of kind) (mode_of m) ≡ true → saved < length es;
   found : (es fs : List Entry) (p : ℕ) (after : Bor (List ℕ)) → IsAnswered text k es p (Some after)
       → Closes (gives_token (kind_of kind) (mode_of m)) (name_of rule) (length text - length rest.now)
-      (length text - length after.now) mark es fs
+      (length text - length after.now) saved es fs
       → IsAnswered text q fs p (Some after);
   failed : (es fs : List Entry) (p z : ℕ) → IsAnswered text k es p None
-      → named_entries fs ≡ take mark (named_entries es)
+      → named_entries fs ≡ take saved (named_entries es)
       → z ≡ furthest_with (seen_from (mode_of m) && gives_token (kind_of kind) (mode_of m))
       (length text - length rest.now) p
       → IsAnswered text q fs z None × FailsWithin rule (mode_of m) text rest.now z;
 }
-Follows text (wait.Sequence part others) m mark rest k q = record {
+Follows text (wait.Sequence part others) m saved rest k q = record {
   found : (es : List Entry) (p : ℕ) (after : Bor (List ℕ)) → IsAnswered text k es p (Some after)
-      → GoesOnBehind text part.now others m mark rest.now q es p after;
+      → GoesOnBehind text part.now others m saved rest.now q es p after;
   failed : (es fs : List Entry) (p : ℕ) → IsAnswered text k es p None
-      → named_entries fs ≡ take mark (named_entries es) → IsAnswered text q fs p None;
+      → named_entries fs ≡ take saved (named_entries es) → IsAnswered text q fs p None;
 }
-Follows text (wait.Choice second) m mark rest k q = record {
+Follows text (wait.Choice second) m saved rest k q = record {
   here : IsLeft text rest.now;
   runnable : IsRunnable second.now;
   found : (es : List Entry) (p : ℕ) (after : Bor (List ℕ)) → IsAnswered text k es p (Some after)
@@ -133,23 +133,23 @@ Follows text (wait.Choice second) m mark rest k q = record {
   failed : (r : Recognizer) → IsAnswered text k r.entries.items r.furthest None
       → Serves text (question_of (Run (mode_of m) (expression_of second.now)) rest.now (null second.now) r) q;
 }
-Follows text (wait.FirstOf others) m mark rest k q = record {
+Follows text (wait.FirstOf others) m saved rest k q = record {
   here : IsLeft text rest.now;
   found : (es : List Entry) (p : ℕ) (after : Bor (List ℕ)) → IsAnswered text k es p (Some after)
       → IsAnswered text q es p (Some after);
   failed : (es : List Entry) (p : ℕ) → IsAnswered text k es p None
       → (s : Question) × IsTried text others.now m es p rest.now s × Serves text s q;
 }
-Follows text (wait.Repetition body) m mark rest k q = record {
+Follows text (wait.Repetition body) m saved rest k q = record {
   found : (es : List Entry) (p : ℕ) (after : Bor (List ℕ)) → IsAnswered text k es p (Some after)
       → (s : Question) × HasTurned text body.now m es p after.now s × Serves text s q
       × (length after.now < length rest.now);
   failed : (es fs : List Entry) (p : ℕ) → IsAnswered text k es p None
-      → named_entries fs ≡ take mark (named_entries es) → IsAnswered text q fs p (Some rest);
+      → named_entries fs ≡ take saved (named_entries es) → IsAnswered text q fs p (Some rest);
 }
 
 abbrev pub FrameFollows : List ℕ → Frame → Question → Question → Type 0
-FrameFollows text f k q = Follows text f.wait f.start.mode f.start.mark f.start.rest k q
+FrameFollows text f k q = Follows text f.wait f.start.mode f.start.saved f.start.rest k q
 
 -- the frames, the last of which waits for an answer to the question `k`, lead to one to the question `top`
 abbrev pub IsWaiting : List ℕ → List Frame → Question → Question → Type 0

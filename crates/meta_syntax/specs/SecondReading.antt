@@ -22,7 +22,8 @@ use Rattle.meta_syntax.specs.MetaGrammar.{meta_grammar}
 use Rattle.meta_syntax.specs.Nesting.{effort, steps}
 use Rattle.meta_syntax.specs.Runs.{GoesOn, GoesOnIfFound, IsLeft, at, mode_of}
 
--- what a reading is asked: a task, the text that is left, whether it may take nothing of it, and what is sought
+-- what a reading is asked: a task, the text that is left, whether it may take nothing of it, and what is
+-- sought
 pub record Question : Type 0 where
   pub task : Task
   pub rest : List ℕ
@@ -40,7 +41,8 @@ pub record IsAnswered (text : List ℕ) (q : Question) (now : Sought) (o : Optio
 
 -- whatever answers the one question answers the other
 abbrev pub Serves : List ℕ → Question → Question → Type 0
-Serves text k q = (now : Sought) (o : Option (Bor (List ℕ))) → IsAnswered text k now o → IsAnswered text q now o
+Serves text k q = (now : Sought) (o : Option (Bor (List ℕ)))
+    → IsAnswered text k now o → IsAnswered text q now o
 
 -- what was found of a sequence, and the form that is still to be run behind it
 pub record FoundSoFar (m : Mode) (whole : Expression) (text from : List ℕ) (p : Sought) (left : Form)
@@ -62,8 +64,8 @@ pub record IsPartWay (text : List ℕ) (left : Form) (m : mode.Mode) (now : Soug
   pub shorter : length rest ≤ length q.rest
   pub begun : (length rest < length q.rest) ⊎ (null left ≡ true → q.empty ≡ true)
 
--- a rule is called: its answer is that of the alternatives up to it, others are behind it, and the question is
--- about the whole choice
+-- a rule is called: its answer is that of the alternatives up to it, others are behind it, and the question
+-- is about the whole choice
 pub record IsTrying (text : List ℕ) (first : Rule) (others : List Rule) (m : mode.Mode) (now : Sought)
     (rest : List ℕ) (q : Question) : Type 0 where
   pub takes : all_take (first ∷ others) ≡ true
@@ -92,7 +94,8 @@ pub record HasTurned (text : List ℕ) (body : Form) (m : mode.Mode) (now : Soug
   pub empty : q.empty ≡ true
   pub trees : Trees
   pub goes_on : (classes : Classes) (t : State) (us : Trees) (z : Sought)
-      → Noted meta_grammar classes (Turns (mode_of m) (expression_of body)) (at text rest) (Success t us) now z
+      → Noted meta_grammar classes (Turns (mode_of m) (expression_of body)) (at text rest)
+      (Success t us) now z
       → Noted meta_grammar classes q.task (at text q.rest) (Success t (joined trees us)) q.sought z
 
 -- there was a first turn up to here: a repetition behind the skipping answers the question
@@ -128,15 +131,15 @@ GoesOnFound text (wait.Repetition body) s q now after =
 GoesOnFound text (wait.OnceOrMore body) s q now after =
     HasBegun text body.now s.mode now after.now q × (length after.now < length s.rest.now)
 GoesOnFound text wait.Negation s q now after =
-    (names : List Text) → names ≡ take s.mark now.names
+    (names : List Text) → names ≡ take s.saved now.names
     → IsAnswered text q (record { place = now.place; names = names }) None
 
 -- the same of a failure
 abbrev pub GoesOnFailed : List ℕ → Wait → Start → Question → Sought → Type 0
 GoesOnFailed text (wait.Call rule kind) s q now =
     (later : Sought)
-    → later ≡ telling (seen_from (mode_of s.mode) && gives_token (kind_of kind) (mode_of s.mode)) (name_of rule)
-    s.mark (length text - length s.rest.now) now
+    → later ≡ telling (seen_from (mode_of s.mode) && gives_token (kind_of kind) (mode_of s.mode))
+    (name_of rule) s.saved (length text - length s.rest.now) now
     → IsAnswered text q later None
 GoesOnFailed text (wait.Sequence part others) s q now = IsAnswered text q now None
 GoesOnFailed text (wait.Choice second) s q now =
@@ -153,7 +156,7 @@ GoesOnFailed text wait.Option s q now = IsAnswered text q now (Some s.rest)
 GoesOnFailed text (wait.Repetition body) s q now = IsAnswered text q now (Some s.rest)
 GoesOnFailed text (wait.OnceOrMore body) s q now = IsAnswered text q now None
 GoesOnFailed text wait.Negation s q now =
-    (names : List Text) → names ≡ take s.mark now.names
+    (names : List Text) → names ≡ take s.saved now.names
     → IsAnswered text q (record { place = now.place; names = names }) (Some s.rest)
 
 -- what an answer to the question `k` makes of what waits for it

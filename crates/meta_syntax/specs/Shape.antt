@@ -6,15 +6,15 @@ use Rattle.meta_base.specs.Language.Text.{Text}
 use Rattle.meta_base.specs.Language.State.{Trees, None', Tree}
 
 -- a tree that holds none, before others
-abbrev pub Mark : Text → ℕ → ℕ → Trees → Trees
-Mark r mark_at mark_to us = Tree r mark_at mark_to None' us
+abbrev pub Lone : Text → ℕ → ℕ → Trees → Trees
+Lone r lone_at lone_to us = Tree r lone_at lone_to None' us
 
 -- a rule's body, behind its modifier
 abbrev pub Braced : ℕ → ℕ → ℕ → ℕ → ℕ → ℕ → Trees → Trees
 Braced open_at open_to body_at body_to close_at close_to body =
-    Mark (codes "opening_brace") open_at open_to
+    Lone (codes "opening_brace") open_at open_to
     (Tree (codes "expression") body_at body_to body
-    (Mark (codes "closing_brace") close_at close_to None'))
+    (Lone (codes "closing_brace") close_at close_to None'))
 
 -- the signs of predicates
 pub data IsPrefix : Text → Type 0 where
@@ -47,37 +47,37 @@ IsInteger text number_at number_to =
 -- a literal's trees: a quote, what is quoted, a quote
 pub data IsQuoted : Trees → Type 0 where
   in_quotes : {open_at open_to inner_at inner_to close_at close_to : ℕ}
-      → IsQuoted (Mark (codes "quote") open_at open_to
-      (Mark (codes "inner_str") inner_at inner_to (Mark (codes "quote") close_at close_to None')))
+      → IsQuoted (Lone (codes "quote") open_at open_to
+      (Lone (codes "inner_str") inner_at inner_to (Lone (codes "quote") close_at close_to None')))
   in_single_quotes : {open_at open_to inner_at inner_to close_at close_to : ℕ}
-      → IsQuoted (Mark (codes "single_quote") open_at open_to
-      (Mark (codes "inner_chr") inner_at inner_to (Mark (codes "single_quote") close_at close_to None')))
+      → IsQuoted (Lone (codes "single_quote") open_at open_to
+      (Lone (codes "inner_chr") inner_at inner_to (Lone (codes "single_quote") close_at close_to None')))
 
 module _ (text : List ℕ) where
   -- an operator that counts, and what it holds
   pub data IsCounted : Text → Trees → Type 0 where
     exact : {open_at open_to number_at number_to close_at close_to : ℕ} → IsNumber text number_at number_to
         → IsCounted (codes "repeat_exact")
-        (Mark (codes "opening_brace") open_at open_to
-        (Mark (codes "number") number_at number_to (Mark (codes "closing_brace") close_at close_to None')))
+        (Lone (codes "opening_brace") open_at open_to
+        (Lone (codes "number") number_at number_to (Lone (codes "closing_brace") close_at close_to None')))
     min : {open_at open_to least_at least_to comma_at comma_to close_at close_to : ℕ}
         → IsNumber text least_at least_to
         → IsCounted (codes "repeat_min")
-        (Mark (codes "opening_brace") open_at open_to
-        (Mark (codes "number") least_at least_to
-        (Mark (codes "comma") comma_at comma_to (Mark (codes "closing_brace") close_at close_to None'))))
+        (Lone (codes "opening_brace") open_at open_to
+        (Lone (codes "number") least_at least_to
+        (Lone (codes "comma") comma_at comma_to (Lone (codes "closing_brace") close_at close_to None'))))
     max : {open_at open_to most_at most_to comma_at comma_to close_at close_to : ℕ}
         → IsNumber text most_at most_to
         → IsCounted (codes "repeat_max")
-        (Mark (codes "opening_brace") open_at open_to
-        (Mark (codes "comma") comma_at comma_to
-        (Mark (codes "number") most_at most_to (Mark (codes "closing_brace") close_at close_to None'))))
+        (Lone (codes "opening_brace") open_at open_to
+        (Lone (codes "comma") comma_at comma_to
+        (Lone (codes "number") most_at most_to (Lone (codes "closing_brace") close_at close_to None'))))
     min_max : {open_at open_to least_at least_to comma_at comma_to most_at most_to close_at close_to : ℕ}
         → IsNumber text least_at least_to → IsNumber text most_at most_to
         → IsCounted (codes "repeat_min_max")
-        (Mark (codes "opening_brace") open_at open_to
-        (Mark (codes "number") least_at least_to (Mark (codes "comma") comma_at comma_to
-        (Mark (codes "number") most_at most_to (Mark (codes "closing_brace") close_at close_to None')))))
+        (Lone (codes "opening_brace") open_at open_to
+        (Lone (codes "number") least_at least_to (Lone (codes "comma") comma_at comma_to
+        (Lone (codes "number") most_at most_to (Lone (codes "closing_brace") close_at close_to None')))))
 
   -- a postfix operator, and what it holds
   pub data IsPostfix : Text → Trees → Type 0 where
@@ -95,30 +95,30 @@ module _ (text : List ℕ) where
   -- where a number of a slice may stand: it does, or the dots or the closing bracket follow at once
   pub data MayBeNumber : Trees → Type 0 where
     a_number : {number_at number_to : ℕ} {us : Trees} → IsInteger text number_at number_to
-        → MayBeNumber (Mark (codes "integer") number_at number_to us)
+        → MayBeNumber (Lone (codes "integer") number_at number_to us)
     the_dots : {dots_at dots_to : ℕ} {us : Trees}
-        → MayBeNumber (Mark (codes "range_operator") dots_at dots_to us)
-    the_end : {close_at close_to : ℕ} → MayBeNumber (Mark (codes "closing_brack") close_at close_to None')
+        → MayBeNumber (Lone (codes "range_operator") dots_at dots_to us)
+    the_end : {close_at close_to : ℕ} → MayBeNumber (Lone (codes "closing_brack") close_at close_to None')
 
   -- the trees of a slice behind its dots
   pub data IsSliceEnd : Trees → Type 0 where
-    open_end : {close_at close_to : ℕ} → IsSliceEnd (Mark (codes "closing_brack") close_at close_to None')
+    open_end : {close_at close_to : ℕ} → IsSliceEnd (Lone (codes "closing_brack") close_at close_to None')
     up_to : {number_at number_to close_at close_to : ℕ} → IsInteger text number_at number_to
-        → IsSliceEnd (Mark (codes "integer") number_at number_to
-        (Mark (codes "closing_brack") close_at close_to None'))
+        → IsSliceEnd (Lone (codes "integer") number_at number_to
+        (Lone (codes "closing_brack") close_at close_to None'))
 
   -- the trees of a slice behind its opening bracket
   pub data IsSliceStart : Trees → Type 0 where
     open_start : {dots_at dots_to : ℕ} {us : Trees} → IsSliceEnd us
-        → IsSliceStart (Mark (codes "range_operator") dots_at dots_to us)
+        → IsSliceStart (Lone (codes "range_operator") dots_at dots_to us)
     from : {number_at number_to dots_at dots_to : ℕ} {us : Trees} → IsInteger text number_at number_to
-        → IsSliceEnd us → IsSliceStart (Mark (codes "integer") number_at number_to
-        (Mark (codes "range_operator") dots_at dots_to us))
+        → IsSliceEnd us → IsSliceStart (Lone (codes "integer") number_at number_to
+        (Lone (codes "range_operator") dots_at dots_to us))
 
   -- all trees of a slice
   pub data IsSlice : Trees → Type 0 where
     in_brackets : {open_at open_to : ℕ} {us : Trees} → IsSliceStart us
-        → IsSlice (Mark (codes "opening_brack") open_at open_to us)
+        → IsSlice (Lone (codes "opening_brack") open_at open_to us)
 
   -- a tree that holds no expression, and what it holds
   pub data IsTerminal : Text → Trees → Type 0 where
@@ -129,44 +129,44 @@ module _ (text : List ℕ) where
     range : {low_at low_to dots_at dots_to high_at high_to : ℕ} {low high : Trees}
         → IsQuoted low → IsQuoted high
         → IsTerminal (codes "range") (Tree (codes "character") low_at low_to low
-        (Mark (codes "range_operator") dots_at dots_to
+        (Lone (codes "range_operator") dots_at dots_to
         (Tree (codes "character") high_at high_to high None')))
     slice : {us : Trees} → IsSlice us → IsTerminal (codes "peek_slice") us
     push_literal : {open_at open_to string_at string_to close_at close_to : ℕ} {us : Trees} → IsQuoted us
-        → IsTerminal (codes "_push_literal") (Mark (codes "opening_paren") open_at open_to
+        → IsTerminal (codes "_push_literal") (Lone (codes "opening_paren") open_at open_to
         (Tree (codes "string") string_at string_to us
-        (Mark (codes "closing_paren") close_at close_to None')))
+        (Lone (codes "closing_paren") close_at close_to None')))
 
   mutual
-    -- a chain, and a bar before it that says nothing
+    -- terms, and a bar before them that says nothing
     pub data IsExpression : Trees → Type 0 where
-      barred : {bar_at bar_to : ℕ} {us : Trees} → IsChain us
-          → IsExpression (Mark (codes "choice_operator") bar_at bar_to us)
-      unbarred : {us : Trees} → IsChain us → IsExpression us
+      barred : {bar_at bar_to : ℕ} {us : Trees} → AreTerms us
+          → IsExpression (Lone (codes "choice_operator") bar_at bar_to us)
+      unbarred : {us : Trees} → AreTerms us → IsExpression us
 
     -- a term, and more behind it
-    pub data IsChain : Trees → Type 0 where
-      chain : {term_at term_to : ℕ} {inner us : Trees} → IsTerm inner → IsMore us
-          → IsChain (Tree (codes "term") term_at term_to inner us)
+    pub data AreTerms : Trees → Type 0 where
+      terms : {term_at term_to : ℕ} {inner us : Trees} → IsTerm inner → IsMore us
+          → AreTerms (Tree (codes "term") term_at term_to inner us)
 
-    -- nothing, or an operator and a chain
+    -- nothing, or an operator and terms
     pub data IsMore : Trees → Type 0 where
       no_more : IsMore None'
-      infix_operator : {r : Text} {infix_at infix_to : ℕ} {us : Trees} → IsInfix r → IsChain us
-          → IsMore (Mark r infix_at infix_to us)
+      infix_operator : {r : Text} {infix_at infix_to : ℕ} {us : Trees} → IsInfix r → AreTerms us
+          → IsMore (Lone r infix_at infix_to us)
 
     -- a tag, predicates, a node or an expression in parentheses, and postfix operators
     pub data IsTerm : Trees → Type 0 where
       tagged : {tag_at tag_to equals_at equals_to : ℕ} {us : Trees} → IsTerm us
-          → IsTerm (Mark (codes "tag_id") tag_at tag_to
-          (Mark (codes "assignment_operator") equals_at equals_to us))
+          → IsTerm (Lone (codes "tag_id") tag_at tag_to
+          (Lone (codes "assignment_operator") equals_at equals_to us))
       predicate : {r : Text} {sign_at sign_to : ℕ} {us : Trees} → IsPrefix r → IsTerm us
-          → IsTerm (Mark r sign_at sign_to us)
+          → IsTerm (Lone r sign_at sign_to us)
       grouped : {open_at open_to body_at body_to close_at close_to : ℕ} {inner us : Trees}
           → IsExpression inner → ArePostfixes us
-          → IsTerm (Mark (codes "opening_paren") open_at open_to
+          → IsTerm (Lone (codes "opening_paren") open_at open_to
           (Tree (codes "expression") body_at body_to inner
-          (Mark (codes "closing_paren") close_at close_to us)))
+          (Lone (codes "closing_paren") close_at close_to us)))
       bare : {r : Text} {node_at node_to : ℕ} {inner us : Trees} → IsNode r inner → ArePostfixes us
           → IsTerm (Tree r node_at node_to inner us)
 
@@ -174,32 +174,32 @@ module _ (text : List ℕ) where
     pub data IsNode : Text → Trees → Type 0 where
       terminal : {r : Text} {us : Trees} → IsTerminal r us → IsNode r us
       pushed : {open_at open_to body_at body_to close_at close_to : ℕ} {inner : Trees} → IsExpression inner
-          → IsNode (codes "_push") (Mark (codes "opening_paren") open_at open_to
+          → IsNode (codes "_push") (Lone (codes "opening_paren") open_at open_to
           (Tree (codes "expression") body_at body_to inner
-          (Mark (codes "closing_paren") close_at close_to None')))
+          (Lone (codes "closing_paren") close_at close_to None')))
 
   -- a rule's trees
   pub data IsRule : Trees → Type 0 where
     line_doc : {doc_at doc_to inner_at inner_to : ℕ}
         → IsRule (Tree (codes "line_doc") doc_at doc_to
-        (Mark (codes "inner_doc") inner_at inner_to None') None')
+        (Lone (codes "inner_doc") inner_at inner_to None') None')
     normal : {name_at name_to equals_at equals_to open_at open_to body_at body_to close_at close_to : ℕ}
         {body : Trees} → IsExpression body
-        → IsRule (Mark (codes "identifier") name_at name_to
-        (Mark (codes "assignment_operator") equals_at equals_to
+        → IsRule (Lone (codes "identifier") name_at name_to
+        (Lone (codes "assignment_operator") equals_at equals_to
         (Braced open_at open_to body_at body_to close_at close_to body)))
     modified : {name_at name_to equals_at equals_to open_at open_to body_at body_to close_at close_to : ℕ}
         {modifier_at modifier_to : ℕ} {r : Text} {body : Trees} → IsModifier r → IsExpression body
-        → IsRule (Mark (codes "identifier") name_at name_to
-        (Mark (codes "assignment_operator") equals_at equals_to
-        (Mark r modifier_at modifier_to
+        → IsRule (Lone (codes "identifier") name_at name_to
+        (Lone (codes "assignment_operator") equals_at equals_to
+        (Lone r modifier_at modifier_to
         (Braced open_at open_to body_at body_to close_at close_to body))))
 
   -- the trees of a whole text
   pub data AreGrammarTrees : Trees → Type 0 where
-    end_of_input : {end_at end_to : ℕ} → AreGrammarTrees (Mark (codes "EOI") end_at end_to None')
+    end_of_input : {end_at end_to : ℕ} → AreGrammarTrees (Lone (codes "EOI") end_at end_to None')
     grammar_doc : {doc_at doc_to inner_at inner_to : ℕ} {us : Trees} → AreGrammarTrees us
         → AreGrammarTrees (Tree (codes "grammar_doc") doc_at doc_to
-        (Mark (codes "inner_doc") inner_at inner_to None') us)
+        (Lone (codes "inner_doc") inner_at inner_to None') us)
     grammar_rule : {rule_at rule_to : ℕ} {inner us : Trees} → IsRule inner → AreGrammarTrees us
         → AreGrammarTrees (Tree (codes "grammar_rule") rule_at rule_to inner us)

@@ -2,7 +2,7 @@
 //! those of the comment around it: as in `/* /*/`, where the second opening closes the first one.
 ghost use Rattle.std.specs.Prelude.{◌≡◌, ℕ, ◌<◌, ◌≤◌, [], IfSome, IsUtf8, List, None, OnOk, length, false, slice_index_or};
 ghost use Rattle.meta_base.specs.Language.State.{Classes, None', Success};
-ghost use Rattle.meta_syntax.specs.CommentEnds.{AreAllEnds, AreEnds, GoesOnTo, IsEnd, IsPlain, left_of};
+ghost use Rattle.meta_syntax.specs.CommentEnds.{AreAllEnds, AreEnds, GoesOnTo, IsEnd, HasNoComment, left_of};
 ghost use Rattle.meta_syntax.specs.Runs.{IsLeft, GoesOnIfFound, at, leaving};
 
 use crate::leaves::{any, literal};
@@ -48,9 +48,9 @@ fn known_end(ends: &[Option<usize>], left: usize) -> Option<usize>
 }
 
 /// Where a comment ends whose text goes on with a character in which no comment begins that is closed.
-fn plain_end(text: &str, rest: &str, ends: &[Option<usize>]) -> Option<usize>
+fn end_outside(text: &str, rest: &str, ends: &[Option<usize>]) -> Option<usize>
     requires left { IsLeft text.now rest.now }
-    requires plain { IsPlain text.now rest.now }
+    requires outside { HasNoComment text.now rest.now }
     requires known { AreEnds text.now ends.now }
     requires all { length ends.now ≡ length rest.now }
     ensures { IsEnd text.now (length rest.now) result }
@@ -75,9 +75,9 @@ fn end_from(text: &str, rest: &str, ends: &[Option<usize>]) -> Option<usize>
     match literal("/*", rest) {
         Some(inside) => match known_end(ends, inside.len()) {
             Some(left) => known_end(ends, left),
-            None => plain_end(text, rest, ends),
+            None => end_outside(text, rest, ends),
         },
-        None => plain_end(text, rest, ends),
+        None => end_outside(text, rest, ends),
     }
 }
 

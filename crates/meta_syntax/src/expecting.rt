@@ -1,6 +1,6 @@
 //! What is expected at a place: a second reading of a text, for which the place is known. It walks the table
-//! plainly, with a list of what waits for an answer, so that no text takes the machine's stack; and it leaves to
-//! the recognizer what tells no name: the skipping, and rules within which no call is told.
+//! plainly, with a list of what waits for an answer, so that no text takes the machine's stack; and it leaves
+//! to the recognizer what tells no name: the skipping, and rules within which no call is told.
 ghost use Rattle.std.specs.Prelude.{◌≡◌, ◌+◌, ◌<◌, ◌≤◌, ◌∷◌, ◌++◌, ◌&&◌, ℕ, List, filter, IfOk, OnOk, Some, [], length, true, codes};
 ghost use Rattle.meta_base.specs.Language.Expression.{Ident};
 ghost use Rattle.meta_base.specs.Language.Meaning.{Run, Skipping};
@@ -49,7 +49,7 @@ pub enum Wait {
 pub struct Start<'i> {
     pub mode: Mode,
     /// How many rules were told.
-    pub mark: usize,
+    pub saved: usize,
     /// What was left of the text; of a repetition, behind its last turn.
     pub rest: &'i str,
 }
@@ -209,15 +209,15 @@ impl Expecting {
         &mut self,
         counts: bool,
         rule: Rule,
-        mark: usize,
+        saved: usize,
         position: usize,
     ) -> Result<(), AllocError>
         ensures truly { (text : List ℕ) → IsTruly text self.old → OnOk result (IsTruly text self.new) }
         ensures told { OnOk result
-            (sought_of self.new ≡ telling counts (name_of rule) mark position (sought_of self.old)) }
+            (sought_of self.new ≡ telling counts (name_of rule) saved position (sought_of self.old)) }
     {
         if counts && position == self.place {
-            self.told.truncate(mark);
+            self.told.truncate(saved);
             self.told.push(rule)?;
         }
         Ok(())
@@ -247,8 +247,13 @@ impl Expecting {
         match answer {
             Some(after) => Ok(Some(after)),
             None => {
-                let mark = self.count();
-                self.tell(call_counts(kind, mode), rule, mark, text.len() - rest.len())?;
+                let saved = self.count();
+                self.tell(
+                    call_counts(kind, mode),
+                    rule,
+                    saved,
+                    text.len() - rest.len(),
+                )?;
                 Ok(None)
             }
         }
@@ -269,8 +274,13 @@ impl Expecting {
             text.now rest.entry.now self.old self.new) }
     {
         if !rest.is_empty() {
-            let mark = self.count();
-            self.tell(is_seen_from(mode), Rule::EOI, mark, text.len() - rest.len())?;
+            let saved = self.count();
+            self.tell(
+                is_seen_from(mode),
+                Rule::EOI,
+                saved,
+                text.len() - rest.len(),
+            )?;
             return Ok(None);
         }
         Ok(Some(rest))
@@ -289,8 +299,8 @@ impl Expecting {
         Ok(after)
     }
 
-    /// What a rule, or `EOI`, matches. No text takes the machine's stack for it: what waits for an answer lies on a
-    /// list.
+    /// What a rule, or `EOI`, matches. No text takes the machine's stack for it: what waits for an answer
+    /// lies on a list.
     pub fn call<'i>(
         &mut self,
         text: &str,
@@ -337,8 +347,8 @@ impl Expecting {
             top → work_aside frames.old.items + steps (effort rest.entry.now (cost form.now)) ≤ work
             → IfOk result (λ step. IsNext text.now frames.new.items self.new step top work) }
     {
-        let mark = self.count();
-        let start = Start { mode, mark, rest };
+        let saved = self.count();
+        let start = Start { mode, saved, rest };
         match form {
             Form::Str(literally) => Ok(Step::Answer(literal(literally, rest))),
             Form::Range(low, high) => Ok(Step::Answer(character(*low, *high, rest))),
@@ -394,8 +404,8 @@ impl Expecting {
             let answer = self.settled(text, rule, row.kind, mode, rest)?;
             return Ok(Step::Answer(answer));
         }
-        let mark = self.count();
-        let start = Start { mode, mark, rest };
+        let saved = self.count();
+        let start = Start { mode, saved, rest };
         let wait = Wait::Call(rule, row.kind);
         frames.push(Frame { wait, start })?;
         Ok(Step::Begin(row.body, body_mode(rule, row.kind, mode), rest))
@@ -474,7 +484,7 @@ impl Expecting {
             Wait::Repetition(body) => self.turn(text, frames, body, frame.start.mode, after),
             Wait::OnceOrMore(body) => self.more(text, frames, body, frame.start.mode, after),
             Wait::Negation => {
-                self.told.truncate(frame.start.mark);
+                self.told.truncate(frame.start.saved);
                 Ok(Step::Answer(None))
             }
         }
@@ -498,7 +508,7 @@ impl Expecting {
         match frame.wait {
             Wait::Call(rule, kind) => {
                 let position = text.len() - start.rest.len();
-                self.tell(call_counts(kind, start.mode), rule, start.mark, position)?;
+                self.tell(call_counts(kind, start.mode), rule, start.saved, position)?;
                 Ok(Step::Answer(None))
             }
             Wait::Sequence(_, _) => Ok(Step::Answer(None)),
@@ -511,7 +521,7 @@ impl Expecting {
             Wait::Option => Ok(Step::Answer(Some(start.rest))),
             Wait::Repetition(_) => Ok(Step::Answer(Some(start.rest))),
             Wait::Negation => {
-                self.told.truncate(start.mark);
+                self.told.truncate(start.saved);
                 Ok(Step::Answer(Some(start.rest)))
             }
         }
@@ -538,9 +548,9 @@ impl Expecting {
         let Some(others) = parts.others else {
             return Ok(Step::Begin(parts.first, mode, next));
         };
-        let mark = self.count();
+        let saved = self.count();
         let rest = next;
-        let start = Start { mode, mark, rest };
+        let start = Start { mode, saved, rest };
         begin_part(
             frames,
             Wait::Sequence(parts.first, others),
@@ -566,9 +576,9 @@ impl Expecting {
             → IfOk result (λ step. IsNext text.now frames.new.items self.new step top work) }
     {
         let next = self.skip(text, mode, after)?;
-        let mark = self.count();
+        let saved = self.count();
         let rest = after;
-        let start = Start { mode, mark, rest };
+        let start = Start { mode, saved, rest };
         let wait = Wait::Repetition(body);
         frames.push(Frame { wait, start })?;
         Ok(Step::Begin(body, mode, next))
@@ -591,9 +601,9 @@ impl Expecting {
             → IfOk result (λ step. IsNext text.now frames.new.items self.new step top work) }
     {
         let next = self.skip(text, mode, after)?;
-        let mark = self.count();
+        let saved = self.count();
         let rest = next;
-        let start = Start { mode, mark, rest };
+        let start = Start { mode, saved, rest };
         begin_part(frames, Wait::Repetition(body), start, body)
     }
 }

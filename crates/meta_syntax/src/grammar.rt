@@ -35,10 +35,8 @@ impl PestParser {
         ensures spelled { MatchResult result (AreSpelled rule) (ParseRefuses rule text.entry.now) }
     {
         let entries = PestParser::tokens(alloc, rule, text)?;
-        match from_entries(alloc, &entries) {
-            Ok(trees) => Ok(Pairs::new(text, trees)),
-            Err(refused) => Err(Fault::Memory(refused)),
-        }
+        let trees = from_entries(alloc, &entries)?;
+        Ok(Pairs::new(text, trees))
     }
 
     /// The trees that the text spells for a rule as one flat list: an entry where each tree starts
@@ -50,11 +48,10 @@ impl PestParser {
         ensures whole { IfOk result (λ v. IsWhole 0 (named_entries v.items)) }
     {
         let mut recognizer = Recognizer::new(alloc);
-        match recognizer.recognize(alloc, text, rule, Mode::NonAtomic) {
-            Ok(Some(_)) => Ok(recognizer.into_entries()),
-            Ok(None) => Err(syntax_error(alloc, text, recognizer.furthest)),
-            Err(error) => Err(Fault::Memory(error)),
-        }
+        let Some(_) = recognizer.recognize(alloc, text, rule, Mode::NonAtomic)? else {
+            return Err(syntax_error(alloc, text, recognizer.furthest));
+        };
+        Ok(recognizer.into_entries())
     }
 
     /// What would have let the text get further: the rules that are expected at the place of the error that
@@ -64,8 +61,8 @@ impl PestParser {
     /// mode other than Atomic and not below a `!`, and is within no other such call. The list is empty where
     /// `parse` gives pairs, and where all that failed at that place stood below a `!`.
     ///
-    /// It reads a text that fails twice, and one that doesn't once: ask it where `parse` refused the text. The
-    /// only error is a want of memory.
+    /// It reads a text that fails twice, and one that doesn't once: ask it where `parse` refused the text.
+    /// The only error is a want of memory.
     pub fn expected(alloc: Global, rule: Rule, text: &str) -> Result<Vec<Rule>, AllocError>
         ensures nothing { IfOk result (λ rules. ExpectsNothing rule text.now rules.items) }
         ensures expected { IfOk result (λ rules. AreExpected rule text.now rules.items) }
@@ -98,8 +95,5 @@ fn syntax_errors(alloc: Global, text: &str, place: usize) -> Result<Vec<Error<Ru
 {
     let position = Position::new(text, place).unwrap();
     let error = Error::new_from_pos(alloc, ErrorVariant::ParsingError, position)?;
-    match vec![in alloc; error] {
-        Ok(errors) => Ok(errors),
-        Err(refused) => Err(Fault::Memory(refused.into())),
-    }
+    Ok(vec![in alloc; error]?)
 }

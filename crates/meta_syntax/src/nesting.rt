@@ -1,11 +1,12 @@
-//! What nests too deep for calls in calls is recognized with a list of what waits: so no text takes the machine's
-//! stack.
+//! What nests too deep for calls in calls is recognized with a list of what waits: so no text takes the
+//! machine's stack.
 //!
-//! A text is read by the functions of `recognize` first, which allow some hundred levels of nesting. Where it nests
-//! deeper, it is read once more, in frames: a few rules of the meta-grammar reach themselves, an expression in
-//! parentheses, and a comment where it is asked for by itself. What lies between two such calls goes over the list,
-//! frame by frame; all else is left to the functions of `recognize`, and there the table bounds the depth. Which
-//! forms go over the list is a matter of the stack alone: either way they match the same.
+//! A text is read by the functions of `recognize` first, which allow some hundred levels of nesting. Where it
+//! nests deeper, it is read once more, in frames: a few rules of the meta-grammar reach themselves, an
+//! expression in parentheses, and a comment where it is asked for by itself. What lies between two such calls
+//! goes over the list, frame by frame; all else is left to the functions of `recognize`, and there the table
+//! bounds the depth. Which forms go over the list is a matter of the stack alone: either way they match the
+//! same.
 ghost use Rattle.std.specs.Prelude.{◌≡◌, ◌+◌, ◌<◌, ◌≤◌, ◌∷◌, ◌&&◌, ℕ, [], IfOk, IfSome, OnOk, Some, false, if◌then◌else◌, length, true};
 ghost use Rattle.meta_base.specs.Language.Expression.{Ident};
 ghost use Rattle.meta_base.specs.Language.Meaning.{Run};
@@ -45,7 +46,7 @@ pub enum Wait {
 pub struct Start<'i> {
     pub mode: Mode,
     /// How many entries there were.
-    pub mark: usize,
+    pub saved: usize,
     /// What was left of the text; of a repetition, behind its last turn.
     pub rest: &'i str,
 }
@@ -133,9 +134,9 @@ fn nesting_among(rules: &[Rule], rest: &str) -> Option<usize>
 }
 
 impl Recognizer {
-    /// What a rule matches at the start of a text, for a recognizer that has read nothing yet. Calls in calls do for
-    /// most texts, and are the faster way; where a text nests too deep for them, it is read once more, with a list
-    /// of what waits: so no text takes the machine's stack.
+    /// What a rule matches at the start of a text, for a recognizer that has read nothing yet. Calls in calls
+    /// do for most texts, and are the faster way; where a text nests too deep for them, it is read once more,
+    /// with a list of what waits: so no text takes the machine's stack.
     pub fn recognize<'i>(
         &mut self,
         alloc: Global,
@@ -219,8 +220,8 @@ impl Recognizer {
             top → work_aside frames.old.items + steps (effort rest.entry.now (cost form.now)) ≤ work
             → IfOk result (λ step. IsNext text.now frames.new.items self.new step top work) }
     {
-        let mark = count_of_entries(&self.entries);
-        let start = Start { mode, mark, rest };
+        let saved = count_of_entries(&self.entries);
+        let start = Start { mode, saved, rest };
         match form {
             Form::Call(rule) => {
                 if nests(*rule, rest) {
@@ -281,10 +282,10 @@ impl Recognizer {
             return Ok(Step::Answer(None));
         }
         let place = text.len() - rest.len();
-        let mark = count_of_entries(&self.entries);
+        let saved = count_of_entries(&self.entries);
         open(&mut self.entries, gives_token(row.kind, mode), rule, place)?;
         let wait = Wait::Call(rule, row.kind);
-        let start = Start { mode, mark, rest };
+        let start = Start { mode, saved, rest };
         frames.push(Frame { wait, start })?;
         Ok(Step::Begin(row.body, body_mode(rule, row.kind, mode), rest))
     }
@@ -302,10 +303,11 @@ impl Recognizer {
         requires first { IsRunnable first.now }
         requires others { IsRunnable others.now }
         requires below { cost others.now < 1000 }
-        requires marked { start.mark ≡ length (named_entries self.old.entries.items) }
+        requires marked { start.saved ≡ length (named_entries self.old.entries.items) }
         requires ready { IsReady text.now start.rest.now self.old }
         ensures next { (top : Question) (n work : ℕ) → IsAsked text.now frames.old.items
-            (question_of (Run (mode_of start.entry.mode) (followed (Some (expression_of first.now)) others.now))
+            (question_of (Run (mode_of start.entry.mode)
+            (followed (Some (expression_of first.now)) others.now))
             start.entry.rest.now (null first.now && null others.now) self.old) top
             → effort start.entry.rest.now (if null first.now then cost others.now else 0) < n
             → work_aside frames.old.items + steps n ≤ work
@@ -338,7 +340,7 @@ impl Recognizer {
         requires spelled { IsSpelled others.now }
         requires below { cost others.now < 1000 }
         ensures next { (k top : Question) (n work : ℕ)
-            → IsPartWay text.now others.now start.entry.mode start.entry.mark self.old.entries.items
+            → IsPartWay text.now others.now start.entry.mode start.entry.saved self.old.entries.items
             self.old.furthest start.entry.rest.now k
             → IsAsked text.now frames.old.items k top
             → effort start.entry.rest.now (cost others.now) < n
@@ -360,7 +362,7 @@ impl Recognizer {
                 return Ok(Step::Begin(parts.first, start.mode, next));
             }
             let Some(after) = self.run(text, parts.first, start.mode, next)? else {
-                cut(&mut self.entries, start.mark);
+                cut(&mut self.entries, start.saved);
                 return Ok(Step::Answer(None));
             };
             let Some(behind) = parts.others else {
@@ -464,7 +466,7 @@ impl Recognizer {
                     None => Ok(Step::Answer(answer)),
                 },
                 None => {
-                    cut(&mut self.entries, start.mark);
+                    cut(&mut self.entries, start.saved);
                     Ok(Step::Answer(None))
                 }
             },
@@ -482,7 +484,7 @@ impl Recognizer {
             Wait::Repetition(body) => match answer {
                 Some(after) => self.turn(text, frames, body, start.mode, after),
                 None => {
-                    cut(&mut self.entries, start.mark);
+                    cut(&mut self.entries, start.saved);
                     Ok(Step::Answer(Some(start.rest)))
                 }
             },
@@ -501,25 +503,25 @@ impl Recognizer {
     ) -> Result<Option<&'i str>, AllocError>
         requires remembers { RemembersTruly text.now self.old }
         requires follows { (k : Question) × (q : Question)
-            × Follows text.now (Wait.Call rule kind) start.mode start.mark start.rest k q
+            × Follows text.now (Wait.Call rule kind) start.mode start.saved start.rest k q
             × IsAnswered text.now k self.old.entries.items self.old.furthest answer }
         ensures remembers { OnOk result (RemembersTruly text.now self.new) }
         ensures answered { (k q : Question)
-            → Follows text.now (Wait.Call rule kind) start.entry.mode start.entry.mark start.entry.rest k q
+            → Follows text.now (Wait.Call rule kind) start.entry.mode start.entry.saved start.entry.rest k q
             → IsAnswered text.now k self.old.entries.items self.old.furthest answer.entry
             → IfOk result (IsAnswered text.now q self.new.entries.items self.new.furthest) }
     {
-        let Start { mode, mark, rest } = start;
+        let Start { mode, saved, rest } = start;
         let place = text.len() - rest.len();
         match answer {
             Some(after) => {
                 let gives = gives_token(kind, mode);
                 let end = text.len() - after.len();
-                close(&mut self.entries, gives, rule, mark, place, end)?;
+                close(&mut self.entries, gives, rule, saved, place, end)?;
                 Ok(Some(after))
             }
             None => {
-                cut(&mut self.entries, mark);
+                cut(&mut self.entries, saved);
                 self.furthest = furthest_with(call_counts(kind, mode), place, self.furthest);
                 self.remember(rule, mode, rest)?;
                 Ok(None)
@@ -544,12 +546,12 @@ impl Recognizer {
             → work_aside frames.old.items + steps n ≤ work
             → IfOk result (λ step. IsNext text.now frames.new.items self.new step top work) }
     {
-        let mark = count_of_entries(&self.entries);
+        let saved = count_of_entries(&self.entries);
         let next = self.skip(text, mode, after)?;
         let wait = Wait::Repetition(body);
         let start = Start {
             mode,
-            mark,
+            saved,
             rest: after,
         };
         frames.push(Frame { wait, start })?;

@@ -2,9 +2,9 @@
 //!
 //! Forms stand within forms, and so do the calls that run them. So that a level of them takes little of the
 //! machine's stack, each kind of form has a function that is built into no other (`inline(never)`). What only
-//! picks one of them is built into whoever asks (`inline(always)`), so that a form within a form costs one call.
-//! Rules that may reach themselves stand within one another no deeper than a limit: what would go deeper is
-//! refused, and `nesting` reads it with a list of what waits.
+//! picks one of them is built into whoever asks (`inline(always)`), so that a form within a form costs one
+//! call. Rules that may reach themselves stand within one another no deeper than a limit: what would go
+//! deeper is refused, and `nesting` reads it with a list of what waits.
 ghost use Rattle.std.specs.Prelude.{◌≡◌, ◌<◌, ◌&&◌, ◌||◌, ℕ, List, IfOk, IfSome, MatchOption, OnOk, Some, [], true, false, codes};
 ghost use Rattle.meta_base.specs.Language.State.{Between};
 ghost use Rattle.meta_base.specs.Language.Expression.{Choice, Ident, NegPred, Opt, Rep, RepOnce, Seq, comment, whitespace};
@@ -33,8 +33,8 @@ use meta_base::grammar::Rule;
 use std::alloc::{AllocError, Global};
 use std::collections::HashSet;
 
-/// How many calls of rules that may reach themselves may stand within one another: they take some megabyte of the
-/// machine's stack.
+/// How many calls of rules that may reach themselves may stand within one another: they take some megabyte of
+/// the machine's stack.
 const LEVELS: usize = 500;
 
 /// What a run has written and noted so far.
@@ -62,8 +62,8 @@ fn begins_comment(rule: Rule, rest: &str) -> bool
     rule == Rule::block_comment && rest.starts_with("/*")
 }
 
-/// Whether a rule may reach itself, so that a text says how deep its calls stand within one another: an expression
-/// by way of its parentheses, and a comment.
+/// Whether a rule may reach itself, so that a text says how deep its calls stand within one another: an
+/// expression by way of its parentheses, and a comment.
 #[inline(always)]
 fn reaches_itself(rule: Rule) -> bool {
     matches!(rule, Rule::expression | Rule::block_comment)
@@ -407,10 +407,10 @@ impl Recognizer {
             (Runs (Run (mode_of mode) (NegPred (expression_of body.now)))
             text.now rest.entry.now self.old self.new) }
     {
-        let mark = count_of_entries(&self.entries);
+        let saved = count_of_entries(&self.entries);
         match self.run(text, body, mode, rest)? {
             Some(_) => {
-                cut(&mut self.entries, mark);
+                cut(&mut self.entries, saved);
                 Ok(None)
             }
             None => Ok(Some(rest)),
@@ -465,7 +465,7 @@ impl Recognizer {
             (Runs (Run (mode_of mode) (followed (Some (expression_of first.now)) others.now))
             text.now from.entry.now self.old self.new) }
     {
-        let mark = count_of_entries(&self.entries);
+        let saved = count_of_entries(&self.entries);
         let Some(mut rest) = self.run(text, first, mode, from)? else {
             return Ok(None);
         };
@@ -474,7 +474,7 @@ impl Recognizer {
             let next = self.skip(text, mode, rest)?;
             let parts = parts_of(left);
             let Some(after) = self.run(text, parts.first, mode, next)? else {
-                cut(&mut self.entries, mark);
+                cut(&mut self.entries, saved);
                 return Ok(None);
             };
             let Some(others) = parts.others else {
@@ -532,12 +532,12 @@ impl Recognizer {
     {
         let mut rest = from;
         loop {
-            let mark = count_of_entries(&self.entries);
+            let saved = count_of_entries(&self.entries);
             let next = self.skip(text, mode, rest)?;
             match self.run(text, body, mode, next)? {
                 Some(after) => rest = after,
                 None => {
-                    cut(&mut self.entries, mark);
+                    cut(&mut self.entries, saved);
                     return Ok(rest);
                 }
             }
@@ -695,8 +695,8 @@ impl Recognizer {
         }
     }
 
-    /// A call of a rule that may reach itself takes a level of those that are left, as long as it runs. Where none
-    /// is left, it is refused as if for want of memory.
+    /// A call of a rule that may reach itself takes a level of those that are left, as long as it runs. Where
+    /// none is left, it is refused as if for want of memory.
     #[inline(never)]
     #[cycle(recognize)]
     fn deeper<'i>(

@@ -1,9 +1,9 @@
 -- The nodes of all bodies, in one order.
-use Rattle.std.specs.Prelude.{ℕ, suc, ◌+◌, List, [], ◌∷◌, ◌++◌, flat_map, Bool, true, false, ⊤}
-use Rattle.meta_base.specs.Language.Expression as plain
+use Rattle.std.specs.Prelude.{ℕ, suc, ◌+◌, List, [], ◌∷◌, ◌++◌, flat_map, ⊤}
+use Rattle.meta_base.specs.Language.Expression as bare
 use Rattle.meta_base.specs.Language.Expression.{Expression}
 use Rattle.meta_nodes.specs.Nodes.{rule_views}
-use Rattle.meta_nodes.specs.Spanned.{Spanned, Leaf, One, Two, Binary, Seq, Choice, SpannedRule}
+use Rattle.meta_nodes.specs.Spanned.{Spanned, Leaf, One, Two, SpannedRule}
 use Rattle.meta_nodes.specs.declared.node.ParserRule.{ParserRule}
 
 -- how many nodes there are, with those inside
@@ -28,15 +28,10 @@ all_nodes rules = every_node (rule_views rules)
 
 -- an expression without operands
 abbrev pub IsSimple : Expression → Type 0
-IsSimple (plain.Str t) = ⊤
-IsSimple (plain.Insens t) = ⊤
-IsSimple (plain.Range t u) = ⊤
-IsSimple (plain.Ident n) = ⊤
-IsSimple (plain.PeekSlice i j) = ⊤
-IsSimple (plain.PushLiteral t) = ⊤
+IsSimple (bare.Str t) = ⊤
+IsSimple (bare.Insens t) = ⊤
+IsSimple (bare.Range t u) = ⊤
+IsSimple (bare.Ident n) = ⊤
+IsSimple (bare.PeekSlice i j) = ⊤
+IsSimple (bare.PushLiteral t) = ⊤
 IsSimple _ = ⊥
-
--- whether it is a choice
-abbrev pub choice_of : Binary → Bool
-choice_of Seq = false
-choice_of Choice = true

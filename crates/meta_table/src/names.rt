@@ -40,7 +40,7 @@ impl Names {
 }
 
 /// The place of the last rule of that name, if there is one.
-pub fn rule_number<'i>(rules: &[ParserRule<'i>], names: &Names, name: &String) -> Option<usize>
+pub fn rule_of_name<'i>(rules: &[ParserRule<'i>], names: &Names, name: &String) -> Option<usize>
     requires { KnowsRules rules.now names.now }
     ensures { result ≡ last_place (grammar_of rules.now) (text_of name.now) }
 {

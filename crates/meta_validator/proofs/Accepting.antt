@@ -9,12 +9,12 @@ use Rattle.meta_nodes.specs.declared.node.ParserRule.{ParserRule}
 use Rattle.meta_flags.specs.Least.{is_set_at}
 use Rattle.meta_table.specs.Names.{grammar_of, rule_said, last_place}
 use Rattle.meta_validator.specs.Names.{kind_in}
-use Rattle.meta_validator.specs.Numbering.{Says, repeated, wrap_kind}
+use Rattle.meta_validator.specs.Kinds.{Says, repeated, wrap_kind}
 use Rattle.meta_validator.specs.Facts.{AreFacts}
 use Rattle.meta_validator.specs.Taking.{RepeatedTakes, AllRepeatedTake, SkippedTake}
 use Rattle.meta_validator.specs.Findings.{is_skipped_name}
 use Rattle.meta_validator.specs.declared.facts.Facts.{Facts}
-use Rattle.meta_validator.specs.declared.numbering.Wrap.TheVariants as wraps
+use Rattle.meta_validator.specs.declared.kinds.Wrap.TheVariants as wraps
 use Rattle.meta_validator.specs.Reports.{Reported, endless, bad_skipped, recursive, Repeats, repeats_any, repeats_once, repeats_min}
 use Rattle.meta_validator.proofs.Certain.{sure_null}
 use Rattle.meta_validator.proofs.Tying.{says}

@@ -1,4 +1,4 @@
--- Marks that are right and closed answer the question.
+-- RightAnswers that are right and closed answer the question.
 use Rattle.std.proofs.Common.{◌≡◌, ℕ, zero, suc, ◌⊎◌, inl, inr, List, [], ◌∷◌, Option, Some, None, Bool, true, false, ◌&&◌, ◌||◌, if◌then◌else◌, bytes_eq, codes, nat_eq, slice_get, length, arith, refl, sym, ◌∙◌, ap, subst}
 use Rattle.std.specs.Cmp.{unsigned_Decides}
 use Rattle.std.proofs.lemmas.Slice.Eq.{bytes_eq-Decides}
@@ -12,16 +12,16 @@ use Rattle.meta_flags.specs.Least.{is_set_at}
 use Rattle.meta_table.proofs.Resolved.{Named, absent, named, resolved}
 use Rattle.meta_table.specs.Names.{grammar_of, rule_said, last_place, is_end}
 use Rattle.meta_validator.specs.Names.{kind_in, name_kind}
-use Rattle.meta_validator.specs.Numbering.{Says, counted, repeated, wrap_kind}
+use Rattle.meta_validator.specs.Kinds.{Says, counted, repeated, wrap_kind}
 use Rattle.meta_validator.specs.Table.{is_of_taking, at_root, fires}
 use Rattle.meta_flags.specs.Least.{follows}
-use Rattle.meta_validator.specs.Marks.{AreSound, AreClosed, Holds}
+use Rattle.meta_validator.specs.RightAnswers.{AreSound, AreClosed, Holds}
 use Rattle.meta_validator.specs.Facts.{IsTableOf, Asked, AreAnswers}
 use Rattle.meta_validator.specs.declared.table.Kind.{Kind}
 use Rattle.meta_validator.specs.declared.table.Question.{Question}
 use Rattle.meta_validator.specs.declared.table.Question.TheVariants as asks
 use Rattle.meta_validator.specs.declared.table.Table.{Table}
-use Rattle.meta_validator.specs.declared.numbering.Wrap.TheVariants as wraps
+use Rattle.meta_validator.specs.declared.kinds.Wrap.TheVariants as wraps
 use Rattle.meta_validator.proofs.Tying.{says}
 
 -- 1. names and roots
@@ -201,7 +201,7 @@ module _ (q : Question) (G : Grammar) (place_of : Text → Option ℕ) (t : Tabl
   pub asked : {i : ℕ} → Holds q t i → (e : Expression) → Says_ i e → Asked q G e
   asked (follows {i = i} {a = k} p at f g) e s = step p (λ j d h z. asked (g j h) d z) i k e at s f
 
--- 5. what is asked is marked
+-- 5. what is asked is answered
 end_fires : (roots : List ℕ) (p : ℕ → Bool) (b : Bool) → b ≡ true → (o : Option ℕ) → fires asks.TakesNothing roots p (name_kind b o) ≡ true
 end_fires roots p true h None = refl
 end_fires roots p true h (Some r) = refl
@@ -246,62 +246,62 @@ module _ (G : Grammar) (place_of : Text → Option ℕ) (t : Table) (sense : (n 
     call_fires o (lies_at {k = k} {j = j} m e h s) true = or_true (is_of_taking q) (at_root p (slice_get t.roots.items k)) (root_fires k j m e h s)
     call_fires o (lies_at {k = k} {j = j} m e h s) false = root_fires k j m e h s
 
-  module _ (marks : List Bool) (closed : AreClosed asks.TakesNothing t marks) where
-    null_marked : {e : Expression} → IsNullable G e → (i : ℕ) → Lies i e → is_set_at marks i ≡ true
+  module _ (answers : List Bool) (closed : AreClosed asks.TakesNothing t answers) where
+    null_marked : {e : Expression} → IsNullable G e → (i : ℕ) → Lies i e → is_set_at answers i ≡ true
     null_marked nullable_str i s = closed i _ s refl
     null_marked nullable_insens i s = closed i _ s refl
-    null_marked nullable_soi i s = closed i _ s (end_fires t.roots.items (is_set_at marks) (is_end (codes "SOI")) refl (place_of (codes "SOI")))
-    null_marked nullable_eoi i s = closed i _ s (end_fires t.roots.items (is_set_at marks) (is_end (codes "EOI")) refl (place_of (codes "EOI")))
-    null_marked (nullable_call {n = n} {r = r} e d) i s = closed i _ s (call_fires asks.TakesNothing (is_set_at marks) n r e (λ j z. null_marked d j z) (place_of n) (sense n) (is_end n))
+    null_marked nullable_soi i s = closed i _ s (end_fires t.roots.items (is_set_at answers) (is_end (codes "SOI")) refl (place_of (codes "SOI")))
+    null_marked nullable_eoi i s = closed i _ s (end_fires t.roots.items (is_set_at answers) (is_end (codes "EOI")) refl (place_of (codes "EOI")))
+    null_marked (nullable_call {n = n} {r = r} e d) i s = closed i _ s (call_fires asks.TakesNothing (is_set_at answers) n r e (λ j z. null_marked d j z) (place_of n) (sense n) (is_end n))
     null_marked nullable_pos_pred i s = closed i _ s.2 refl
     null_marked nullable_neg_pred i s = closed i _ s.2 refl
     null_marked nullable_opt i s = closed i _ s.2 refl
     null_marked nullable_rep i s = closed i _ s.2 refl
     null_marked nullable_rep_max i s = closed i _ s.2 refl
-    null_marked (nullable_seq d f) i s = closed i _ s.4 (and_true (is_set_at marks s.0) (is_set_at marks s.1) (null_marked d s.0 s.5) (null_marked f s.1 s.6))
-    null_marked (nullable_left d) i s = closed i _ s.4 (or_first (is_set_at marks s.0) (is_set_at marks s.1) (null_marked d s.0 s.5))
-    null_marked (nullable_right d) i s = closed i _ s.4 (or_true (is_set_at marks s.0) (is_set_at marks s.1) (null_marked d s.1 s.6))
+    null_marked (nullable_seq d f) i s = closed i _ s.4 (and_true (is_set_at answers s.0) (is_set_at answers s.1) (null_marked d s.0 s.5) (null_marked f s.1 s.6))
+    null_marked (nullable_left d) i s = closed i _ s.4 (or_first (is_set_at answers s.0) (is_set_at answers s.1) (null_marked d s.0 s.5))
+    null_marked (nullable_right d) i s = closed i _ s.4 (or_true (is_set_at answers s.0) (is_set_at answers s.1) (null_marked d s.1 s.6))
     null_marked (nullable_rep_once d) i s = closed i _ s.2 (null_marked d s.0 s.3)
     null_marked (nullable_push d) i s = closed i _ s.2 (null_marked d s.0 s.3)
     null_marked nullable_push_literal i s = closed i _ s refl
     null_marked (nullable_tag d) i s = closed i _ s.2 (null_marked d s.0 s.3)
     null_marked nullable_exact_zero i s = closed i _ s.2 refl
-    null_marked (nullable_exact {i = n} d) i s = closed i _ s.2 (counted_holds asks.TakesNothing t.roots.items (is_set_at marks) n s.0 (null_marked d s.0 s.3))
+    null_marked (nullable_exact {i = n} d) i s = closed i _ s.2 (counted_holds asks.TakesNothing t.roots.items (is_set_at answers) n s.0 (null_marked d s.0 s.3))
     null_marked nullable_min_zero i s = closed i _ s.2 refl
-    null_marked (nullable_min {i = n} d) i s = closed i _ s.2 (repeated_holds asks.TakesNothing t.roots.items (is_set_at marks) n s.0 (null_marked d s.0 s.3))
+    null_marked (nullable_min {i = n} d) i s = closed i _ s.2 (repeated_holds asks.TakesNothing t.roots.items (is_set_at answers) n s.0 (null_marked d s.0 s.3))
     null_marked nullable_min_max_zero i s = closed i _ s.2 refl
-    null_marked (nullable_min_max {i = n} d) i s = closed i _ s.2 (counted_holds asks.TakesNothing t.roots.items (is_set_at marks) n s.0 (null_marked d s.0 s.3))
+    null_marked (nullable_min_max {i = n} d) i s = closed i _ s.2 (counted_holds asks.TakesNothing t.roots.items (is_set_at answers) n s.0 (null_marked d s.0 s.3))
     null_marked nullable_skip i s = absurd s
     null_marked (nullable_restore d) i s = absurd s
 
-  module _ (marks : List Bool) (closed : AreClosed asks.CannotFail t marks) where
-    sure_marked : {e : Expression} → CannotFail G e → (i : ℕ) → Lies i e → is_set_at marks i ≡ true
+  module _ (answers : List Bool) (closed : AreClosed asks.CannotFail t answers) where
+    sure_marked : {e : Expression} → CannotFail G e → (i : ℕ) → Lies i e → is_set_at answers i ≡ true
     sure_marked cannot_fail_str i s = closed i _ s refl
     sure_marked cannot_fail_insens i s = closed i _ s refl
-    sure_marked (cannot_fail_call {n = n} {r = r} e d) i s = closed i _ s (call_fires asks.CannotFail (is_set_at marks) n r e (λ j z. sure_marked d j z) (place_of n) (sense n) (is_end n))
+    sure_marked (cannot_fail_call {n = n} {r = r} e d) i s = closed i _ s (call_fires asks.CannotFail (is_set_at answers) n r e (λ j z. sure_marked d j z) (place_of n) (sense n) (is_end n))
     sure_marked cannot_fail_opt i s = closed i _ s.2 refl
     sure_marked cannot_fail_rep i s = closed i _ s.2 refl
     sure_marked cannot_fail_rep_max i s = closed i _ s.2 refl
-    sure_marked (cannot_fail_seq d f) i s = closed i _ s.4 (and_true (is_set_at marks s.0) (is_set_at marks s.1) (sure_marked d s.0 s.5) (sure_marked f s.1 s.6))
-    sure_marked (cannot_fail_left d) i s = closed i _ s.4 (or_first (is_set_at marks s.0) (is_set_at marks s.1) (sure_marked d s.0 s.5))
-    sure_marked (cannot_fail_right d) i s = closed i _ s.4 (or_true (is_set_at marks s.0) (is_set_at marks s.1) (sure_marked d s.1 s.6))
+    sure_marked (cannot_fail_seq d f) i s = closed i _ s.4 (and_true (is_set_at answers s.0) (is_set_at answers s.1) (sure_marked d s.0 s.5) (sure_marked f s.1 s.6))
+    sure_marked (cannot_fail_left d) i s = closed i _ s.4 (or_first (is_set_at answers s.0) (is_set_at answers s.1) (sure_marked d s.0 s.5))
+    sure_marked (cannot_fail_right d) i s = closed i _ s.4 (or_true (is_set_at answers s.0) (is_set_at answers s.1) (sure_marked d s.1 s.6))
     sure_marked (cannot_fail_rep_once d) i s = closed i _ s.2 (sure_marked d s.0 s.3)
     sure_marked (cannot_fail_push d) i s = closed i _ s.2 (sure_marked d s.0 s.3)
     sure_marked cannot_fail_push_literal i s = closed i _ s refl
     sure_marked (cannot_fail_tag d) i s = closed i _ s.2 (sure_marked d s.0 s.3)
     sure_marked (cannot_fail_pos_pred d) i s = closed i _ s.2 (sure_marked d s.0 s.3)
     sure_marked cannot_fail_exact_zero i s = closed i _ s.2 refl
-    sure_marked (cannot_fail_exact {i = n} d) i s = closed i _ s.2 (counted_holds asks.CannotFail t.roots.items (is_set_at marks) n s.0 (sure_marked d s.0 s.3))
+    sure_marked (cannot_fail_exact {i = n} d) i s = closed i _ s.2 (counted_holds asks.CannotFail t.roots.items (is_set_at answers) n s.0 (sure_marked d s.0 s.3))
     sure_marked cannot_fail_min_zero i s = closed i _ s.2 refl
-    sure_marked (cannot_fail_min {i = n} d) i s = closed i _ s.2 (repeated_holds asks.CannotFail t.roots.items (is_set_at marks) n s.0 (sure_marked d s.0 s.3))
+    sure_marked (cannot_fail_min {i = n} d) i s = closed i _ s.2 (repeated_holds asks.CannotFail t.roots.items (is_set_at answers) n s.0 (sure_marked d s.0 s.3))
     sure_marked cannot_fail_min_max_zero i s = closed i _ s.2 refl
-    sure_marked (cannot_fail_min_max {i = n} d) i s = closed i _ s.2 (counted_holds asks.CannotFail t.roots.items (is_set_at marks) n s.0 (sure_marked d s.0 s.3))
+    sure_marked (cannot_fail_min_max {i = n} d) i s = closed i _ s.2 (counted_holds asks.CannotFail t.roots.items (is_set_at answers) n s.0 (sure_marked d s.0 s.3))
     sure_marked cannot_fail_skip i s = absurd s
     sure_marked (cannot_fail_restore d) i s = absurd s
 
-  pub answered : (q : Question) (marks : List Bool) → AreSound q t marks → AreClosed q t marks → (i : ℕ) (e : Expression) → Lies i e → Decides (is_set_at marks i) (Asked q G e)
-  answered asks.TakesNothing marks s c i e l = ((λ h. asked asks.TakesNothing G place_of t sense (s.right i h) e l), (λ d. null_marked marks c d i l))
-  answered asks.CannotFail marks s c i e l = ((λ h. asked asks.CannotFail G place_of t sense (s.right i h) e l), (λ d. sure_marked marks c d i l))
+  pub answered : (q : Question) (answers : List Bool) → AreSound q t answers → AreClosed q t answers → (i : ℕ) (e : Expression) → Lies i e → Decides (is_set_at answers i) (Asked q G e)
+  answered asks.TakesNothing answers s c i e l = ((λ h. asked asks.TakesNothing G place_of t sense (s.right i h) e l), (λ d. null_marked answers c d i l))
+  answered asks.CannotFail answers s c i e l = ((λ h. asked asks.CannotFail G place_of t sense (s.right i h) e l), (λ d. sure_marked answers c d i l))
 
 -- 6. the names of rules
 pub sense_of : (rules : List ParserRule) (t : Table) → IsTableOf rules t → (n : Text) → Sense (grammar_of rules) (kind_in (grammar_of rules)) t n (last_place (grammar_of rules) n)
@@ -312,5 +312,5 @@ sense_of rules t table n = go (last_place (grammar_of rules) n) (resolved rules 
     go o (named {r = k} rule at e) = let (j, h) = got_root rules t.roots.items k rule at (sym table.alike) in
         lies_at (rule_said rule) e h (says (kind_in (grammar_of rules)) t.kinds.items j (view rule.node) (table.stand k j rule at h))
 
-pub answers : (rules : List ParserRule) (t : Table) → IsTableOf rules t → (q : Question) (marks : List Bool) → AreSound q t marks → AreClosed q t marks → AreAnswers rules t q marks
-answers rules t table q marks s c = answered (grammar_of rules) (last_place (grammar_of rules)) t (sense_of rules t table) q marks s c
+pub answers : (rules : List ParserRule) (t : Table) → IsTableOf rules t → (q : Question) (flags : List Bool) → AreSound q t flags → AreClosed q t flags → AreAnswers rules t q flags
+answers rules t table q flags s c = answered (grammar_of rules) (last_place (grammar_of rules)) t (sense_of rules t table) q flags s c

@@ -16,9 +16,9 @@ use Rattle.meta_validator.specs.Findings.{Finding, Reports, reports_none, report
 use Rattle.meta_table.specs.Names.{grammar_of}
 use Rattle.meta_validator.specs.Names.{kind_in}
 use Rattle.meta_table.specs.Nodes.{all_nodes}
-use Rattle.meta_validator.specs.Numbering.{Fits, wrap_kind, wrap_of, Says}
+use Rattle.meta_validator.specs.Kinds.{Fits, wrap_kind, wrap_of, Says}
 use Rattle.meta_validator.specs.declared.facts.Facts.{Facts}
-use Rattle.meta_validator.specs.declared.numbering.Wrap.TheVariants as wraps
+use Rattle.meta_validator.specs.declared.kinds.Wrap.TheVariants as wraps
 use Rattle.meta_validator.specs.declared.table.Kind.{Kind}
 use Rattle.meta_validator.proofs.Accepting.{well_formed}
 use Rattle.meta_validator.proofs.ReportingLemmas.{leaf_kinds, says_at, got_within}

@@ -7,12 +7,12 @@ use Rattle.meta_nodes.specs.Nodes.{view}
 use Rattle.meta_nodes.specs.declared.node.ParserRule.{ParserRule}
 use Rattle.meta_table.specs.Names.{grammar_of, rule_said, last_place, is_end}
 use Rattle.meta_validator.specs.Names.{kind_in, name_kind}
-use Rattle.meta_validator.specs.Numbering.{Says, counted, repeated, wrap_kind}
+use Rattle.meta_validator.specs.Kinds.{Says, counted, repeated, wrap_kind}
 use Rattle.meta_validator.specs.Facts.{AreFacts}
 use Rattle.meta_validator.specs.Cycles.{rank_at, Falls, AllFall, NoneRises, FallsFrom}
 use Rattle.meta_validator.specs.declared.facts.Facts.{Facts}
 use Rattle.meta_validator.specs.declared.table.Kind.{Kind}
-use Rattle.meta_validator.specs.declared.numbering.Wrap.TheVariants as wraps
+use Rattle.meta_validator.specs.declared.kinds.Wrap.TheVariants as wraps
 use Rattle.meta_validator.proofs.Tying.{says}
 use Rattle.meta_table.proofs.Resolved.{Named, absent, named, resolved}
 use Rattle.meta_validator.proofs.Answering.{got_root, same_rule, no_rule}

@@ -4,7 +4,6 @@ pub mod Walk
 pub mod Reports
 pub mod NameLemmas
 pub mod Tying
-pub mod LayoutLemmas
 pub mod ReportingLemmas
 pub mod Roots
 pub mod Answering

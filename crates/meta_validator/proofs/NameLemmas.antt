@@ -1,7 +1,7 @@
 -- Texts that are empty, and others.
 use Rattle.std.proofs.Common.{◌≡◌, ℕ, List, [], ◌∷◌, true, false, refl}
 use Rattle.meta_table.proofs.NameLemmas.{is_empty_text}
-use Rattle.meta_validator.specs.Numbering.{text_kind}
+use Rattle.meta_validator.specs.Kinds.{text_kind}
 use Rattle.meta_validator.specs.declared.table.Kind.TheVariants as is
 
 pub still_text : (t : List ℕ) → is_empty_text t ≡ true → is.Still ≡ text_kind t

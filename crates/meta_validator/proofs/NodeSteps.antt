@@ -4,7 +4,7 @@ use Rattle.std.proofs.lemmas.List.{append_assoc, append-nil}
 use Rattle.std.specs.List.{Contains}
 use Rattle.std.proofs.Math.ListN.{set}
 use Rattle.meta_base.specs.Language.Text.{Text}
-use Rattle.meta_base.specs.Language.Expression as plain
+use Rattle.meta_base.specs.Language.Expression as bare
 use Rattle.meta_base.specs.Language.Expression.{Expression, Ident, Grammar}
 use Rattle.meta_base.specs.Language.WellFormed.{IsNullable}
 use Rattle.meta_nodes.specs.Erasure.{without_spans}
@@ -17,18 +17,19 @@ use Rattle.meta_validator.specs.LeftRecursion.{IsNoName, said, Means, Passes}
 use Rattle.meta_table.specs.Names.{grammar_of, last_place, is_end}
 use Rattle.meta_validator.specs.Names.{kind_in, name_kind}
 use Rattle.meta_table.specs.Nodes.{IsSimple, all_nodes, size}
-use Rattle.meta_validator.specs.Numbering.{Fits, leaf_kind, wrap_kind, wrap_of, both_kind}
+use Rattle.meta_validator.specs.Kinds.{Fits, leaf_kind, wrap_kind, wrap_of, both_kind}
 use Rattle.meta_validator.specs.Regions.{IsNodeOf, ArePassing}
 use Rattle.meta_validator.specs.Searching.{ordered, called_in, inside_of, size_at, cost, unentered, name_of, last_name, IsSearch}
 use Rattle.meta_validator.specs.Walk.{without}
 use Rattle.meta_validator.specs.declared.facts.Facts.{Facts}
-use Rattle.meta_validator.specs.declared.numbering.Wrap.{Wrap}
-use Rattle.meta_validator.specs.declared.numbering.Wrap.TheVariants as wraps
+use Rattle.meta_validator.specs.declared.kinds.Wrap.{Wrap}
+use Rattle.meta_table.specs.declared.shapes.Joint.TheVariants as joints
+use Rattle.meta_validator.specs.declared.kinds.Wrap.TheVariants as wraps
 use Rattle.meta_validator.specs.declared.recursions.Task.{Task}
 use Rattle.meta_validator.specs.declared.recursions.Task.TheVariants.{Visit, Leave}
 use Rattle.meta_validator.specs.declared.table.Kind.{Kind}
 use Rattle.meta_validator.proofs.Certain.{sure_null}
-use Rattle.meta_validator.proofs.LayoutLemmas.{some_size}
+use Rattle.meta_table.proofs.LayoutLemmas.{some_size}
 use Rattle.meta_validator.proofs.NoneWalks.{at_end, in_rules, sort, Sort, of_name, of_no_name}
 use Rattle.meta_validator.proofs.RegionLemmas.{node_inside, node_first, node_second}
 use Rattle.meta_validator.proofs.SearchLemmas.{inside, first_only, of_choice, of_sequence}
@@ -37,13 +38,13 @@ use Rattle.std.specs.Bool.{Decides}
 
 -- 1. kinds
 leaf_none : (g : Grammar) (passing : List Bool) (e : Expression) → IsSimple e → IsNoName e → (called_in (Some (leaf_kind (kind_in g) e)) ≡ None) × (inside_of passing (Some (leaf_kind (kind_in g) e)) ≡ [])
-leaf_none g passing (plain.Str []) s h = (refl, refl)
-leaf_none g passing (plain.Str (c ∷ t)) s h = (refl, refl)
-leaf_none g passing (plain.Insens []) s h = (refl, refl)
-leaf_none g passing (plain.Insens (c ∷ t)) s h = (refl, refl)
-leaf_none g passing (plain.Range a b) s h = (refl, refl)
-leaf_none g passing (plain.PushLiteral t) s h = (refl, refl)
-leaf_none g passing (plain.PeekSlice i j) s h = (refl, refl)
+leaf_none g passing (bare.Str []) s h = (refl, refl)
+leaf_none g passing (bare.Str (c ∷ t)) s h = (refl, refl)
+leaf_none g passing (bare.Insens []) s h = (refl, refl)
+leaf_none g passing (bare.Insens (c ∷ t)) s h = (refl, refl)
+leaf_none g passing (bare.Range a b) s h = (refl, refl)
+leaf_none g passing (bare.PushLiteral t) s h = (refl, refl)
+leaf_none g passing (bare.PeekSlice i j) s h = (refl, refl)
 leaf_none g passing (Ident n) s h = absurd h
 leaf_none g passing _ s h = absurd s
 
@@ -139,7 +140,7 @@ module _ (rules : List ParserRule) (facts : Facts) (right : AreFacts rules facts
     at_leaf s e here simple (of_name n h) = subst (λ z. At (Some (leaf_kind (kind_in G) z))) (sym h) (at_name s n (here ∙ ap (λ z. Some (Leaf s z)) h) (last_place G n) refl)
     at_leaf s e here simple (of_no_name h) = let (a, b) = leaf_none G passing e simple h in nothing_in (Leaf s e) here (Some (leaf_kind (kind_in G) e)) a b (over_leaf rules roots start entered node s e todo k path here simple h state)
 
-    at_seq : (s : Span) (x y : Spanned) (j l : ℕ) → slice_get nodes node ≡ Some (Two s Seq x y) → IsNodeOf rules roots k j x → IsNodeOf rules roots k l y → At (Some (both_kind false j l))
+    at_seq : (s : Span) (x y : Spanned) (j l : ℕ) → slice_get nodes node ≡ Some (Two s Seq x y) → IsNodeOf rules roots k j x → IsNodeOf rules roots k l y → At (Some (both_kind joints.Sequence j l))
     at_seq s x y j l here first second = go (is_set_at passing j) refl
       where
         d : Decides (is_set_at passing j) (IsNullable (without (last_name rules roots start (k ∷ path)) (said V)) (without_spans x))
@@ -149,10 +150,10 @@ module _ (rules : List ParserRule) (facts : Facts) (right : AreFacts rules facts
         stops h (inl p) = let e = sym (d.1 p) ∙ h in cc
         stops h (inr p) = let e = sym (d.1 (sure_null (without (last_name rules roots start (k ∷ path)) (said V)) (without_spans x) p)) ∙ h in cc
 
-        go : (b : Bool) → is_set_at passing j ≡ b → At (Some (both_kind false j l))
-        go true h = two_in (Two s Seq x y) x y j l here first.node second.node (omega arith) (Some (both_kind false j l)) refl (ap (λ b. if b then Visit l ∷ Visit j ∷ [] else Visit j ∷ []) h)
+        go : (b : Bool) → is_set_at passing j ≡ b → At (Some (both_kind joints.Sequence j l))
+        go true h = two_in (Two s Seq x y) x y j l here first.node second.node (omega arith) (Some (both_kind joints.Sequence j l)) refl (ap (λ b. if b then Visit l ∷ Visit j ∷ [] else Visit j ∷ []) h)
             (of_sequence rules roots start entered node j l s x y todo k path here first second (inl (d.0 h)) state)
-        go false h = one_in (Two s Seq x y) x j here first.node (omega arith) (Some (both_kind false j l)) refl (ap (λ b. if b then Visit l ∷ Visit j ∷ [] else Visit j ∷ []) h)
+        go false h = one_in (Two s Seq x y) x j here first.node (omega arith) (Some (both_kind joints.Sequence j l)) refl (ap (λ b. if b then Visit l ∷ Visit j ∷ [] else Visit j ∷ []) h)
             (first_only rules roots start entered node j s x y todo k path here first (stops h) state)
 
     at_node : (x : Spanned) (kind : Kind) → IsNodeOf rules roots k node x → Fits (kind_in G) nodes node kind x → At (Some kind)
@@ -166,7 +167,7 @@ module _ (rules : List ParserRule) (facts : Facts) (right : AreFacts rules facts
     at_node (Two s Choice x y) kind place fit = subst (λ z. At (Some z)) (sym fit.6)
         (let first = node_first rules roots right.tabled.roots k node fit.0 fit.1 s Choice x y place fit.4 fit.7 fit.8 in
         let second = node_second rules roots right.tabled.roots k node fit.1 s Choice x y place fit.5 fit.7 in
-        two_in (Two s Choice x y) x y fit.0 fit.1 place.node fit.4 fit.5 (omega arith) (Some (both_kind true fit.0 fit.1)) refl refl (of_choice rules roots start entered node fit.0 fit.1 s x y todo k path place.node first second state))
+        two_in (Two s Choice x y) x y fit.0 fit.1 place.node fit.4 fit.5 (omega arith) (Some (both_kind joints.Choice fit.0 fit.1)) refl refl (of_choice rules roots start entered node fit.0 fit.1 s x y todo k path place.node first second state))
 
     pub stepped_at : At (slice_get facts.table.kinds.items node)
     stepped_at = let ((x, place), others) = state.placed in

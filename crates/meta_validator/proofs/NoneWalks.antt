@@ -16,7 +16,7 @@ use Rattle.meta_table.specs.Names.{last_place}
 use Rattle.meta_validator.specs.Walk.{Walked, w_name, w_first, w_second, w_pos_pred, w_neg_pred, w_left, w_right, w_opt, w_rep, w_rep_once, w_rep_exact, w_rep_min, w_rep_max, w_rep_min_max, w_push, w_tag}
 use Rattle.meta_flags.proofs.LeastLemmas.{unset_less, set_or_one}
 
--- 1. flags that say what a chain has
+-- 1. flags that say what a trail has
 pub record Flags (n : ℕ) (c : List ℕ) (flags : List Bool) : Type 0 where
   pub alike : length flags ≡ n
   pub had : (k : ℕ) → is_set_at flags k ≡ true → Contains c k

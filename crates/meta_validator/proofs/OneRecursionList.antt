@@ -5,7 +5,7 @@ use Rattle.meta_base.specs.Language.Text.{Text}
 use Rattle.meta_base.specs.Language.Expression.{Expression, Ident}
 use Rattle.meta_nodes.specs.Spanned.{Span, Spanned, Leaf, One, Two, Unary, Seq, Choice, SpannedRule}
 use Rattle.meta_validator.specs.Findings.{Finding, found_at, Reports, reports_none, reports_at, OfRecursion, recursive, not_recursive, hidden}
-use Rattle.meta_validator.specs.LeftRecursion.{Closed, IsNoName, said, Means, Passes, told_chain, Walks, walks_over, walks_closing, walks_outside, walks_again, walks_into, walks_inside, walks_first, walks_second, walks_neither, walks_other}
+use Rattle.meta_validator.specs.LeftRecursion.{Closed, IsNoName, said, Means, Passes, told_trail, Walks, walks_over, walks_closing, walks_outside, walks_again, walks_into, walks_inside, walks_first, walks_second, walks_neither, walks_other}
 use Rattle.meta_table.specs.Names.{last_place}
 
 same_some : {A : Type 0} {o : Option A} {a b : A} → o ≡ Some a → o ≡ Some b → a ≡ b
@@ -17,7 +17,7 @@ some_none e f = let h = sym e ∙ f in cc
 module _ (rules : List SpannedRule) (start : ℕ) where
   -- 1. what a walk over each form comes to, and by what
   data AtName (c : List ℕ) (n : Text) (s : Span) (o : Option Closed) : Type 0 where
-    at_start : Means rules n start → o ≡ Some (record { chain = c; call = s }) → AtName c n s o
+    at_start : Means rules n start → o ≡ Some (record { trail = c; call = s }) → AtName c n s o
     at_nothing : last_place (said rules) n ≡ None → o ≡ None → AtName c n s o
     at_entered : (k : ℕ) → Means rules n k → (k ≡ start → ⊥) → Contains c k → o ≡ None → AtName c n s o
     at_rule : (k : ℕ) (r : SpannedRule) → Means rules n k → (k ≡ start → ⊥) → (Contains c k → ⊥) → slice_get rules k ≡ Some r → Walks rules start (c ++ k ∷ []) r.name r.body o → AtName c n s o
@@ -25,7 +25,7 @@ module _ (rules : List SpannedRule) (start : ℕ) where
   at_name : {c : List ℕ} {v : Text} {x : Spanned} {o : Option Closed} → Walks rules start c v x o → (n : Text) (s : Span) → x ≡ Leaf s (Ident n) → AtName c n s o
   at_name (walks_over {e = e} h) n s q = let same : e ≡ Ident n = cc in absurd (subst (λ z. IsNoName z) same h)
   at_name (walks_closing {c = c} {n = m} {s = t} h) n s q =
-      let a : m ≡ n = cc in let b : t ≡ s = cc in at_start (subst (λ z. Means rules z start) a h) (ap (λ z. Some (record { chain = c; call = z })) b)
+      let a : m ≡ n = cc in let b : t ≡ s = cc in at_start (subst (λ z. Means rules z start) a h) (ap (λ z. Some (record { trail = c; call = z })) b)
   at_name (walks_outside {n = m} h) n s q = let a : m ≡ n = cc in at_nothing (subst (λ z. last_place (said rules) z ≡ None) a h) refl
   at_name (walks_again {n = m} {k = k} h apart d) n s q = let a : m ≡ n = cc in at_entered k (subst (λ z. Means rules z k) a h) apart d refl
   at_name (walks_into {n = m} {k = k} {r = r} h apart out at w) n s q = let a : m ≡ n = cc in at_rule k r (subst (λ z. Means rules z k) a h) apart out at w
@@ -157,7 +157,7 @@ same_found : {rules : List SpannedRule} {k : ℕ} {fs gs : List Finding} → OfR
 same_found {rules} (recursive {k = k} {r = r} {closed = z} at m w) (recursive {r = q} {closed = y} here n u) =
     let rule : q ≡ r = same_some here at in
     let one : z ≡ y = same_some refl (one_walk rules k w (Some y) (subst (λ t. Walks rules k (k ∷ []) t.name t.body (Some y)) rule u)) in
-    ap (λ t. found_at t.call (told_chain rules r t) ∷ []) one ∙ ap (λ t. found_at y.call (told_chain rules t y) ∷ []) (sym rule)
+    ap (λ t. found_at t.call (told_trail rules r t) ∷ []) one ∙ ap (λ t. found_at y.call (told_trail rules t y) ∷ []) (sym rule)
 same_found {rules} (recursive {k = k} {r = r} {closed = z} at m w) (not_recursive {r = q} here n u) =
     absurd (some_none refl (one_walk rules k w None (subst (λ t. Walks rules k (k ∷ []) t.name t.body None) (same_some here at) u)))
 same_found {rules} (recursive {k = k} {r = r} at m w) (hidden {r = q} here out) = absurd (out (subst (λ t. Means rules t.name k) (same_some at here) m))

@@ -14,16 +14,16 @@ use Rattle.meta_nodes.specs.declared.node.ParserRule.{ParserRule}
 use Rattle.meta_flags.specs.Least.{is_set_at}
 use Rattle.meta_validator.specs.Facts.{AreFacts}
 use Rattle.meta_validator.specs.LeftRecursion.{Means}
-use Rattle.meta_validator.specs.Marks.{AreSound, AreClosed}
+use Rattle.meta_validator.specs.RightAnswers.{AreSound, AreClosed}
 use Rattle.meta_table.specs.Names.{grammar_of, last_place, is_end}
 use Rattle.meta_validator.specs.Names.{kind_in, name_kind}
 use Rattle.meta_table.specs.Nodes.{all_nodes}
-use Rattle.meta_validator.specs.Numbering.{Says, counted, repeated, wrap_kind, text_kind}
+use Rattle.meta_validator.specs.Kinds.{Says, counted, repeated, wrap_kind, text_kind}
 use Rattle.meta_validator.specs.Walk.{without}
 use Rattle.meta_validator.specs.Without.{without_kind, IsWithout}
 use Rattle.meta_validator.specs.declared.facts.Facts.{Facts}
-use Rattle.meta_validator.specs.declared.numbering.Wrap.{Wrap}
-use Rattle.meta_validator.specs.declared.numbering.Wrap.TheVariants as wraps
+use Rattle.meta_validator.specs.declared.kinds.Wrap.{Wrap}
+use Rattle.meta_validator.specs.declared.kinds.Wrap.TheVariants as wraps
 use Rattle.meta_validator.specs.declared.table.Kind.{Kind}
 use Rattle.meta_validator.specs.declared.table.Kind.TheVariants as is
 use Rattle.meta_validator.specs.declared.table.Question.TheVariants as asks
@@ -195,15 +195,15 @@ module _ (rules : List ParserRule) (facts : Facts) (right : AreFacts rules facts
         go None h (absent_from e) = absent_from (none_without n e)
         go (Some k) h (lies_at {j = j} q e root s) = named_without n k j q h e root s
 
-    -- marks over that table
-    pub marked_without : (marks : List Bool) → AreSound asks.TakesNothing t marks → AreClosed asks.TakesNothing t marks → (i : ℕ) (x : Spanned) → slice_get (all_nodes rules) i ≡ Some x
-        → Decides (is_set_at marks i) (IsNullable (without r.name G) (without_spans x))
-    marked_without marks sound closed i x e = answered (without r.name G) place_now t sense_without asks.TakesNothing marks sound closed i (without_spans x) (lies_without i (without_spans x) (says_at rules facts right i x e))
+    -- answers over that table
+    pub marked_without : (answers : List Bool) → AreSound asks.TakesNothing t answers → AreClosed asks.TakesNothing t answers → (i : ℕ) (x : Spanned) → slice_get (all_nodes rules) i ≡ Some x
+        → Decides (is_set_at answers i) (IsNullable (without r.name G) (without_spans x))
+    marked_without answers sound closed i x e = answered (without r.name G) place_now t sense_without asks.TakesNothing answers sound closed i (without_spans x) (lies_without i (without_spans x) (says_at rules facts right i x e))
 
   -- a rule that takes something
-  pub marked_plain : (root : ℕ) → Says (kind_in G) facts.table.kinds.items root (without_spans r.body) → is_set_at facts.nullable.items root ≡ false → (i : ℕ) (x : Spanned) → slice_get (all_nodes rules) i ≡ Some x
+  pub marked_settled : (root : ℕ) → Says (kind_in G) facts.table.kinds.items root (without_spans r.body) → is_set_at facts.nullable.items root ≡ false → (i : ℕ) (x : Spanned) → slice_get (all_nodes rules) i ≡ Some x
       → Decides (is_set_at facts.nullable.items i) (IsNullable (without r.name G) (without_spans x))
-  marked_plain root s off i x e = let d = right.nullable i (without_spans x) (says_at rules facts right i x e) in
+  marked_settled root s off i x e = let d = right.nullable i (without_spans x) (says_at rules facts right i x e) in
       ((λ h. null_less G r.name takes (d.0 h)), (λ n. d.1 (null_more G r.name n)))
     where
       takes : (q : Rule) → rule_of G r.name ≡ Some q → IsNullable G q.body → ⊥

@@ -8,13 +8,14 @@ use Rattle.meta_nodes.specs.Nodes.{rule_views}
 use Rattle.meta_nodes.specs.Spanned.{Spanned, SpannedRule}
 use Rattle.meta_nodes.specs.declared.node.ParserRule.{ParserRule}
 use Rattle.meta_flags.specs.Least.{is_set_at}
-use Rattle.meta_validator.specs.Facts.{AreRoots}
+use Rattle.meta_table.specs.Roots.{AreRoots}
 use Rattle.meta_validator.specs.LeftRecursion.{said, Means}
 use Rattle.meta_table.specs.Nodes.{all_nodes}
-use Rattle.meta_validator.specs.Regions.{root_of, first_of, IsNodeOf, ArePassingSoFar, ArePassingBelow}
+use Rattle.meta_validator.specs.Regions.{IsNodeOf, ArePassingSoFar, ArePassingBelow}
+use Rattle.meta_table.specs.Roots.{root_of, first_of}
 use Rattle.meta_validator.specs.Walk.{without}
 use Rattle.meta_validator.proofs.RegionLemmas.{rises}
-use Rattle.meta_validator.proofs.LayoutLemmas.{some_size}
+use Rattle.meta_table.proofs.LayoutLemmas.{some_size}
 
 -- one flag more
 pub flag_before : (bs : List Bool) (b : Bool) (i : ℕ) → i < length bs → is_set_at (bs ++ b ∷ []) i ≡ is_set_at bs i
@@ -72,10 +73,10 @@ module _ (rules : List ParserRule) (roots : List ℕ) (are : AreRoots rules (all
       → ((r : SpannedRule) → slice_get (rule_views rules) m ≡ Some r → Means (rule_views rules) r.name m → (i : ℕ) (x : Spanned) → slice_get (all_nodes rules) i ≡ Some x → Decides (is_set_at from i) (IsNullable (without r.name (said (rule_views rules))) (without_spans x)))
       → (rule : ParserRule) → slice_get rules m ≡ Some rule
       → ArePassingBelow rules roots m old → ArePassingBelow rules roots (m + 1) new
-  passing_more m root from old new at kept copied long marks rule here below = passing_next m root old new at kept long own rule here below
+  passing_more m root from old new at kept copied long answers rule here below = passing_next m root old new at kept long own rule here below
     where
       own : length old ≡ first_of roots m → ArePassingSoFar rules roots new m
       own e i r x got means node short =
           let a = node.first in let b = node.last in let d = ap (λ o. unwrap_or o 0) at in let s = some_size x in
           subst (λ z. Decides z (IsNullable (without r.name (said (rule_views rules))) (without_spans x))) (sym (copied i (omega arith) (omega arith)))
-          (marks r got means i x node.node)
+          (answers r got means i x node.node)

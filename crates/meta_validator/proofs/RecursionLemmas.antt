@@ -11,7 +11,7 @@ use Rattle.meta_nodes.specs.Nodes.{rule_view, rule_views}
 use Rattle.meta_nodes.specs.Spanned.{Span, SpannedRule}
 use Rattle.meta_nodes.specs.declared.node.ParserRule.{ParserRule}
 use Rattle.meta_validator.specs.Findings.{Finding, found_at, Reports, reports_none, reports_at, OfRecursion, recursive, not_recursive, hidden, places}
-use Rattle.meta_validator.specs.LeftRecursion.{said, Means, Walks, name_at, told_chain}
+use Rattle.meta_validator.specs.LeftRecursion.{said, Means, Walks, name_at, told_trail}
 use Rattle.meta_table.specs.Names.{grammar_of, last_place}
 use Rattle.meta_validator.proofs.ClosingLemmas.{closing_leads, none_comes}
 use Rattle.meta_validator.proofs.ReportingLemmas.{reports_more, got_within}
@@ -71,12 +71,12 @@ module _ (rules : List ParserRule) where
   view_at k h = got_within V k (let e = as_many in omega arith)
 
   -- the message of code says what is to be said
-  pub told_right : (k : ℕ) (r q : SpannedRule) (chain used message : List ℕ) (call here : Span) → slice_get V k ≡ Some r → Means V r.name k → Walks V k (k ∷ []) r.name r.body (Some (record { chain = chain; call = call }))
-      → used ≡ chain → q ≡ r → here ≡ call → message ≡ told_chain V q (record { chain = used; call = here }) → OfRecursion V k (found_at here message ∷ [])
-  told_right k r q chain used message call here at means w as_used as_rule as_call as_told =
-      let walk = subst (λ z. Walks V k (k ∷ []) r.name r.body (Some (record { chain = z; call = here }))) (sym as_used)
-      (subst (λ z. Walks V k (k ∷ []) r.name r.body (Some (record { chain = chain; call = z }))) (sym as_call) w) in
-      subst (λ z. OfRecursion V k (found_at here z ∷ [])) (sym (as_told ∙ ap (λ z. told_chain V z (record { chain = used; call = here })) as_rule)) (recursive at means walk)
+  pub told_right : (k : ℕ) (r q : SpannedRule) (trail used message : List ℕ) (call here : Span) → slice_get V k ≡ Some r → Means V r.name k → Walks V k (k ∷ []) r.name r.body (Some (record { trail = trail; call = call }))
+      → used ≡ trail → q ≡ r → here ≡ call → message ≡ told_trail V q (record { trail = used; call = here }) → OfRecursion V k (found_at here message ∷ [])
+  told_right k r q trail used message call here at means w as_used as_rule as_call as_told =
+      let walk = subst (λ z. Walks V k (k ∷ []) r.name r.body (Some (record { trail = z; call = here }))) (sym as_used)
+      (subst (λ z. Walks V k (k ∷ []) r.name r.body (Some (record { trail = trail; call = z }))) (sym as_call) w) in
+      subst (λ z. OfRecursion V k (found_at here z ∷ [])) (sym (as_told ∙ ap (λ z. told_trail V z (record { trail = used; call = here })) as_rule)) (recursive at means walk)
 
   -- the names of rules
   pub name_there : (k : ℕ) (rule : ParserRule) → slice_get rules k ≡ Some rule → name_at (slice_get V k) ≡ string_bytes rule.name

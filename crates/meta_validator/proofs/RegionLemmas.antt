@@ -5,12 +5,13 @@ use Rattle.std.proofs.lemmas.Option.{slice_get_within, slice_get-map}
 use Rattle.meta_nodes.specs.Nodes.{view, rule_view, rule_views}
 use Rattle.meta_nodes.specs.Spanned.{Span, Spanned, One, Two, Unary, Binary, SpannedRule}
 use Rattle.meta_nodes.specs.declared.node.ParserRule.{ParserRule}
-use Rattle.meta_validator.specs.Facts.{AreRoots}
+use Rattle.meta_table.specs.Roots.{AreRoots}
 use Rattle.meta_table.specs.Nodes.{all_nodes, size}
-use Rattle.meta_validator.specs.Regions.{root_of, first_of, IsNodeOf}
+use Rattle.meta_validator.specs.Regions.{IsNodeOf}
+use Rattle.meta_table.specs.Roots.{root_of, first_of}
 use Rattle.meta_validator.proofs.Answering.{got_root}
 use Rattle.meta_validator.proofs.ReportingLemmas.{got_within}
-use Rattle.meta_validator.proofs.LayoutLemmas.{some_size}
+use Rattle.meta_table.proofs.LayoutLemmas.{some_size}
 
 pub got_rule : (rules : List ParserRule) (k : ℕ) (r : SpannedRule) → slice_get (rule_views rules) k ≡ Some r → (rule : ParserRule) × (slice_get rules k ≡ Some rule) × (rule_view rule ≡ r)
 got_rule rules k r e = go (slice_get rules k) refl (sym (slice_get-map rule_view rules k) ∙ e)

@@ -5,7 +5,7 @@ use Rattle.std.proofs.lemmas.List.{append_assoc, append-nil, take_more, map-appe
 use Rattle.std.proofs.lemmas.Option.{slice_get_within, get_or_from_slice_get, slice_get-map}
 use Rattle.std.proofs.lemmas.Str.{encodes-chars, IsUtf8-string_bytes}
 use Rattle.meta_ast.specs.Ast.{text_of}
-use Rattle.meta_base.specs.Language.Expression as plain
+use Rattle.meta_base.specs.Language.Expression as bare
 use Rattle.meta_base.specs.Language.Expression.{Expression, Grammar}
 use Rattle.meta_base.specs.declared.runtime.places.Span as code_span
 use Rattle.meta_nodes.specs.Erasure.{without_spans}
@@ -18,15 +18,16 @@ use Rattle.meta_validator.specs.Findings.{Finding, found_at, is_skipped_name, la
 use Rattle.meta_table.specs.Names.{grammar_of, last_place, is_end}
 use Rattle.meta_validator.specs.Names.{kind_in, name_kind}
 use Rattle.meta_table.specs.Nodes.{all_nodes}
-use Rattle.meta_validator.specs.Numbering.{Says, Fits, leaf_kind, wrap_kind, wrap_of}
+use Rattle.meta_validator.specs.Kinds.{Says, Fits, leaf_kind, wrap_kind, wrap_of}
 use Rattle.meta_validator.specs.Reporting.{AreSpans, repeated_at, repetition_at, alternative_of, alternative_at, unreachable_at, choice_at, skipped_at}
 use Rattle.meta_validator.specs.declared.facts.Facts.{Facts}
-use Rattle.meta_validator.specs.declared.numbering.Wrap.{Wrap}
-use Rattle.meta_validator.specs.declared.numbering.Wrap.TheVariants as wraps
+use Rattle.meta_validator.specs.declared.kinds.Wrap.{Wrap}
+use Rattle.meta_validator.specs.declared.kinds.Wrap.TheVariants as wraps
 use Rattle.meta_validator.specs.declared.table.Kind.{Kind}
 use Rattle.meta_validator.specs.declared.table.Kind.TheVariants as is
 use Rattle.meta_validator.proofs.Answering.{got_root}
-use Rattle.meta_validator.proofs.Tying.{stands_at, says, span_at}
+use Rattle.meta_validator.proofs.Tying.{stands_at, says}
+use Rattle.meta_table.proofs.Numbered.{span_at}
 
 -- 1. one more is looked at
 pub reports_more : {X : Type 0} (R : X → List Finding → Type 0) {xs : List X} {fs : List Finding} → Reports R xs fs → (x : X) (gs : List Finding) → R x gs → Reports R (xs ++ x ∷ []) (fs ++ gs)
@@ -52,29 +53,29 @@ name_kinds P t e c d true (Some r) = d r
 name_kinds P t e c d false (Some r) = c r
 
 pub leaf_kinds : (P : Kind → Type 0) → P is.Taking → P is.Still → P is.End → ((r : ℕ) → P (is.Call r)) → ((r : ℕ) → P (is.EndCall r)) → (g : Grammar) (e : Expression) → P (leaf_kind (kind_in g) e)
-leaf_kinds P t s e c d g (plain.Str []) = s
-leaf_kinds P t s e c d g (plain.Str (a ∷ u)) = t
-leaf_kinds P t s e c d g (plain.Insens []) = s
-leaf_kinds P t s e c d g (plain.Insens (a ∷ u)) = t
-leaf_kinds P t s e c d g (plain.Ident n) = name_kinds P t e c d (is_end n) (last_place g n)
-leaf_kinds P t s e c d g (plain.Range u v) = t
-leaf_kinds P t s e c d g (plain.PeekSlice i j) = t
-leaf_kinds P t s e c d g (plain.PosPred x) = t
-leaf_kinds P t s e c d g (plain.NegPred x) = t
-leaf_kinds P t s e c d g (plain.Seq x y) = t
-leaf_kinds P t s e c d g (plain.Choice x y) = t
-leaf_kinds P t s e c d g (plain.Opt x) = t
-leaf_kinds P t s e c d g (plain.Rep x) = t
-leaf_kinds P t s e c d g (plain.RepOnce x) = t
-leaf_kinds P t s e c d g (plain.RepExact x n) = t
-leaf_kinds P t s e c d g (plain.RepMin x n) = t
-leaf_kinds P t s e c d g (plain.RepMax x n) = t
-leaf_kinds P t s e c d g (plain.RepMinMax x m n) = t
-leaf_kinds P t s e c d g (plain.Skip ts) = t
-leaf_kinds P t s e c d g (plain.Push x) = t
-leaf_kinds P t s e c d g (plain.PushLiteral u) = s
-leaf_kinds P t s e c d g (plain.NodeTag x u) = t
-leaf_kinds P t s e c d g (plain.RestoreOnErr x) = t
+leaf_kinds P t s e c d g (bare.Str []) = s
+leaf_kinds P t s e c d g (bare.Str (a ∷ u)) = t
+leaf_kinds P t s e c d g (bare.Insens []) = s
+leaf_kinds P t s e c d g (bare.Insens (a ∷ u)) = t
+leaf_kinds P t s e c d g (bare.Ident n) = name_kinds P t e c d (is_end n) (last_place g n)
+leaf_kinds P t s e c d g (bare.Range u v) = t
+leaf_kinds P t s e c d g (bare.PeekSlice i j) = t
+leaf_kinds P t s e c d g (bare.PosPred x) = t
+leaf_kinds P t s e c d g (bare.NegPred x) = t
+leaf_kinds P t s e c d g (bare.Seq x y) = t
+leaf_kinds P t s e c d g (bare.Choice x y) = t
+leaf_kinds P t s e c d g (bare.Opt x) = t
+leaf_kinds P t s e c d g (bare.Rep x) = t
+leaf_kinds P t s e c d g (bare.RepOnce x) = t
+leaf_kinds P t s e c d g (bare.RepExact x n) = t
+leaf_kinds P t s e c d g (bare.RepMin x n) = t
+leaf_kinds P t s e c d g (bare.RepMax x n) = t
+leaf_kinds P t s e c d g (bare.RepMinMax x m n) = t
+leaf_kinds P t s e c d g (bare.Skip ts) = t
+leaf_kinds P t s e c d g (bare.Push x) = t
+leaf_kinds P t s e c d g (bare.PushLiteral u) = s
+leaf_kinds P t s e c d g (bare.NodeTag x u) = t
+leaf_kinds P t s e c d g (bare.RestoreOnErr x) = t
 
 wrap_kinds : (P : Kind → Type 0) → ((j : ℕ) → P (is.Ahead j)) → ((j : ℕ) → P (is.NotAhead j)) → ((j : ℕ) → P (is.Free j)) → ((j : ℕ) → P (is.Inside j)) → ((j : ℕ) → P (is.Again j)) → ((j : ℕ) → P (is.OnceAgain j)) → (w : Wrap) (j : ℕ) → P (wrap_kind w j)
 wrap_kinds P a b c d e f wraps.Ahead j = a j

@@ -6,7 +6,7 @@ use Rattle.std.proofs.lemmas.List.Elements.{Contains-append_left, Contains-appen
 use Rattle.std.proofs.lemmas.Option.{slice_get_within}
 use Rattle.meta_base.specs.Language.Text.{Text}
 use Rattle.meta_base.specs.Language.Expression.{Expression, Ident}
-use Rattle.meta_base.specs.Language.Expression as plain
+use Rattle.meta_base.specs.Language.Expression as bare
 use Rattle.meta_nodes.specs.Erasure.{without_spans}
 use Rattle.meta_nodes.specs.Spanned.{Spanned, Leaf, SpannedRule, Span}
 use Rattle.meta_nodes.specs.declared.node.ParserRule.{ParserRule}
@@ -27,11 +27,11 @@ name_walked : (rules : List SpannedRule) (v n k : Text) → Walked (said rules) 
 name_walked rules v n k w_name = refl
 
 simple_none : (rules : List SpannedRule) (v : Text) (e : Expression) (n : Text) → IsSimple e → IsNoName e → Walked (said rules) v e n → ⊥
-simple_none rules v (plain.Str t) n s h w = elim w [ ]
-simple_none rules v (plain.Insens t) n s h w = elim w [ ]
-simple_none rules v (plain.Range t u) n s h w = elim w [ ]
-simple_none rules v (plain.PushLiteral t) n s h w = elim w [ ]
-simple_none rules v (plain.PeekSlice i j) n s h w = elim w [ ]
+simple_none rules v (bare.Str t) n s h w = elim w [ ]
+simple_none rules v (bare.Insens t) n s h w = elim w [ ]
+simple_none rules v (bare.Range t u) n s h w = elim w [ ]
+simple_none rules v (bare.PushLiteral t) n s h w = elim w [ ]
+simple_none rules v (bare.PeekSlice i j) n s h w = elim w [ ]
 simple_none rules v (Ident m) n s h w = absurd h
 simple_none rules v _ n s h w = absurd s
 
@@ -108,9 +108,9 @@ module _ (rules : List ParserRule) (roots : List ℕ) (start : ℕ) (entered : L
 
   -- 4. a call of the start
   pub closes : (i : ℕ) (s : Span) (n : Text) (todo : List Task) (k : ℕ) (path : List ℕ) → slice_get (all_nodes rules) i ≡ Some (Leaf s (Ident n)) → Means V n start → Search (Visit i ∷ todo) (k ∷ path)
-      → IsSought rules roots start (Some (record { chain = ordered (k ∷ path); call = s }))
-  closes i s n todo k path at means search = search.answers (Some (record { chain = ordered (k ∷ path); call = s }))
-      (inl (λ y h. subst (λ z. Walks V start (ordered (k ∷ path)) (last_name rules roots start (k ∷ path)) z (Some (record { chain = ordered (k ∷ path); call = s }))) (same_rule at h) (walks_closing means)))
+      → IsSought rules roots start (Some (record { trail = ordered (k ∷ path); call = s }))
+  closes i s n todo k path at means search = search.answers (Some (record { trail = ordered (k ∷ path); call = s }))
+      (inl (λ y h. subst (λ z. Walks V start (ordered (k ∷ path)) (last_name rules roots start (k ∷ path)) z (Some (record { trail = ordered (k ∷ path); call = s }))) (same_rule at h) (walks_closing means)))
 
   -- 5. a rule is entered
   module _ (t : ℕ) (apart : t ≡ start → ⊥) (small : t < length entered) where

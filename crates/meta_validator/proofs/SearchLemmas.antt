@@ -5,7 +5,7 @@ use Rattle.std.specs.List.{Contains}
 use Rattle.std.proofs.lemmas.List.Elements.{Contains-append_left, Contains-append_cases}
 use Rattle.meta_base.specs.Language.Text.{Text}
 use Rattle.meta_base.specs.Language.Expression.{Expression, Ident}
-use Rattle.meta_base.specs.Language.Expression as plain
+use Rattle.meta_base.specs.Language.Expression as bare
 use Rattle.meta_nodes.specs.Erasure.{without_spans, round}
 use Rattle.meta_nodes.specs.Spanned as spanned
 use Rattle.meta_nodes.specs.Spanned.{Spanned, Leaf, One, Two, Unary, Seq, Choice, SpannedRule, Span}
@@ -138,7 +138,7 @@ module _ (rules : List ParserRule) (roots : List ℕ) (start : ℕ) (entered : L
   first_only i j s x y todo k path at place stops search = stepped i (Two s Seq x y) todo (Visit j ∷ todo) k path at refl ((x, place), search.placed.1) goes
       (λ m d. inr (inl (x, place.node, (d.0, left_side d.0 d.1, d.2)))) (λ m d. inr d) search
     where
-      left_side : (n : Text) → Walked (said V) (last_name rules roots start (k ∷ path)) (plain.Seq (without_spans x) (without_spans y)) n → Walked (said V) (last_name rules roots start (k ∷ path)) (without_spans x) n
+      left_side : (n : Text) → Walked (said V) (last_name rules roots start (k ∷ path)) (bare.Seq (without_spans x) (without_spans y)) n → Walked (said V) (last_name rules roots start (k ∷ path)) (without_spans x) n
       left_side n (w_first w) = w
       left_side n (w_second p w) = absurd (stops p)
 
@@ -177,11 +177,11 @@ module _ (rules : List ParserRule) (roots : List ℕ) (start : ℕ) (entered : L
     both_sides search = stepped i both todo (Visit j ∷ Visit l ∷ todo) k path at refl ((x, place), ((y, other), search.placed.1)) both_goes
         (λ m d. inr (both_owed m d)) (λ m d. inr (inr d)) search
 
-  choice_sides : (v n : Text) (x y : Spanned) → Walked (said V) v (plain.Choice (without_spans x) (without_spans y)) n → Walked (said V) v (without_spans x) n ⊎ Walked (said V) v (without_spans y) n
+  choice_sides : (v n : Text) (x y : Spanned) → Walked (said V) v (bare.Choice (without_spans x) (without_spans y)) n → Walked (said V) v (without_spans x) n ⊎ Walked (said V) v (without_spans y) n
   choice_sides v n x y (w_left w) = inl w
   choice_sides v n x y (w_right w) = inr w
 
-  seq_sides : (v n : Text) (x y : Spanned) → Walked (said V) v (plain.Seq (without_spans x) (without_spans y)) n → Walked (said V) v (without_spans x) n ⊎ Walked (said V) v (without_spans y) n
+  seq_sides : (v n : Text) (x y : Spanned) → Walked (said V) v (bare.Seq (without_spans x) (without_spans y)) n → Walked (said V) v (without_spans x) n ⊎ Walked (said V) v (without_spans y) n
   seq_sides v n x y (w_first w) = inl w
   seq_sides v n x y (w_second p w) = inr w
 

@@ -33,14 +33,14 @@ take_front : {A : Type 0} (xs : List A) (x : A) → take (length xs) (xs ++ x �
 take_front [] x = refl
 take_front (y ∷ xs) x = ap (λ z. y ∷ z) (take_front xs x)
 
--- a chain whose last rule is taken away
-pub chain_popped : (path : List ℕ) (chain popped : List ℕ) (n : ℕ) → chain ≡ ordered path → n ≡ length chain → popped ≡ take (n - 1) chain → popped ≡ ordered (rest path)
-chain_popped [] chain popped n e l h = h ∙ (ap (take (n - 1)) e ∙ taken_none (n - 1))
+-- a trail whose last rule is taken away
+pub trail_popped : (path : List ℕ) (trail popped : List ℕ) (n : ℕ) → trail ≡ ordered path → n ≡ length trail → popped ≡ take (n - 1) trail → popped ≡ ordered (rest path)
+trail_popped [] trail popped n e l h = h ∙ (ap (take (n - 1)) e ∙ taken_none (n - 1))
   where
     taken_none : (m : ℕ) → take {A = ℕ} m [] ≡ []
     taken_none zero = refl
     taken_none (suc m) = refl
-chain_popped (k ∷ path) chain popped n e l h =
+trail_popped (k ∷ path) trail popped n e l h =
     let a = ap (λ z. length z) e in
     let b = length_push (ordered path) k in
     let m : n - 1 ≡ length (ordered path) = omega arith in

@@ -114,7 +114,7 @@ begun_going rules facts right start root r flags l none here means got =
     let b = length-map rules rule_view in
     let w = slice_get_within (rule_views rules) start r here in
     let state = begins rules facts.table.roots.items start root r flags (omega arith) (omega arith) none here means (body_node rules facts.table.roots.items right.tabled.roots start root r here got) in
-    record { todo = Visit root ∷ Leave ∷ []; path = start ∷ []; are_tasks = refl; is_chain = refl; state = state }
+    record { todo = Visit root ∷ Leave ∷ []; path = start ∷ []; are_tasks = refl; is_trail = refl; state = state }
 
 -- no walk comes back where all that was entered was left
 module _ (rules : List ParserRule) (facts : Facts) (right : AreFacts rules facts) (start : ℕ) (entered : List Bool)
@@ -144,22 +144,22 @@ module _ (rules : List ParserRule) (facts : Facts) (right : AreFacts rules facts
 
 -- a call is walked over as the code does it
 module _ (rules : List ParserRule) (facts : Facts) (right : AreFacts rules facts) (passing : List Bool) (are : ArePassing rules facts.table.roots.items passing) (start node : ℕ) (old new : Walk) (todo : List Task) (path : List ℕ)
-    (state : IsSearch rules facts.table.roots.items start old.entered.all.items (Visit node ∷ todo) path) (tasks : old.tasks.items ≡ ordered todo) (chain : old.chain.items ≡ ordered path) where
+    (state : IsSearch rules facts.table.roots.items start old.entered.all.items (Visit node ∷ todo) path) (tasks : old.tasks.items ≡ ordered todo) (trail : old.trail.items ≡ ordered path) where
   abbrev Goes_on : Walk → Type 0
-  Goes_on w = IsGoing rules facts.table.roots.items start w.entered.all.items w.tasks.items w.chain.items
+  Goes_on w = IsGoing rules facts.table.roots.items start w.entered.all.items w.tasks.items w.trail.items
       × (cost (all_nodes rules) w.tasks.items + unentered w.entered.all.items (rule_views rules) < cost (all_nodes rules) (old.tasks.items ++ Visit node ∷ []) + unentered old.entered.all.items (rule_views rules))
 
   pub walk_called : (t : ℕ) → called_in (slice_get facts.table.kinds.items node) ≡ Some t → (t ≡ start → ⊥) → (is_set_at old.entered.all.items t ≡ true → new ≡ old) → (is_set_at old.entered.all.items t ≡ false → new.entered.all.items ≡ set old.entered.all.items t true)
-      → (is_set_at old.entered.all.items t ≡ false → new.chain.items ≡ old.chain.items ++ t ∷ []) → (is_set_at old.entered.all.items t ≡ false → (root : ℕ) → slice_get facts.table.roots.items t ≡ Some root → new.tasks.items ≡ (old.tasks.items ++ Leave ∷ []) ++ Visit root ∷ [])
+      → (is_set_at old.entered.all.items t ≡ false → new.trail.items ≡ old.trail.items ++ t ∷ []) → (is_set_at old.entered.all.items t ≡ false → (root : ℕ) → slice_get facts.table.roots.items t ≡ Some root → new.tasks.items ≡ (old.tasks.items ++ Leave ∷ []) ++ Visit root ∷ [])
       → Goes_on new
-  walk_called t e apart on entered chained queued = go (is_set_at old.entered.all.items t) refl
+  walk_called t e apart on entered trailed queued = go (is_set_at old.entered.all.items t) refl
     where
       go : (b : Bool) → is_set_at old.entered.all.items t ≡ b → Goes_on new
       go true h =
           let (next, less) = known rules facts right passing are start old.entered.all.items node todo path state t e apart h in
           let a = ap (λ z. cost (all_nodes rules) z) tasks in
           let b = ap (λ z. cost (all_nodes rules) (z ++ Visit node ∷ [])) tasks in
-          subst Goes_on (sym (on h)) (record { todo = todo; path = path; are_tasks = tasks; is_chain = chain; state = next }, omega arith)
+          subst Goes_on (sym (on h)) (record { todo = todo; path = path; are_tasks = tasks; is_trail = trail; state = next }, omega arith)
       go false h =
           let small = (in_range rules facts right passing are start old.entered.all.items node todo path state t e).0 in
           let (root, got) = got_within facts.table.roots.items t small in
@@ -172,18 +172,18 @@ module _ (rules : List ParserRule) (facts : Facts) (right : AreFacts rules facts
               todo = Visit root ∷ Leave ∷ todo;
               path = t ∷ path;
               are_tasks = same;
-              is_chain = chained h ∙ ap (λ z. z ++ t ∷ []) chain;
+              is_trail = trailed h ∙ ap (λ z. z ++ t ∷ []) trail;
               state = subst (λ z. IsSearch rules facts.table.roots.items start z (Visit root ∷ Leave ∷ todo) (t ∷ path)) (sym (entered h)) next;
             },
             omega arith,
           )
 
   pub walk_inner : (o : Option Kind) → o ≡ slice_get facts.table.kinds.items node → called_in o ≡ None → (queued : List Task) → queued ≡ old.tasks.items ++ inside_of passing o
-      → IsGoing rules facts.table.roots.items start old.entered.all.items queued old.chain.items
+      → IsGoing rules facts.table.roots.items start old.entered.all.items queued old.trail.items
       × (cost (all_nodes rules) queued + unentered old.entered.all.items (rule_views rules) < cost (all_nodes rules) (old.tasks.items ++ Visit node ∷ []) + unentered old.entered.all.items (rule_views rules))
   walk_inner o is_kind none queued pushed =
       let (new_todo, same, next, less) = inner rules facts right passing are start old.entered.all.items node todo path state (sym (ap called_in is_kind) ∙ none) in
       let all : queued ≡ ordered todo ++ inside_of passing (slice_get facts.table.kinds.items node) = pushed ∙ (ap (λ z. z ++ inside_of passing o) tasks ∙ ap (λ z. ordered todo ++ inside_of passing z) is_kind) in
       let a = ap (λ z. cost (all_nodes rules) z) all in
       let b = ap (λ z. cost (all_nodes rules) (z ++ Visit node ∷ [])) tasks in
-      (record { todo = new_todo; path = path; are_tasks = all ∙ same; is_chain = chain; state = next }, omega arith)
+      (record { todo = new_todo; path = path; are_tasks = all ∙ same; is_trail = trail; state = next }, omega arith)

@@ -1,31 +1,20 @@
--- Tables of rules, and what marks say of their nodes.
-use Rattle.std.specs.Prelude.{◌≡◌, ℕ, ◌+◌, List, Some, Bool, slice_get, length}
+-- Tables of rules, and what answers say of their nodes.
+use Rattle.std.specs.Prelude.{◌≡◌, ℕ, List, Some, Bool, slice_get, length}
 use Rattle.std.specs.Bool.{Decides}
 use Rattle.meta_base.specs.Language.Expression.{Expression, Grammar}
 use Rattle.meta_base.specs.Language.WellFormed.{IsNullable, CannotFail}
 use Rattle.meta_nodes.specs.Nodes.{view}
 use Rattle.meta_nodes.specs.declared.node.ParserRule.{ParserRule}
-use Rattle.meta_nodes.specs.Spanned.{Spanned}
 use Rattle.meta_flags.specs.Least.{is_set_at}
-use Rattle.meta_table.specs.NameMaps.{KnowsRules}
 use Rattle.meta_table.specs.Names.{grammar_of}
 use Rattle.meta_validator.specs.Names.{kind_in}
-use Rattle.meta_table.specs.Nodes.{all_nodes, size}
-use Rattle.meta_validator.specs.Numbering.{Stands, Says, AreNodes}
-use Rattle.meta_validator.specs.Regions.{first_of}
+use Rattle.meta_table.specs.Nodes.{all_nodes}
+use Rattle.meta_table.specs.Roots.{AreRoots}
+use Rattle.meta_validator.specs.Kinds.{Stands, Says, AreNodes}
 use Rattle.meta_validator.specs.declared.table.Question.{Question}
 use Rattle.meta_validator.specs.declared.table.Question.TheVariants as asks
 use Rattle.meta_validator.specs.declared.table.Table.{Table}
 use Rattle.meta_validator.specs.declared.facts.Facts as code
-
--- the bodies of rules lie among these nodes, at these places, each behind the one before, and nothing else
-pub record AreRoots (rules : List ParserRule) (nodes : List Spanned) (roots : List ℕ) : Type 0 where
-  pub alike : length roots ≡ length rules
-  pub lie : (r i : ℕ) (rule : ParserRule) → slice_get rules r ≡ Some rule → slice_get roots r ≡ Some i
-      → slice_get nodes i ≡ Some (view rule.node)
-  pub begin : (r i : ℕ) (rule : ParserRule) → slice_get rules r ≡ Some rule → slice_get roots r ≡ Some i
-      → first_of roots r + size (view rule.node) ≡ i + 1
-  pub full : first_of roots (length roots) ≡ length nodes
 
 -- the table of the nodes of all bodies
 pub record AreTabled (rules : List ParserRule) (table : Table) : Type 0 where
@@ -44,16 +33,14 @@ abbrev pub Asked : Question → Grammar → Expression → Type 0
 Asked asks.TakesNothing g e = IsNullable g e
 Asked asks.CannotFail g e = CannotFail g e
 
--- marks answer a question for each node of each rule
+-- answers to a question for each node of each rule
 abbrev pub AreAnswers : List ParserRule → Table → Question → List Bool → Type 0
-AreAnswers rules table q marks = (i : ℕ) (e : Expression)
+AreAnswers rules table q answers = (i : ℕ) (e : Expression)
     → Says (kind_in (grammar_of rules)) table.kinds.items i e
-    → Decides (is_set_at marks i) (Asked q (grammar_of rules) e)
+    → Decides (is_set_at answers i) (Asked q (grammar_of rules) e)
 
--- the facts of rules: their names, their table, and for each node whether it may take nothing and whether it
--- cannot fail
+-- the facts of rules: their table, and for each node whether it may take nothing and whether it cannot fail
 pub record AreFacts (rules : List ParserRule) (facts : code.Facts) : Type 0 where
-  pub names : KnowsRules rules facts.names
   pub tabled : AreTabled rules facts.table
   pub table : IsTableOf rules facts.table
   pub nullable : AreAnswers rules facts.table asks.TakesNothing facts.nullable.items

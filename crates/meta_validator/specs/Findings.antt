@@ -11,7 +11,7 @@ use Rattle.meta_base.specs.Language.WellFormed.{IsNullable, CannotFail, Leads}
 use Rattle.meta_nodes.specs.Erasure.{without_spans, rules_without_spans}
 use Rattle.meta_nodes.specs.Spanned.{Span, span_of, Spanned, One, Two, Unary, Rep, RepOnce, RepMin, Choice, SpannedRule}
 use Rattle.meta_table.specs.Nodes.{every_node}
-use Rattle.meta_validator.specs.LeftRecursion.{Closed, Means, Walks, told_chain}
+use Rattle.meta_validator.specs.LeftRecursion.{Closed, Means, Walks, told_trail}
 use Rattle.meta_validator.specs.Tags.{of_tags}
 
 -- what is wrong, and where: what is to be said of a piece
@@ -90,7 +90,7 @@ module _ (rules : List SpannedRule) where
   pub data OfRecursion : ℕ → List Finding → Type 0 where
     recursive : {k : ℕ} {r : SpannedRule} {closed : Closed} → slice_get rules k ≡ Some r
         → Means rules r.name k → Walks rules k (k ∷ []) r.name r.body (Some closed)
-        → OfRecursion k (found_at closed.call (told_chain rules r closed) ∷ [])
+        → OfRecursion k (found_at closed.call (told_trail rules r closed) ∷ [])
     not_recursive : {k : ℕ} {r : SpannedRule} → slice_get rules k ≡ Some r
         → Means rules r.name k → Walks rules k (k ∷ []) r.name r.body None → OfRecursion k []
     hidden : {k : ℕ} {r : SpannedRule} → slice_get rules k ≡ Some r
@@ -122,7 +122,8 @@ endless_at place =
     found_at place (codes "expression inside repetition is non-progressing and will repeat infinitely")
 
 -- what is found in rules: repetitions, then those that are known to be endless, then choices, then rules that
--- are skipped, then left recursion, of which something is found exactly where left calls have a cycle; then tags
+-- are skipped, then left recursion, of which something is found exactly where left calls have a cycle; then
+-- tags
 pub record AreFound (rules : List SpannedRule) (endless : List Span) (found : List Finding) : Type 0 where
   pub repetitions : List Finding
   pub choices : List Finding

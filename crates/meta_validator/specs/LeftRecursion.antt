@@ -11,9 +11,9 @@ use Rattle.meta_nodes.specs.Spanned.{Span, Spanned, Leaf, One, Two, Unary, Binar
 use Rattle.meta_table.specs.Names.{last_place}
 use Rattle.meta_validator.specs.Walk.{without}
 
--- a call of the first rule of a chain: the places of the rules of the chain, and where the call stands
+-- a call of the first rule of a trail: the places of the rules of the trail, and where the call stands
 pub record Closed : Type 0 where
-  pub chain : List ℕ
+  pub trail : List ℕ
   pub call : Span
 
 -- an expression without operands that is no name
@@ -38,13 +38,13 @@ module _ (rules : List SpannedRule) where
   abbrev pub Passes : Text → Spanned → Type 0
   Passes v x = IsNullable (without v said) (without_spans x) ⊎ CannotFail (without v said) (without_spans x)
 
-  -- `Walks start chain v x found`: the walk over x, a part of the body of the rule v at the end of the chain,
+  -- `Walks start trail v x found`: the walk over x, a part of the body of the rule v at the end of the trail,
   -- comes first to this call of `start`, or to none
   pub data Walks (start : ℕ) : List ℕ → Text → Spanned → Option Closed → Type 0 where
     walks_over : {c : List ℕ} {v : Text} {s : Span} {e : Expression} → IsNoName e
         → Walks start c v (Leaf s e) None
     walks_closing : {c : List ℕ} {v n : Text} {s : Span} → Means n start
-        → Walks start c v (Leaf s (Ident n)) (Some (record { chain = c; call = s }))
+        → Walks start c v (Leaf s (Ident n)) (Some (record { trail = c; call = s }))
     walks_outside : {c : List ℕ} {v n : Text} {s : Span} → last_place said n ≡ None
         → Walks start c v (Leaf s (Ident n)) None
     walks_again : {c : List ℕ} {v n : Text} {s : Span} {k : ℕ} → Means n k → (k ≡ start → ⊥) → Contains c k
@@ -66,13 +66,13 @@ module _ (rules : List SpannedRule) where
     walks_other : {c : List ℕ} {v : Text} {s : Span} {x y : Spanned} {o : Option Closed}
         → Walks start c v x None → Walks start c v y o → Walks start c v (Two s Choice x y) o
 
-  -- the names of the rules of a chain, an arrow behind each
+  -- the names of the rules of a trail, an arrow behind each
   abbrev pub arrows : List ℕ → List ℕ
-  arrows chain = flat_map (λ k. name_at (slice_get rules k) ++ codes " -> ") chain
+  arrows trail = flat_map (λ k. name_at (slice_get rules k) ++ codes " -> ") trail
 
-  -- what is said of a call that closes a chain: the call as it is written, and the names of the chain up to
+  -- what is said of a call that closes a trail: the call as it is written, and the names of the trail up to
   -- that of its first rule again
-  abbrev pub told_chain : SpannedRule → Closed → List ℕ
-  told_chain first closed = codes "rule " ++ (written closed.call ++ (codes " is left-recursive ("
-      ++ (arrows closed.chain ++ (encode_utf8_all first.name
+  abbrev pub told_trail : SpannedRule → Closed → List ℕ
+  told_trail first closed = codes "rule " ++ (written closed.call ++ (codes " is left-recursive ("
+      ++ (arrows closed.trail ++ (encode_utf8_all first.name
       ++ codes "); pest::pratt_parser might be useful in this case"))))

@@ -1,4 +1,5 @@
--- Levels of nodes: none is lower than those of the nodes on which it depends whether the node may take nothing.
+-- Levels of nodes: none is lower than those of the nodes on which it depends whether the node may take
+-- nothing.
 use Rattle.std.specs.Prelude.{◌≡◌, ℕ, ◌<◌, ◌≤◌, List, Option, Some, None, Bool, true, false, if◌then◌else◌, nat_eq, ⊤, slice_get}
 use Rattle.meta_flags.specs.Least.{is_set_at}
 use Rattle.meta_validator.specs.Cycles.{rank_at}

@@ -1,10 +1,9 @@
 pub mod Table
-pub mod Marks
+pub mod RightAnswers
 pub mod Walk
 pub mod Reports
 pub mod Names
-pub mod Numbering
-pub mod Layout
+pub mod Kinds
 pub mod Facts
 pub mod Cycles
 pub mod Levels

@@ -1,5 +1,5 @@
 -- Which nodes are those of a rule's body.
-use Rattle.std.specs.Prelude.{◌≡◌, ℕ, zero, suc, ◌+◌, ◌<◌, ◌≤◌, List, Bool, Some, length, slice_get, unwrap_or}
+use Rattle.std.specs.Prelude.{◌≡◌, ℕ, ◌+◌, ◌<◌, ◌≤◌, List, Bool, Some, length, slice_get}
 use Rattle.std.specs.Bool.{Decides}
 use Rattle.meta_base.specs.Language.WellFormed.{IsNullable}
 use Rattle.meta_nodes.specs.Erasure.{without_spans}
@@ -9,16 +9,8 @@ use Rattle.meta_nodes.specs.declared.node.ParserRule.{ParserRule}
 use Rattle.meta_flags.specs.Least.{is_set_at}
 use Rattle.meta_validator.specs.LeftRecursion.{said, Means}
 use Rattle.meta_table.specs.Nodes.{size, all_nodes}
+use Rattle.meta_table.specs.Roots.{root_of, first_of}
 use Rattle.meta_validator.specs.Walk.{without}
-
--- the number of a rule's body
-abbrev pub root_of : List ℕ → ℕ → ℕ
-root_of roots k = unwrap_or (slice_get roots k) 0
-
--- the number of the first node of a rule's body: it follows the body of the rule before
-abbrev pub first_of : List ℕ → ℕ → ℕ
-first_of roots zero = 0
-first_of roots (suc k) = suc (root_of roots k)
 
 -- the node of this number is one of the body of the rule at k, with all that is inside it
 pub record IsNodeOf (rules : List ParserRule) (roots : List ℕ) (k i : ℕ) (x : Spanned) : Type 0 where

@@ -146,18 +146,18 @@ module _ (rules : List ParserRule) (roots : List ℕ) (start : ℕ) where
     pub last_ones : (k : ℕ) → Contains (ordered path) k → Means views (name_of (slice_get views k)) k
 
   -- the search goes on
-  pub record IsGoing (entered : List Bool) (tasks : List Task) (chain : List ℕ) : Type 0 where
+  pub record IsGoing (entered : List Bool) (tasks : List Task) (trail : List ℕ) : Type 0 where
     pub todo : List Task
     pub path : List ℕ
     pub are_tasks : tasks ≡ ordered todo
-    pub is_chain : chain ≡ ordered path
+    pub is_trail : trail ≡ ordered path
     pub state : IsSearch entered todo path
 
-  -- a node closes the chain: its walk is what is sought
-  pub record IsClosing (node : ℕ) (chain : List ℕ) : Type 0 where
+  -- a node closes the trail: its walk is what is sought
+  pub record IsClosing (node : ℕ) (trail : List ℕ) : Type 0 where
     pub call : Spanned
     pub here : slice_get (all_nodes rules) node ≡ Some call
-    pub sought : IsSought (Some (record { chain = chain; call = span_of call }))
+    pub sought : IsSought (Some (record { trail = trail; call = span_of call }))
 
   -- no walk from the start comes back to it
   abbrev pub NeverComesBack : Type 0
@@ -167,5 +167,5 @@ module _ (rules : List ParserRule) (roots : List ℕ) (start : ℕ) where
 pub record IsIdle (rules : List ParserRule) (walk : Walk) : Type 0 where
   pub alike : length walk.entered.all.items ≡ length rules
   pub entered : NoneSet walk.entered.all.items
-  pub chain : walk.chain.items ≡ []
+  pub trail : walk.trail.items ≡ []
   pub tasks : walk.tasks.items ≡ []

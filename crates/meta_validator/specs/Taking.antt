@@ -14,7 +14,8 @@ RepeatedTakes facts (is.OnceAgain j) = is_set_at facts.nullable.items j ≡ fals
 RepeatedTakes facts _ = ⊤
 
 abbrev pub AllRepeatedTake : Facts → Type 0
-AllRepeatedTake facts = (i : ℕ) (k : Kind) → slice_get facts.table.kinds.items i ≡ Some k → RepeatedTakes facts k
+AllRepeatedTake facts = (i : ℕ) (k : Kind) → slice_get facts.table.kinds.items i ≡ Some k
+    → RepeatedTakes facts k
 
 abbrev pub SkippedTake : List ParserRule → Facts → Type 0
 SkippedTake rules facts = (r : ℕ) (rule : ParserRule) (i : ℕ) → slice_get rules r ≡ Some rule

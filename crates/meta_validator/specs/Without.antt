@@ -1,6 +1,6 @@
 -- A table where calls of a rule count as neither.
 use Rattle.std.specs.Prelude.{◌≡◌, ℕ, List, Bool, map, nat_eq, if◌then◌else◌}
-use Rattle.meta_validator.specs.Marks.{AreSound, AreClosed}
+use Rattle.meta_validator.specs.RightAnswers.{AreSound, AreClosed}
 use Rattle.meta_validator.specs.declared.table.Kind.{Kind}
 use Rattle.meta_validator.specs.declared.table.Kind.TheVariants as is
 use Rattle.meta_validator.specs.declared.table.Question.TheVariants as asks
@@ -16,8 +16,8 @@ pub record IsWithout (r : ℕ) (old new : Table) : Type 0 where
   pub roots : new.roots.items ≡ old.roots.items
 
 -- these nodes may take nothing where calls of the rule count as neither
-pub record AreMarksWithout (r : ℕ) (old : Table) (marks : List Bool) : Type 0 where
+pub record AreAnswersWithout (r : ℕ) (old : Table) (answers : List Bool) : Type 0 where
   pub table : Table
   pub without_it : IsWithout r old table
-  pub sound : AreSound asks.TakesNothing table marks
-  pub closed : AreClosed asks.TakesNothing table marks
+  pub sound : AreSound asks.TakesNothing table answers
+  pub closed : AreClosed asks.TakesNothing table answers

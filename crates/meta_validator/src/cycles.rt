@@ -1,7 +1,8 @@
 //! Whether some rule calls itself before anything is taken, in one pass: the nodes are ordered by a search
 //! in depth, and the order is then looked over node by node. Only what is looked over counts: where each
 //! left call leads down, none comes back. Where one does come back, levels in place of the order tell which
-//! rules none comes back to: no left call leads to a higher level, and those of such a rule lead to lower ones.
+//! rules none comes back to: no left call leads to a higher level, and those of such a rule lead to lower
+//! ones.
 ghost use Rattle.std.specs.Prelude.{◌≡◌, ◌<◌, ◌≤◌, ◌+◌, ◌*◌, IfOk, OnOk, length, true};
 ghost use Rattle.meta_base.specs.Language.Text.{Text};
 ghost use Rattle.meta_base.specs.Language.WellFormed.{Leads};

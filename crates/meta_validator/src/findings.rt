@@ -1,15 +1,16 @@
 //! What is wrong with rules besides left recursion: repetitions that never end, alternatives that are never
 //! reached, and rules that are skipped although they may take nothing.
-ghost use Rattle.std.specs.Prelude.{◌≡◌, ◌++◌, ◌∷◌, [], IfOk, OnOk, map, string_bytes, slice_get, Option};
+ghost use Rattle.std.specs.Prelude.{◌≡◌, ◌++◌, ◌∷◌, [], IfOk, OnOk, map, string_bytes, slice_get, List, Option};
 ghost use Rattle.meta_nodes.specs.Nodes.{piece_of, rule_views};
 ghost use Rattle.meta_validator.specs.Facts.{AreFacts};
 ghost use Rattle.meta_validator.specs.Findings.{found_at, OfRepetition, OfChoice, OfSkipped, Reports};
 ghost use Rattle.meta_table.specs.Names.{grammar_of};
+ghost use Rattle.meta_nodes.specs.declared.node.ParserRule.{ParserRule};
 ghost use Rattle.meta_table.specs.Nodes.{all_nodes};
+ghost use Rattle.meta_table.specs.Roots.{IsTabled};
 ghost use Rattle.meta_validator.specs.Reporting.{findings_of, AreSpans, repeated_at, repetition_at, alternative_of, unreachable_at, choice_at, skipped_at};
 
 use crate::facts::Facts;
-use crate::numbering::push_spans;
 use crate::table::Kind;
 use meta_base::runtime::Span;
 use meta_flags::is_set;
@@ -125,13 +126,14 @@ fn report_repetition<'i>(
 /// The spans of all nodes, each behind those inside it.
 pub(crate) fn spans_of<'i>(
     alloc: Global,
-    rules: &[ParserRule<'i>],
+    table: &meta_table::Table<'_, 'i>,
 ) -> Result<Vec<Span<'i>>, AllocError>
-    ensures { IfOk result (λ spans. AreSpans rules.now spans.items) }
+    ensures { IfOk result (λ spans. (rules : List ParserRule) → IsTabled rules table.now
+        → AreSpans rules spans.items) }
 {
     let mut spans = Vec::new(alloc);
-    for place in 0..rules.len() {
-        push_spans(alloc, &rules[place].node, &mut spans)?;
+    for place in 0..table.nodes.len() {
+        spans.push(table.nodes[place].span)?;
     }
     Ok(spans)
 }

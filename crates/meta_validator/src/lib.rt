@@ -2,19 +2,18 @@
 //! read.
 #![tactic(auto)]
 
+mod answers;
 mod cycles;
 mod facts;
 mod findings;
 mod flags;
+mod kinds;
 pub mod laws;
 mod levels;
-mod marks;
 mod names;
-mod numbering;
 mod passing;
 mod recursions;
 mod reported;
 mod table;
-mod tables;
 mod tags;
 pub mod validator;

@@ -7,7 +7,7 @@ ghost use Rattle.meta_validator.specs.Names.{kind_in};
 
 use crate::table::Kind;
 use meta_nodes::ParserRule;
-use meta_table::{Names, is_end, rule_number};
+use meta_table::{Names, is_end, rule_of_name};
 
 /// What a name does.
 pub(crate) fn kind_of_name<'i>(rules: &[ParserRule<'i>], names: &Names, name: &String) -> Kind
@@ -15,7 +15,7 @@ pub(crate) fn kind_of_name<'i>(rules: &[ParserRule<'i>], names: &Names, name: &S
     ensures { result ≡ kind_in (grammar_of rules.now) (text_of name.now) }
 {
     let is_end = is_end(name);
-    match rule_number(rules, names, name) {
+    match rule_of_name(rules, names, name) {
         Some(rule) => {
             if is_end {
                 Kind::EndCall(rule)

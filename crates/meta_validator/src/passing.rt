@@ -3,14 +3,14 @@ ghost use Rattle.std.specs.Prelude.{◌≡◌, ℕ, ◌+◌, ◌<◌, ◌≤◌,
 ghost use Rattle.meta_flags.specs.Least.{is_set_at};
 ghost use Rattle.meta_validator.specs.Facts.{AreFacts};
 ghost use Rattle.meta_validator.specs.Levels.{AllRest, AreSettled, IsSettled, own_answer, own_answer_at};
-ghost use Rattle.meta_validator.specs.Marks.{AreSound, AreClosed};
+ghost use Rattle.meta_validator.specs.RightAnswers.{AreSound, AreClosed};
 ghost use Rattle.meta_validator.specs.Regions.{ArePassing, ArePassingBelow};
-ghost use Rattle.meta_validator.specs.Without.{AreMarksWithout, IsWithout, without_kind};
+ghost use Rattle.meta_validator.specs.Without.{AreAnswersWithout, IsWithout, without_kind};
 
+use crate::answers::answers_to;
 use crate::cycles::number_at;
 use crate::facts::Facts;
 use crate::levels::levels_of;
-use crate::marks::marked;
 use crate::table::{Kind, Question, Table};
 use meta_flags::{is_set, who_listens};
 use meta_nodes::ParserRule;
@@ -43,13 +43,13 @@ fn table_without(alloc: Global, table: &Table, rule: usize) -> Result<Table, All
 }
 
 /// Which nodes may take nothing where calls of a rule count as neither.
-fn marks_without(alloc: Global, facts: &Facts, rule: usize) -> Result<Vec<bool>, AllocError>
-    ensures { IfOk result (λ marks. AreMarksWithout rule facts.now.table marks.items) }
+fn answers_without(alloc: Global, facts: &Facts, rule: usize) -> Result<Vec<bool>, AllocError>
+    ensures { IfOk result (λ answers. AreAnswersWithout rule facts.now.table answers.items) }
 {
     let table = table_without(alloc, &facts.table, rule)?;
     let listeners = who_listens(alloc, &table)?;
-    let marks = marked(alloc, &table, &listeners, Question::TakesNothing)?;
-    Ok(marks)
+    let answers = answers_to(alloc, &table, &listeners, Question::TakesNothing)?;
+    Ok(answers)
 }
 
 /// Adds the flags of the nodes up to one of them.
@@ -174,7 +174,7 @@ fn add_facts<'i>(
 }
 
 /// Adds the flags of the nodes of a rule's body, by those of all nodes.
-fn add_marks<'i>(
+fn add_answers<'i>(
     alloc: Global,
     rules: &[ParserRule<'i>],
     facts: &Facts,
@@ -187,8 +187,8 @@ fn add_marks<'i>(
     ensures { OnOk result (ArePassingBelow rules.now facts.now.table.roots.items rule flags.old.items
         → ArePassingBelow rules.now facts.now.table.roots.items (rule + 1) flags.new.items) }
 {
-    let marks = marks_without(alloc, facts, rule)?;
-    add_flags(marks.as_slice(), root, flags)?;
+    let answers = answers_without(alloc, facts, rule)?;
+    add_flags(answers.as_slice(), root, flags)?;
     Ok(())
 }
 
@@ -216,7 +216,7 @@ fn add_rule<'i>(
     if are_settled(facts, levels, rule, flags.len(), root) {
         return add_own_flags(rules, facts, levels, rule, root, flags);
     }
-    add_marks(alloc, rules, facts, rule, root, flags)
+    add_answers(alloc, rules, facts, rule, root, flags)
 }
 
 /// Which nodes may take nothing where a call of the rule in whose body they stand counts as one that takes

@@ -11,7 +11,8 @@ ghost use Rattle.meta_validator.specs.Cycles.{NoneRises};
 ghost use Rattle.meta_validator.specs.Facts.{AreFacts};
 ghost use Rattle.meta_validator.specs.Findings.{OfRecursion, Reports, places};
 ghost use Rattle.meta_validator.specs.Flags.{NoneSet};
-ghost use Rattle.meta_validator.specs.LeftRecursion.{Means, arrows, name_at, told_chain};
+ghost use Rattle.meta_validator.specs.LeftRecursion.{Means, arrows, name_at, told_trail};
+ghost use Rattle.meta_table.specs.NameMaps.{KnowsRules};
 ghost use Rattle.meta_table.specs.Names.{grammar_of};
 ghost use Rattle.meta_table.specs.Nodes.{all_nodes};
 ghost use Rattle.meta_validator.specs.Regions.{ArePassing};
@@ -28,7 +29,7 @@ use crate::table::Kind;
 use meta_base::runtime::Span;
 use meta_flags::is_set;
 use meta_nodes::ParserRule;
-use meta_table::rule_number;
+use meta_table::{Names, rule_of_name};
 use std::alloc::{AllocError, Global};
 use std::mem;
 
@@ -37,7 +38,7 @@ use std::mem;
 pub enum Task {
     /// Walk over a node.
     Visit(usize),
-    /// The rule at the end of the chain is left.
+    /// The rule at the end of the trail is left.
     Leave,
 }
 
@@ -47,16 +48,16 @@ pub struct Walk {
     /// Which rules were entered.
     pub entered: Flags,
     /// The rules that were entered and not left, from the start on.
-    pub chain: Vec<usize>,
+    pub trail: Vec<usize>,
     /// What is to be done, what comes first at the end.
     pub tasks: Vec<Task>,
 }
 
-/// The call that closes a chain of rules.
+/// The call that closes a trail of rules.
 #[derive(Drop)]
-pub struct ClosedChain {
+pub struct ClosedTrail {
     /// The rules, from the start on.
-    pub chain: Vec<usize>,
+    pub trail: Vec<usize>,
     /// The node of the call of the start.
     pub call: usize,
 }
@@ -66,11 +67,11 @@ fn enter_rule(walk: &mut Walk, rule: usize, root: usize) -> Result<(), AllocErro
     requires { rule < walk.old.entered.all.len }
     ensures entered { OnOk result (walk.new.entered.all.items
         ≡ slice_set walk.old.entered.all.items rule true) }
-    ensures chain { OnOk result (walk.new.chain.items ≡ walk.old.chain.items ++ rule ∷ []) }
+    ensures trail { OnOk result (walk.new.trail.items ≡ walk.old.trail.items ++ rule ∷ []) }
     ensures tasks { OnOk result (walk.new.tasks.items
         ≡ (walk.old.tasks.items ++ Task.Leave ∷ []) ++ Task.Visit root ∷ []) }
 {
-    walk.chain.push(rule)?;
+    walk.trail.push(rule)?;
     walk.tasks.push(Task::Leave)?;
     walk.tasks.push(Task::Visit(root))?;
     walk.entered.set(rule)?;
@@ -137,8 +138,8 @@ fn walk_call(facts: &Facts, walk: &mut Walk, rule: usize) -> Result<(), AllocErr
     ensures known { OnOk result (is_set_at walk.old.entered.all.items rule ≡ true → walk.new ≡ walk.old) }
     ensures entered { OnOk result (is_set_at walk.old.entered.all.items rule ≡ false
         → walk.new.entered.all.items ≡ slice_set walk.old.entered.all.items rule true) }
-    ensures chain { OnOk result (is_set_at walk.old.entered.all.items rule ≡ false
-        → walk.new.chain.items ≡ walk.old.chain.items ++ rule ∷ []) }
+    ensures trail { OnOk result (is_set_at walk.old.entered.all.items rule ≡ false
+        → walk.new.trail.items ≡ walk.old.trail.items ++ rule ∷ []) }
     ensures tasks { OnOk result (is_set_at walk.old.entered.all.items rule ≡ false → (root : ℕ)
         → slice_get facts.now.table.roots.items rule ≡ Some root
         → walk.new.tasks.items ≡ (walk.old.tasks.items ++ Task.Leave ∷ []) ++ Task.Visit root ∷ []) }
@@ -150,7 +151,7 @@ fn walk_call(facts: &Facts, walk: &mut Walk, rule: usize) -> Result<(), AllocErr
     enter_rule(walk, rule, root)
 }
 
-/// Walks over a node: whether it is a call of the start, which closes the chain.
+/// Walks over a node: whether it is a call of the start, which closes the trail.
 fn walk_node<'i>(
     rules: &[ParserRule<'i>],
     facts: &Facts,
@@ -164,12 +165,12 @@ fn walk_node<'i>(
     requires going { (todo : List Task) × (path : List ℕ)
         × IsSearch rules.now facts.now.table.roots.items start walk.old.entered.all.items
         (Task.Visit node ∷ todo) path
-        × (walk.old.tasks.items ≡ ordered todo) × (walk.old.chain.items ≡ ordered path) }
+        × (walk.old.tasks.items ≡ ordered todo) × (walk.old.trail.items ≡ ordered path) }
     ensures closes { IfOk result (λ closes. closes ≡ true
-        → IsClosing rules.now facts.now.table.roots.items start node walk.new.chain.items) }
+        → IsClosing rules.now facts.now.table.roots.items start node walk.new.trail.items) }
     ensures ends { IfOk result (λ closes. closes ≡ true → walk.new ≡ walk.old) }
     ensures goes_on { IfOk result (λ closes. closes ≡ false → IsGoing rules.now facts.now.table.roots.items
-        start walk.new.entered.all.items walk.new.tasks.items walk.new.chain.items) }
+        start walk.new.entered.all.items walk.new.tasks.items walk.new.trail.items) }
     ensures less { IfOk result (λ closes. closes ≡ false
         → cost (all_nodes rules.now) walk.new.tasks.items
         + unentered walk.new.entered.all.items (rule_views rules.now)
@@ -195,7 +196,7 @@ fn idle<'i>(alloc: Global, rules: &[ParserRule<'i>]) -> Result<Walk, AllocError>
 {
     Ok(Walk {
         entered: Flags::new(alloc, rules.len())?,
-        chain: Vec::new(alloc),
+        trail: Vec::new(alloc),
         tasks: Vec::new(alloc),
     })
 }
@@ -213,7 +214,7 @@ fn begin<'i>(
         → Means (rule_views rules.now) r.name start }
     requires idle { IsIdle rules.now walk.old }
     ensures { OnOk result (IsGoing rules.now facts.now.table.roots.items
-        start walk.new.entered.all.items walk.new.tasks.items walk.new.chain.items) }
+        start walk.new.entered.all.items walk.new.tasks.items walk.new.trail.items) }
 {
     let root = facts.table.root_at(start);
     enter_rule(walk, start, root)?;
@@ -224,11 +225,11 @@ fn begin<'i>(
 fn end(walk: &mut Walk)
     ensures entered { NoneSet walk.new.entered.all.items }
     ensures long { length walk.new.entered.all.items ≡ length walk.old.entered.all.items }
-    ensures chain { walk.new.chain.items ≡ [] }
+    ensures trail { walk.new.trail.items ≡ [] }
     ensures tasks { walk.new.tasks.items ≡ [] }
 {
     walk.entered.unset_all();
-    walk.chain.clear();
+    walk.trail.clear();
     walk.tasks.clear();
 }
 
@@ -240,28 +241,28 @@ fn closed_by<'i>(
     passing: &[bool],
     start: usize,
     walk: &mut Walk,
-) -> Result<Option<ClosedChain>, AllocError>
+) -> Result<Option<ClosedTrail>, AllocError>
     requires facts { AreFacts rules.now facts.now }
     requires passing { ArePassing rules.now facts.now.table.roots.items passing.now }
     requires going { IsGoing rules.now facts.now.table.roots.items
-        start walk.old.entered.all.items walk.old.tasks.items walk.old.chain.items }
+        start walk.old.entered.all.items walk.old.tasks.items walk.old.trail.items }
     ensures none { IfOk result (λ found. IfNone found
         (IsSought rules.now facts.now.table.roots.items start None
         × NeverComesBack rules.now facts.now.table.roots.items start)) }
     ensures some { IfOk result (λ found. IfSome found (λ closed.
-        IsClosing rules.now facts.now.table.roots.items start closed.call closed.chain.items)) }
+        IsClosing rules.now facts.now.table.roots.items start closed.call closed.trail.items)) }
     ensures long { OnOk result (length walk.new.entered.all.items ≡ length (rule_views rules.now)) }
 {
     while let Some(task) = walk.tasks.pop() {
         match task {
             Task::Leave => {
-                let _left = walk.chain.pop();
+                let _left = walk.trail.pop();
             }
             Task::Visit(node) => {
                 let closes = walk_node(rules, facts, passing, start, walk, node)?;
                 if closes {
-                    let chain = mem::replace(&mut walk.chain, Vec::new(alloc));
-                    return Ok(Some(ClosedChain { chain, call: node }));
+                    let trail = mem::replace(&mut walk.trail, Vec::new(alloc));
+                    return Ok(Some(ClosedTrail { trail, call: node }));
                 }
             }
         }
@@ -278,7 +279,7 @@ fn sought<'i>(
     passing: &[bool],
     start: usize,
     walk: &mut Walk,
-) -> Result<Option<ClosedChain>, AllocError>
+) -> Result<Option<ClosedTrail>, AllocError>
     requires facts { AreFacts rules.now facts.now }
     requires passing { ArePassing rules.now facts.now.table.roots.items passing.now }
     requires inside { start < length rules.now }
@@ -289,7 +290,7 @@ fn sought<'i>(
         (IsSought rules.now facts.now.table.roots.items start None
         × NeverComesBack rules.now facts.now.table.roots.items start)) }
     ensures some { IfOk result (λ found. IfSome found (λ closed.
-        IsClosing rules.now facts.now.table.roots.items start closed.call closed.chain.items)) }
+        IsClosing rules.now facts.now.table.roots.items start closed.call closed.trail.items)) }
     ensures idle { OnOk result (IsIdle rules.now walk.new) }
 {
     begin(rules, facts, start, walk)?;
@@ -314,35 +315,35 @@ fn push_arrow<'i>(
     Ok(())
 }
 
-/// The names of the rules of a chain, an arrow behind each.
+/// The names of the rules of a trail, an arrow behind each.
 fn arrows_of<'i>(
     alloc: Global,
     rules: &[ParserRule<'i>],
-    chain: &[usize],
+    trail: &[usize],
 ) -> Result<String, AllocError>
-    ensures { IfOk result (λ text. string_bytes text ≡ arrows (rule_views rules.now) chain.now) }
+    ensures { IfOk result (λ text. string_bytes text ≡ arrows (rule_views rules.now) trail.now) }
 {
     let mut text = String::new(alloc);
-    for rule in chain {
+    for rule in trail {
         push_arrow(&mut text, rules, *rule)?;
     }
     Ok(text)
 }
 
-/// What is said of a call that closes a chain: the call as it is written, and the names of the chain up to
+/// What is said of a call that closes a trail: the call as it is written, and the names of the trail up to
 /// that of its first rule again.
 fn told<'i>(
     alloc: Global,
     rules: &[ParserRule<'i>],
     call: Span<'i>,
-    chain: &[usize],
+    trail: &[usize],
     first: &ParserRule<'i>,
 ) -> Result<String, AllocError>
     ensures { IfOk result (λ message. string_bytes message
-        ≡ told_chain (rule_views rules.now) (rule_view first.now)
-        (record { chain = chain.now; call = piece_of call.entry })) }
+        ≡ told_trail (rule_views rules.now) (rule_view first.now)
+        (record { trail = trail.now; call = piece_of call.entry })) }
 {
-    let arrows = arrows_of(alloc, rules, chain)?;
+    let arrows = arrows_of(alloc, rules, trail)?;
     let mut message = String::from_str(alloc, "rule ")?;
     message.push_str(call.as_str())?;
     message.push_str(" is left-recursive (")?;
@@ -353,15 +354,15 @@ fn told<'i>(
 }
 
 /// Whether the rule at a place is the last of its name.
-fn is_last<'i>(rules: &[ParserRule<'i>], facts: &Facts, place: usize) -> bool
-    requires facts { AreFacts rules.now facts.now }
+fn is_last<'i>(rules: &[ParserRule<'i>], names: &Names, place: usize) -> bool
+    requires known { KnowsRules rules.now names.now }
     requires inside { place < length rules.now }
     ensures yes { result ≡ true → (r : SpannedRule) → slice_get (rule_views rules.now) place ≡ Some r
         → Means (rule_views rules.now) r.name place }
     ensures no { result ≡ false → (r : SpannedRule) → slice_get (rule_views rules.now) place ≡ Some r
         → Means (rule_views rules.now) r.name place → ⊥ }
 {
-    match rule_number(rules, &facts.names, &rules[place].name) {
+    match rule_of_name(rules, names, &rules[place].name) {
         Some(last) => last == place,
         None => false,
     }
@@ -371,10 +372,12 @@ fn is_last<'i>(rules: &[ParserRule<'i>], facts: &Facts, place: usize) -> bool
 /// certain.
 fn may_come_back<'i>(
     rules: &[ParserRule<'i>],
+    names: &Names,
     facts: &Facts,
     levels: &[usize],
     place: usize,
 ) -> bool
+    requires known { KnowsRules rules.now names.now }
     requires facts { AreFacts rules.now facts.now }
     requires levels { NoneRises facts.now levels.now }
     requires inside { place < length rules.now }
@@ -383,13 +386,13 @@ fn may_come_back<'i>(
     ensures nothing { result ≡ false → OfRecursion (rule_views rules.now) place [] }
     ensures never { result ≡ false → NeverComesBack rules.now facts.now.table.roots.items place }
 {
-    if !is_last(rules, facts, place) {
+    if !is_last(rules, names, place) {
         return false;
     }
     !falls_from(facts, levels, place)
 }
 
-/// What a search for a chain goes by: the facts of the rules, and which rules it may pass through.
+/// What a search for a trail goes by: the facts of the rules, and which rules it may pass through.
 #[derive(Clone, Copy)]
 struct Guide<'f> {
     facts: &'f Facts,
@@ -423,19 +426,21 @@ fn recursion_at<'i>(
         None => Ok(None),
         Some(closed) => {
             let span = spans[closed.call];
-            let message = told(alloc, rules, span, closed.chain.as_slice(), &rules[place])?;
+            let message = told(alloc, rules, span, closed.trail.as_slice(), &rules[place])?;
             Ok(Some(Finding { message, span }))
         }
     }
 }
 
 /// What is found of left recursion, rule by rule.
-fn closed_chains<'i>(
+fn closed_trails<'i>(
     alloc: Global,
     rules: &[ParserRule<'i>],
+    names: &Names,
     facts: &Facts,
     spans: &[Span<'i>],
 ) -> Result<Vec<Finding<'i>>, AllocError>
+    requires known { KnowsRules rules.now names.now }
     requires facts { AreFacts rules.now facts.now }
     requires spans { AreSpans rules.now spans.now }
     ensures exact { IfOk result (λ found. Reports (OfRecursion (rule_views rules.now))
@@ -452,7 +457,7 @@ fn closed_chains<'i>(
     let mut walk = idle(alloc, rules)?;
     let mut found = Vec::new(alloc);
     for place in 0..rules.len() {
-        if !may_come_back(rules, facts, levels.as_slice(), place) {
+        if !may_come_back(rules, names, facts, levels.as_slice(), place) {
             continue;
         }
         match recursion_at(alloc, rules, guide, spans, place, &mut walk)? {
@@ -469,9 +474,11 @@ fn closed_chains<'i>(
 pub(crate) fn recursions<'i>(
     alloc: Global,
     rules: &[ParserRule<'i>],
+    names: &Names,
     facts: &Facts,
     spans: &[Span<'i>],
 ) -> Result<Vec<Finding<'i>>, AllocError>
+    requires known { KnowsRules rules.now names.now }
     requires facts { AreFacts rules.now facts.now }
     requires spans { AreSpans rules.now spans.now }
     ensures exact { IfOk result (λ found. Reports (OfRecursion (rule_views rules.now))
@@ -485,6 +492,6 @@ pub(crate) fn recursions<'i>(
     if falls {
         return Ok(Vec::new(alloc));
     }
-    let found = closed_chains(alloc, rules, facts, spans)?;
+    let found = closed_trails(alloc, rules, names, facts, spans)?;
     Ok(found)
 }

@@ -6,7 +6,9 @@ ghost use Rattle.meta_base.specs.Pieces.Span.{span_text};
 ghost use Rattle.meta_base.specs.Pieces.Survey.{survey_text};
 ghost use Rattle.meta_nodes.specs.Nodes.{piece_of, rule_views};
 ghost use Rattle.meta_validator.specs.Findings.{AreFound, AreAllFound, IsSortedBySpan, endless_at};
+ghost use Rattle.meta_table.specs.NameMaps.{KnowsRules};
 ghost use Rattle.meta_table.specs.Names.{grammar_of};
+ghost use Rattle.meta_table.specs.Roots.{IsTabled};
 ghost use Rattle.meta_validator.specs.Reporting.{finding_of, findings_of};
 
 use crate::facts::facts_of;
@@ -16,6 +18,7 @@ use crate::tags::tags;
 use meta_base::grammar::Rule;
 use meta_base::runtime::{Error, ErrorVariant, Fault, Span, Survey};
 use meta_nodes::ParserRule;
+use meta_table::Names;
 use std::alloc::{AllocError, Global};
 
 /// What is found of repetitions that are known to be endless.
@@ -40,15 +43,19 @@ fn endless_findings<'i>(alloc: Global, endless: &[Span<'i>]) -> Result<Vec<Findi
 fn all_findings<'i>(
     alloc: Global,
     rules: &[ParserRule<'i>],
+    names: &Names,
+    table: &meta_table::Table<'_, 'i>,
     endless: &[Span<'i>],
 ) -> Result<Vec<Finding<'i>>, AllocError>
+    requires known { KnowsRules rules.now names.now }
+    requires tabled { IsTabled rules.now table.now }
     ensures found { IfOk result (λ found.
         AreFound (rule_views rules.now) (map piece_of endless.now) (findings_of found.items)) }
     ensures accepted { IfOk result (λ found. findings_of found.items ≡ []
         → IsWellFormed (grammar_of rules.now)) }
 {
-    let facts = facts_of(alloc, rules)?;
-    let spans = spans_of(alloc, rules)?;
+    let facts = facts_of(alloc, rules, names, table)?;
+    let spans = spans_of(alloc, table)?;
     let found = repetitions(alloc, rules, &facts, spans.as_slice())?;
     let known = endless_findings(alloc, endless)?;
     let found = with_others(found, known)?;
@@ -56,9 +63,9 @@ fn all_findings<'i>(
     let found = with_others(found, choices)?;
     let skips = skips(alloc, rules, &facts)?;
     let found = with_others(found, skips)?;
-    let recursions = recursions(alloc, rules, &facts, spans.as_slice())?;
+    let recursions = recursions(alloc, rules, names, &facts, spans.as_slice())?;
     let found = with_others(found, recursions)?;
-    let tags = tags(alloc, rules, &facts.names)?;
+    let tags = tags(alloc, rules, names)?;
     let found = with_others(found, tags)?;
     Ok(found)
 }
@@ -89,14 +96,18 @@ fn sort_by_span<'i>(found: &mut Vec<Finding<'i>>) -> Result<(), AllocError>
 pub(crate) fn sorted_findings<'i>(
     alloc: Global,
     rules: &[ParserRule<'i>],
+    names: &Names,
+    table: &meta_table::Table<'_, 'i>,
     endless: &[Span<'i>],
 ) -> Result<Vec<Finding<'i>>, AllocError>
+    requires known { KnowsRules rules.now names.now }
+    requires tabled { IsTabled rules.now table.now }
     ensures found { IfOk result (λ sorted.
         AreAllFound (rule_views rules.now) (map piece_of endless.now) (findings_of sorted.items)) }
     ensures accepted { IfOk result (λ sorted. findings_of sorted.items ≡ []
         → IsWellFormed (grammar_of rules.now)) }
 {
-    let mut found = all_findings(alloc, rules, endless)?;
+    let mut found = all_findings(alloc, rules, names, table, endless)?;
     sort_by_span(&mut found)?;
     Ok(found)
 }
@@ -111,7 +122,7 @@ fn error_of<'i>(
         SaysAt (finding_of finding.now).message (finding_of finding.now).span error) }
     ensures memory { IfErr result (λ fault. fault ≡ Fault.Memory alloc_error) }
 {
-    let message = String::from_str(alloc, finding.message.as_str()).map_err(Fault::Memory)?;
+    let message = String::from_str(alloc, finding.message.as_str())?;
     let variant = ErrorVariant::CustomError { message };
     let error = Error::new_where_surveyed(alloc, variant, survey, finding.span)?;
     Ok(error)
@@ -131,13 +142,10 @@ pub(crate) fn errors_of<'i>(alloc: Global, found: &[Finding<'i>]) -> Result<Vec<
     ensures memory { IfErr result (λ fault. fault ≡ Fault.Memory alloc_error) }
 {
     let mut errors = Vec::new(alloc);
-    let mut survey = Survey::new(alloc, first_text(found)).map_err(Fault::Memory)?;
+    let mut survey = Survey::new(alloc, first_text(found))?;
     for place in 0..found.len() {
         let error = error_of(alloc, &mut survey, &found[place])?;
-        match errors.push(error) {
-            Ok(()) => {}
-            Err(refused) => return Err(Fault::Memory(refused.into())),
-        }
+        errors.push(error)?;
     }
     Ok(errors)
 }
@@ -154,7 +162,7 @@ fn error_in<'i>(
     ensures survey { survey_text survey.new ≡ survey_text survey.old }
     ensures memory { IfErr result (λ fault. fault ≡ Fault.Memory alloc_error) }
 {
-    let message = String::from_str(alloc, finding.message.as_str()).map_err(Fault::Memory)?;
+    let message = String::from_str(alloc, finding.message.as_str())?;
     let variant = ErrorVariant::CustomError { message };
     Error::new_in_survey(alloc, variant, survey, finding.span)
 }
@@ -173,13 +181,10 @@ pub(crate) fn errors_in<'i>(
     if found.is_empty() {
         return Ok(errors);
     }
-    let mut survey = Survey::new(alloc, text).map_err(Fault::Memory)?;
+    let mut survey = Survey::new(alloc, text)?;
     for place in 0..found.len() {
         let error = error_in(alloc, &mut survey, &found[place])?;
-        match errors.push(error) {
-            Ok(()) => {}
-            Err(refused) => return Err(Fault::Memory(refused.into())),
-        }
+        errors.push(error)?;
     }
     Ok(errors)
 }

@@ -69,29 +69,29 @@ impl Table {
     }
 
     /// Whether the flag of a rule's body is set.
-    pub(crate) fn is_root_set(&self, marks: &[bool], rule: usize) -> bool
-        ensures { result ≡ at_root (is_set_at marks.now) (slice_get self.now.roots.items rule) }
+    pub(crate) fn is_root_set(&self, answers: &[bool], rule: usize) -> bool
+        ensures { result ≡ at_root (is_set_at answers.now) (slice_get self.now.roots.items rule) }
     {
         match self.roots.get(rule) {
-            Some(root) => is_set(marks, *root),
+            Some(root) => is_set(answers, *root),
             None => false,
         }
     }
 
     /// Whether the answer for a node is yes by the answers for others.
-    pub(crate) fn fires(&self, question: Question, marks: &[bool], kind: Kind) -> bool
-        ensures { result ≡ fires question self.now.roots.items (is_set_at marks.now) kind }
+    pub(crate) fn fires(&self, question: Question, answers: &[bool], kind: Kind) -> bool
+        ensures { result ≡ fires question self.now.roots.items (is_set_at answers.now) kind }
     {
         match kind {
             Kind::Taking => false,
             Kind::Still | Kind::Free(_) | Kind::Again(_) => true,
             Kind::End | Kind::NotAhead(_) => question.is_of_taking(),
-            Kind::Call(rule) => self.is_root_set(marks, rule),
-            Kind::EndCall(rule) => question.is_of_taking() || self.is_root_set(marks, rule),
-            Kind::Ahead(body) => question.is_of_taking() || is_set(marks, body),
-            Kind::Inside(body) | Kind::OnceAgain(body) => is_set(marks, body),
-            Kind::Seq(first, second) => is_set(marks, first) && is_set(marks, second),
-            Kind::Choice(first, second) => is_set(marks, first) || is_set(marks, second),
+            Kind::Call(rule) => self.is_root_set(answers, rule),
+            Kind::EndCall(rule) => question.is_of_taking() || self.is_root_set(answers, rule),
+            Kind::Ahead(body) => question.is_of_taking() || is_set(answers, body),
+            Kind::Inside(body) | Kind::OnceAgain(body) => is_set(answers, body),
+            Kind::Seq(first, second) => is_set(answers, first) && is_set(answers, second),
+            Kind::Choice(first, second) => is_set(answers, first) || is_set(answers, second),
         }
     }
 }

@@ -13,7 +13,7 @@ use crate::findings::Finding;
 use meta_ast::ast::RuleType;
 use meta_names::is_builtin;
 use meta_nodes::{ParserExpr, ParserNode, ParserRule, push_operands};
-use meta_table::{Names, rule_number};
+use meta_table::{Names, rule_of_name};
 use std::alloc::{AllocError, Global};
 
 /// What is found of all tags: those on Silent rules, and on builtins. The order is that of the text.
@@ -127,7 +127,7 @@ fn rule_named<'r, 'i>(
     ensures { option_map (λ rule. rule_said rule.now) result
         ≡ rule_of (grammar_of rules.entry.now) (text_of name.now) }
 {
-    match rule_number(rules, names, name) {
+    match rule_of_name(rules, names, name) {
         Some(number) => rules.get(number),
         None => None,
     }

@@ -6,22 +6,23 @@ ghost use Rattle.meta_nodes.specs.Erasure.{without_spans, rules_without_spans};
 ghost use Rattle.meta_nodes.specs.Nodes.{piece_of, rule_views, unplaced};
 ghost use Rattle.meta_validator.specs.Facts.{Asked};
 ghost use Rattle.meta_validator.specs.Findings.{AreAllFound};
+ghost use Rattle.meta_table.specs.NameMaps.{KnowsRules};
 ghost use Rattle.meta_table.specs.Names.{grammar_of};
+ghost use Rattle.meta_table.specs.Roots.{IsTabled};
 ghost use Rattle.meta_validator.specs.Placed.{AreIn, ArePiecesOf};
 ghost use Rattle.meta_validator.specs.Reported.{AreReported};
 ghost use Rattle.meta_validator.specs.Reporting.{findings_of};
 
+use crate::answers::answers_to;
 use crate::findings::Finding;
-use crate::marks::marked;
-use crate::numbering::number;
+use crate::kinds::kinds_of;
 use crate::reported::{errors_in, errors_of, sorted_findings};
-use crate::table::Question;
-use crate::tables::tabulated;
+use crate::table::{Question, Table};
 use meta_base::grammar::Rule;
 use meta_base::runtime::{Error, Fault, Span};
 use meta_flags::{is_set, who_listens};
 use meta_nodes::{ParserExpr, ParserRule};
-use meta_table::names_of;
+use meta_table::{Names, names_of, number, tabulated};
 use std::alloc::{AllocError, Global};
 
 /// Whether an expression may succeed without taking anything, where its names mean these rules (the last of
@@ -37,7 +38,7 @@ pub fn is_non_progressing<'i>(
         ↔ IsNullable (rules_without_spans (rule_views rules.now.items)) (without_spans (unplaced expr.now))) }
     ensures memory { IfErr result (λ fault. fault ≡ Fault.Memory alloc_error) }
 {
-    answer(alloc, expr, rules.as_slice(), Question::TakesNothing).map_err(Fault::Memory)
+    Ok(answer(alloc, expr, rules.as_slice(), Question::TakesNothing)?)
 }
 
 /// Whether an expression cannot fail, where its names mean these rules (the last of a name): empty strings,
@@ -53,34 +54,35 @@ pub fn is_non_failing<'i>(
         ↔ CannotFail (rules_without_spans (rule_views rules.now.items)) (without_spans (unplaced expr.now))) }
     ensures memory { IfErr result (λ fault. fault ≡ Fault.Memory alloc_error) }
 {
-    answer(alloc, expr, rules.as_slice(), Question::CannotFail).map_err(Fault::Memory)
+    Ok(answer(alloc, expr, rules.as_slice(), Question::CannotFail)?)
 }
 
 /// All that is found in rules, by place. The only fault is a want of memory.
 fn found_in<'i>(
     alloc: Global,
     rules: &[ParserRule<'i>],
+    names: &Names,
+    table: &meta_table::Table<'_, 'i>,
     endless: &[Span<'i>],
 ) -> Result<Vec<Finding<'i>>, Fault>
+    requires known { KnowsRules rules.now names.now }
+    requires tabled { IsTabled rules.now table.now }
     ensures found { IfOk result (λ found.
         AreAllFound (rule_views rules.now) (map piece_of endless.now) (findings_of found.items)) }
     ensures accepted { IfOk result (λ found. findings_of found.items ≡ []
         → IsWellFormed (grammar_of rules.now)) }
     ensures memory { IfErr result (λ fault. fault ≡ Fault.Memory alloc_error) }
 {
-    match sorted_findings(alloc, rules, endless) {
-        Ok(found) => Ok(found),
-        Err(error) => Err(Fault::Memory(error)),
-    }
+    Ok(sorted_findings(alloc, rules, names, table, endless)?)
 }
 
 /// What is wrong with rules, in the order of their places (at one place repetitions, then those of `endless`,
-/// then choices, then skipped rules, then left recursion, then tags): a repetition `e*`, `e+` or `e{n,}` whose
-/// body cannot fail or may take nothing; an alternative with others behind it that cannot fail; a rule named
-/// `WHITESPACE` or `COMMENT` that cannot fail or may take nothing; left recursion, at most one for a name:
-/// the chain of rules by which the walk over the body of its last rule comes back, at the first call of the
-/// rule to which it comes; a tag on a Silent rule, or on a builtin that is no rule's name. Each error stands
-/// where the fault does. `endless` are the places of repetitions
+/// then choices, then skipped rules, then left recursion, then tags): a repetition `e*`, `e+` or `e{n,}`
+/// whose body cannot fail or may take nothing; an alternative with others behind it that cannot fail; a rule
+/// named `WHITESPACE` or `COMMENT` that cannot fail or may take nothing; left recursion, at most one for a
+/// name: the trail of rules by which the walk over the body of its last rule comes back, at the first call of
+/// the rule to which it comes; a tag on a Silent rule, or on a builtin that is no rule's name. Each error
+/// stands where the fault does. `endless` are the places of repetitions
 /// that never end for a reason that is not looked for here. The only fault is a want of memory.
 pub fn validate_rules<'i>(
     alloc: Global,
@@ -93,7 +95,29 @@ pub fn validate_rules<'i>(
         → IsWellFormed (rules_without_spans (rule_views rules.now.items))) }
     ensures memory { IfErr result (λ fault. fault ≡ Fault.Memory alloc_error) }
 {
-    let found = found_in(alloc, rules.as_slice(), endless)?;
+    let rules = rules.as_slice();
+    let names = names_of(alloc, rules)?;
+    let table = tabulated(alloc, rules)?;
+    validate_table(alloc, rules, &names, &table, endless)
+}
+
+/// What is wrong with rules, as `validate_rules` tells it, by their names and their table. The only fault is
+/// a want of memory.
+pub fn validate_table<'i>(
+    alloc: Global,
+    rules: &[ParserRule<'i>],
+    names: &Names,
+    table: &meta_table::Table<'_, 'i>,
+    endless: &[Span<'i>],
+) -> Result<Vec<Error<Rule>>, Fault>
+    requires known { KnowsRules rules.now names.now }
+    requires tabled { IsTabled rules.now table.now }
+    ensures exact { IfOk result (λ errors.
+        AreReported (rule_views rules.now) (map piece_of endless.now) errors.items) }
+    ensures accepted { IfOk result (λ errors. errors.items ≡ [] → IsWellFormed (grammar_of rules.now)) }
+    ensures memory { IfErr result (λ fault. fault ≡ Fault.Memory alloc_error) }
+{
+    let found = found_in(alloc, rules, names, table, endless)?;
     let errors = errors_of(alloc, found.as_slice())?;
     Ok(errors)
 }
@@ -114,12 +138,37 @@ pub fn validate_rules_in<'i>(
         → IsWellFormed (rules_without_spans (rule_views rules.now.items))) }
     ensures memory { IfErr result (λ fault. fault ≡ Fault.Memory alloc_error) }
 {
-    let found = found_in(alloc, rules.as_slice(), endless)?;
+    let rules = rules.as_slice();
+    let names = names_of(alloc, rules)?;
+    let table = tabulated(alloc, rules)?;
+    validate_table_in(alloc, text, rules, &names, &table, endless)
+}
+
+/// What is wrong with rules, as `validate_rules_in` tells it, by their names and their table. The only fault
+/// is a want of memory.
+pub fn validate_table_in<'i>(
+    alloc: Global,
+    text: &str,
+    rules: &[ParserRule<'i>],
+    names: &Names,
+    table: &meta_table::Table<'_, 'i>,
+    endless: &[Span<'i>],
+) -> Result<Vec<Error<Rule>>, Fault>
+    requires known { KnowsRules rules.now names.now }
+    requires tabled { IsTabled rules.now table.now }
+    requires rules_in_text { AreIn text.now (rule_views rules.now) }
+    requires endless_in_text { ArePiecesOf text.now (map piece_of endless.now) }
+    ensures exact { IfOk result (λ errors.
+        AreReported (rule_views rules.now) (map piece_of endless.now) errors.items) }
+    ensures accepted { IfOk result (λ errors. errors.items ≡ [] → IsWellFormed (grammar_of rules.now)) }
+    ensures memory { IfErr result (λ fault. fault ≡ Fault.Memory alloc_error) }
+{
+    let found = found_in(alloc, rules, names, table, endless)?;
     let errors = errors_in(alloc, text, found.as_slice())?;
     Ok(errors)
 }
 
-/// The answer for an expression: its nodes are put behind those of the rules, and then marked.
+/// The answer for an expression: its nodes are put behind those of the rules, and then asked.
 fn answer<'i>(
     alloc: Global,
     expr: &ParserExpr<'i>,
@@ -130,10 +179,20 @@ fn answer<'i>(
         (Asked question (grammar_of rules.now) (without_spans (unplaced expr.now)))) }
 {
     let names = names_of(alloc, rules)?;
-    let (mut table, mut starts) = tabulated(alloc, rules, &names)?;
-    let own = number(alloc, rules, &names, expr, &mut table.kinds, &mut starts)?;
+    let mut nodes = tabulated(alloc, rules)?;
+    let own = number(
+        alloc,
+        rules.len(),
+        expr,
+        Span::of("", 0, 0),
+        &mut nodes.nodes,
+    )?;
+    let table = Table {
+        kinds: kinds_of(alloc, rules, &names, nodes.nodes.as_slice())?,
+        roots: nodes.roots,
+    };
     let listeners = who_listens(alloc, &table)?;
-    let marks = marked(alloc, &table, &listeners, question)?;
-    let answer = is_set(marks.as_slice(), own);
+    let answers = answers_to(alloc, &table, &listeners, question)?;
+    let answer = is_set(answers.as_slice(), own);
     Ok(answer)
 }

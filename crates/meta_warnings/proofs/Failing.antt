@@ -5,7 +5,7 @@ use Rattle.meta_base.specs.Language.Builtins.{is_between}
 use Rattle.std.specs.List.{AllByRecursion}
 use Rattle.meta_base.specs.Language.Text.{Text}
 use Rattle.meta_base.specs.Language.Expression.{Expression, Str, Range, Grammar}
-use Rattle.meta_base.specs.Language.Expression as plain
+use Rattle.meta_base.specs.Language.Expression as bare
 use Rattle.meta_base.specs.Language.Matching.{any_begins, begins, text_outcome, character_outcome, range_set, starts_in}
 use Rattle.meta_base.specs.Language.Meaning.{Does, Run, Matches, str, range, seq_first, left, right}
 use Rattle.meta_base.specs.Language.State.{Classes, Mode, State, None', Outcome, Success, Failure}
@@ -77,7 +77,7 @@ module _ (g : Grammar) (classes : Classes) (m : Mode) where
   beginning_fails (Str u) t s h k =
       let e : u ≡ t = cc in
       str_fails u s (rw e k)
-  beginning_fails (plain.Seq a b) t s h k = seq_first (beginning_fails a t s h k)
+  beginning_fails (bare.Seq a b) t s h k = seq_first (beginning_fails a t s h k)
   beginning_fails _ t s h k = cc
 
   -- the literal that a failed expression is
@@ -100,7 +100,7 @@ module _ (g : Grammar) (classes : Classes) (m : Mode) where
   map_without_append P [] ys h k = k
   map_without_append P (x ∷ xs) ys h k = (h.0, map_without_append P xs ys h.1 k)
 
-  both_fail : (a b : Expression) (s : State) → Matches g classes (plain.Choice a b) m s Failure → Matches g classes a m s Failure × Matches g classes b m s Failure
+  both_fail : (a b : Expression) (s : State) → Matches g classes (bare.Choice a b) m s Failure → Matches g classes a m s Failure × Matches g classes b m s Failure
   both_fail a b s (right c d) = (c, d)
 
   pub alternatives_fail : (x : Spanned) (s : State) → Matches g classes (without_spans x) m s Failure → AllByRecursion (λ y. Matches g classes y m s Failure) (map without_spans (alternatives x))
@@ -112,11 +112,11 @@ module _ (g : Grammar) (classes : Classes) (m : Mode) where
   alternatives_fail (Leaf p e) s d = (d, tt)
 
   -- an alternative that fails where the others fail changes nothing
-  drop_forth : (a b : Expression) (s : State) (o : Outcome) → (Matches g classes a m s Failure → Matches g classes b m s Failure) → Matches g classes (plain.Choice a b) m s o → Matches g classes a m s o
+  drop_forth : (a b : Expression) (s : State) (o : Outcome) → (Matches g classes a m s Failure → Matches g classes b m s Failure) → Matches g classes (bare.Choice a b) m s o → Matches g classes a m s o
   drop_forth a b s _ f (left c) = c
   drop_forth a b s o f (right c d) = subst (λ p. Matches g classes a m s p) (same g classes (f c) d) c
 
-  drop_back : (a b : Expression) (s : State) (o : Outcome) → (Matches g classes a m s Failure → Matches g classes b m s Failure) → Matches g classes a m s o → Matches g classes (plain.Choice a b) m s o
+  drop_back : (a b : Expression) (s : State) (o : Outcome) → (Matches g classes a m s Failure → Matches g classes b m s Failure) → Matches g classes a m s o → Matches g classes (bare.Choice a b) m s o
   drop_back a b s (Success t us) f c = left c
   drop_back a b s Failure f c = right c (f c)
 

@@ -2,7 +2,7 @@
 use Rattle.std.specs.Prelude.{List, [], ◌∷◌, ◌++◌, Option, Some, None, Bool, false, if◌then◌else◌, flat_map, option_to_list}
 use Rattle.meta_base.specs.Language.Text.{Text}
 use Rattle.meta_base.specs.Language.Expression.{Expression, Str}
-use Rattle.meta_base.specs.Language.Expression as plain
+use Rattle.meta_base.specs.Language.Expression as bare
 use Rattle.meta_base.specs.Language.Matching.{any_begins}
 use Rattle.meta_nodes.specs.Erasure.{without_spans}
 use Rattle.meta_nodes.specs.Spanned.{Span, Spanned, SpannedRule, Leaf, One, Two, Seq, Choice, span_of}
@@ -30,7 +30,7 @@ literal_of _ = None
 -- the literal with which all that an expression matches begins: its own, or that of a sequence's first part
 abbrev pub beginning_of : Expression → Option Text
 beginning_of (Str t) = Some t
-beginning_of (plain.Seq a b) = beginning_of a
+beginning_of (bare.Seq a b) = beginning_of a
 beginning_of _ = None
 
 abbrev pub own_literal : Spanned → List Text

@@ -18,8 +18,8 @@ use std::alloc::{AllocError, Global};
 /// which all that they match begins, as `"ab"` and `"a" ~ b` behind `"a"`: rule by rule, and in a body choice
 /// by choice. A choice inside a choice is part of it. The only fault is a want of memory.
 ///
-/// For each alternative there is a look-up for each length that a literal of its choice has, so the time is at
-/// most the text's length times the square root of that.
+/// For each alternative there is a look-up for each length that a literal of its choice has, so the time is
+/// at most the text's length times the square root of that.
 pub fn unreachable_alternatives<'i>(
     alloc: Global,
     rules: &[ParserRule<'i>],

@@ -83,8 +83,8 @@ fn add_call<'n, 'i>(
     node: &'n ParserNode<'i>,
     called: &mut HashSet<&'n str>,
 ) -> Result<(), AllocError>
-    ensures { OnOk result ((name : List ℕ) → IsUtf8 name → has_name called.new name ≡ (has_name called.old name
-        || (not (bytes_eq (text_of own.now) (chars name))
+    ensures { OnOk result ((name : List ℕ) → IsUtf8 name → has_name called.new name
+        ≡ (has_name called.old name || (not (bytes_eq (text_of own.now) (chars name))
         && is_one_of (spec.name_called (view node.entry.now)) (chars name)))) }
 {
     if let ParserExpr::Ident(name) = &node.expr {

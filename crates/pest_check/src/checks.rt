@@ -38,8 +38,8 @@ pub struct Exit {
 ///
 /// Otherwise one text with a line break behind it goes to `err`: the report of a text that is refused (1),
 /// `out of memory` (2), `cannot read` where there is no input or it isn't UTF-8 (3), `cannot write` where
-/// `out` refuses a write (4), which leaves what it took before. All lines are made before the first of them is
-/// written. A write that `err` refuses changes no status.
+/// `out` refuses a write (4), which leaves what it took before. All lines are made before the first of them
+/// is written. A write that `err` refuses changes no status.
 pub fn run<W: Write, E: Write>(
     alloc: Global,
     input: Option<&[u8]>,
@@ -80,8 +80,8 @@ pub fn run<W: Write, E: Write>(
     }
 }
 
-/// How a run ends where the text has rules: they are printed, or a want of memory or a write that is refused is
-/// told.
+/// How a run ends where the text has rules: they are printed, or a want of memory or a write that is refused
+/// is told.
 fn answered<W: Write, E: Write>(
     alloc: Global,
     rules: Vec<OptimizedRule>,
@@ -131,8 +131,8 @@ fn told<E: Write>(err: &mut E, message: &str, status: u8) -> Exit
     Exit { status, told }
 }
 
-/// The lines of rules, which are let go by a loop: a wide rule takes no deep stack. The only fault is a want of
-/// memory.
+/// The lines of rules, which are let go by a loop: a wide rule takes no deep stack. The only fault is a want
+/// of memory.
 fn printed(alloc: Global, rules: Vec<OptimizedRule>) -> Result<String, AllocError>
     ensures { IfOk result (λ text. string_bytes text
         ≡ encode_utf8_all (grammar_text (optimized_rules_of rules.items))) }

@@ -1,6 +1,6 @@
 //! What was expected at the place of a syntax error.
 use meta_base::grammar::Rule;
-use pest_meta::parser::{PestParser, plain_name};
+use pest_meta::parser::{PestParser, common_name};
 use std::alloc::{AllocError, Global};
 
 /// What people call the rules that are expected at the place of a text's syntax error, in the order of the
@@ -9,7 +9,7 @@ pub fn expected(alloc: Global, text: &str) -> Result<Vec<&'static str>, AllocErr
     let rules = PestParser::expected(alloc, Rule::grammar_rules, text)?;
     let mut names = Vec::new(alloc);
     for rule in &rules {
-        names.push(plain_name(*rule))?;
+        names.push(common_name(*rule))?;
     }
     Ok(names)
 }

@@ -72,7 +72,7 @@ fn uncalled(
     if all_rules {
         return Ok(Vec::new(alloc));
     }
-    let places = uncalled_rules(alloc, rules).map_err(Fault::Memory)?;
+    let places = uncalled_rules(alloc, rules)?;
     said(alloc, "no other rule calls this one", &places)
 }
 
@@ -80,7 +80,7 @@ fn uncalled(
 fn unreachable(alloc: Global, rules: &[ParserRule<'_>]) -> Result<Vec<Error<Rule>>, Fault>
     ensures { IfOk result (λ told. Tell (unreachable_of (rule_views rules.now)) told.items) }
 {
-    let places = unreachable_alternatives(alloc, rules).map_err(Fault::Memory)?;
+    let places = unreachable_alternatives(alloc, rules)?;
     said(
         alloc,
         "this alternative is never taken: a literal before it begins all that it matches",
@@ -92,7 +92,7 @@ fn unreachable(alloc: Global, rules: &[ParserRule<'_>]) -> Result<Vec<Error<Rule
 fn reversed(alloc: Global, rules: &[ParserRule<'_>]) -> Result<Vec<Error<Rule>>, Fault>
     ensures { IfOk result (λ told. Tell (reversed_of (rule_views rules.now)) told.items) }
 {
-    let places = reversed_ranges(alloc, rules).map_err(Fault::Memory)?;
+    let places = reversed_ranges(alloc, rules)?;
     said(
         alloc,
         "this range matches nothing: its first character is above its last",
@@ -106,10 +106,8 @@ fn joined(told: Vec<Error<Rule>>, others: Vec<Error<Rule>>) -> Result<Vec<Error<
 {
     let mut told = told;
     let mut others = others;
-    match told.append(&mut others) {
-        Ok(()) => Ok(told),
-        Err(error) => Err(Fault::Memory(error)),
-    }
+    told.append(&mut others)?;
+    Ok(told)
 }
 
 /// An error with this message at each of these places, in order.
@@ -119,10 +117,7 @@ fn said(alloc: Global, message: &str, places: &[Span<'_>]) -> Result<Vec<Error<R
     let mut told = Vec::new(alloc);
     for place in places {
         let error = error_at(alloc, message, *place)?;
-        match told.push(error) {
-            Ok(()) => {}
-            Err(_) => return Err(Fault::Memory(AllocError)),
-        }
+        told.push(error)?;
     }
     Ok(told)
 }
@@ -131,6 +126,6 @@ fn said(alloc: Global, message: &str, places: &[Span<'_>]) -> Result<Vec<Error<R
 fn error_at(alloc: Global, message: &str, place: Span<'_>) -> Result<Error<Rule>, Fault>
     ensures { IfOk result (SaysAt message.now (piece_of place.entry)) }
 {
-    let message = String::from_str(alloc, message).map_err(Fault::Memory)?;
+    let message = String::from_str(alloc, message)?;
     Error::new_from_span(alloc, ErrorVariant::CustomError { message }, place)
 }

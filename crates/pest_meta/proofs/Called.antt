@@ -4,7 +4,7 @@ use Rattle.std.proofs.lemmas.List.Elements.{All-nil, All-cons, All-contains, All
 use Rattle.std.proofs.lemmas.Slice.Eq.{bytes_eq-Decides}
 use Rattle.std.specs.List.{All, Contains}
 use Rattle.meta_base.specs.Language.Builtins.{is_one_of}
-use Rattle.meta_base.specs.Language.Expression as plain
+use Rattle.meta_base.specs.Language.Expression as bare
 use Rattle.meta_base.specs.Language.Expression.{Expression, Grammar, Part, Rule, or_else, rule_of}
 use Rattle.meta_base.specs.Language.State.{Trees, None', Tree, joined}
 use Rattle.meta_base.specs.Language.Text.{Text}
@@ -17,7 +17,7 @@ use Rattle.meta_nodes.specs.Spanned.{Binary, Choice, Seq, SpannedRule, Unary}
 use Rattle.meta_reader.proofs.ReadParts.{IsGiven, IsHandedDown, parts_so}
 use Rattle.meta_reader.specs.Reading as reading
 use Rattle.meta_reader.specs.Reading.{Postfix, ReadsRule, ReadsRules, Terminal, defined, documented, end_of_input, grammar_doc, line_doc, modified, normal}
-use Rattle.meta_syntax.specs.Shape.{Mark}
+use Rattle.meta_syntax.specs.Shape.{Lone}
 use Rattle.pest_meta.proofs.WellNamed.{names_of, names_read, true_is_false, true_or_false}
 
 -- 1. a name is written at one of these places
@@ -78,7 +78,7 @@ module _ (text : List ℕ) (whole : List Span) where
   }
 
   abbrev CallsWithin : Expression → Type 0
-  CallsWithin (plain.Ident n) = Among n whole
+  CallsWithin (bare.Ident n) = Among n whole
   CallsWithin _ = Unit {0}
 
   terminal_within : {r : Text} {i j : ℕ} {us : Trees} {e : Expression} (vs : Trees) → Terminal text r i j us e → StandsWithin (Tree r i j us vs) → CallsWithin e
@@ -119,12 +119,12 @@ module _ (text : List ℕ) (whole : List Span) where
 -- 3. a rule calls names that its tree calls, or its own
 module _ (text : List ℕ) where
   abbrev end : Trees
-  end = Mark (codes "EOI") 0 0 None'
+  end = Lone (codes "EOI") 0 0 None'
 
   alone : (r : Rule) → Contains (r ∷ []) r
   alone r = All-head (Contains (r ∷ [])) r [] (All-contains_itself (r ∷ []))
 
-  in_rule : {inner : Trees} {r : SpannedRule} {n : Text} → ReadsRule text inner (Some r) → Part (without_spans r.body) (plain.Ident n) → Among n (names_in text inner)
+  in_rule : {inner : Trees} {r : SpannedRule} {n : Text} → ReadsRule text inner (Some r) → Part (without_spans r.body) (bare.Ident n) → Among n (names_in text inner)
   in_rule {inner} {r} {n} d i = go (parted (names_in text inner) [] within)
     where
       rule : Rule
@@ -134,14 +134,14 @@ module _ (text : List ℕ) where
       within =
           let whole = names_in text (Tree (codes "grammar_rule") 0 0 inner end) in
           let rules = defined {from = 0} {to = 0} d (end_of_input {from = 0} {to = 0}) in
-          parts_so text (StandsWithin text whole) (CallsWithin text whole) (handed_down text whole) (given text whole) rules (λ m a. a) (plain.Ident n) (rule, alone rule, i)
+          parts_so text (StandsWithin text whole) (CallsWithin text whole) (handed_down text whole) (given text whole) rules (λ m a. a) (bare.Ident n) (rule, alone rule, i)
 
       go : Among n (names_in text inner) ⊎ Among n [] → Among n (names_in text inner)
       go (inl a) = a
       go (inr a) = at_none a
 
   abbrev CallsOnly : List Span → Rule → Type 0
-  CallsOnly places r = (n : Text) → Part r.body (plain.Ident n) → (n ≡ r.name) ⊎ Among n places
+  CallsOnly places r = (n : Text) → Part r.body (bare.Ident n) → (n ≡ r.name) ⊎ Among n places
 
   own_or_called : {name n : Text} {places : List Span} → (name ≡ n) ⊎ Among n places → (n ≡ name) ⊎ Among n places
   own_or_called (inl e) = inl (sym e)
@@ -250,7 +250,7 @@ first_there before (place ∷ places) w h k =
 -- 5. every name that rules call and no rule has is among the first calls
 module _ {text : List ℕ} {us : Trees} {rs : List SpannedRule} (d : ReadsRules text us rs) where
   pub each_is_called : (builtins : List (Bor (List ℕ))) → AreWrittenAt (first_calls (definitions text us) (calls text us)) builtins
-      → (n : Text) → InSomeRule (rules_without_spans rs) (plain.Ident n) → rule_of (rules_without_spans rs) n ≡ None
+      → (n : Text) → InSomeRule (rules_without_spans rs) (bare.Ident n) → rule_of (rules_without_spans rs) n ≡ None
       → is_one_of (map (λ name. chars name.now) builtins) n ≡ true
   each_is_called builtins w n i none =
       go (All-contains (CallsOnly text (calls text us)) (rules_without_spans rs) i.0 (rules_call text d) i.1 n i.2)

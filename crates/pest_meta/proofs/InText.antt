@@ -7,11 +7,11 @@ use Rattle.meta_base.specs.Language.State.{Trees}
 use Rattle.meta_nodes.specs.Erasure.{rules_without_spans}
 use Rattle.meta_nodes.specs.Spanned.{Span, Spanned, Leaf, One, Two, SpannedRule, span_of, placed}
 use Rattle.meta_reader.specs.Reading.{Category, Postfixed, done, more, Reads, barred, unbarred, one_alternative, choice, one_term, sequence, tagged, pos_pred, neg_pred, bare, grouped, leaf, pushed, literally_pushed, ReadsRule, line_doc, normal, modified, ReadsRules, end_of_input, grammar_doc, documented, defined}
-use Rattle.meta_stack.specs.Certain.{AreReports, ArePlain}
-use Rattle.meta_stacks.specs.Reported.{node_at}
-use Rattle.meta_stacks.specs.Reports.{Route, Here, First, Second, Inner, Turn, SkippingAltersStack}
-use Rattle.meta_stacks.specs.Stack.{In}
-use Rattle.meta_stacks.specs.Turns.{most_stacks}
+use Rattle.meta_stack_pass.specs.Certain.{AreReports, AreFound}
+use Rattle.meta_abstract_stacks.specs.Reported.{node_at}
+use Rattle.meta_abstract_stacks.specs.Reports.{Route, Here, First, Second, Inner, Turn, SkippingAltersStack}
+use Rattle.meta_abstract_stacks.specs.Stack.{In}
+use Rattle.meta_abstract_stacks.specs.Turns.{most_stacks}
 use Rattle.meta_validator.specs.Placed.{IsIn, AreIn, ArePiecesOf}
 use Rattle.meta_validator.proofs.PlacedLemmas.{at_one, its_span}
 
@@ -78,7 +78,7 @@ module _ (text : List ℕ) where
   node_in (Two s f a b) (Turn n r) y i h = cc
 
   module _ (rules : List SpannedRule) (are : AreIn text rules) where
-    of_report : (spans : List Span) → ArePlain rules spans → (s : Span) → In s spans → s.text ≡ text
+    of_report : (spans : List Span) → AreFound rules spans → (s : Span) → In s spans → s.text ≡ text
     of_report spans plain s i = there
       where
         calm : SkippingAltersStack (rules_without_spans rules) → ⊥

@@ -10,11 +10,11 @@ use Rattle.std.specs.List.Sorted.{ties}
 use Rattle.std.specs.Ordering.{is_lt, nat_cmp, on, ordering_reverse, ordering_then, then_cmp}
 use Rattle.meta_nodes.specs.Erasure.{rules_without_spans, without_spans}
 use Rattle.meta_nodes.specs.Spanned.{Span, SpannedRule}
-use Rattle.meta_stack.specs.Certain.{ArePlain, AreRead, AreReports, is_before, IsSorted}
-use Rattle.meta_stacks.specs.Reported.{ReportedFrom}
-use Rattle.meta_stacks.specs.Reports.{reading_in, SkippingAltersStack}
-use Rattle.meta_stacks.specs.Stack.{entry}
-use Rattle.meta_stacks.specs.Turns.{most_stacks}
+use Rattle.meta_stack_pass.specs.Certain.{AreFound, AreRead, AreReports, is_before, IsSorted}
+use Rattle.meta_abstract_stacks.specs.Reported.{ReportedFrom}
+use Rattle.meta_abstract_stacks.specs.Reports.{reading_in, SkippingAltersStack}
+use Rattle.meta_abstract_stacks.specs.Stack.{entry}
+use Rattle.meta_abstract_stacks.specs.Turns.{most_stacks}
 use Rattle.meta_validator.proofs.OneOrder.{AgreeAt, one_order, rises}
 use Rattle.pest_meta.proofs.OneText.{all_stand, bodies_stand, InText, StandsIn}
 use Rattle.pest_meta.proofs.ReportsAgree.{plain_empty, read_alike}
@@ -103,7 +103,7 @@ module _ (text : List ℕ) where
         rules spans stand (a.read 3067 enough)
 
     -- one list, and all of it in the text
-    plain_once : (xs ys : List Span) → ArePlain rules xs → ArePlain rules ys → (xs ≡ ys) × All (InText text) xs
+    plain_once : (xs ys : List Span) → AreFound rules xs → AreFound rules ys → (xs ≡ ys) × All (InText text) xs
     plain_once xs ys a b = go xs refl
       where
         go : (zs : List Span) → xs ≡ zs → (xs ≡ ys) × All (InText text) xs

@@ -5,10 +5,10 @@ use Rattle.std.specs.List.{All}
 use Rattle.meta_base.specs.Language.State.{Trees}
 use Rattle.meta_nodes.specs.Spanned.{Span, span_of, Spanned, Leaf, One, Two, Unary, placed, SpannedRule}
 use Rattle.meta_reader.specs.Reading.{Category, Postfixed, done, more, Reads, barred, unbarred, one_alternative, choice, one_term, sequence, tagged, pos_pred, neg_pred, bare, grouped, leaf, pushed, literally_pushed, ReadsRule, line_doc, normal, modified, ReadsRules, end_of_input, grammar_doc, documented, defined}
-use Rattle.meta_stack.specs.Visiting.{AllReported}
-use Rattle.meta_stacks.specs.Reading as says
-use Rattle.meta_stacks.specs.Reported.{Own, ReportedIn}
-use Rattle.meta_stacks.specs.Stack.{AbstractStack}
+use Rattle.meta_stack_pass.specs.Visiting.{AllReported}
+use Rattle.meta_abstract_stacks.specs.Reading as says
+use Rattle.meta_abstract_stacks.specs.Reported.{Own, ReportedIn}
+use Rattle.meta_abstract_stacks.specs.Stack.{AbstractStack}
 
 module _ (text : List ℕ) where
   -- a place in the text

@@ -6,13 +6,13 @@ use Rattle.std.proofs.lemmas.List.Sorted.{length_permutation}
 use Rattle.meta_base.specs.Language.Text.{Text}
 use Rattle.meta_nodes.specs.Erasure.{rules_without_spans}
 use Rattle.meta_nodes.specs.Spanned.{Span, Spanned, Leaf, One, Two, Unary, SpannedRule}
-use Rattle.meta_stack.specs.Certain.{ArePlain, AreRead, AreReports}
-use Rattle.meta_stack.specs.Visiting.{AllReported}
-use Rattle.meta_stacks.specs.Reading as says
-use Rattle.meta_stacks.specs.Reported.{Own, ReportedFrom, ReportedIn}
-use Rattle.meta_stacks.specs.Reports.{SkippingAltersStack}
-use Rattle.meta_stacks.specs.Stack.{AbstractStack}
-use Rattle.meta_stacks.specs.Turns.{most_stacks}
+use Rattle.meta_stack_pass.specs.Certain.{AreFound, AreRead, AreReports}
+use Rattle.meta_stack_pass.specs.Visiting.{AllReported}
+use Rattle.meta_abstract_stacks.specs.Reading as says
+use Rattle.meta_abstract_stacks.specs.Reported.{Own, ReportedFrom, ReportedIn}
+use Rattle.meta_abstract_stacks.specs.Reports.{SkippingAltersStack}
+use Rattle.meta_abstract_stacks.specs.Stack.{AbstractStack}
+use Rattle.meta_abstract_stacks.specs.Turns.{most_stacks}
 
 module _ (limit turns : ℕ) (read : Spanned → AbstractStack → says.Reading) (nullable : Spanned → Bool) where
   own_once : (S : AbstractStack → Type 0) (t : Span) (f : Unary) (x : Spanned) (us ts vs : List Span)
@@ -72,7 +72,7 @@ read_alike rules xs ys a b =
     read_once rules xs ys a b (fun_ext (λ n. same_test (a.recursive n) (b.recursive n) _ (a.reaches_itself n) (b.reaches_itself n)))
 
 -- where one list of reports is empty, so is another
-pub plain_empty : (rules : List SpannedRule) (xs ys : List Span) → ArePlain rules xs → ArePlain rules ys → xs ≡ [] → ys ≡ []
+pub plain_empty : (rules : List SpannedRule) (xs ys : List Span) → AreFound rules xs → AreFound rules ys → xs ≡ [] → ys ≡ []
 plain_empty rules xs ys a b none = go ys refl
   where
     go : (zs : List Span) → ys ≡ zs → zs ≡ []

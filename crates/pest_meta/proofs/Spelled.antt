@@ -25,7 +25,7 @@ use Rattle.meta_reader.proofs.Uniqueness.{rules_once}
 use Rattle.meta_syntax.specs.MetaGrammar.{meta_grammar}
 use Rattle.meta_syntax.specs.Parses.{AreOfAGrammar, FailsAt, ParseRefuses}
 use Rattle.meta_names.specs.GrammarNames.{AreWrittenAt, complaints_of, first_calls_of, IsNameRefusal}
-use Rattle.meta_stack.specs.Certain.{AreReports}
+use Rattle.meta_stack_pass.specs.Certain.{AreReports}
 use Rattle.meta_validator.specs.Reported.{AreReported}
 use Rattle.meta_validator.proofs.NothingElse.{nothing_else}
 use Rattle.pest_meta.specs.Findings.{TellFindings}

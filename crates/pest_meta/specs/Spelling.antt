@@ -21,7 +21,7 @@ use Rattle.meta_reader.specs.Reading.{ReadsRules}
 use Rattle.meta_reader.specs.Refusals.{TellsOf}
 use Rattle.meta_syntax.specs.Parses as parsed
 use Rattle.meta_syntax.specs.Parses.{IsRefused}
-use Rattle.meta_stack.specs.Certain.{AreReports}
+use Rattle.meta_stack_pass.specs.Certain.{AreReports}
 use Rattle.meta_validator.specs.Reported.{AreReported}
 use Rattle.pest_meta.specs.Findings.{TellFindings}
 

@@ -10,7 +10,7 @@ pub mod validator;
 ghost use Rattle.std.specs.Prelude.{[], IfErr, IfOk};
 ghost use Rattle.meta_ast.specs.Optimized.{optimized_rules_of};
 ghost use Rattle.meta_base.specs.Language.WellFormed.{IsPlain};
-ghost use Rattle.meta_stack.specs.Certain.{AreReports};
+ghost use Rattle.meta_stack_pass.specs.Certain.{AreReports};
 ghost use Rattle.pest_meta.specs.Promises.{AreBuiltinsOf, EndsFromEverywhere, HasOutcomesOf, IsWellFormedGrammar};
 ghost use Rattle.pest_meta.specs.Promises.{OfRead, OfSpelled};
 ghost use Rattle.meta_restorer.specs.Agreeing.{AgreesLoosely, WrappersSuffice};
@@ -64,10 +64,7 @@ pub fn parse_and_optimize<'i>(
     ensures no_refusal { IfOk result (λ answer. HasRefusal grammar.entry.now → ⊥) }
 {
     let pairs = PestParser::parse(alloc, Rule::grammar_rules, grammar)?;
-    let copy = match pairs.clone() {
-        Ok(copy) => copy,
-        Err(error) => return Err(Fault::Memory(error)),
-    };
+    let copy = pairs.clone()?;
     let builtins = validate_pairs(alloc, copy)?;
     let rules = consume_rules(alloc, pairs)?;
     Ok((builtins, optimizer::optimize(alloc, rules)?))

@@ -13,9 +13,9 @@ use meta_ast::deep::Deep;
 use meta_base::runtime::{Fault, Pairs};
 use meta_nodes::erase_spans;
 pub use meta_nodes::release;
-pub use meta_reader::parser::{
-    ParserExpr, ParserNode, ParserRule, PestParser, Rule, consume_rules_with_spans,
-    filter_internal, parse, plain_name, rename_meta_rule,
+pub use meta_reader::rules::{
+    ParserExpr, ParserNode, ParserRule, PestParser, Rule, common_name, consume_rules_with_spans,
+    filter_internal, parse, rename_meta_rule,
 };
 use std::alloc::Global;
 
@@ -39,8 +39,5 @@ pub fn consume_rules(alloc: Global, pairs: Pairs<'_, Rule>) -> Result<Vec<ast::R
     if !errors.is_empty() {
         return Err(Fault::Grammar(errors));
     }
-    match erase_spans(alloc, rules.into_inner()) {
-        Ok(rules) => Ok(rules),
-        Err(error) => Err(Fault::Memory(error)),
-    }
+    Ok(erase_spans(alloc, rules.into_inner())?)
 }

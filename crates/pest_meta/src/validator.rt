@@ -3,7 +3,7 @@ ghost use Rattle.std.specs.Prelude.{◌≡◌, [], IfErr, IfOk, alloc_error};
 ghost use Rattle.meta_base.specs.Language.WellFormed.{IsWellFormed};
 ghost use Rattle.meta_nodes.specs.Erasure.{rules_without_spans};
 ghost use Rattle.meta_nodes.specs.Nodes.{rule_views};
-ghost use Rattle.meta_stack.specs.Certain.{AreReports};
+ghost use Rattle.meta_stack_pass.specs.Certain.{AreReports};
 ghost use Rattle.meta_validator.specs.Placed.{AreIn};
 ghost use Rattle.pest_meta.specs.Findings.{TellFindings};
 
@@ -14,9 +14,10 @@ pub use meta_names::{
     validate_rust_keywords, validate_undefined,
 };
 use meta_nodes::ParserRule;
-use meta_stack::sorted_reports;
-pub use meta_stack::validate_stack_repetition;
-use meta_validator::validator::{validate_rules, validate_rules_in};
+use meta_stack_pass::sorted_reports_in;
+pub use meta_stack_pass::validate_stack_repetition;
+use meta_table::{names_of, tabulated};
+use meta_validator::validator::{validate_table, validate_table_in};
 pub use meta_validator::validator::{is_non_failing, is_non_progressing};
 use std::alloc::Global;
 
@@ -31,10 +32,10 @@ use std::alloc::Global;
 /// - `expression cannot fail; following choices cannot be reached`, at an alternative that cannot fail and
 ///   has others behind it;
 /// - `WHITESPACE cannot fail and will repeat infinitely` or, where that is not so,
-///   `WHITESPACE is non-progressing and will repeat infinitely`, at the body of the rule `WHITESPACE`; and the
-///   same of `COMMENT`;
+///   `WHITESPACE is non-progressing and will repeat infinitely`, at the body of the rule `WHITESPACE`; and
+///   the same of `COMMENT`;
 /// - `rule a is left-recursive (a -> b -> a); pest::pratt_parser might be useful in this case`, at the call
-///   that closes the chain, at most once for a name;
+///   that closes the trail, at most once for a name;
 /// - `tags on silent rules will not appear in the output`, at a tag on a Silent rule, and
 ///   `tags on built-in rules will not appear in the output`, at one on a builtin that is no rule's name.
 ///
@@ -49,16 +50,16 @@ pub fn validate_ast<'i>(
     ensures silent { IfOk result (λ errors. errors.items ≡ [] → AreReports (rule_views rules.now.items) []) }
     ensures memory { IfErr result (λ fault. fault ≡ Fault.Memory alloc_error) }
 {
-    let endless = match sorted_reports(alloc, rules.as_slice()) {
-        Ok(endless) => endless,
-        Err(error) => return Err(Fault::Memory(error)),
-    };
-    let errors = validate_rules(alloc, rules, endless.as_slice())?;
+    let rules = rules.as_slice();
+    let names = names_of(alloc, rules)?;
+    let table = tabulated(alloc, rules)?;
+    let endless = sorted_reports_in(alloc, rules, &names, &table)?;
+    let errors = validate_table(alloc, rules, &names, &table, endless.as_slice())?;
     Ok(errors)
 }
 
-/// What is wrong with rules, as `validate_ast` tells it, where all their spans are of one text: that is walked
-/// over once for the places of all errors. The only fault is a want of memory.
+/// What is wrong with rules, as `validate_ast` tells it, where all their spans are of one text: that is
+/// walked over once for the places of all errors. The only fault is a want of memory.
 pub fn validate_ast_in<'i>(
     alloc: Global,
     text: &str,
@@ -71,10 +72,10 @@ pub fn validate_ast_in<'i>(
     ensures silent { IfOk result (λ errors. errors.items ≡ [] → AreReports (rule_views rules.now.items) []) }
     ensures memory { IfErr result (λ fault. fault ≡ Fault.Memory alloc_error) }
 {
-    let endless = match sorted_reports(alloc, rules.as_slice()) {
-        Ok(endless) => endless,
-        Err(error) => return Err(Fault::Memory(error)),
-    };
-    let errors = validate_rules_in(alloc, text, rules, endless.as_slice())?;
+    let rules = rules.as_slice();
+    let names = names_of(alloc, rules)?;
+    let table = tabulated(alloc, rules)?;
+    let endless = sorted_reports_in(alloc, rules, &names, &table)?;
+    let errors = validate_table_in(alloc, text, rules, &names, &table, endless.as_slice())?;
     Ok(errors)
 }

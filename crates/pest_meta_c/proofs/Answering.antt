@@ -4,7 +4,7 @@ use Rattle.std.specs.declared.alloc.AllocError.{AllocError}
 use Rattle.serde_json.specs.Data.{Data}
 use Rattle.serde_json.specs.Written.{compact_text}
 use Rattle.meta_ast.specs.Ast.{rules_of}
-use Rattle.meta_ast.specs.declared.ast.Rule as plain_rule
+use Rattle.meta_ast.specs.declared.ast.Rule as bare_rule
 use Rattle.meta_base.specs.Language.WellFormed.{HasReadableCounts}
 use Rattle.meta_base.specs.Pieces.NamedTrees.{named}
 use Rattle.meta_base.specs.Pieces.Pairs.{pairs_text, pairs_trees}
@@ -33,7 +33,7 @@ names_answered text json pairs names same h none uses written = subst (λ v. Are
   written = written;
 })
 
-pub rules_answered : (text json : List ℕ) (pairs : Pairs Rule) (rules : List plain_rule.Rule) → pairs_text pairs ≡ text → AreOfAGrammar pairs → AreAccepted (pairs_text pairs) (named (pairs_trees pairs)) (rules_of rules) → HasReadableCounts (rules_of rules)
+pub rules_answered : (text json : List ℕ) (pairs : Pairs Rule) (rules : List bare_rule.Rule) → pairs_text pairs ≡ text → AreOfAGrammar pairs → AreAccepted (pairs_text pairs) (named (pairs_trees pairs)) (rules_of rules) → HasReadableCounts (rules_of rules)
     → json ≡ compact_text (rules_data rules) → AreRules text json
 rules_answered text json pairs rules same h accepted counts written = subst (λ v. AreRules v json) same (record {
   trees = named (pairs_trees pairs);

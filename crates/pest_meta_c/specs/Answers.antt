@@ -4,7 +4,7 @@ use Rattle.std.specs.Borrow.{Bor}
 use Rattle.serde_json.specs.Written.{compact_text}
 use Rattle.meta_ast.specs.Ast.{rules_of}
 use Rattle.meta_ast.specs.Optimized.{optimized_rules_of}
-use Rattle.meta_ast.specs.declared.ast.Rule as plain_rule
+use Rattle.meta_ast.specs.declared.ast.Rule as bare_rule
 use Rattle.meta_ast.specs.declared.optimized.OptimizedRule.{OptimizedRule}
 use Rattle.meta_base.specs.Language.State.{Trees}
 use Rattle.meta_base.specs.Language.WellFormed.{HasReadableCounts, IsPlain}
@@ -26,7 +26,7 @@ use Rattle.meta_optimizer.specs.Passes.{IsOptimized}
 use Rattle.meta_reader.specs.Flaws.{first_flaw}
 use Rattle.meta_reader.specs.Reading.{ReadsRules}
 use Rattle.meta_restorer.specs.Agreeing.{AgreesLoosely, WrappersSuffice}
-use Rattle.meta_stack.specs.Certain.{AreReports}
+use Rattle.meta_stack_pass.specs.Certain.{AreReports}
 use Rattle.meta_syntax.specs.Entries as entries
 use Rattle.meta_syntax.specs.Parses.{TokensGive}
 use Rattle.meta_syntax.specs.declared.entries.Entry.{Entry}
@@ -42,8 +42,8 @@ pub record AreTokens (text name json : List ℕ) : Type 0 where
   pub whole : entries.IsWhole 0 (entries.named_entries tokens)
   pub written : json ≡ compact_text (tokens_data tokens)
 
--- the bytes are the builtins that a grammar uses: its names are in order, and these are those that it calls and
--- doesn't define, each once, in the order of their first calls
+-- the bytes are the builtins that a grammar uses: its names are in order, and these are those that it calls
+-- and doesn't define, each once, in the order of their first calls
 pub record AreNames (text json : List ℕ) : Type 0 where
   pub trees : Trees
   pub of_text : HasTrees text trees
@@ -52,7 +52,8 @@ pub record AreNames (text json : List ℕ) : Type 0 where
   pub uses : AreWrittenAt (first_calls (definitions text trees) (calls text trees)) names
   pub written : json ≡ compact_text (names_data names)
 
--- the bytes are the errors of a name as a keyword of Rust: one, at the whole of it, where it is one, and else none
+-- the bytes are the errors of a name as a keyword of Rust: one, at the whole of it, where it is one, and else
+-- none
 pub record AreKeywordErrors (name json : List ℕ) : Type 0 where
   pub errors : List (Error Rule)
   pub tell : Tell (rust_keyword_complaints (piece name 0 (length name) ∷ [])) errors
@@ -62,7 +63,7 @@ pub record AreKeywordErrors (name json : List ℕ) : Type 0 where
 pub record AreRules (text json : List ℕ) : Type 0 where
   pub trees : Trees
   pub of_text : HasTrees text trees
-  pub rules : List plain_rule.Rule
+  pub rules : List bare_rule.Rule
   pub accepted : AreAccepted text trees (rules_of rules)
   pub counts : HasReadableCounts (rules_of rules)
   pub written : json ≡ compact_text (rules_data rules)
@@ -78,7 +79,7 @@ pub record AreNodes (text json : List ℕ) : Type 0 where
 
 -- the bytes are the rules of a text in JSON, optimized
 pub record AreOptimized (text json : List ℕ) : Type 0 where
-  pub rules : List plain_rule.Rule
+  pub rules : List bare_rule.Rule
   pub read : reading.AreRules text rules
   pub answer : List OptimizedRule
   pub optimized : IsOptimized (rules_of rules) (optimized_rules_of answer)

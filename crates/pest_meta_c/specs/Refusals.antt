@@ -52,7 +52,8 @@ HasNoNames text json = TellSuch text (OfTrees (IsMisnamed text) text) json
 abbrev pub HasNoNodes : List ℕ → List ℕ → Type 0
 HasNoNodes text json = TellSuch text (OfTrees (AreFlawed text) text) json
 
--- why there are no rules: the text is no grammar, or its trees have a flaw, or something is found in its rules
+-- why there are no rules: the text is no grammar, or its trees have a flaw, or something is found in its
+-- rules
 abbrev pub HasNoRules : List ℕ → List ℕ → Type 0
 HasNoRules text json = TellSuch text
     (OfTrees (λ trees errors. AreFlawed text trees errors ⊎ HaveFindings text trees errors) text) json

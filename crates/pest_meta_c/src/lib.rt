@@ -1,10 +1,11 @@
-//! The front end as a library for C and for Rust: texts and JSON go in, JSON goes out into room of the caller's.
-//! include/pest_meta.h has the calls.
+//! The front end as a library for C and for Rust: texts and JSON go in, JSON goes out into room of the
+//! caller's. include/pest_meta.h has the calls.
 //!
-//! What is handed in is UTF-8; what goes out is JSON (docs/FORMAT.md), of which all places are counted in bytes.
-//! Each call answers a status: 0 where it answers, and 1 where it refuses, with JSON at the start of `out` and its
-//! length in `needed`; 2 for a want of memory and 3 for what is not UTF-8, with nothing written and 0 in `needed`;
-//! 4 where `out` is too small, with nothing written and the length that is wanted in `needed`.
+//! What is handed in is UTF-8; what goes out is JSON (docs/FORMAT.md), of which all places are counted in
+//! bytes. Each call answers a status: 0 where it answers, and 1 where it refuses, with JSON at the start of
+//! `out` and its length in `needed`; 2 for a want of memory and 3 for what is not UTF-8, with nothing written
+//! and 0 in `needed`; 4 where `out` is too small, with nothing written and the length that is wanted in
+//! `needed`.
 #![tactic(auto)]
 
 mod calls;
@@ -94,8 +95,8 @@ pub extern "C" fn pest_meta_rules(
     }
 }
 
-/// The rules that a grammar's text spells, with the places of their names and nodes. It is asked neither for its
-/// names nor for what is found in its rules.
+/// The rules that a grammar's text spells, with the places of their names and nodes. It is asked neither for
+/// its names nor for what is found in its rules.
 #[unsafe(no_mangle)]
 pub extern "C" fn pest_meta_nodes(
     alloc: Global,

@@ -20,8 +20,8 @@ pub(crate) enum Unanswered {
 /// What comes of a call: its answer in JSON, or why there is none.
 pub(crate) type Outcome = Result<String, Unanswered>;
 
-/// A fault of a text, the errors in JSON. Those of syntax tell which rules were expected, where the text was to be of
-/// this rule.
+/// A fault of a text, the errors in JSON. Those of syntax tell which rules were expected, where the text was
+/// to be of this rule.
 pub(crate) fn told(alloc: Global, rule: Rule, text: &str, fault: Fault) -> Unanswered
     ensures { IsTold rule text.now fault result }
 {

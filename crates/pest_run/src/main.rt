@@ -7,7 +7,7 @@ mod outcomes;
 mod run;
 
 use arguments::{command, format_of};
-use run::{MEMORY, Source, UNREADABLE, run_files};
+use run::{MEMORY, Request, Source, UNREADABLE, run_files};
 use std::alloc::AllocError;
 use std::io::Read;
 use std::process::ExitCode;
@@ -45,12 +45,15 @@ fn answer(rt: &HostRuntime) -> Result<u8, clap::Error> {
     };
     let grammar = source(rt, matches.get_str("GRAMMAR").unwrap_or(""))?;
     let text = source(rt, matches.get_str("TEXT").unwrap_or("-"))?;
+    let request = Request {
+        rule: matches.get_str("RULE").unwrap_or(""),
+        format: format_of(&matches),
+    };
     let exit = run_files(
         alloc,
         &grammar,
-        matches.get_str("RULE").unwrap_or(""),
         &text,
-        format_of(&matches),
+        request,
         &mut rt.stdout(),
         &mut rt.stderr(),
     );

@@ -6,7 +6,8 @@ ghost use Rattle.pest_run.specs.Messages.{before_name, failure_message, other_na
 
 use std::alloc::{AllocError, Global};
 
-/// What is said of a text where these names are expected, in pest's words. The only error is a want of memory.
+/// What is said of a text where these names are expected, in pest's words. The only error is a want of
+/// memory.
 pub fn failure_message(alloc: Global, names: &[&str]) -> Result<String, AllocError>
     ensures { IfOk result (λ message. string_bytes message ≡ failure_message (told_of names.now)) }
 {

@@ -124,13 +124,13 @@ fn report_at(alloc: Global, place: Position<'_>, names: &[&str]) -> Result<Strin
     ensures { IfOk result (λ report. string_bytes report
         ≡ failure_text (position_text place.entry) (position_offset place.entry) (told_of names.now)) }
 {
-    let message = failure_message(alloc, names).map_err(Fault::Memory)?;
+    let message = failure_message(alloc, names)?;
     let error: Error<Rule> = Error::new_from_pos(
         alloc,
         ErrorVariant::CustomError { message },
         place,
     )?;
-    format!(in alloc; "{error}").map_err(Fault::Memory)
+    Ok(format!(in alloc; "{error}")?)
 }
 
 /// What comes of a run that was stopped.

@@ -32,6 +32,15 @@ pub struct Source<'a> {
     pub why: Option<String>,
 }
 
+/// What is asked of a grammar and a text.
+#[derive(Clone, Copy)]
+pub struct Request<'a> {
+    /// The name of the rule that is to match the text.
+    pub rule: &'a str,
+    /// How the trees are to be printed.
+    pub format: Format,
+}
+
 /// How a run ends.
 #[derive(Drop)]
 pub struct Exit {
@@ -41,14 +50,14 @@ pub struct Exit {
     pub told: io::Result<()>,
 }
 
-/// Matches a text by the rule of a name of a grammar, both as their files hold them, and prints the trees to
-/// `out`, as `run` does. A file that can't be read or is not UTF-8 is told on `err` with its name and why (3).
+/// Matches a text by the rule of a grammar that is asked for, both as their files hold them, and prints the
+/// trees to `out`, as `run` does. A file that can't be read or is not UTF-8 is told on `err` with its name
+/// and why (3).
 pub fn run_files<W: Write, E: Write>(
     alloc: Global,
     grammar: &Source<'_>,
-    rule: &str,
     text: &Source<'_>,
-    format: Format,
+    request: Request<'_>,
     out: &mut W,
     err: &mut E,
 ) -> Exit
@@ -56,12 +65,12 @@ pub fn run_files<W: Write, E: Write>(
     ensures read { result.status ≢ 3 → IsReadable grammar.now × IsReadable text.now }
     ensures unread { IsReadable grammar.now → IsReadable text.now → result.status ≢ 3 }
     ensures printed { result.status ≡ 0
-        → PrintsTrees grammar.now.bytes.items rule.now text.now.bytes.items format
+        → PrintsTrees grammar.now.bytes.items request.entry.rule.now text.now.bytes.items request.entry.format
         (W.contents out.old) (W.contents out.new) }
     ensures unprinted { result.status ≢ 0 → result.status ≢ 4 → out.new ≡ out.old }
     ensures silent { result.status ≡ 0 → err.new ≡ err.old }
     ensures reason { result.status ≡ 1
-        → TellsReason grammar.now.bytes.items rule.now text.now.bytes.items result.told
+        → TellsReason grammar.now.bytes.items request.entry.rule.now text.now.bytes.items result.told
         (E.contents err.old) (E.contents err.new) }
     ensures tells_memory { result.status ≡ 2
         → TellsLine (codes "out of memory") result.told (E.contents err.old) (E.contents err.new) }
@@ -74,31 +83,32 @@ pub fn run_files<W: Write, E: Write>(
     let Some(input) = text_of(text) else {
         return unreadable(text, err);
     };
-    run(alloc, rules, rule, input, format, out, err)
+    run(alloc, rules, input, request, out, err)
 }
 
-/// Matches a text by the rule of a name of a grammar, and prints the trees to `out` (0).
+/// Matches a text by the rule of a grammar that is asked for, and prints the trees to `out` (0).
 ///
-/// Otherwise one text with a line break behind it goes to `err`: the report of a grammar that is refused, that
-/// the grammar has no such rule, or the furthest place at which the rule fails and what was expected there (1);
-/// `out of memory` (2); `cannot write` where `out` refuses a write (4); why the run was stopped (5). A write
-/// that `err` refuses changes no status.
+/// Otherwise one text with a line break behind it goes to `err`: the report of a grammar that is refused,
+/// that the grammar has no such rule, or the furthest place at which the rule fails and what was expected
+/// there (1); `out of memory` (2); `cannot write` where `out` refuses a write (4); why the run was stopped
+/// (5). A write that `err` refuses changes no status.
 pub fn run<W: Write, E: Write>(
     alloc: Global,
     grammar: &str,
-    rule: &str,
     text: &str,
-    format: Format,
+    request: Request<'_>,
     out: &mut W,
     err: &mut E,
 ) -> Exit
     ensures known { IsStatus result.status }
     ensures printed { result.status ≡ 0
-        → PrintsTrees grammar.now rule.now text.now format (W.contents out.old) (W.contents out.new) }
+        → PrintsTrees grammar.now request.entry.rule.now text.now request.entry.format
+        (W.contents out.old) (W.contents out.new) }
     ensures unprinted { result.status ≢ 0 → result.status ≢ 4 → out.new ≡ out.old }
     ensures silent { result.status ≡ 0 → err.new ≡ err.old }
     ensures reason { result.status ≡ 1
-        → TellsReason grammar.now rule.now text.now result.told (E.contents err.old) (E.contents err.new) }
+        → TellsReason grammar.now request.entry.rule.now text.now result.told
+        (E.contents err.old) (E.contents err.new) }
     ensures tells_memory { result.status ≡ 2
         → TellsLine (codes "out of memory") result.told (E.contents err.old) (E.contents err.new) }
     ensures tells_unwritten { result.status ≡ 4
@@ -106,9 +116,9 @@ pub fn run<W: Write, E: Write>(
 {
     match unwrap_or_report(alloc, parse_and_optimize(alloc, grammar)) {
         Ok((_, rules)) => {
-            let outcome = outcome_of(alloc, &rules, rule, text, format);
+            let outcome = outcome_of(alloc, &rules, request.rule, text, request.format);
             release(rules);
-            shown(outcome, rule, out, err)
+            shown(outcome, request.rule, out, err)
         }
         Err(Report::Memory) => told(err, "out of memory", MEMORY),
         Err(Report::Text(report)) => told(err, report.as_str(), REFUSED),

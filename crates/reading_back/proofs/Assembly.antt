@@ -6,7 +6,7 @@ use Rattle.meta_base.specs.Language.State.{Trees, None', Tree, Success, Failure,
 use Rattle.meta_base.specs.declared.grammar.Rule.TheVariants as is
 use Rattle.meta_base.proofs.Steps.{joined_assoc}
 use Rattle.meta_base.specs.Pieces.Saying.{piece}
-use Rattle.meta_syntax.specs.Shape.{Mark}
+use Rattle.meta_syntax.specs.Shape.{Lone}
 use Rattle.meta_nodes.specs.Spanned as spanned
 use Rattle.meta_nodes.specs.Spanned.{Spanned, Leaf, One, Two, Span, Unary, starting, ending, end_of}
 use Rattle.meta_reader.specs.Reading.{AnExpression, ATerm, Reads, Postfixed, done, more, Postfix, pos_pred, neg_pred, tagged, tag_name, one_term, one_alternative, sequence, choice, unbarred, grouped, around, both}
@@ -154,7 +154,7 @@ module _ (text : List ℕ) where
         starts = term_start 38 t refl refl refl;
         node_place = n.node_place;
         node_text = n.node_text;
-        signs = Mark (codes "positive_predicate_operator") p (p + 1) n.signs;
+        signs = Lone (codes "positive_predicate_operator") p (p + 1) n.signs;
         from_start = rep (positive_sign t p) n.going_on;
         going_on = turn (stays 38 t p refl) (positive_sign t p) n.going_on;
         solid = n.solid;
@@ -181,7 +181,7 @@ module _ (text : List ℕ) where
         starts = term_start 33 t refl refl refl;
         node_place = n.node_place;
         node_text = n.node_text;
-        signs = Mark (codes "negative_predicate_operator") p (p + 1) n.signs;
+        signs = Lone (codes "negative_predicate_operator") p (p + 1) n.signs;
         from_start = rep (negative_sign t p) n.going_on;
         going_on = turn (stays 33 t p refl) (negative_sign t p) n.going_on;
         solid = n.solid;
@@ -230,7 +230,7 @@ module _ (text : List ℕ) where
 
   -- one more term behind what is read
   read_on : (l : Link) (i j k m : ℕ) (us inner : Trees) (x y : Spanned) (a b : Expression) → Reads text (category l) us x → Denotes x a → Reads text ATerm inner y → Denotes y b
-      → (z : Spanned) × Reads text (category l) (joined us (Mark (sign_name l) i j (Tree (codes "term") k m inner None'))) z × Denotes z (joined_by l a b)
+      → (z : Spanned) × Reads text (category l) (joined us (Lone (sign_name l) i j (Tree (codes "term") k m inner None'))) z × Denotes z (joined_by l a b)
   read_on Tilde i j k m us inner x y a b r h s g = (both text spanned.Seq x y, sequence i j k m r s, link_says Tilde h g)
   read_on Bar i j k m us inner x y a b r h s g = (both text spanned.Choice x y, choice i j r (one_term s), link_says Bar h g)
 
@@ -246,7 +246,7 @@ module _ (text : List ℕ) where
   last_term l p t e K₀ K c n =
       record {
         middle = n.end;
-        first_trees = Mark (sign_name l) p (p + 1) (Tree (codes "term") (p + 1 + 1) n.end.position n.inner None');
+        first_trees = Lone (sign_name l) p (p + 1) (Tree (codes "term") (p + 1 + 1) n.end.position n.inner None');
         first = seq (infix_sign l (32 ∷ t) p) (blank_at n.starts (p + 1)) n.does;
         end = n.end;
         trees = None';
@@ -259,7 +259,7 @@ module _ (text : List ℕ) where
 
   pub more_terms : (l : Link) (p : ℕ) (t : Text) (a b : Expression) (u K : Text) (n : TermCall text (p + 1 + 1) t a u) → ChainAt text l n.place u b K → ChainAt text l p (sign l ∷ 32 ∷ t) (joined_by l a b) K
   more_terms l p t a b u K n c =
-      let first_trees : Trees = Mark (sign_name l) p (p + 1) (Tree (codes "term") (p + 1 + 1) n.end.position n.inner None') in
+      let first_trees : Trees = Lone (sign_name l) p (p + 1) (Tree (codes "term") (p + 1 + 1) n.end.position n.inner None') in
       let trees : Trees = joined c.first_trees c.trees in
       record {
         middle = n.end;
@@ -322,8 +322,8 @@ module _ (text : List ℕ) where
       → TermAt text (q + 1 + 1 + 1) t e K → ExpressionAt text p (35 ∷ u) (NodeTag e tag) K
   unfolding whitespace comment own_flaw
   tagged_term p q tag t u e K₀ K c d is_named n =
-      let inner : Trees = Mark (codes "tag_id") p q (Mark (codes "assignment_operator") (q + 1) (q + 1 + 1) (joined (joined n.signs n.node_trees) n.trees)) in
-      let begins : Calls is.node_tag (at p (35 ∷ u)) (Success (at (q + 1 + 1) (32 ∷ t)) (Mark (codes "tag_id") p q (Mark (codes "assignment_operator") (q + 1) (q + 1 + 1) None'))) =
+      let inner : Trees = Lone (codes "tag_id") p q (Lone (codes "assignment_operator") (q + 1) (q + 1 + 1) (joined (joined n.signs n.node_trees) n.trees)) in
+      let begins : Calls is.node_tag (at p (35 ∷ u)) (Success (at (q + 1 + 1) (32 ∷ t)) (Lone (codes "tag_id") p q (Lone (codes "assignment_operator") (q + 1) (q + 1 + 1) None'))) =
       call is.node_tag refl (seq d (one_blank 61 (32 ∷ t) q refl) (assigns (32 ∷ t) (q + 1))) in
       let does : Calls is.term (at p (35 ∷ u)) (Success n.end (Tree (codes "term") p n.end.position inner None')) =
       call is.term refl (seq (seq (seq (opt begins) (blank_at n.starts (q + 1 + 1)) n.from_start) n.solid n.node) n.skip n.loop) in
@@ -355,7 +355,7 @@ module _ (text : List ℕ) where
       → ((q : ℕ) → IsLeftAt text q K₀ → OperatorsAt text q K₀ e b K) → NodeAt text p (40 ∷ t) b K
   unfolding whitespace comment own_flaw
   in_parentheses p t e b K₀ K h x loop =
-      let d : Calls is.node (at p (40 ∷ t)) (Success (at (x.place + 1) K₀) (Mark (codes "opening_paren") p (p + 1) (Tree (codes "expression") (p + 1) x.end.position x.inner (Mark (codes "closing_paren") x.place (x.place + 1) None')))) =
+      let d : Calls is.node (at p (40 ∷ t)) (Success (at (x.place + 1) K₀) (Lone (codes "opening_paren") p (p + 1) (Tree (codes "expression") (p + 1) x.end.position x.inner (Lone (codes "closing_paren") x.place (x.place + 1) None')))) =
       call is.node refl (left (seq (seq (opening t p) (expression_stays x.starts (p + 1)) x.does) x.after (closing K₀ x.place))) in
       let l = loop (x.place + 1) (still_left text d h) in
       let o = l.from_start in

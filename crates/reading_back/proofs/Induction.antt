@@ -5,13 +5,13 @@ use Rattle.meta_base.specs.Language.Text.{Text}
 use Rattle.meta_base.specs.Language.Expression.{Expression, Str, Insens, Range, Ident, PeekSlice, PosPred, NegPred, Seq, Choice, Opt, Rep, RepOnce, RepExact, RepMin, RepMax, RepMinMax, Skip, Push, RestoreOnErr, PushLiteral, NodeTag}
 use Rattle.meta_base.specs.Language.State.{NonAtomicMode}
 use Rattle.meta_base.specs.Language.Meaning.{Run}
-use Rattle.meta_base.specs.Language.Expression as plain
+use Rattle.meta_base.specs.Language.Expression as bare
 use Rattle.meta_base.proofs.TreesAreNested.{fits}
 use Rattle.meta_ast.specs.Printing.{Place, Alone, AfterTilde, AfterBar, BeforePostfix}
 use Rattle.reading_back.specs.ReadsBack.{IsWritable, is_tag}
 use Rattle.reading_back.proofs.PrintedBefore.{printed_before, tagged_before}
 use Rattle.reading_back.proofs.Deriving.{str}
-use Rattle.reading_back.proofs.Parts.{Link, Tilde, Bar, sign, joined_by, MayFollowTerm, tilde, bar, by_paren, behind, no_operator, IsLeftAt, still_left, TermCall, IsNodeText, IsTermText, IsChainText, IsExpressionText}
+use Rattle.reading_back.proofs.Parts.{Link, Tilde, Bar, sign, joined_by, MayFollowTerm, tilde, bar, by_paren, behind, no_operator, IsLeftAt, still_left, TermCall, IsNodeText, IsTermText, AreTermsText, IsExpressionText}
 use Rattle.reading_back.proofs.Assembly.{no_signs, no_operators, as_term, last_term, more_terms, lone, chained, in_parentheses, tagged_term, positive, negative}
 use Rattle.reading_back.proofs.Nodes.{push_node}
 use Rattle.reading_back.proofs.Operators.{opt_text, rep_text, rep_once_text, exact_text, min_text, max_text, min_max_text}
@@ -29,20 +29,20 @@ after Bar = AfterBar
 module _ (text : List ℕ) (utf8 : IsUtf8 text) where
   -- behind one character of one byte
   here_paren : (t : Text) (p : ℕ) → IsLeftAt text p (40 ∷ t) → IsLeftAt text (p + 1) t
-  here_paren t p h = still_left text {k = Run NonAtomicMode (plain.Str (40 ∷ []))} str h
+  here_paren t p h = still_left text {k = Run NonAtomicMode (bare.Str (40 ∷ []))} str h
 
   here_and : (t : Text) (p : ℕ) → IsLeftAt text p (38 ∷ t) → IsLeftAt text (p + 1) t
-  here_and t p h = still_left text {k = Run NonAtomicMode (plain.Str (38 ∷ []))} str h
+  here_and t p h = still_left text {k = Run NonAtomicMode (bare.Str (38 ∷ []))} str h
 
   here_not : (t : Text) (p : ℕ) → IsLeftAt text p (33 ∷ t) → IsLeftAt text (p + 1) t
-  here_not t p h = still_left text {k = Run NonAtomicMode (plain.Str (33 ∷ []))} str h
+  here_not t p h = still_left text {k = Run NonAtomicMode (bare.Str (33 ∷ []))} str h
 
   here_push : (t : Text) (p : ℕ) → IsLeftAt text p (80 ∷ 85 ∷ 83 ∷ 72 ∷ 40 ∷ t) → IsLeftAt text (p + 4 + 1) t
-  here_push t p h = here_paren t (p + 4) (still_left text {k = Run NonAtomicMode (plain.Str (codes "PUSH"))} str h)
+  here_push t p h = here_paren t (p + 4) (still_left text {k = Run NonAtomicMode (bare.Str (codes "PUSH"))} str h)
 
   here_linked : (l : Link) (t : Text) (p : ℕ) → IsLeftAt text p (sign l ∷ 32 ∷ t) → IsLeftAt text (p + 1 + 1) t
-  here_linked Tilde t p h = still_left text {k = Run NonAtomicMode (plain.Str (32 ∷ []))} str (still_left text {k = Run NonAtomicMode (plain.Str (126 ∷ []))} {q = p + 1} {K = 32 ∷ t} str h)
-  here_linked Bar t p h = still_left text {k = Run NonAtomicMode (plain.Str (32 ∷ []))} str (still_left text {k = Run NonAtomicMode (plain.Str (124 ∷ []))} {q = p + 1} {K = 32 ∷ t} str h)
+  here_linked Tilde t p h = still_left text {k = Run NonAtomicMode (bare.Str (32 ∷ []))} str (still_left text {k = Run NonAtomicMode (bare.Str (126 ∷ []))} {q = p + 1} {K = 32 ∷ t} str h)
+  here_linked Bar t p h = still_left text {k = Run NonAtomicMode (bare.Str (32 ∷ []))} str (still_left text {k = Run NonAtomicMode (bare.Str (124 ∷ []))} {q = p + 1} {K = 32 ∷ t} str h)
 
   here_behind : {p : ℕ} {t : Text} {e : Expression} {K : Text} → IsLeftAt text p t → (n : TermCall text p t e K) → IsLeftAt text n.place K
   here_behind h n = still_left text n.after (fits (chars text) (n.does (λ m c. false)) h).0
@@ -51,29 +51,29 @@ module _ (text : List ℕ) (utf8 : IsUtf8 text) where
   behind_link Tilde K = tilde K
   behind_link Bar K = bar K
 
-  -- from a node's text to a term's, to the last of a chain, to an expression's
+  -- from a node's text to a term's, to the last of a terms, to an expression's
   term_text : (F : Text → Text) (e : Expression) → IsNodeText text F e → IsTermText text F e
   term_text F e node p K₀ K h b = no_signs text (node p e K₀ K h (no_operator b) (λ q i. no_operators text e b q))
 
-  last_text : (l : Link) (F : Text → Text) (e : Expression) → IsTermText text F e → IsChainText text l F e
+  last_text : (l : Link) (F : Text → Text) (e : Expression) → IsTermText text F e → AreTermsText text l F e
   last_text l F e term p K₀ K h c = last_term text l p (F K₀) e K₀ K c (as_term text (term (p + 1 + 1) K₀ K (here_linked l (F K₀) p h) (behind c)))
 
   one_text : (F : Text → Text) (e : Expression) → IsTermText text F e → IsExpressionText text F e
   one_text F e term p K₀ K h c = lone text p (F K₀) e K₀ K c (as_term text (term p K₀ K h (behind c)))
 
-  chain_text : (l : Link) (F G : Text → Text) (a b : Expression) → IsTermText text F a → IsChainText text l G b
-      → IsChainText text l (λ K. F (32 ∷ sign l ∷ 32 ∷ G K)) (joined_by l a b)
-  chain_text l F G a b term chain p K₀ K h c =
+  chain_text : (l : Link) (F G : Text → Text) (a b : Expression) → IsTermText text F a → AreTermsText text l G b
+      → AreTermsText text l (λ K. F (32 ∷ sign l ∷ 32 ∷ G K)) (joined_by l a b)
+  chain_text l F G a b term terms p K₀ K h c =
       let t : Text = F (32 ∷ sign l ∷ 32 ∷ G K₀) in
       let i = here_linked l t p h in
       let n = as_term text (term (p + 1 + 1) (32 ∷ sign l ∷ 32 ∷ G K₀) (sign l ∷ 32 ∷ G K₀) i (behind_link l (G K₀))) in
-      more_terms text l p t a b (sign l ∷ 32 ∷ G K₀) K n (chain n.place K₀ K (here_behind i n) c)
+      more_terms text l p t a b (sign l ∷ 32 ∷ G K₀) K n (terms n.place K₀ K (here_behind i n) c)
 
-  chained_text : (l : Link) (F G : Text → Text) (a b : Expression) → IsTermText text F a → IsChainText text l G b
+  chained_text : (l : Link) (F G : Text → Text) (a b : Expression) → IsTermText text F a → AreTermsText text l G b
       → IsExpressionText text (λ K. F (32 ∷ sign l ∷ 32 ∷ G K)) (joined_by l a b)
-  chained_text l F G a b term chain p K₀ K h c =
+  chained_text l F G a b term terms p K₀ K h c =
       let n = as_term text (term p (32 ∷ sign l ∷ 32 ∷ G K₀) (sign l ∷ 32 ∷ G K₀) h (behind_link l (G K₀))) in
-      chained text l p (F (32 ∷ sign l ∷ 32 ∷ G K₀)) a b (sign l ∷ 32 ∷ G K₀) K n (chain n.place K₀ K (here_behind h n) c)
+      chained text l p (F (32 ∷ sign l ∷ 32 ∷ G K₀)) a b (sign l ∷ 32 ∷ G K₀) K n (terms n.place K₀ K (here_behind h n) c)
 
   grouped_text : (F : Text → Text) (e : Expression) → IsExpressionText text F e → IsNodeText text (λ K. 40 ∷ F (41 ∷ K)) e
   grouped_text F e expression p b K₀ K h f loop =
@@ -90,9 +90,9 @@ module _ (text : List ℕ) (utf8 : IsUtf8 text) where
       let (q, d) = tag_does c w M h (following 32 (61 ∷ 32 ∷ F K₀) refl) p in
       let left : IsLeftAt text q M = still_left text d here in
       let named : tag_name text p q ≡ c ∷ w = ap behind_first (written_is text utf8 p q (35 ∷ c ∷ w) M here left) in
-      let equals : IsLeftAt text (q + 1) (61 ∷ 32 ∷ F K₀) = still_left text {k = Run NonAtomicMode (plain.Str (32 ∷ []))} str left in
-      let blank : IsLeftAt text (q + 1 + 1) (32 ∷ F K₀) = still_left text {k = Run NonAtomicMode (plain.Str (61 ∷ []))} str equals in
-      let there : IsLeftAt text (q + 1 + 1 + 1) (F K₀) = still_left text {k = Run NonAtomicMode (plain.Str (32 ∷ []))} str blank in
+      let equals : IsLeftAt text (q + 1) (61 ∷ 32 ∷ F K₀) = still_left text {k = Run NonAtomicMode (bare.Str (32 ∷ []))} str left in
+      let blank : IsLeftAt text (q + 1 + 1) (32 ∷ F K₀) = still_left text {k = Run NonAtomicMode (bare.Str (61 ∷ []))} str equals in
+      let there : IsLeftAt text (q + 1 + 1 + 1) (F K₀) = still_left text {k = Run NonAtomicMode (bare.Str (32 ∷ []))} str blank in
       tagged_term text p q (c ∷ w) (F K₀) (c ∷ (w ++ M)) e K₀ K k d named (term (q + 1 + 1 + 1) K₀ K there (behind k))
 
   positive_text : (F : Text → Text) (e : Expression) → IsTermText text F e → IsTermText text (λ K. 38 ∷ F K) (PosPred e)
@@ -105,13 +105,13 @@ module _ (text : List ℕ) (utf8 : IsUtf8 text) where
   record IsReadAtPlaces (B A T C : Text → Text) (e : Expression) : Type 0 where
     node : IsNodeText text B e
     term : IsTermText text A e
-    tilde : IsChainText text Tilde T e
-    bar : IsChainText text Bar C e
+    tilde : AreTermsText text Tilde T e
+    bar : AreTermsText text Bar C e
 
   abbrev IsReadEverywhere : Expression → Type 0
   IsReadEverywhere e = IsReadAtPlaces (λ K. printed_before BeforePostfix e K) (λ K. printed_before Alone e K) (λ K. printed_before AfterTilde e K) (λ K. printed_before AfterBar e K) e
 
-  -- one text at all places; a predicate's; and what has parentheses unless it goes on a chain
+  -- one text at all places; a predicate's; and what has parentheses unless it goes on a terms
   everywhere : (F : Text → Text) (e : Expression) → IsNodeText text F e → IsReadAtPlaces F F F F e
   everywhere F e n =
       let t = term_text F e n in
@@ -120,7 +120,7 @@ module _ (text : List ℕ) (utf8 : IsUtf8 text) where
   of_predicate : (F : Text → Text) (e : Expression) → IsTermText text F e → IsReadAtPlaces (λ K. 40 ∷ F (41 ∷ K)) F F F e
   of_predicate F e t = record { node = grouped_text F e (one_text F e t); term = t; tilde = last_text Tilde F e t; bar = last_text Bar F e t }
 
-  of_sequence : (F G : Text → Text) (a b : Expression) → IsTermText text F a → IsChainText text Tilde G b
+  of_sequence : (F G : Text → Text) (a b : Expression) → IsTermText text F a → AreTermsText text Tilde G b
       → IsReadAtPlaces (λ K. 40 ∷ F (32 ∷ 126 ∷ 32 ∷ G (41 ∷ K))) (λ K. 40 ∷ F (32 ∷ 126 ∷ 32 ∷ G (41 ∷ K))) (λ K. F (32 ∷ 126 ∷ 32 ∷ G K)) (λ K. 40 ∷ F (32 ∷ 126 ∷ 32 ∷ G (41 ∷ K))) (Seq a b)
   of_sequence F G a b x y =
       let P : Text → Text = λ K. 40 ∷ F (32 ∷ 126 ∷ 32 ∷ G (41 ∷ K)) in
@@ -128,7 +128,7 @@ module _ (text : List ℕ) (utf8 : IsUtf8 text) where
       let t = term_text P (Seq a b) n in
       record { node = n; term = t; tilde = chain_text Tilde F G a b x y; bar = last_text Bar P (Seq a b) t }
 
-  of_choice : (F G : Text → Text) (a b : Expression) → IsTermText text F a → IsChainText text Bar G b
+  of_choice : (F G : Text → Text) (a b : Expression) → IsTermText text F a → AreTermsText text Bar G b
       → IsReadAtPlaces (λ K. 40 ∷ F (32 ∷ 124 ∷ 32 ∷ G (41 ∷ K))) (λ K. 40 ∷ F (32 ∷ 124 ∷ 32 ∷ G (41 ∷ K))) (λ K. 40 ∷ F (32 ∷ 124 ∷ 32 ∷ G (41 ∷ K))) (λ K. F (32 ∷ 124 ∷ 32 ∷ G K)) (Choice a b)
   of_choice F G a b x y =
       let P : Text → Text = λ K. 40 ∷ F (32 ∷ 124 ∷ 32 ∷ G (41 ∷ K)) in

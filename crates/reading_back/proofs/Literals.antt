@@ -5,7 +5,7 @@ use Rattle.std.specs.Str.{IsUtf8, all_scalars}
 use Rattle.std.proofs.Math.Utf8.{scalar, low_scalar}
 use Rattle.std.proofs.lemmas.List.Elements.{All-head, All-tail}
 use Rattle.meta_base.specs.Language.Text.{Text, IsText, IsScalarValue}
-use Rattle.meta_base.specs.Language.Expression as plain
+use Rattle.meta_base.specs.Language.Expression as bare
 use Rattle.meta_base.specs.Language.Expression.{Expression, Str, Insens, Range, Rep, Opt, NegPred, PushLiteral, whitespace, comment}
 use Rattle.meta_base.specs.Language.State.{State, NonAtomicMode, AtomicMode, CompoundAtomicMode, None', Tree, Trees, Success, Failure}
 use Rattle.meta_ast.specs.Printing.{escaped}
@@ -13,7 +13,7 @@ use Rattle.meta_base.specs.Language.Meaning.{Run, Turns}
 use Rattle.meta_base.specs.declared.grammar.Rule.TheVariants as is
 use Rattle.meta_syntax.specs.declared.modes.Mode.TheVariants as in_mode
 use Rattle.meta_syntax.specs.MetaGrammar.{rule, ◌or◌, ◌~◌, any, double_quote, backslash}
-use Rattle.meta_syntax.specs.Shape.{Mark}
+use Rattle.meta_syntax.specs.Shape.{Lone}
 use Rattle.meta_syntax.specs.Firsts.{may_begin}
 use Rattle.reading_back.specs.ReadsBack.{is_name_start}
 use Rattle.meta_syntax.proofs.Steps.{ran_any}
@@ -91,18 +91,18 @@ inside (c ∷ t) K p = inside_one c (escaped 34 c) (escapes_before 34 t (34 ∷ 
 
 -- a string's trees
 abbrev string_trees : ℕ → ℕ → Trees
-string_trees p e = Mark (codes "quote") p (p + 1) (Mark (codes "inner_str") (p + 1) e (Mark (codes "quote") e (e + 1) None'))
+string_trees p e = Lone (codes "quote") p (p + 1) (Lone (codes "inner_str") (p + 1) e (Lone (codes "quote") e (e + 1) None'))
 
 record StringAt (p : ℕ) (t K : Text) : Type 0 where
   pub close : ℕ
-  pub inner : Gives (Run CompoundAtomicMode (rule is.inner_str)) (at (p + 1) (escapes_before 34 t (34 ∷ K))) (Success (at close (34 ∷ K)) (Mark (codes "inner_str") (p + 1) close None'))
+  pub inner : Gives (Run CompoundAtomicMode (rule is.inner_str)) (at (p + 1) (escapes_before 34 t (34 ∷ K))) (Success (at close (34 ∷ K)) (Lone (codes "inner_str") (p + 1) close None'))
   pub does : Calls is.string (at p (literal_before t K)) (Success (at (close + 1) K) (Tree (codes "string") p (close + 1) (string_trees p close) None'))
 
 string_at : (t K : Text) (p : ℕ) → StringAt p t K
 unfolding whitespace comment
 string_at t K p =
     let n = inside t K (p + 1) in
-    let d : Gives (Run CompoundAtomicMode (rule is.inner_str)) (at (p + 1) (escapes_before 34 t (34 ∷ K))) (Success (at n.place (34 ∷ K)) (Mark (codes "inner_str") (p + 1) n.place None')) = call is.inner_str refl (seq n.loop atomic n.more) in
+    let d : Gives (Run CompoundAtomicMode (rule is.inner_str)) (at (p + 1) (escapes_before 34 t (34 ∷ K))) (Success (at n.place (34 ∷ K)) (Lone (codes "inner_str") (p + 1) n.place None')) = call is.inner_str refl (seq n.loop atomic n.more) in
     record { close = n.place; inner = d; does = call is.string refl (seq (seq (call is.quote refl str) compound_atomic d) compound_atomic (call is.quote refl str)) }
 
 -- nothing that stands before strings in `terminal`
@@ -116,7 +116,7 @@ module _ (text : List ℕ) (utf8 : IsUtf8 text) where
   -- what a string's trees stand for
   string_value : (p : ℕ) (t K : Text) (s : StringAt p t K) → IsLeftAt text p (literal_before t K) → literal_value text (string_trees p s.close) ≡ t
   string_value p t K s h =
-      let i : IsLeftAt text (p + 1) (escapes_before 34 t (34 ∷ K)) = still_left text {k = Run NonAtomicMode (plain.Str (34 ∷ []))} str h in
+      let i : IsLeftAt text (p + 1) (escapes_before 34 t (34 ∷ K)) = still_left text {k = Run NonAtomicMode (bare.Str (34 ∷ []))} str h in
       let j : IsLeftAt text s.close (34 ∷ K) = still_left text s.inner i in
       let w : Text = flat_map (escaped 34) t in
       ap unescaped (written_is text utf8 (p + 1) s.close w (34 ∷ K) (subst (λ x. IsLeftAt text (p + 1) x) (sym (append-escapes 34 t (34 ∷ K))) i) j) ∙ unescaped_all 34 form_in_double t
@@ -156,7 +156,7 @@ module _ (text : List ℕ) (utf8 : IsUtf8 text) where
       let s = string_at t K₀ (p + 1) in
       let L : Text = literal_before t K₀ in
       let M : Text = escapes_before 34 t (34 ∷ K₀) in
-      let value = string_value (p + 1) t K₀ s (still_left text {k = Run NonAtomicMode (plain.Str (94 ∷ []))} str here) in
+      let value = string_value (p + 1) t K₀ s (still_left text {k = Run NonAtomicMode (bare.Str (94 ∷ []))} str here) in
       let does : Calls is.insensitive_string (at p (94 ∷ L)) (Success (at (s.close + 1) K₀) (Tree (codes "insensitive_string") p (s.close + 1) (Tree (codes "string") (p + 1) (s.close + 1) (string_trees (p + 1) s.close) None') None')) =
       call is.insensitive_string refl (seq str (stays 34 M (p + 1) refl) s.does) in
       let node = as_node text 94 L p refl (call is.terminal refl (left (right (right (no_word 94 L p refl refl refl) (fails is.string 94 L p refl)) does))) in
@@ -178,38 +178,38 @@ module _ (text : List ℕ) (utf8 : IsUtf8 text) where
       let i = p + 12 + 1 in
       let s = string_at t (41 ∷ K₀) i in
       let j = s.close + 1 in
-      let behind_word : IsLeftAt text (p + 12) (40 ∷ L) = still_left text {k = Run NonAtomicMode (plain.Str (codes "PUSH_LITERAL"))} str here in
-      let inside_at : IsLeftAt text i L = still_left text {k = Run NonAtomicMode (plain.Str (40 ∷ []))} str behind_word in
+      let behind_word : IsLeftAt text (p + 12) (40 ∷ L) = still_left text {k = Run NonAtomicMode (bare.Str (codes "PUSH_LITERAL"))} str here in
+      let inside_at : IsLeftAt text i L = still_left text {k = Run NonAtomicMode (bare.Str (40 ∷ []))} str behind_word in
       let value = string_value text utf8 i t (41 ∷ K₀) s inside_at in
-      let inner : Trees = Mark (codes "opening_paren") (p + 12) i (Tree (codes "string") i j (string_trees i s.close) (Mark (codes "closing_paren") j (j + 1) None')) in
+      let inner : Trees = Lone (codes "opening_paren") (p + 12) i (Tree (codes "string") i j (string_trees i s.close) (Lone (codes "closing_paren") j (j + 1) None')) in
       let does : Calls is._push_literal (at p (80 ∷ W)) (Success (at (j + 1) K₀) (Tree (codes "_push_literal") p (j + 1) inner None')) =
       call is._push_literal refl (seq (seq (seq str (stays 40 L (p + 12) refl) (opening text L (p + 12))) (stays 34 M i refl) s.does) (stays 41 K₀ j refl) (closing text K₀ j)) in
       let node = as_node text 80 W p refl (call is.terminal refl (left (left (left (left (left (left does))))))) in
       node_with text p (j + 1) (80 ∷ W) K₀ K _ _ _ (PushLiteral t) b (node_start 80 W refl refl refl refl) node literally_pushed (record { same = ap PushLiteral value })
       (flawless_tree text (λ vs. refl) (flawless_tree text (λ vs. refl) (flawless_none text)
-      (string_before_flawless i j (string_trees i s.close) (Mark (codes "closing_paren") j (j + 1) None') t value h (string_trees_flawless text utf8 i s.close)
+      (string_before_flawless i j (string_trees i s.close) (Lone (codes "closing_paren") j (j + 1) None') t value h (string_trees_flawless text utf8 i s.close)
       (flawless_tree text (λ vs. refl) (flawless_none text) (flawless_none text)))) (flawless_none text)) here loop
 
 -- a bound of a range
 abbrev character_trees : ℕ → ℕ → Trees
-character_trees p e = Mark (codes "single_quote") p (p + 1) (Mark (codes "inner_chr") (p + 1) e (Mark (codes "single_quote") e (e + 1) None'))
+character_trees p e = Lone (codes "single_quote") p (p + 1) (Lone (codes "inner_chr") (p + 1) e (Lone (codes "single_quote") e (e + 1) None'))
 
 record CharacterAt (p c : ℕ) (K : Text) : Type 0 where
   pub close : ℕ
-  pub inner : Gives (Run CompoundAtomicMode (rule is.inner_chr)) (at (p + 1) (escaped 39 c ++ (39 ∷ K))) (Success (at close (39 ∷ K)) (Mark (codes "inner_chr") (p + 1) close None'))
+  pub inner : Gives (Run CompoundAtomicMode (rule is.inner_chr)) (at (p + 1) (escaped 39 c ++ (39 ∷ K))) (Success (at close (39 ∷ K)) (Lone (codes "inner_chr") (p + 1) close None'))
   pub does : Calls is.character (at p (39 ∷ (escaped 39 c ++ (39 ∷ K)))) (Success (at (close + 1) K) (Tree (codes "character") p (close + 1) (character_trees p close) None'))
 
-character_inner : (c : ℕ) (w K : Text) (p : ℕ) → CharacterForm 39 c w → (q : ℕ) × Gives (Run CompoundAtomicMode (rule is.inner_chr)) (at p (w ++ K)) (Success (at q K) (Mark (codes "inner_chr") p q None'))
+character_inner : (c : ℕ) (w K : Text) (p : ℕ) → CharacterForm 39 c w → (q : ℕ) × Gives (Run CompoundAtomicMode (rule is.inner_chr)) (at p (w ++ K)) (Success (at q K) (Lone (codes "inner_chr") p q None'))
 unfolding whitespace comment
 character_inner c w K p (as_itself e i j) = (
   past p c,
-  subst (λ x. Gives (Run CompoundAtomicMode (rule is.inner_chr)) (at p (x ++ K)) (Success (at (past p c) K) (Mark (codes "inner_chr") p (past p c) None'))) (sym e)
+  subst (λ x. Gives (Run CompoundAtomicMode (rule is.inner_chr)) (at p (x ++ K)) (Success (at (past p c) K) (Lone (codes "inner_chr") p (past p c) None'))) (sym e)
       (call is.inner_chr refl (right (call is.escape refl (seq_first (sign_misses 92 [] c K p j)))
       (seq (neg_pred (right (sign_misses 39 [] c K p i) (sign_misses 92 [] c K p j))) atomic (any_takes c K p)))),
 )
 character_inner c w K p (by_escape v e does value) =
     let (q, d) = does K p in
-    (q, subst (λ x. Gives (Run CompoundAtomicMode (rule is.inner_chr)) (at p (x ++ K)) (Success (at q K) (Mark (codes "inner_chr") p q None'))) (sym e) (call is.inner_chr refl (left d)))
+    (q, subst (λ x. Gives (Run CompoundAtomicMode (rule is.inner_chr)) (at p (x ++ K)) (Success (at q K) (Lone (codes "inner_chr") p q None'))) (sym e) (call is.inner_chr refl (left d)))
 
 character_at : (c : ℕ) (K : Text) (p : ℕ) → CharacterAt p c K
 unfolding whitespace comment
@@ -220,7 +220,7 @@ character_at c K p =
 module _ (text : List ℕ) (utf8 : IsUtf8 text) where
   character_value : (p c : ℕ) (K : Text) (s : CharacterAt p c K) → IsLeftAt text p (39 ∷ (escaped 39 c ++ (39 ∷ K))) → literal_value text (character_trees p s.close) ≡ c ∷ []
   character_value p c K s h =
-      let i : IsLeftAt text (p + 1) (escaped 39 c ++ (39 ∷ K)) = still_left text {k = Run NonAtomicMode (plain.Str (39 ∷ []))} str h in
+      let i : IsLeftAt text (p + 1) (escaped 39 c ++ (39 ∷ K)) = still_left text {k = Run NonAtomicMode (bare.Str (39 ∷ []))} str h in
       let j : IsLeftAt text s.close (39 ∷ K) = still_left text s.inner i in
       ap unescaped (written_is text utf8 (p + 1) s.close (escaped 39 c) (39 ∷ K) i j)
       ∙ (ap unescaped (sym (append-nil (escaped 39 c))) ∙ unescaped_form 39 c (escaped 39 c) [] (form_in_single c))
@@ -239,9 +239,9 @@ module _ (text : List ℕ) (utf8 : IsUtf8 text) where
       let u = character_at d K₀ (q + 2) in
       let middle : IsLeftAt text q (46 ∷ 46 ∷ M) = still_left text s.does here in
       let low = character_value p c (46 ∷ 46 ∷ M) s here in
-      let high = character_value (q + 2) d K₀ u (still_left text {k = Run NonAtomicMode (plain.Str (46 ∷ 46 ∷ []))} str middle) in
+      let high = character_value (q + 2) d K₀ u (still_left text {k = Run NonAtomicMode (bare.Str (46 ∷ 46 ∷ []))} str middle) in
       let does : Calls is.range (at p (39 ∷ L)) (Success (at (u.close + 1) K₀) (Tree (codes "range") p (u.close + 1)
-      (Tree (codes "character") p q (character_trees p s.close) (Mark (codes "range_operator") q (q + 2) (Tree (codes "character") (q + 2) (u.close + 1) (character_trees (q + 2) u.close) None'))) None')) =
+      (Tree (codes "character") p q (character_trees p s.close) (Lone (codes "range_operator") q (q + 2) (Tree (codes "character") (q + 2) (u.close + 1) (character_trees (q + 2) u.close) None'))) None')) =
       call is.range refl (seq (seq s.does (stays 46 (46 ∷ M) q refl) (call is.range_operator refl str)) (stays 39 (escaped 39 d ++ (39 ∷ K₀)) (q + 2) refl) u.does) in
       let node = as_node text 39 L p refl (call is.terminal refl (right (right (right (no_word 39 L p refl refl refl) (fails is.string 39 L p refl)) (fails is.insensitive_string 39 L p refl)) does)) in
       node_with text p (u.close + 1) (39 ∷ L) K₀ K _ _ _ (Range (c ∷ []) (d ∷ [])) b (node_start 39 L refl refl refl refl) node (leaf range) (record { same = ap₂ Range low high })

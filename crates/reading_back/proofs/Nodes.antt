@@ -4,7 +4,7 @@ use Rattle.meta_base.specs.Language.Text.{Text}
 use Rattle.meta_base.specs.Language.Expression.{Expression, Push, whitespace, comment}
 use Rattle.meta_base.specs.Language.State.{State, Trees, None', Tree, Success}
 use Rattle.meta_base.specs.declared.grammar.Rule.TheVariants as is
-use Rattle.meta_syntax.specs.Shape.{Mark}
+use Rattle.meta_syntax.specs.Shape.{Lone}
 use Rattle.meta_nodes.specs.Spanned as spanned
 use Rattle.meta_nodes.specs.Spanned.{Spanned, Leaf, One, end_of}
 use Rattle.meta_reader.specs.Reading.{ANode, Reads, bare, pushed}
@@ -51,7 +51,7 @@ module _ (text : List ℕ) where
   unfolding whitespace comment own_flaw
   push_node p t e b K₀ K h x loop =
       let u : Text = 85 ∷ 83 ∷ 72 ∷ 40 ∷ t in
-      let pushes : Calls is._push (at p (80 ∷ u)) (Success (at (x.place + 1) K₀) (Tree (codes "_push") p (x.place + 1) (Mark (codes "opening_paren") (p + 4) (p + 4 + 1) (Tree (codes "expression") (p + 4 + 1) x.end.position x.inner (Mark (codes "closing_paren") x.place (x.place + 1) None'))) None')) =
+      let pushes : Calls is._push (at p (80 ∷ u)) (Success (at (x.place + 1) K₀) (Tree (codes "_push") p (x.place + 1) (Lone (codes "opening_paren") (p + 4) (p + 4 + 1) (Tree (codes "expression") (p + 4 + 1) x.end.position x.inner (Lone (codes "closing_paren") x.place (x.place + 1) None'))) None')) =
       call is._push refl (seq (seq (seq str (stays 40 t (p + 4) refl) (opening text t (p + 4))) (expression_stays text x.starts (p + 4 + 1)) x.does) x.after (closing text K₀ x.place)) in
       let d = as_node 80 u p refl (call is.terminal refl (left (left (left (left (left (right (call is._push_literal refl (seq_first (seq_first (seq_first str)))) pushes))))))) in
       node_with p (x.place + 1) (80 ∷ u) K₀ K _ _ _ (Push e) b (node_start 80 u refl refl refl refl) d (pushed x.reads) (one_says _ spanned.Push x.says)

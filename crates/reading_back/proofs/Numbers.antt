@@ -15,7 +15,7 @@ use Rattle.meta_base.specs.Language.Builtins.{is_between}
 use Rattle.meta_base.specs.Language.Meaning.{Run, Turns}
 use Rattle.meta_base.specs.declared.grammar.Rule.TheVariants as is
 use Rattle.meta_syntax.specs.MetaGrammar.{body_of}
-use Rattle.meta_syntax.specs.Shape.{Mark}
+use Rattle.meta_syntax.specs.Shape.{Lone}
 use Rattle.meta_reader.specs.Reading.{number}
 use Rattle.meta_reader.specs.Flaws.{own_flaw, flaw_if, past_u32, zero_times, number_flaw, closes, PastU32, ZeroTimes}
 use Rattle.reading_back.proofs.Deriving.{at, Gives, Calls, Skips, call, seq, rep, rep_none, turn, turn_none, rep_once, atomic, stays}
@@ -94,10 +94,10 @@ module _ (text : List ℕ) (utf8 : IsUtf8 text) where
       go false = small i j n e h
 
   -- a number tree without a flaw: as a count, and before a comma
-  pub count_flawless : (i j n : ℕ) (us : Trees) → number text i j ≡ n → n < 2 ^ 32 → 1 ≤ n → IsFlawless text us → IsFlawless text (Mark (codes "number") i j us)
+  pub count_flawless : (i j n : ℕ) (us : Trees) → number text i j ≡ n → n < 2 ^ 32 → 1 ≤ n → IsFlawless text us → IsFlawless text (Lone (codes "number") i j us)
   unfolding own_flaw
   count_flawless i j n us e h k c = flawless_tree text (λ vs. fine_count i j n e h k (joined us vs)) (flawless_none text) c
 
-  pub number_flawless : (i j n a b : ℕ) (us : Trees) → number text i j ≡ n → n < 2 ^ 32 → IsFlawless text us → IsFlawless text (Mark (codes "number") i j (Mark (codes "comma") a b us))
+  pub number_flawless : (i j n a b : ℕ) (us : Trees) → number text i j ≡ n → n < 2 ^ 32 → IsFlawless text us → IsFlawless text (Lone (codes "number") i j (Lone (codes "comma") a b us))
   unfolding own_flaw
   number_flawless i j n a b us e h c = flawless_tree text (λ vs. small i j n e h) (flawless_none text) (flawless_tree text (λ vs. refl) (flawless_none text) c)

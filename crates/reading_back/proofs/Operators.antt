@@ -12,7 +12,7 @@ use Rattle.meta_base.specs.declared.grammar.Rule.TheVariants as is
 use Rattle.meta_nodes.specs.Spanned as spanned
 use Rattle.meta_nodes.specs.Spanned.{Unary}
 use Rattle.meta_syntax.specs.MetaGrammar.{rule, ◌or◌}
-use Rattle.meta_syntax.specs.Shape.{Mark}
+use Rattle.meta_syntax.specs.Shape.{Lone}
 use Rattle.meta_reader.specs.Reading as reading
 use Rattle.meta_reader.specs.Reading.{Postfix, exact, min, max, min_max, number}
 use Rattle.meta_nodes.specs.Erasure.{round}
@@ -102,7 +102,7 @@ module _ (text : List ℕ) (utf8 : IsUtf8 text) where
       let k = number_at (decimal n) 125 K d.0 refl (p + 1) in
       let inside = here_inside t p h in
       let value = number_is text utf8 (p + 1) k.place n (decimal n) (125 ∷ K) d.0 d.1 inside (still_left text k.does inside) in
-      let inner : Trees = Mark (codes "opening_brace") p (p + 1) (Mark (codes "number") (p + 1) k.place (Mark (codes "closing_brace") k.place (k.place + 1) None')) in
+      let inner : Trees = Lone (codes "opening_brace") p (p + 1) (Lone (codes "number") (p + 1) k.place (Lone (codes "closing_brace") k.place (k.place + 1) None')) in
       record {
         place = k.place + 1;
         inner = inner;
@@ -130,7 +130,7 @@ module _ (text : List ℕ) (utf8 : IsUtf8 text) where
       let q = k.place in
       let inside = here_inside t p h in
       let value = number_is text utf8 (p + 1) q n (decimal n) (44 ∷ 125 ∷ K) d.0 d.1 inside (still_left text k.does inside) in
-      let inner : Trees = Mark (codes "opening_brace") p (p + 1) (Mark (codes "number") (p + 1) q (Mark (codes "comma") q (q + 1) (Mark (codes "closing_brace") (q + 1) (q + 1 + 1) None'))) in
+      let inner : Trees = Lone (codes "opening_brace") p (p + 1) (Lone (codes "number") (p + 1) q (Lone (codes "comma") q (q + 1) (Lone (codes "closing_brace") (q + 1) (q + 1 + 1) None'))) in
       record {
         place = q + 1 + 1;
         inner = inner;
@@ -155,7 +155,7 @@ module _ (text : List ℕ) (utf8 : IsUtf8 text) where
       let value = number_is text utf8 (p + 1 + 1) q n (decimal n) (125 ∷ K) d.0 d.1 inside (still_left text k.does inside) in
       let no_number : Calls is.number (at (p + 1) t) Failure = call is.number refl (rep_once (seq_first range)) in
       let stay = stays 44 u (p + 1) refl in
-      let inner : Trees = Mark (codes "opening_brace") p (p + 1) (Mark (codes "comma") (p + 1) (p + 1 + 1) (Mark (codes "number") (p + 1 + 1) q (Mark (codes "closing_brace") q (q + 1) None'))) in
+      let inner : Trees = Lone (codes "opening_brace") p (p + 1) (Lone (codes "comma") (p + 1) (p + 1 + 1) (Lone (codes "number") (p + 1 + 1) q (Lone (codes "closing_brace") q (q + 1) None'))) in
       record {
         place = q + 1;
         inner = inner;
@@ -190,7 +190,7 @@ module _ (text : List ℕ) (utf8 : IsUtf8 text) where
       let two = seq (seq (brace t p) j.skip j.does) (stays 44 u i refl) (a_comma u i) in
       let no_min : Calls is.repeat_min (at p (123 ∷ t)) Failure = call is.repeat_min refl (seq_second two (k.blank (i + 1)) (k.no_brace (i + 1 + 1))) in
       let no_max : Calls is.repeat_max (at p (123 ∷ t)) Failure = call is.repeat_max refl (seq_first (seq_first (seq_second (brace t p) j.skip (j.no_comma (p + 1))))) in
-      let inner : Trees = Mark (codes "opening_brace") p (p + 1) (Mark (codes "number") (p + 1) i (Mark (codes "comma") i (i + 1) (Mark (codes "number") (i + 1 + 1) q (Mark (codes "closing_brace") q (q + 1) None')))) in
+      let inner : Trees = Lone (codes "opening_brace") p (p + 1) (Lone (codes "number") (p + 1) i (Lone (codes "comma") i (i + 1) (Lone (codes "number") (i + 1 + 1) q (Lone (codes "closing_brace") q (q + 1) None')))) in
       record {
         place = q + 1;
         inner = inner;

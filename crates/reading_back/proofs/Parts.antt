@@ -5,7 +5,7 @@
 use Rattle.std.proofs.Common.{◌≡◌, refl, ap, subst, ℕ, List, ◌∷◌, true, false, codes, None}
 use Rattle.std.specs.Str.{chars}
 use Rattle.meta_base.specs.Language.Text.{Text}
-use Rattle.meta_base.specs.Language.Expression as plain
+use Rattle.meta_base.specs.Language.Expression as bare
 use Rattle.meta_base.specs.Language.Expression.{Expression, Ident, Rep, Seq, Choice}
 use Rattle.meta_base.specs.Language.State.{State, NonAtomicMode, Trees, None', Tree, Success, joined}
 use Rattle.meta_base.specs.Language.Meaning.{Task, Run, Turns, Skipping}
@@ -87,17 +87,17 @@ pub record Denotes (x : Spanned) (e : Expression) : Type 0 where
   pub same : nested_right (without_spans x) ≡ nested_right e
 
 one_same : (f : Unary) (a b : Expression) → nested_right a ≡ nested_right b → nested_right (round f a) ≡ nested_right (round f b)
-one_same spanned.PosPred a b h = ap plain.PosPred h
-one_same spanned.NegPred a b h = ap plain.NegPred h
-one_same spanned.Opt a b h = ap plain.Opt h
-one_same spanned.Rep a b h = ap plain.Rep h
-one_same spanned.RepOnce a b h = ap plain.RepOnce h
-one_same (spanned.RepExact i) a b h = ap (λ x. plain.RepExact x i) h
-one_same (spanned.RepMin i) a b h = ap (λ x. plain.RepMin x i) h
-one_same (spanned.RepMax i) a b h = ap (λ x. plain.RepMax x i) h
-one_same (spanned.RepMinMax i j) a b h = ap (λ x. plain.RepMinMax x i j) h
-one_same spanned.Push a b h = ap plain.Push h
-one_same (spanned.Tag t) a b h = ap (λ x. plain.NodeTag x t) h
+one_same spanned.PosPred a b h = ap bare.PosPred h
+one_same spanned.NegPred a b h = ap bare.NegPred h
+one_same spanned.Opt a b h = ap bare.Opt h
+one_same spanned.Rep a b h = ap bare.Rep h
+one_same spanned.RepOnce a b h = ap bare.RepOnce h
+one_same (spanned.RepExact i) a b h = ap (λ x. bare.RepExact x i) h
+one_same (spanned.RepMin i) a b h = ap (λ x. bare.RepMin x i) h
+one_same (spanned.RepMax i) a b h = ap (λ x. bare.RepMax x i) h
+one_same (spanned.RepMinMax i j) a b h = ap (λ x. bare.RepMinMax x i j) h
+one_same spanned.Push a b h = ap bare.Push h
+one_same (spanned.Tag t) a b h = ap (λ x. bare.NodeTag x t) h
 
 pub one_says : {x : Spanned} {e : Expression} (s : Span) (f : Unary) → Denotes x e → Denotes (One s f x) (round f e)
 one_says s f h = record { same = one_same f _ _ h.same }
@@ -243,8 +243,8 @@ module _ (text : List ℕ) where
   abbrev pub IsTermText : (Text → Text) → Expression → Type 0
   IsTermText F e = (p : ℕ) (K₀ K : Text) → IsLeftAt p (F K₀) → MayFollowTerm K₀ K → TermAt p (F K₀) e K
 
-  abbrev pub IsChainText : Link → (Text → Text) → Expression → Type 0
-  IsChainText l F e = (p : ℕ) (K₀ K : Text) → IsLeftAt p (sign l ∷ 32 ∷ F K₀) → MayFollowExpression K₀ K → ChainAt l p (sign l ∷ 32 ∷ F K₀) e K
+  abbrev pub AreTermsText : Link → (Text → Text) → Expression → Type 0
+  AreTermsText l F e = (p : ℕ) (K₀ K : Text) → IsLeftAt p (sign l ∷ 32 ∷ F K₀) → MayFollowExpression K₀ K → ChainAt l p (sign l ∷ 32 ∷ F K₀) e K
 
   abbrev pub IsExpressionText : (Text → Text) → Expression → Type 0
   IsExpressionText F e = (p : ℕ) (K₀ K : Text) → IsLeftAt p (F K₀) → MayFollowExpression K₀ K → ExpressionAt p (F K₀) e K

@@ -9,13 +9,13 @@ use Rattle.std.proofs.lemmas.Fmt.{decimal_is_IsNumeral, first_decimal, IsAscii-s
 use Rattle.std.proofs.lemmas.Str.{encodes-IsAscii}
 use Rattle.std.proofs.lemmas.Str.Parse.{digit_from_value}
 use Rattle.meta_base.specs.Language.Text.{Text}
-use Rattle.meta_base.specs.Language.Expression as plain
+use Rattle.meta_base.specs.Language.Expression as bare
 use Rattle.meta_base.specs.Language.Expression.{Expression, PeekSlice, whitespace, comment}
 use Rattle.meta_base.specs.Language.State.{State, NonAtomicMode, AtomicMode, None', Tree, Trees, Success, Failure}
 use Rattle.meta_base.specs.Language.Meaning.{Run}
 use Rattle.meta_base.specs.declared.grammar.Rule.TheVariants as is
 use Rattle.meta_syntax.specs.MetaGrammar.{rule}
-use Rattle.meta_syntax.specs.Shape.{Mark}
+use Rattle.meta_syntax.specs.Shape.{Lone}
 use Rattle.meta_reader.specs.Reading.{integer, leaf, slice_from, slice_between}
 use Rattle.meta_reader.specs.Flaws.{own_flaw, flaw_if, past_i32, fits_i32, PastI32}
 use Rattle.reading_back.specs.ReadsBack.{FitsI32}
@@ -40,7 +40,7 @@ unsigned_at (d ∷ ds) c L h k p =
     let (q, e) = number_body (d ∷ ds) c L h k p in
     record { place = q; does = call is.integer refl (left (call is.number refl e)); skip = stays d (ds ++ (c ∷ L)) p (solid_when is_digit d refl refl (digit_is d h.1.0)) }
 
-more_digits : (ds : Text) (c : ℕ) (L : Text) → AllDigits 10 ds → is_digit c ≡ false → (p : ℕ) → (q : ℕ) × Gives (Run AtomicMode (plain.Opt (rule is.number))) (at p (ds ++ (c ∷ L))) (Success (at q (c ∷ L)) None')
+more_digits : (ds : Text) (c : ℕ) (L : Text) → AllDigits 10 ds → is_digit c ≡ false → (p : ℕ) → (q : ℕ) × Gives (Run AtomicMode (bare.Opt (rule is.number))) (at p (ds ++ (c ∷ L))) (Success (at q (c ∷ L)) None')
 unfolding whitespace comment
 more_digits [] c L h k p = (p, opt_none (call is.number refl (rep_once (seq_first (range_misses 48 57 c L p k)))))
 more_digits (d ∷ ds) c L h k p = let (q, e) = number_body (d ∷ ds) c L (omega arith, h) k p in (q, opt (call is.number refl e))
@@ -53,8 +53,8 @@ negative_at (d ∷ ds) c L h i k p =
     let low : 48 < d = i in
     let high = digit_from_value d h.1.0 in
     let (q, e) = more_digits ds c L h.1.1 k (past (p + 1) d) in
-    let no_zero : Gives (Run AtomicMode (plain.Str (codes "0"))) (at (p + 1) (d ∷ R)) Failure = sign_misses 48 [] d R (p + 1) (ne_eqb 48 d (λ j. omega (arith, low, j))) in
-    let first : Gives (Run AtomicMode (plain.Range (codes "1") (codes "9"))) (at (p + 1) (d ∷ R)) (Success (at (past (p + 1) d) R) None') =
+    let no_zero : Gives (Run AtomicMode (bare.Str (codes "0"))) (at (p + 1) (d ∷ R)) Failure = sign_misses 48 [] d R (p + 1) (ne_eqb 48 d (λ j. omega (arith, low, j))) in
+    let first : Gives (Run AtomicMode (bare.Range (codes "1") (codes "9"))) (at (p + 1) (d ∷ R)) (Success (at (past (p + 1) d) R) None') =
     range_takes 49 57 d R (p + 1) (rw (le-leb 49 d (omega (arith, low)), le-leb d 57 (omega (arith, high.1))) refl) in
     record {
       place = q;
@@ -97,7 +97,7 @@ module _ (text : List ℕ) (utf8 : IsUtf8 text) where
       ascii (pos n) h = let j = ltb-true n (2 ^ 31) h in IsAscii-signed (pos n) (omega (arith, j))
       ascii (negsuc n) h = let j = ltb-true n (2 ^ 31) h in IsAscii-signed (negsuc n) (omega (arith, j))
 
-  integer_flawless : (j k : ℕ) (i : ℤ) (us : Trees) → integer text j k ≡ i → fits_i32 i ≡ true → IsFlawless text us → IsFlawless text (Mark (codes "integer") j k us)
+  integer_flawless : (j k : ℕ) (i : ℤ) (us : Trees) → integer text j k ≡ i → fits_i32 i ≡ true → IsFlawless text us → IsFlawless text (Lone (codes "integer") j k us)
   unfolding own_flaw
   integer_flawless j k i us e h c =
       let f : past_i32 text j k ≡ None = ap (λ x. flaw_if text (not (fits_i32 x)) PastI32 j k) e ∙ ap (λ b. flaw_if text (not b) PastI32 j k) h in
@@ -129,10 +129,10 @@ module _ (text : List ℕ) (utf8 : IsUtf8 text) where
       let u : Text = signed_decimal i ++ (46 ∷ 46 ∷ v) in
       let n = integer_at i h 46 (46 ∷ v) refl (p + 4 + 1) in
       let q = n.place in
-      let start : IsLeftAt text (p + 4 + 1) u = still_left text (bracket u (p + 4)) (still_left text {k = Run NonAtomicMode (plain.Str (codes "PEEK"))} str here) in
+      let start : IsLeftAt text (p + 4 + 1) u = still_left text (bracket u (p + 4)) (still_left text {k = Run NonAtomicMode (bare.Str (codes "PEEK"))} str here) in
       let value = integer_is (p + 4 + 1) q i (46 ∷ 46 ∷ v) h start (still_left text n.does start) in
       let no_number : Calls is.integer (at (q + 2) v) Failure = call is.integer refl (right (call is.number refl (rep_once (seq_first range))) (seq_first (seq_first (seq_first str)))) in
-      let inner : Trees = Mark (codes "opening_brack") (p + 4) (p + 4 + 1) (Mark (codes "integer") (p + 4 + 1) q (Mark (codes "range_operator") q (q + 2) (Mark (codes "closing_brack") (q + 2) (q + 2 + 1) None'))) in
+      let inner : Trees = Lone (codes "opening_brack") (p + 4) (p + 4 + 1) (Lone (codes "integer") (p + 4 + 1) q (Lone (codes "range_operator") q (q + 2) (Lone (codes "closing_brack") (q + 2) (q + 2 + 1) None'))) in
       let does : Calls is.peek_slice (at p (codes "PEEK[" ++ u)) (Success (at (q + 2 + 1) K₀) (Tree (codes "peek_slice") p (q + 2 + 1) inner None')) =
       call is.peek_slice refl (seq (seq (seq (seq (seq str (stays 91 u (p + 4) refl) (bracket u (p + 4))) n.skip (opt n.does)) (stays 46 (46 ∷ v) q refl) (dots v q)) (stays 93 K₀ (q + 2) refl) (opt_none no_number)) (stays 93 K₀ (q + 2) refl) (unbracket K₀ (q + 2))) in
       node_with text p (q + 2 + 1) (codes "PEEK[" ++ u) K₀ K (codes "peek_slice") inner _ (PeekSlice i None) b (node_start 80 _ refl refl refl refl) (slice_node p _ does) (leaf slice_from)
@@ -148,12 +148,12 @@ module _ (text : List ℕ) (utf8 : IsUtf8 text) where
       let q = n.place in
       let m = integer_at j k 93 K₀ refl (q + 2) in
       let r = m.place in
-      let start : IsLeftAt text (p + 4 + 1) u = still_left text (bracket u (p + 4)) (still_left text {k = Run NonAtomicMode (plain.Str (codes "PEEK"))} str here) in
+      let start : IsLeftAt text (p + 4 + 1) u = still_left text (bracket u (p + 4)) (still_left text {k = Run NonAtomicMode (bare.Str (codes "PEEK"))} str here) in
       let middle = still_left text n.does start in
       let first = integer_is (p + 4 + 1) q i (46 ∷ 46 ∷ v) h start middle in
       let behind = still_left text (dots v q) middle in
       let second = integer_is (q + 2) r j (93 ∷ K₀) k behind (still_left text m.does behind) in
-      let inner : Trees = Mark (codes "opening_brack") (p + 4) (p + 4 + 1) (Mark (codes "integer") (p + 4 + 1) q (Mark (codes "range_operator") q (q + 2) (Mark (codes "integer") (q + 2) r (Mark (codes "closing_brack") r (r + 1) None')))) in
+      let inner : Trees = Lone (codes "opening_brack") (p + 4) (p + 4 + 1) (Lone (codes "integer") (p + 4 + 1) q (Lone (codes "range_operator") q (q + 2) (Lone (codes "integer") (q + 2) r (Lone (codes "closing_brack") r (r + 1) None')))) in
       let does : Calls is.peek_slice (at p (codes "PEEK[" ++ u)) (Success (at (r + 1) K₀) (Tree (codes "peek_slice") p (r + 1) inner None')) =
       call is.peek_slice refl (seq (seq (seq (seq (seq str (stays 91 u (p + 4) refl) (bracket u (p + 4))) n.skip (opt n.does)) (stays 46 (46 ∷ v) q refl) (dots v q)) m.skip (opt m.does)) (stays 93 K₀ r refl) (unbracket K₀ r)) in
       node_with text p (r + 1) (codes "PEEK[" ++ u) K₀ K (codes "peek_slice") inner _ (PeekSlice i (Some j)) b (node_start 80 _ refl refl refl refl) (slice_node p _ does) (leaf slice_between)

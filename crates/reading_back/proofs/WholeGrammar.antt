@@ -3,7 +3,7 @@ use Rattle.std.proofs.Common.{◌≡◌, refl, sym, ◌∙◌, ap, subst, ℕ, �
 use Rattle.std.specs.Str.{chars, IsUtf8}
 use Rattle.std.proofs.lemmas.List.Elements.{All-head, All-tail}
 use Rattle.meta_base.specs.Language.Text.{Text}
-use Rattle.meta_base.specs.Language.Expression as plain
+use Rattle.meta_base.specs.Language.Expression as bare
 use Rattle.meta_base.specs.Language.Expression.{Expression, Ident, Rule, RuleType, Normal, Silent, Atomic, CompoundAtomic, NonAtomic, Grammar, whitespace, comment}
 use Rattle.meta_base.specs.Language.State.{State, NonAtomicMode, AtomicMode, Between, Trees, None', Tree, Success, Failure, joined}
 use Rattle.meta_base.specs.Language.Meaning.{Does, Run, Turns}
@@ -13,7 +13,7 @@ use Rattle.meta_base.proofs.Steps.{joined_assoc}
 use Rattle.meta_base.specs.Pieces.Saying.{piece}
 use Rattle.meta_syntax.specs.declared.modes.Mode.TheVariants as in_mode
 use Rattle.meta_syntax.specs.MetaGrammar.{meta_grammar, rule}
-use Rattle.meta_syntax.specs.Shape.{Mark, Braced}
+use Rattle.meta_syntax.specs.Shape.{Lone, Braced}
 use Rattle.meta_syntax.proofs.Steps.{ran_soi, ran_end}
 use Rattle.meta_nodes.specs.Spanned.{Spanned, SpannedRule}
 use Rattle.meta_nodes.specs.Erasure.{without_spans, rules_without_spans}
@@ -55,7 +55,7 @@ no_rule_at_end p =
     (seq_first (seq_first (seq_first (seq_first (seq_first (call is.identifier refl (seq_first (seq_second (neg_pred str) atomic (right str (call is.alpha refl (right range_fails range_fails)))))))))))
     (call is.line_doc refl (seq_first (seq_first str))))
   where
-    range_fails : {a b : ℕ} → Gives (Run AtomicMode (plain.Range (a ∷ []) (b ∷ []))) (at p []) Failure
+    range_fails : {a b : ℕ} → Gives (Run AtomicMode (bare.Range (a ∷ []) (b ∷ []))) (at p []) Failure
     range_fails = Rattle.reading_back.proofs.Deriving.range
 
 no_doc_at_end : (p : ℕ) → Calls is.grammar_doc (at p []) Failure
@@ -65,7 +65,7 @@ no_doc_at_end p = call is.grammar_doc refl (seq_first (seq_first str))
 soi : (t : Text) → Gives (Run NonAtomicMode (Ident (codes "SOI"))) (at 0 t) (Success (at 0 t) None')
 soi t = λ z. (ran_soi {classes = z} in_mode.NonAtomic {p = 0} refl).found
 
-eoi : (p : ℕ) → Gives (Run NonAtomicMode (Ident (codes "EOI"))) (at p []) (Success (at p []) (Mark (codes "EOI") p p None'))
+eoi : (p : ℕ) → Gives (Run NonAtomicMode (Ident (codes "EOI"))) (at p []) (Success (at p []) (Lone (codes "EOI") p p None'))
 eoi p = λ z. (ran_end {classes = z} in_mode.NonAtomic {p = 0} refl).found
 
 -- a rule's text before what stands behind it, and that of rules on lines of their own
@@ -92,11 +92,11 @@ all_lines (r ∷ rs) = append-rule_line r (grammar_text rs) ∙ ap (λ K. rule_b
 record ModifierAt (text : List ℕ) (ty : RuleType) (p : ℕ) (t : Text) : Type 0 where
   pub place : ℕ
   pub trees : Trees
-  pub does : Gives (Run NonAtomicMode (plain.Opt (rule is.modifier))) (at p (modifier ty ++ (123 ∷ t))) (Success (at place (123 ∷ t)) trees)
+  pub does : Gives (Run NonAtomicMode (bare.Opt (rule is.modifier))) (at p (modifier ty ++ (123 ∷ t))) (Success (at place (123 ∷ t)) trees)
   pub blank : (q : ℕ) → Skips (at q (32 ∷ (modifier ty ++ (123 ∷ t)))) (q + 1) (modifier ty ++ (123 ∷ t))
   pub flawless : IsFlawless text trees
   pub reads : (i j a b c d e f g h : ℕ) (body : Trees) (x : Spanned) → Reads text AnExpression body x
-      → ReadsRule text (Mark (codes "identifier") i j (Mark (codes "assignment_operator") a b (joined trees (Braced c d e f g h body))))
+      → ReadsRule text (Lone (codes "identifier") i j (Lone (codes "assignment_operator") a b (joined trees (Braced c d e f g h body))))
       (Some (record { name = characters_between text i j; span = piece text i j; type_of = ty; body = x }))
 
 modifier_at : (text : List ℕ) (ty : RuleType) (p : ℕ) (t : Text) → ModifierAt text ty p t
@@ -111,7 +111,7 @@ modifier_at text Normal p t = record {
 }
 modifier_at text Silent p t = record {
   place = p + 1;
-  trees = Mark (codes "silent_modifier") p (p + 1) None';
+  trees = Lone (codes "silent_modifier") p (p + 1) None';
   does = opt (call is.modifier refl (left (left (left (call is.silent_modifier refl str)))));
   blank = λ q. one_blank 95 (123 ∷ t) q refl;
   flawless = flawless_tree text (λ vs. refl) (flawless_none text) (flawless_none text);
@@ -119,7 +119,7 @@ modifier_at text Silent p t = record {
 }
 modifier_at text Atomic p t = record {
   place = p + 1;
-  trees = Mark (codes "atomic_modifier") p (p + 1) None';
+  trees = Lone (codes "atomic_modifier") p (p + 1) None';
   does = opt (call is.modifier refl (left (left (right (call is.silent_modifier refl str) (call is.atomic_modifier refl str)))));
   blank = λ q. one_blank 64 (123 ∷ t) q refl;
   flawless = flawless_tree text (λ vs. refl) (flawless_none text) (flawless_none text);
@@ -127,7 +127,7 @@ modifier_at text Atomic p t = record {
 }
 modifier_at text CompoundAtomic p t = record {
   place = p + 1;
-  trees = Mark (codes "compound_atomic_modifier") p (p + 1) None';
+  trees = Lone (codes "compound_atomic_modifier") p (p + 1) None';
   does = opt (call is.modifier refl (left (right (right (call is.silent_modifier refl str) (call is.atomic_modifier refl str)) (call is.compound_atomic_modifier refl str))));
   blank = λ q. one_blank 36 (123 ∷ t) q refl;
   flawless = flawless_tree text (λ vs. refl) (flawless_none text) (flawless_none text);
@@ -135,7 +135,7 @@ modifier_at text CompoundAtomic p t = record {
 }
 modifier_at text NonAtomic p t = record {
   place = p + 1;
-  trees = Mark (codes "non_atomic_modifier") p (p + 1) None';
+  trees = Lone (codes "non_atomic_modifier") p (p + 1) None';
   does = opt (call is.modifier refl (right
       (right (right (call is.silent_modifier refl str) (call is.atomic_modifier refl str)) (call is.compound_atomic_modifier refl str))
       (call is.non_atomic_modifier refl str)));
@@ -177,20 +177,20 @@ module _ (text : List ℕ) (utf8 : IsUtf8 text) where
       let (q, d) = name_does c n (32 ∷ 61 ∷ 32 ∷ T) h (following 32 (61 ∷ 32 ∷ T) refl) p in
       let m = modifier_at text ty (q + 1 + 1 + 1) (32 ∷ E) in
       let named : IsLeftAt text q (32 ∷ 61 ∷ 32 ∷ T) = still_left text d here in
-      let at_sign : IsLeftAt text (q + 1) (61 ∷ 32 ∷ T) = still_left text {k = Run NonAtomicMode (plain.Str (32 ∷ []))} str named in
-      let behind_sign : IsLeftAt text (q + 1 + 1) (32 ∷ T) = still_left text {k = Run NonAtomicMode (plain.Str (61 ∷ []))} str at_sign in
-      let at_modifier : IsLeftAt text (q + 1 + 1 + 1) T = still_left text {k = Run NonAtomicMode (plain.Str (32 ∷ []))} str behind_sign in
+      let at_sign : IsLeftAt text (q + 1) (61 ∷ 32 ∷ T) = still_left text {k = Run NonAtomicMode (bare.Str (32 ∷ []))} str named in
+      let behind_sign : IsLeftAt text (q + 1 + 1) (32 ∷ T) = still_left text {k = Run NonAtomicMode (bare.Str (61 ∷ []))} str at_sign in
+      let at_modifier : IsLeftAt text (q + 1 + 1 + 1) T = still_left text {k = Run NonAtomicMode (bare.Str (32 ∷ []))} str behind_sign in
       let at_brace : IsLeftAt text m.place (123 ∷ 32 ∷ E) = still_left text m.does at_modifier in
-      let behind_brace : IsLeftAt text (m.place + 1) (32 ∷ E) = still_left text {k = Run NonAtomicMode (plain.Str (123 ∷ []))} str at_brace in
-      let at_body : IsLeftAt text (m.place + 1 + 1) E = still_left text {k = Run NonAtomicMode (plain.Str (32 ∷ []))} str behind_brace in
+      let behind_brace : IsLeftAt text (m.place + 1) (32 ∷ E) = still_left text {k = Run NonAtomicMode (bare.Str (123 ∷ []))} str at_brace in
+      let at_body : IsLeftAt text (m.place + 1 + 1) E = still_left text {k = Run NonAtomicMode (bare.Str (32 ∷ []))} str behind_brace in
       let b = whole_text text utf8 e w (m.place + 1 + 1) (32 ∷ 125 ∷ K) (125 ∷ K) at_body (by_brace K) in
-      let opened : Trees = Mark (codes "opening_brace") m.place (m.place + 1) None' in
+      let opened : Trees = Lone (codes "opening_brace") m.place (m.place + 1) None' in
       let body : Trees = Tree (codes "expression") (m.place + 1 + 1) b.end.position b.inner None' in
-      let closed : Trees = Mark (codes "closing_brace") b.place (b.place + 1) None' in
+      let closed : Trees = Lone (codes "closing_brace") b.place (b.place + 1) None' in
       let rest : Trees = joined (joined (joined m.trees opened) body) closed in
       let same_rest : rest ≡ joined m.trees (joined opened (joined body closed)) = joined_assoc (joined m.trees opened) body closed ∙ joined_assoc m.trees opened (joined body closed) in
       let said : SpannedRule = record { name = characters_between text p q; span = piece text p q; type_of = ty; body = b.said } in
-      let around : Trees → Trees = λ us. Mark (codes "identifier") p q (Mark (codes "assignment_operator") (q + 1) (q + 1 + 1) us) in
+      let around : Trees → Trees = λ us. Lone (codes "identifier") p q (Lone (codes "assignment_operator") (q + 1) (q + 1 + 1) us) in
       record {
         place = b.place + 1;
         inner = around rest;
@@ -227,7 +227,7 @@ module _ (text : List ℕ) (utf8 : IsUtf8 text) where
     pub place : ℕ
     pub after : Skips end place []
     pub said : List SpannedRule
-    pub reads : ReadsRules text (joined trees (Mark (codes "EOI") place place None')) said
+    pub reads : ReadsRules text (joined trees (Lone (codes "EOI") place place None')) said
     pub same : nested_rules (rules_without_spans said) ≡ nested_rules rs
     pub flawless : IsFlawless text trees
 
@@ -263,7 +263,7 @@ module _ (text : List ℕ) (utf8 : IsUtf8 text) where
   rules_behind (r ∷ rs) h p here =
       let writable = All-head IsWritableRule r rs h in
       let K : Text = 10 ∷ lines_before rs in
-      let behind : IsLeftAt text (p + 1) (rule_before r.name r.type_of r.body K) = still_left text {k = Run NonAtomicMode (plain.Str (10 ∷ []))} str here in
+      let behind : IsLeftAt text (p + 1) (rule_before r.name r.type_of r.body K) = still_left text {k = Run NonAtomicMode (bare.Str (10 ∷ []))} str here in
       let x = rule_at r.name r.type_of r.body writable.0 writable.1 (p + 1) K behind in
       let m = rules_behind rs (All-tail IsWritableRule r rs h) x.place (still_left text x.does behind) in
       record {
@@ -283,7 +283,7 @@ module _ (text : List ℕ) (utf8 : IsUtf8 text) where
       → (x : RuleAt text 0 n ty e K) → RulesBehind x.place K rs → IsReadAs text (record { name = n; type_of = ty; body = e } ∷ rs)
   unfolding whitespace comment own_flaw
   whole n ty e K rs split x m =
-      let all : Trees = Tree (codes "grammar_rule") 0 x.place x.inner (joined m.trees (Mark (codes "EOI") m.place m.place None')) in
+      let all : Trees = Tree (codes "grammar_rule") 0 x.place x.inner (joined m.trees (Lone (codes "EOI") m.place m.place None')) in
       let does : Calls is.grammar_rules (at 0 (rule_before n ty e K)) (Success (at m.place []) all) =
       call is.grammar_rules refl (seq (seq (seq (soi _) x.stay (rep_none x.no_doc)) x.stay (rep x.does m.turns)) m.after (eoi m.place)) in
       record {
@@ -298,7 +298,7 @@ module _ (text : List ℕ) (utf8 : IsUtf8 text) where
   nothing : chars text ≡ [] → IsReadAs text []
   unfolding whitespace comment own_flaw
   nothing split =
-      let all : Trees = Mark (codes "EOI") 0 0 None' in
+      let all : Trees = Lone (codes "EOI") 0 0 None' in
       let does : Calls is.grammar_rules (at 0 []) (Success (at 0 []) all) =
       call is.grammar_rules refl (seq (seq (seq (soi []) (stays_at_end 0) (rep_none (no_doc_at_end 0))) (stays_at_end 0) (rep_none (no_rule_at_end 0))) (stays_at_end 0) (eoi 0)) in
       record {

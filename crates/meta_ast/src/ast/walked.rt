@@ -6,8 +6,10 @@ ghost use Rattle.meta_ast.specs.Maps.{MapsTopDown, RefusesTopDown, MapsBottomUp,
 ghost use Rattle.meta_ast.specs.Operands.{preorder};
 
 use super::Expr;
+use super::shaped::Sign;
 use crate::deep::Deep;
-use crate::walks::{Joint, Node, Tree, boxed, map_bottom_up, map_top_down, take_first, two};
+use crate::shape::{Joint, Shape, Shaped};
+use crate::walks::{Node, Tree, boxed, map_bottom_up, map_top_down, take_first, two};
 use meta_base::runtime::Fault;
 use std::alloc::{AllocError, Global};
 
@@ -64,15 +66,13 @@ impl ExprTopDownIterator {
         ensures memory { IfErr result (λ fault. fault ≡ Fault.Memory alloc_error) }
     {
         let copy = Deep {
-            value: expr.copy().map_err(Fault::Memory)?,
+            value: expr.copy()?,
         };
         let mut stack = Deep {
             value: Vec::new(alloc),
         };
-        match stack.push(copy) {
-            Ok(()) => Ok(ExprTopDownIterator { stack }),
-            Err(error) => Err(Fault::Memory(error)),
-        }
+        stack.push(copy)?;
+        Ok(ExprTopDownIterator { stack })
     }
 }
 
@@ -98,22 +98,6 @@ impl Iterator for ExprTopDownIterator {
     }
 }
 
-/// What stands round one operand of an expression.
-#[derive(Drop)]
-pub(crate) enum Sign {
-    PosPred,
-    NegPred,
-    Opt,
-    Rep,
-    RepOnce,
-    RepExact(u32),
-    RepMin(u32),
-    RepMax(u32),
-    RepMinMax(u32, u32),
-    Push,
-    NodeTag(String),
-}
-
 impl Tree for Expr {
     type Sign = Sign;
 
@@ -122,54 +106,23 @@ impl Tree for Expr {
     ghost stands_for = { unary_of };
 
     fn open(self) -> Node<Expr, Sign> {
-        use Expr as E;
-        let (sign, operand) = match self {
-            E::PosPred(inner) => (Sign::PosPred, inner),
-            E::NegPred(inner) => (Sign::NegPred, inner),
-            E::Opt(inner) => (Sign::Opt, inner),
-            E::Rep(inner) => (Sign::Rep, inner),
-            E::RepOnce(inner) => (Sign::RepOnce, inner),
-            E::RepExact(inner, count) => (Sign::RepExact(count), inner),
-            E::RepMin(inner, min) => (Sign::RepMin(min), inner),
-            E::RepMax(inner, max) => (Sign::RepMax(max), inner),
-            E::RepMinMax(inner, min, max) => (Sign::RepMinMax(min, max), inner),
-            E::Push(inner) => (Sign::Push, inner),
-            E::NodeTag(inner, tag) => (Sign::NodeTag(tag), inner),
-            E::Seq(left, right) => return two(Joint::Sequence, left, right),
-            E::Choice(left, right) => return two(Joint::Choice, left, right),
-            leaf => return Node::Leaf(leaf),
-        };
-        Node::One(sign, Box::into_inner(operand))
+        match Shaped::open(self) {
+            Shape::Leaf(leaf) => Node::Leaf(leaf),
+            Shape::One(sign, operand) => Node::One(sign, Box::into_inner(operand)),
+            Shape::Two(joint, left, right) => two(joint, left, right),
+        }
     }
 
     fn enclose(alloc: Global, sign: Sign, operand: Expr) -> Result<Expr, Fault> {
-        let inner = boxed(alloc, Deep { value: operand })?.into_inner();
-        let whole = match sign {
-            Sign::PosPred => Expr::PosPred(inner),
-            Sign::NegPred => Expr::NegPred(inner),
-            Sign::Opt => Expr::Opt(inner),
-            Sign::Rep => Expr::Rep(inner),
-            Sign::RepOnce => Expr::RepOnce(inner),
-            Sign::RepExact(count) => Expr::RepExact(inner, count),
-            Sign::RepMin(min) => Expr::RepMin(inner, min),
-            Sign::RepMax(max) => Expr::RepMax(inner, max),
-            Sign::RepMinMax(min, max) => Expr::RepMinMax(inner, min, max),
-            Sign::Push => Expr::Push(inner),
-            Sign::NodeTag(tag) => Expr::NodeTag(inner, tag),
-        };
-        Ok(whole)
+        let operand = boxed(alloc, Deep { value: operand })?.into_inner();
+        Ok(Shaped::enclose(sign, operand))
     }
 
     fn join(alloc: Global, joint: Joint, left: Expr, right: Expr) -> Result<Expr, Fault> {
         let right = Deep { value: right };
         let left = boxed(alloc, Deep { value: left })?;
         let right = boxed(alloc, right)?.into_inner();
-        let left = left.into_inner();
-        let whole = match joint {
-            Joint::Sequence => Expr::Seq(left, right),
-            Joint::Choice => Expr::Choice(left, right),
-        };
-        Ok(whole)
+        Ok(Shaped::join(joint, left.into_inner(), right))
     }
 
     fn copy(&self) -> Result<Expr, AllocError> {

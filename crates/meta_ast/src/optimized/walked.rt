@@ -7,8 +7,10 @@ ghost use Rattle.meta_ast.specs.Maps.{MapsTopDown, RefusesTopDown, MapsBottomUp,
 ghost use Rattle.meta_ast.specs.Operands.{preorder};
 
 use super::OptimizedExpr;
+use super::shaped::{PlainSign, Sign};
 use crate::deep::Deep;
-use crate::walks::{Joint, Node, Tree, boxed, map_bottom_up, map_top_down, take_first, two};
+use crate::shape::{Joint, Shape, Shaped};
+use crate::walks::{Node, Tree, boxed, map_bottom_up, map_top_down, take_first, two};
 use meta_base::runtime::Fault;
 use std::alloc::{AllocError, Global};
 
@@ -67,15 +69,13 @@ impl OptimizedExprTopDownIterator {
         ensures memory { IfErr result (λ fault. fault ≡ Fault.Memory alloc_error) }
     {
         let copy = Deep {
-            value: expr.copy().map_err(Fault::Memory)?,
+            value: expr.copy()?,
         };
         let mut stack = Deep {
             value: Vec::new(alloc),
         };
-        match stack.push(copy) {
-            Ok(()) => Ok(OptimizedExprTopDownIterator { stack }),
-            Err(error) => Err(Fault::Memory(error)),
-        }
+        stack.push(copy)?;
+        Ok(OptimizedExprTopDownIterator { stack })
     }
 }
 
@@ -101,55 +101,31 @@ impl Iterator for OptimizedExprTopDownIterator {
     }
 }
 
-/// What stands round one operand of an expression.
-#[derive(Drop)]
-pub(crate) enum Sign {
-    PosPred,
-    NegPred,
-    Opt,
-    Rep,
-    RepOnce,
-    Push,
-    NodeTag(String),
-}
-
 impl Tree for OptimizedExpr {
-    type Sign = Sign;
+    type Sign = PlainSign;
 
     ghost says = { optimized_expression_of };
 
     ghost stands_for = { optimized_unary_of };
 
-    fn open(self) -> Node<OptimizedExpr, Sign> {
-        use OptimizedExpr as E;
-        let (sign, operand) = match self {
-            E::PosPred(inner) => (Sign::PosPred, inner),
-            E::NegPred(inner) => (Sign::NegPred, inner),
-            E::Opt(inner) => (Sign::Opt, inner),
-            E::Rep(inner) => (Sign::Rep, inner),
-            E::RepOnce(inner) => (Sign::RepOnce, inner),
-            E::Push(inner) => (Sign::Push, inner),
-            E::NodeTag(inner, tag) => (Sign::NodeTag(tag), inner),
-            E::Seq(left, right) => return two(Joint::Sequence, left, right),
-            E::Choice(left, right) => return two(Joint::Choice, left, right),
-            leaf => return Node::Leaf(leaf),
-        };
-        Node::One(sign, Box::into_inner(operand))
+    fn open(self) -> Node<OptimizedExpr, PlainSign> {
+        match Shaped::open(self) {
+            Shape::Leaf(leaf) => Node::Leaf(leaf),
+            Shape::One(sign, operand) => match sign {
+                Sign::Plain(sign) => Node::One(sign, Box::into_inner(operand)),
+                Sign::Wrapper => Node::Leaf(OptimizedExpr::RestoreOnErr(operand)),
+            },
+            Shape::Two(joint, left, right) => two(joint, left, right),
+        }
     }
 
-    fn enclose(alloc: Global, sign: Sign, operand: OptimizedExpr) -> Result<OptimizedExpr, Fault> {
-        use OptimizedExpr as E;
-        let inner = boxed(alloc, Deep { value: operand })?.into_inner();
-        let whole = match sign {
-            Sign::PosPred => E::PosPred(inner),
-            Sign::NegPred => E::NegPred(inner),
-            Sign::Opt => E::Opt(inner),
-            Sign::Rep => E::Rep(inner),
-            Sign::RepOnce => E::RepOnce(inner),
-            Sign::Push => E::Push(inner),
-            Sign::NodeTag(tag) => E::NodeTag(inner, tag),
-        };
-        Ok(whole)
+    fn enclose(
+        alloc: Global,
+        sign: PlainSign,
+        operand: OptimizedExpr,
+    ) -> Result<OptimizedExpr, Fault> {
+        let operand = boxed(alloc, Deep { value: operand })?.into_inner();
+        Ok(Shaped::enclose(Sign::Plain(sign), operand))
     }
 
     fn join(
@@ -161,12 +137,7 @@ impl Tree for OptimizedExpr {
         let right = Deep { value: right };
         let left = boxed(alloc, Deep { value: left })?;
         let right = boxed(alloc, right)?.into_inner();
-        let left = left.into_inner();
-        let whole = match joint {
-            Joint::Sequence => OptimizedExpr::Seq(left, right),
-            Joint::Choice => OptimizedExpr::Choice(left, right),
-        };
-        Ok(whole)
+        Ok(Shaped::join(joint, left.into_inner(), right))
     }
 
     fn copy(&self) -> Result<OptimizedExpr, AllocError> {

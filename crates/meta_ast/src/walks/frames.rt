@@ -7,8 +7,8 @@ use crate::deep::{Deep, Release};
 use meta_base::runtime::Fault;
 use std::alloc::Global;
 
-/// What is to be met next of an expression, with a frame for what stands round it. The only fault is a want of
-/// memory.
+/// What is to be met next of an expression, with a frame for what stands round it. The only fault is a want
+/// of memory.
 pub(crate) fn opened<E: Tree>(
     frames: &mut Vec<Frame<E, E::Sign>>,
     expr: E,
@@ -62,8 +62,5 @@ fn keep<E: Release, S: Drop>(frames: &mut Vec<Frame<E, S>>, frame: Frame<E, S>) 
     ensures kept { OnOk result (frames.new.items ≡ frames.old.items ++ (frame ∷ [])) }
     ensures memory { IfErr result (λ fault. fault ≡ Fault.Memory alloc_error) }
 {
-    match frames.push(frame) {
-        Ok(()) => Ok(()),
-        Err(refused) => Err(Fault::Memory(refused.into())),
-    }
+    Ok(frames.push(frame)?)
 }

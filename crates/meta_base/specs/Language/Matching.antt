@@ -71,11 +71,7 @@ newline_outcome s =
     else (if begins nat_eq (13 ∷ 10 ∷ []) s.rest then Success (moved 2 s) None'
     else text_outcome nat_eq (13 ∷ []) s)
 
--- the state without the top entry; without any
-abbrev pub without_top : List Text → State → State
-without_top [] s = s
-without_top (t ∷ ts) s = record s { stack = ts }
-
+-- an outcome with another stack
 abbrev pub with_stack : List Text → Outcome → Outcome
 with_stack ts Failure = Failure
 with_stack ts (Success t us) = Success (record t { stack = ts }) us

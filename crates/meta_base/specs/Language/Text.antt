@@ -1,5 +1,5 @@
 -- Texts, positions and spans.
-use Rattle.std.specs.Prelude.{◌≡◌, ℕ, ◌+◌, ◌<◌, List, ◌++◌, ◌⊎◌, All}
+use Rattle.std.specs.Prelude.{◌≡◌, ℕ, ◌<◌, List, ◌++◌, ◌⊎◌, All}
 use Rattle.std.specs.List.{sum_by}
 use Rattle.std.specs.Char.{len_utf8}
 
@@ -24,11 +24,3 @@ pub record IsPosition (text : Text) (position : ℕ) : Type 0 where
   pub back : Text
   pub split : text ≡ front ++ back
   pub size : position ≡ size_of front
-
--- a span is what stands between two positions of a text
-pub record IsSpan (text : Text) (start end_ : ℕ) (slice : Text) : Type 0 where
-  pub front : Text
-  pub back : Text
-  pub split : text ≡ front ++ (slice ++ back)
-  pub starts : start ≡ size_of front
-  pub ends : end_ ≡ start + size_of slice

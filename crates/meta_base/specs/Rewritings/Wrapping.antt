@@ -6,8 +6,8 @@ use Rattle.meta_base.specs.Language.Builtins.{builtin_of, Pop, PopAll, Drop}
 use Rattle.meta_base.specs.Rewritings.Rewriting.{EachBody}
 
 module _ (g : Grammar) where
-  -- a `PUSH`, `PUSH_LITERAL`, `POP`, `POP_ALL` or `DROP` is met, not below a wrapper, or in the body of a rule
-  -- that is named there
+  -- a `PUSH`, `PUSH_LITERAL`, `POP`, `POP_ALL` or `DROP` is met, not below a wrapper, or in the body of a
+  -- rule that is named there
   pub data ChangesStack : Expression → Type 0 where
     changes_push : {e : Expression} → ChangesStack (Push e)
     changes_push_literal : {t : Text} → ChangesStack (PushLiteral t)
@@ -36,8 +36,8 @@ module _ (g : Grammar) where
     leaves : {e : Expression} → (ChangesStack e → ⊥) → Wraps e e
 
   -- what the restorer makes of an expression without wrappers and with no counted repetitions: from the
-  -- inside out, the operands of `?`, `*` and `+` and both sides of `|` are wrapped where they change the stack
-  -- as they then stand
+  -- inside out, the operands of `?`, `*` and `+` and both sides of `|` are wrapped where they change the
+  -- stack as they then stand
   pub data RestoresTo : Expression → Expression → Type 0 where
     restores_str : {t : Text} → RestoresTo (Str t) (Str t)
     restores_insens : {t : Text} → RestoresTo (Insens t) (Insens t)

@@ -126,7 +126,7 @@ impl<R> Error<R> {
         ensures memory { IfErr result (λ fault. fault ≡ Fault.Memory alloc_error) }
     {
         let start = span.start_pos();
-        let line = shared_line(alloc, start).map_err(Fault::Memory)?;
+        let line = shared_line(alloc, start)?;
         Ok(Error {
             variant,
             location: InputLocation::Span((span.start(), span.end())),
@@ -157,9 +157,9 @@ impl<R> Error<R> {
         ensures memory { IfErr result (λ fault. fault ≡ Fault.Memory alloc_error) }
         ensures survey { survey_text survey.new ≡ survey_text survey.old }
     {
-        let start = survey.mark_at(span.start_pos());
-        let end = survey.mark_at(span.end_pos());
-        let line = survey.line_at(alloc, start).map_err(Fault::Memory)?;
+        let start = survey.landmark_at(span.start_pos());
+        let end = survey.landmark_at(span.end_pos());
+        let line = survey.line_at(alloc, start)?;
         Ok(Error {
             variant,
             location: InputLocation::Span((start.place, end.place)),
@@ -211,7 +211,7 @@ impl<R> Error<R> {
             ≡ printed_line (position_text pos.entry) (position_offset pos.entry)) }
         ensures memory { IfErr result (λ fault. fault ≡ Fault.Memory alloc_error) }
     {
-        let line = shared_line(alloc, pos).map_err(Fault::Memory)?;
+        let line = shared_line(alloc, pos)?;
         Ok(Error {
             variant,
             location: InputLocation::Pos(pos.pos()),

@@ -1,7 +1,7 @@
 //! Why a call of this crate or of those above has no answer.
 use super::errors::Error;
 use crate::grammar::Rule;
-use std::alloc::AllocError;
+use std::alloc::{AllocError, AllocFailed};
 use thiserror::Error as DeriveError;
 
 /// Why a call has no answer.
@@ -9,8 +9,30 @@ use thiserror::Error as DeriveError;
 pub enum Fault {
     /// Want of memory.
     #[error("out of memory")]
-    Memory(#[from(alloc)] AllocError),
+    Memory(AllocError),
     /// The text is at fault, as these errors say.
     #[error("grammar error")]
     Grammar(Vec<Error<Rule>>),
+}
+
+impl From<AllocError> for Fault {
+    ghost use Rattle.std.specs.Prelude.{◌≡◌, alloc_error};
+    ghost use Rattle.meta_base.specs.declared.runtime.faults.Fault.TheVariants.{Memory};
+
+    ghost from_gives = { λ _ fault. fault ≡ Memory alloc_error };
+
+    fn from(refused: AllocError) -> Fault {
+        Fault::Memory(refused)
+    }
+}
+
+impl<T: Drop> From<AllocFailed<T>> for Fault {
+    ghost use Rattle.std.specs.Prelude.{◌≡◌, alloc_error};
+    ghost use Rattle.meta_base.specs.declared.runtime.faults.Fault.TheVariants.{Memory};
+
+    ghost from_gives = { λ _ fault. fault ≡ Memory alloc_error };
+
+    fn from(refused: AllocFailed<T>) -> Fault {
+        Fault::Memory(refused.into())
+    }
 }

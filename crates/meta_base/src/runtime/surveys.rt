@@ -4,7 +4,7 @@ ghost use Rattle.std.specs.Prelude.{◌≡◌, ◌+◌, ◌<◌, ◌≤◌, ◌^
 ghost use Rattle.std.specs.Arc.{arc_value};
 ghost use Rattle.std.specs.Option.{ForSome};
 ghost use Rattle.std.specs.Str.{IsCharBoundary};
-ghost use Rattle.meta_base.specs.Pieces.Marks.{AreMarks, IsKnownLine, IsMark, column_behind, start};
+ghost use Rattle.meta_base.specs.Pieces.Landmarks.{AreLandmarks, IsKnownLine, IsLandmark, column_behind, start};
 ghost use Rattle.meta_base.specs.Pieces.PrintedError.{printed_line};
 ghost use Rattle.meta_base.specs.Pieces.Span.{position_text, position_offset};
 
@@ -14,11 +14,11 @@ use super::places::Position;
 use std::alloc::{AllocError, Global};
 use std::sync::Arc;
 
-/// How many bytes of the text stand between one mark and the next, but for parts of a character.
+/// How many bytes of the text stand between one landmark and the next, but for parts of a character.
 const STRIDE: usize = 256;
 
 /// Where every text begins.
-const START: Mark = Mark {
+const START: Landmark = Landmark {
     place: 0,
     line: 1,
     column: 1,
@@ -26,16 +26,16 @@ const START: Mark = Mark {
 
 /// A place of a text in bytes, with its line and its column, both counted from 1.
 #[derive(Clone, Copy)]
-pub(crate) struct Mark {
+pub(crate) struct Landmark {
     pub place: usize,
     pub line: usize,
     pub column: usize,
 }
 
-/// A line of a text as it is printed, and a mark that stands in it.
+/// A line of a text as it is printed, and a landmark that stands in it.
 #[derive(Drop)]
 struct KnownLine {
-    mark: Mark,
+    landmark: Landmark,
     line: Arc<String>,
 }
 
@@ -43,10 +43,10 @@ struct KnownLine {
 #[derive(Drop)]
 pub struct Survey<'i> {
     text: &'i str,
-    marks: Vec<Mark>,
+    landmarks: Vec<Landmark>,
     known: Option<KnownLine>,
-    pub ghost begins: { IsMark text.now start },
-    pub ghost marked: { AreMarks text.now marks.items },
+    pub ghost begins: { IsLandmark text.now start },
+    pub ghost marked: { AreLandmarks text.now landmarks.items },
     pub ghost known_right: { ForSome known (IsKnownLine text.now) },
 }
 
@@ -57,10 +57,10 @@ impl<'i> Survey<'i> {
     pub fn new(alloc: Global, text: &'i str) -> Result<Survey<'i>, AllocError>
         ensures { IfOk result (λ survey. survey_text survey ≡ text.now) }
     {
-        let marks = marks(alloc, text)?;
+        let landmarks = landmarks(alloc, text)?;
         Ok(Survey {
             text,
-            marks,
+            landmarks,
             known: None,
         })
     }
@@ -72,59 +72,63 @@ impl<'i> Survey<'i> {
         self.text
     }
 
-    /// The mark at a place of the text.
-    pub(crate) fn mark_at(&self, pos: Position<'_>) -> Mark
+    /// The landmark at a place of the text.
+    pub(crate) fn landmark_at(&self, pos: Position<'_>) -> Landmark
         requires same_text { position_text pos ≡ survey_text self.now }
-        ensures mark { IsMark (survey_text self.now) result }
+        ensures landmark { IsLandmark (survey_text self.now) result }
         ensures place { result.place ≡ position_offset pos.entry }
     {
         let place = pos.pos();
-        self.mark_before(place).moved(self.text, place)
+        self.landmark_before(place).moved(self.text, place)
     }
 
-    /// A mark that stands at a place or not far before it.
-    fn mark_before(&self, place: usize) -> Mark
-        ensures mark { IsMark (survey_text self.now) result }
+    /// A landmark that stands at a place or not far before it.
+    fn landmark_before(&self, place: usize) -> Landmark
+        ensures landmark { IsLandmark (survey_text self.now) result }
         ensures before { result.place ≤ place }
     {
-        match self.marks.get(place / STRIDE) {
-            Some(mark) if mark.place <= place => *mark,
+        match self.landmarks.get(place / STRIDE) {
+            Some(landmark) if landmark.place <= place => *landmark,
             _ => START,
         }
     }
 
-    /// The line in which a mark stands, without any `\r` and `\n`: the one that was asked for last is kept,
-    /// and shared where it is asked for again.
-    pub(crate) fn line_at(&mut self, alloc: Global, mark: Mark) -> Result<Arc<String>, AllocError>
-        requires mark { IsMark (survey_text self.old) mark }
+    /// The line in which a landmark stands, without any `\r` and `\n`: the one that was asked for last is
+    /// kept, and shared where it is asked for again.
+    pub(crate) fn line_at(
+        &mut self,
+        alloc: Global,
+        landmark: Landmark,
+    ) -> Result<Arc<String>, AllocError>
+        requires landmark { IsLandmark (survey_text self.old) landmark }
         ensures text { survey_text self.new ≡ survey_text self.old }
         ensures line { IfOk result (λ line. string_bytes (arc_value line)
-            ≡ printed_line (survey_text self.old) mark.place) }
+            ≡ printed_line (survey_text self.old) landmark.place) }
     {
         if let Some(known) = &self.known {
-            if known.mark.line == mark.line {
+            if known.landmark.line == landmark.line {
                 return known.line.clone();
             }
         }
-        let line = line_of(alloc, self.text, mark.place)?;
+        let line = line_of(alloc, self.text, landmark.place)?;
         let shared = line.clone()?;
-        self.known = Some(KnownLine { mark, line });
+        self.known = Some(KnownLine { landmark, line });
         Ok(shared)
     }
 }
 
-impl Mark {
-    /// The mark at a place that stands at this one or behind it.
-    fn moved(self, text: &str, place: usize) -> Mark
-        requires mark { IsMark text.now self }
+impl Landmark {
+    /// The landmark at a place that stands at this one or behind it.
+    fn moved(self, text: &str, place: usize) -> Landmark
+        requires landmark { IsLandmark text.now self }
         requires between { IsCharBoundary text.now place }
         requires behind { self.place ≤ place }
-        ensures mark { IsMark text.now result }
+        ensures landmark { IsLandmark text.now result }
         ensures place { result.place ≡ place }
     {
         let passed = &text[self.place..place];
         let line = self.line + passed.bytes().filter(|byte| *byte == b'\n').count();
-        Mark {
+        Landmark {
             place,
             line,
             column: column_behind(self.column, passed),
@@ -149,18 +153,18 @@ fn column_behind(column: usize, passed: &str) -> usize
     }
 }
 
-/// Marks of a text, the first where it begins.
-fn marks(alloc: Global, text: &str) -> Result<Vec<Mark>, AllocError>
-    ensures { IfOk result (λ marks. AreMarks text.now marks.items) }
+/// Landmarks of a text, the first where it begins.
+fn landmarks(alloc: Global, text: &str) -> Result<Vec<Landmark>, AllocError>
+    ensures { IfOk result (λ landmarks. AreLandmarks text.now landmarks.items) }
 {
-    let mut mark = START;
-    let mut marks = vec![in alloc; mark]?;
+    let mut landmark = START;
+    let mut landmarks = vec![in alloc; landmark]?;
     for count in 0..text.len() / STRIDE {
         let place = text.floor_char_boundary((count + 1) * STRIDE);
-        mark = mark.moved(text, place);
-        marks.push(mark)?;
+        landmark = landmark.moved(text, place);
+        landmarks.push(landmark)?;
     }
-    Ok(marks)
+    Ok(landmarks)
 }
 
 /// The line in which a place stands, without any `\r` and `\n`.

@@ -45,7 +45,8 @@ pub(crate) struct TreeParts<R> {
 impl<R> TokenTree<R> {
     /// The parts of the tree, which is taken apart.
     pub(crate) fn into_parts(self) -> TreeParts<R>
-        ensures { tree_of self ≡ Token result.rule result.start result.end (trees_of result.inner.items) NoTokens }
+        ensures { tree_of self
+            ≡ Token result.rule result.start result.end (trees_of result.inner.items) NoTokens }
     {
         let TokenTree {
             rule,

@@ -9,7 +9,7 @@ loop-place-preserved c = λ more t.
     let x = c.place-item.result in
     let at : x ≡ get_or c.args.places.now c.loop-place.place-index x = search (rules, c.place-item.is) in
     let left = pieces_left c.args.places.now c.loop-place.place-index x at c.loop-place-test.true in
-    rw c.in-Ok.ensures.items (told_more _ _ _ _ _ (piece_of x) c.loop-place.errors.items c.in_ok-error.error left c.in_ok-error.ensures.says c.loop-place.invariant more t)
+    rw c.in_ok-push.ensures.items (told_more _ _ _ _ _ (piece_of x) c.loop-place.errors.items c.in_ok-error.error left c.in_ok-error.ensures.says c.loop-place.invariant more t)
 
 pub returns-clause-told : goal.returns-clause-told
 returns-clause-told c =

@@ -25,7 +25,7 @@ loop-place-preserved c =
     record {
       text = c.in_ok-error.ensures.survey ∙ c.loop-place.invariant.text;
       in_text = here.1;
-      told = λ more t. rw c.in-Ok.ensures.items (told_more _ _ _ _ _ (piece_of x) c.loop-place.errors.items c.in_ok-error.error left c.in_ok-error.ensures.says c.loop-place.invariant.told more t);
+      told = λ more t. rw c.in_ok-push.ensures.items (told_more _ _ _ _ _ (piece_of x) c.loop-place.errors.items c.in_ok-error.error left c.in_ok-error.ensures.says c.loop-place.invariant.told more t);
     }
 
 pub returns-clause-told : goal.returns-clause-told

@@ -4,17 +4,17 @@ use Rattle.meta_ast.specs.Ast.{expression_of, rule_of_code, rule_type_of}
 use Rattle.meta_optimizer.proofs.Joining.{all_joined, nothing_joined, reached}
 use Rattle.meta_optimizer.proofs.concatenator.concatenate.Goals as goal
 
-pub returns-in-Ok-clause-done : goal.returns-in-Ok-clause-done
-returns-in-Ok-clause-done c = rw c.in-Atomic.is (all_joined c.in-Ok.ensures)
+pub returns-in_ok-expr-in-Atomic-clause-done : goal.returns-in_ok-expr-in-Atomic-clause-done
+returns-in_ok-expr-in-Atomic-clause-done c = rw c.in-Atomic.is (all_joined c.in_ok-expr-in-Atomic.ensures)
 
-pub returns-in-Ok-clause-chain : goal.returns-in-Ok-clause-chain
-returns-in-Ok-clause-chain c =
-    let steps : Many (Joins (rule_type_of c.args.rule.ty)) (expression_of c.args.rule.expr) (expression_of c.in-Ok.expr) = rw c.in-Atomic.is (reached c.in-Ok.ensures) in
+pub returns-in_ok-expr-in-Atomic-clause-chain : goal.returns-in_ok-expr-in-Atomic-clause-chain
+returns-in_ok-expr-in-Atomic-clause-chain c =
+    let steps : Many (Joins (rule_type_of c.args.rule.ty)) (expression_of c.args.rule.expr) (expression_of c.in_ok-expr-in-Atomic.expr) = rw c.in-Atomic.is (reached c.in_ok-expr-in-Atomic.ensures) in
     joinings_chained (rule_of_code c.args.rule) _ steps
 
-pub returns-in-Ok-clause-outcomes : goal.returns-in-Ok-clause-outcomes
-returns-in-Ok-clause-outcomes c =
-    let steps : Many (Joins (rule_type_of c.args.rule.ty)) (expression_of c.args.rule.expr) (expression_of c.in-Ok.expr) = rw c.in-Atomic.is (reached c.in-Ok.ensures) in
+pub returns-in_ok-expr-in-Atomic-clause-outcomes : goal.returns-in_ok-expr-in-Atomic-clause-outcomes
+returns-in_ok-expr-in-Atomic-clause-outcomes c =
+    let steps : Many (Joins (rule_type_of c.args.rule.ty)) (expression_of c.args.rule.expr) (expression_of c.in_ok-expr-in-Atomic.expr) = rw c.in-Atomic.is (reached c.in_ok-expr-in-Atomic.ensures) in
     joinings_keep (rule_of_code c.args.rule) _ steps
 
 pub returns-in_default-clause-done : goal.returns-in_default-clause-done

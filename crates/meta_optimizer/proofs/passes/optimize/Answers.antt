@@ -6,17 +6,17 @@ use Rattle.meta_optimizer.proofs.Composed.{answered_both, optimized}
 use Rattle.meta_optimizer.proofs.Wrapped.{have_no_wrappers}
 use Rattle.meta_optimizer.proofs.passes.optimize.Goals as goal
 
-pub returns-in_ok-listing-in-Ok-clause-rules : goal.returns-in_ok-listing-in-Ok-clause-rules
-returns-in_ok-listing-in-Ok-clause-rules c =
+pub returns-clause-rules : goal.returns-clause-rules
+returns-clause-rules c =
     let rules = rules_of c.args.rules.items in
-    let listing = optimized_rules_of c.in_ok-listing-in-Ok.field-0.items in
-    let each = (rw c.into_inner.ensures at c.in_ok-listing-in-Ok.ensures.rules) rules c.in-Ok.ensures in
+    let listing = optimized_rules_of c.in_ok-listing.field-0.items in
+    let each = (rw c.into_inner.ensures at c.in_ok-listing.ensures.rules) rules c.in_ok-bodies.ensures in
     answered_both c.restore_rules.result
     (λ a f s. optimized rules listing (optimized_rules_of a.items) each (f (have_no_wrappers rules each)) s) c.restore_rules.ensures.restores c.restore_rules.ensures.erased
 
-pub returns-in_ok-listing-in-Ok-clause-agrees : goal.returns-in_ok-listing-in-Ok-clause-agrees
-returns-in_ok-listing-in-Ok-clause-agrees c =
+pub returns-clause-agrees : goal.returns-clause-agrees
+returns-clause-agrees c =
     let rules = rules_of c.args.rules.items in
-    let listing = optimized_rules_of c.in_ok-listing-in-Ok.field-0.items in
-    let each = (rw c.into_inner.ensures at c.in_ok-listing-in-Ok.ensures.rules) rules c.in-Ok.ensures in
+    let listing = optimized_rules_of c.in_ok-listing.field-0.items in
+    let each = (rw c.into_inner.ensures at c.in_ok-listing.ensures.rules) rules c.in_ok-bodies.ensures in
     IfOk-weaker c.restore_rules.result _ _ (λ a f w. agree listing (optimized_rules_of a.items) (f (have_no_wrappers rules each)) w) c.restore_rules.ensures.restores

@@ -14,11 +14,11 @@ rule_to_optimized_rule-requires c =
     rw c.in_ok-rule-6.ensures.listed
     (by_listing (expression_of c.in_ok-rule-5.rule.expr) (by_factors c.in_ok-rule-5.ensures.steps (by_joins c.in_ok-rule-4.ensures.done.reached c.in_ok-rule-3.ensures.unrolled)))
 
-pub returns-in-Ok-clause-body : goal.returns-in-Ok-clause-body
-returns-in-Ok-clause-body c = λ g told h.
+pub returns-clause-body : goal.returns-clause-body
+returns-clause-body c = λ g told h.
     let of_unrolled : c.in_ok-rule-3.rule.ty ≡ c.args.rule.ty = c.in_ok-rule-3.ensures.ty ∙ (c.in_ok-rule-2.ensures.ty ∙ c.in_ok-rule.ensures.ty) in
     let of_joined : c.in_ok-rule-4.rule.ty ≡ c.args.rule.ty = c.in_ok-rule-4.ensures.ty ∙ of_unrolled in
-    let said : optimized_expression_of c.in-Ok.rule.expr ≡ expression_of c.in_ok-rule-6.rule.expr = ap (λ (r : Rule). r.body) c.in-Ok.ensures in
+    let said : optimized_expression_of c.in_ok-rule_to_optimized_rule.field-0.expr ≡ expression_of c.in_ok-rule-6.rule.expr = ap (λ (r : Rule). r.body) c.in_ok-rule_to_optimized_rule.ensures in
     record {
       rotated = expression_of c.in_ok-rule.rule.expr;
       skipped = expression_of c.in_ok-rule-2.rule.expr;

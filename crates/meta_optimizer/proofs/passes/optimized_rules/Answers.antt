@@ -10,7 +10,7 @@ pub loop-rule-preserved : goal.loop-rule-preserved
 loop-rule-preserved c = (
   tt,
   tt,
-  with_one_more c.loop-rule.answer c.with_rule-answer.result c.loop-rule.invariant.2 (c.with_rule-answer.ensures.added c.in-Ok.ensures)
+  with_one_more c.loop-rule.answer c.with_rule-answer.result c.loop-rule.invariant.2 (c.with_rule-answer.ensures.added c.in_ok-names.ensures)
       (λ so_far made before adds g h.
       let known = before g h in
       let done = rw c.in-Some.ensures.steps.0 at known.0 in
@@ -22,8 +22,8 @@ loop-rule-preserved c = (
   c.with_rule-answer.ensures.memory c.loop-rule.invariant.4,
 )
 
-pub returns-in-Ok-answer-clause-rules : goal.returns-in-Ok-answer-clause-rules
-returns-in-Ok-answer-clause-rules c =
+pub returns-in-Ok-clause-rules : goal.returns-in-Ok-clause-rules
+returns-in-Ok-clause-rules c =
     let nothing = nil_from_length _ (sym c.loop-rule.invariant.3 ∙ c.in-None.ensures.steps.0) in
-    let known = rw c.in-Ok-answer.is at c.loop-rule.invariant.2 in
+    let known = rw c.in-Ok.is at c.loop-rule.invariant.2 in
     λ g h. rw c.into_inner.ensures (all_done (IsOptimizedBody g) (rw nothing at (known g h).0))

@@ -4,9 +4,9 @@ use Rattle.meta_restorer.proofs.Looking.{are_within}
 use Rattle.meta_restorer.proofs.Telling.{tells}
 use Rattle.meta_restorer.proofs.changes.changes_of.Goals as goal
 
-pub marked-requires : goal.marked-requires
-marked-requires c = are_within c.in_ok-names.names (map said_by c.args.bodies.now) c.in_ok-noted.noted c.in_ok-noted.ensures
+pub flagged-requires : goal.flagged-requires
+flagged-requires c = are_within c.in_ok-names.names (map said_by c.args.bodies.now) c.in_ok-noted.noted c.in_ok-noted.ensures
 
 pub returns-clause-tells : goal.returns-clause-tells
 returns-clause-tells c =
-    tells (map said_by c.args.bodies.now) c.in_ok-names.names c.in_ok-noted.noted c.in_ok-names.ensures c.in_ok-noted.ensures c.in_ok-marks.marks.items c.in_ok-marks.ensures.closed c.in_ok-marks.ensures.sound
+    tells (map said_by c.args.bodies.now) c.in_ok-names.names c.in_ok-noted.noted c.in_ok-names.ensures c.in_ok-noted.ensures c.in_ok-flags.flags.items c.in_ok-flags.ensures.closed c.in_ok-flags.ensures.sound

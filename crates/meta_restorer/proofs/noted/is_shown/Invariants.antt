@@ -5,4 +5,4 @@ use Rattle.meta_restorer.specs.Calls.{number_changes}
 use Rattle.meta_restorer.proofs.noted.is_shown.Given as goal
 
 abbrev pub invariant-loop-rule : goal.invariant-loop-rule
-invariant-loop-rule l = list_any (number_changes (is_set_at l.marks)) (take l.rule-index l.rule-items) ≡ false
+invariant-loop-rule l = list_any (number_changes (is_set_at l.flags)) (take l.rule-index l.rule-items) ≡ false

@@ -58,13 +58,13 @@ parts-preserved c =
     let numbers = c.parts.numbers.items in
     let of = noted_by c.args.names in
     let pair = both c.parts.here.now c.in-Seq.left c.in-Seq.right c.in-Seq.is in
-    let first = c.deref-here-else-is_right_plain.ensures in
-    let second = c.deref-else-is_right_plain.ensures in
+    let first = c.deref-here-else-is_right_settled.ensures in
+    let second = c.deref-else-is_right_settled.ensures in
     let items = c.in_ok-push-in-Seq.ensures.items in
     let changes : changes_in_turn c.push.new.self.items ≡ (changes_of right || changes_in_turn rest)
-    = ap changes_in_turn items ∙ (changes_in_turn_last rest c.deref-else-is_right_plain.result ∙ ap (λ x. changes_of x || changes_in_turn rest) second) in
+    = ap changes_in_turn items ∙ (changes_in_turn_last rest c.deref-else-is_right_settled.result ∙ ap (λ x. changes_of x || changes_in_turn rest) second) in
     let names : names_in_turn c.push.new.self.items ≡ names_of right ++ names_in_turn rest
-    = ap names_in_turn items ∙ (names_in_turn_last rest c.deref-else-is_right_plain.result ∙ ap (λ x. names_of x ++ names_in_turn rest) second) in
+    = ap names_in_turn items ∙ (names_in_turn_last rest c.deref-else-is_right_settled.result ∙ ap (λ x. names_of x ++ names_in_turn rest) second) in
     record {
       changes = ap (λ x. was || (changes_of x || changes_in_turn c.push.new.self.items)) first
           ∙ (ap (λ b. was || (changes_of left || b)) changes

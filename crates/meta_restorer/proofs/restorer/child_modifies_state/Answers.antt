@@ -5,9 +5,9 @@ use Rattle.meta_restorer.proofs.Deciding.{decided}
 use Rattle.meta_restorer.proofs.Said.{said}
 use Rattle.meta_restorer.proofs.restorer.child_modifies_state.Goals as goal
 
-pub returns-in-Ok-is_changed-clause-decides : goal.returns-in-Ok-is_changed-clause-decides
-returns-in-Ok-is_changed-clause-decides c = λ g h.
-    let d = decided g (told c.in-Ok.changes) (c.in-Ok.ensures g h) (optimized_expression_of c.args.expr.now) (said c.args.expr.now) in (
-      (λ k. d.0 (sym c.in-Ok-is_changed.ensures ∙ k)),
-      (λ x. c.in-Ok-is_changed.ensures ∙ d.1 x),
+pub returns-clause-decides : goal.returns-clause-decides
+returns-clause-decides c = λ g h.
+    let d = decided g (told c.in_ok-changes.changes) (c.in_ok-changes.ensures g h) (optimized_expression_of c.args.expr.now) (said c.args.expr.now) in (
+      (λ k. d.0 (sym c.in_ok-is_changed.ensures ∙ k)),
+      (λ x. c.in_ok-is_changed.ensures ∙ d.1 x),
     )

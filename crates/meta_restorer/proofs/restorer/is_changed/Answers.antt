@@ -8,5 +8,5 @@ pub returns : goal.returns
 returns c =
     let changes = c.args.changes.now in
     let qs = c.note.new.numbers.items in
-    let here : c.is_shown.result ≡ shows qs (is_set_at changes.marks.items) c.in_ok-share.share = search rules in
-    here ∙ shown changes.names (is_set_at changes.marks.items) c.args.expr.now qs c.in_ok-share.share c.in_ok-share.ensures.noted
+    let here : c.is_shown.result ≡ shows qs (is_set_at changes.flags.items) c.in_ok-share.share = search rules in
+    here ∙ shown changes.names (is_set_at changes.flags.items) c.args.expr.now qs c.in_ok-share.share c.in_ok-share.ensures.noted

@@ -8,19 +8,19 @@ use Rattle.meta_restorer.specs.Telling.{told}
 use Rattle.meta_restorer.proofs.Restoring.{restores, restored_keeps, restored_same}
 use Rattle.meta_restorer.proofs.restorer.restore_on_err.Goals as goal
 
-pub returns-in-Ok-noted_rule-clause-restores : goal.returns-in-Ok-noted_rule-clause-restores
-returns-in-Ok-noted_rule-clause-restores c = λ g h k.
+pub returns-clause-restores : goal.returns-clause-restores
+returns-clause-restores c = λ g h k.
     let x = c.args.rule.expr in
-    let p = told c.in-Ok.changes in
-    let body : optimized_expression_of c.in-Ok-noted_rule.rule.expr ≡ restored_by p (optimized_expression_of x) = ap (λ (r : Rule). r.body) c.in-Ok-noted_rule.ensures.whole in
-    subst (RestoresTo g (optimized_expression_of x)) (sym body) (restores p g (c.in-Ok.ensures g h) x k)
+    let p = told c.in_ok-changes.changes in
+    let body : optimized_expression_of c.in_ok-noted_rule.field-0.expr ≡ restored_by p (optimized_expression_of x) = ap (λ (r : Rule). r.body) c.in_ok-noted_rule.ensures.whole in
+    subst (RestoresTo g (optimized_expression_of x)) (sym body) (restores p g (c.in_ok-changes.ensures g h) x k)
 
-pub returns-in-Ok-noted_rule-clause-erased : goal.returns-in-Ok-noted_rule-clause-erased
-returns-in-Ok-noted_rule-clause-erased c =
-    ap (λ (r : Rule). erased r.body) c.in-Ok-noted_rule.ensures.whole ∙ restored_same (told c.in-Ok.changes) (optimized_expression_of c.args.rule.expr)
+pub returns-clause-erased : goal.returns-clause-erased
+returns-clause-erased c =
+    ap (λ (r : Rule). erased r.body) c.in_ok-noted_rule.ensures.whole ∙ restored_same (told c.in_ok-changes.changes) (optimized_expression_of c.args.rule.expr)
 
-pub returns-in-Ok-noted_rule-clause-wrappers : goal.returns-in-Ok-noted_rule-clause-wrappers
-returns-in-Ok-noted_rule-clause-wrappers c =
+pub returns-clause-wrappers : goal.returns-clause-wrappers
+returns-clause-wrappers c =
     let x = c.args.rule.expr in
-    let p = told c.in-Ok.changes in
-    subst (λ (r : Rule). KeepsWrappers (optimized_expression_of x) r.body) (sym c.in-Ok-noted_rule.ensures.whole) (restored_keeps p (optimized_expression_of x))
+    let p = told c.in_ok-changes.changes in
+    subst (λ (r : Rule). KeepsWrappers (optimized_expression_of x) r.body) (sym c.in_ok-noted_rule.ensures.whole) (restored_keeps p (optimized_expression_of x))

@@ -14,11 +14,11 @@ is_shown-requires c = subst (λ qs. IsWithin qs c.args.share) (sym c.deref.ensur
 pub returns-then-not-is_shown-clause-whole : goal.returns-then-not-is_shown-clause-whole
 returns-then-not-is_shown-clause-whole c =
     let changes = c.args.changes.now in
-    let marks = changes.marks.items in
+    let flags = changes.flags.items in
     let rule = c.args.rule.now in
     let qs = changes.noted.numbers.items in
-    let off : shows qs (is_set_at marks) c.args.share ≡ false = search rules in
-    ap (λ b. record (optimized_rule_of rule) { body = b }) (sym (restored_stays (told changes) (optimized_expression_of rule.expr) (sym (shown changes.names (is_set_at marks) rule.expr qs c.args.share c.requires) ∙ off)))
+    let off : shows qs (is_set_at flags) c.args.share ≡ false = search rules in
+    ap (λ b. record (optimized_rule_of rule) { body = b }) (sym (restored_stays (told changes) (optimized_expression_of rule.expr) (sym (shown changes.names (is_set_at flags) rule.expr qs c.args.share c.requires) ∙ off)))
 
 pub restore-requires : goal.restore-requires
 restore-requires c = record {

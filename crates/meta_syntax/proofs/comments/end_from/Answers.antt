@@ -11,8 +11,8 @@ returns-in-Some c =
     let u : IsUtf8 c.in-Some.after.now = search rules in
     ends_here _ _ l _ g.left (shortened g.consumed) u (c.in-Some.ensures.means c.args.text.now l)
 
-pub plain_end-requires-clause-plain : goal.plain_end-requires-clause-plain
-plain_end-requires-clause-plain c =
+pub end_outside-requires-clause-outside : goal.end_outside-requires-clause-outside
+end_outside-requires-clause-outside c =
     let l = c.requires.left in
     let g = c.in-Some-literal.ensures.goes_on c.args.text.now l in
     let u : IsUtf8 c.in-Some-literal.inside.now = search rules in
@@ -21,8 +21,8 @@ plain_end-requires-clause-plain c =
     let e = subst (IsEnd c.args.text.now (length c.in-Some-literal.inside.now)) (sym c.known_end.ensures ∙ c.in-None-known_end.is) (entry_of _ _ _ g.left u h c.requires.known) in
     plain_if_open _ _ l _ g.left s (c.in-Some-literal.ensures.means c.args.text.now l) (c.in_default.ensures.means c.args.text.now l) e
 
-pub plain_end-requires-in-None-clause-plain : goal.plain_end-requires-in-None-clause-plain
-plain_end-requires-in-None-clause-plain c =
+pub end_outside-requires-in-None-clause-outside : goal.end_outside-requires-in-None-clause-outside
+end_outside-requires-in-None-clause-outside c =
     plain_if_none _ _ (c.in-None.ensures.means c.args.text.now c.requires.left) (c.in_default.ensures.means c.args.text.now c.requires.left)
 
 pub returns-in-Some-known_end : goal.returns-in-Some-known_end

@@ -25,6 +25,6 @@ returns c =
     let going = begun_going rs facts c.requires.facts start root (rule_view rule) flags long idle.entered here (c.requires.last (rule_view rule) here) c.root_at-root.ensures in
     let new = c.enter_rule.new.walk in
     let told = c.in_ok-enter_rule.ensures in
-    subst (λ z. IsGoing rs roots start z new.tasks.items new.chain.items) (sym told.entered)
-    (subst (λ z. IsGoing rs roots start (set flags start true) z new.chain.items) (sym (told.tasks ∙ ap (λ z. (z ++ Leave ∷ []) ++ Visit root ∷ []) idle.tasks))
-    (subst (λ z. IsGoing rs roots start (set flags start true) (([] ++ Leave ∷ []) ++ Visit root ∷ []) z) (sym (told.chain ∙ ap (λ z. z ++ start ∷ []) idle.chain)) going))
+    subst (λ z. IsGoing rs roots start z new.tasks.items new.trail.items) (sym told.entered)
+    (subst (λ z. IsGoing rs roots start (set flags start true) z new.trail.items) (sym (told.tasks ∙ ap (λ z. (z ++ Leave ∷ []) ++ Visit root ∷ []) idle.tasks))
+    (subst (λ z. IsGoing rs roots start (set flags start true) (([] ++ Leave ∷ []) ++ Visit root ∷ []) z) (sym (told.trail ∙ ap (λ z. z ++ start ∷ []) idle.trail)) going))

@@ -5,7 +5,7 @@ use Rattle.meta_validator.specs.declared.recursions.Task.TheVariants.{Visit, Lea
 use Rattle.meta_validator.proofs.NodeSteps.{cost-append}
 use Rattle.meta_validator.proofs.SearchCalls.{finished}
 use Rattle.meta_validator.proofs.SearchLemmas.{left}
-use Rattle.meta_validator.proofs.WalkLists.{taken_end, nothing_left, chain_popped}
+use Rattle.meta_validator.proofs.WalkLists.{taken_end, nothing_left, trail_popped}
 use Rattle.meta_validator.proofs.WalkSteps.{never}
 use Rattle.meta_validator.proofs.recursions.closed_by.Goals as goal
 
@@ -30,7 +30,7 @@ loop-task-preserved-in-Leave c =
       todo = others;
       path = rest inv.path;
       are_tasks = queued;
-      is_chain = chain_popped inv.path c.loop-task.walk.chain.items c.pop-left.new.self.items c.loop-task.walk.chain.len inv.is_chain c.loop-task.walk.chain.ok.0 c.pop-left.ensures.rest;
+      is_trail = trail_popped inv.path c.loop-task.walk.trail.items c.pop-left.new.self.items c.loop-task.walk.trail.len inv.is_trail c.loop-task.walk.trail.ok.0 c.pop-left.ensures.rest;
       state = left c.args.rules.now roots c.args.start c.loop-task.walk.entered.all.items others inv.path state;
     }
 
@@ -41,7 +41,7 @@ walk_node-requires-clause-going c =
     let popped = c.pop.new.self.items in
     let items : c.loop-task.walk.tasks.items ≡ popped ++ Visit c.in-Visit.node ∷ [] = c.in-Some.ensures.items ∙ ap (λ t. popped ++ t ∷ []) c.in-Visit.is in
     let (others, same, queued) = taken_end inv.todo popped (Visit c.in-Visit.node) (sym items ∙ inv.are_tasks) in
-    (others, inv.path, subst (λ z. IsSearch c.args.rules.now roots c.args.start c.loop-task.walk.entered.all.items z inv.path) same inv.state, queued, inv.is_chain)
+    (others, inv.path, subst (λ z. IsSearch c.args.rules.now roots c.args.start c.loop-task.walk.entered.all.items z inv.path) same inv.state, queued, inv.is_trail)
 
 pub returns-clause-none : goal.returns-clause-none
 returns-clause-none c =

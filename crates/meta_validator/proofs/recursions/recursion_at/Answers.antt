@@ -6,7 +6,7 @@ use Rattle.meta_nodes.specs.Nodes.{rule_view, piece_of}
 use Rattle.meta_nodes.specs.Spanned.{span_of}
 use Rattle.meta_validator.specs.Findings.{not_recursive}
 use Rattle.meta_validator.specs.Searching.{IsClosing, IsSought, NeverComesBack}
-use Rattle.meta_validator.specs.declared.recursions.ClosedChain.{ClosedChain}
+use Rattle.meta_validator.specs.declared.recursions.ClosedTrail.{ClosedTrail}
 use Rattle.meta_validator.proofs.RecursionLemmas.{view_at, told_right}
 use Rattle.meta_validator.proofs.ReportingLemmas.{span_got}
 use Rattle.meta_validator.proofs.SearchLemmas.{same_rule}
@@ -36,7 +36,7 @@ returns-in_ok-message-in-Some-clause-some c =
     let spans = c.args.spans.now in
     let (r, at) = view_at rs place c.requires.inside in
     let closed = c.in-Some.closed in
-    let closing = subst (λ o. IfSome o (λ (k : ClosedChain). IsClosing rs roots place k.call k.chain.items)) c.in-Some.is c.in_ok-sought.ensures.some in
+    let closing = subst (λ o. IfSome o (λ (k : ClosedTrail). IsClosing rs roots place k.call k.trail.items)) c.in-Some.is c.in_ok-sought.ensures.some in
     let span = c.index-spans-closed.result in
     let (s, got, same) = span_got rs c.args.guide.facts.now c.requires.facts spans c.requires.spans closed.call closing.call closing.here in
     let one : s ≡ span = same_rule got (slice_get-get_or spans closed.call span (slice_get_within spans closed.call s got) ∙ ap Some (sym c.index-spans-closed.is)) in
@@ -44,5 +44,5 @@ returns-in_ok-message-in-Some-clause-some c =
     let rule = c.index-rules-place.result in
     let first : rule_view rule ≡ r = same_rule (slice_get-map rule_view rs place ∙ ap (option_map rule_view) (slice_get-get_or rs place rule c.requires.inside ∙ ap Some (sym c.index-rules-place.is))) at in
     let message = string_bytes c.in_ok-message-in-Some.message in
-    told_right rs place r (rule_view rule) closed.chain.items c.as_slice.result.now message (span_of closing.call) (piece_of span) at (c.requires.last r at) (closing.sought r at)
+    told_right rs place r (rule_view rule) closed.trail.items c.as_slice.result.now message (span_of closing.call) (piece_of span) at (c.requires.last r at) (closing.sought r at)
     c.as_slice.ensures.value first here c.in_ok-message-in-Some.ensures

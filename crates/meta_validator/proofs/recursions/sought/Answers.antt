@@ -6,6 +6,6 @@ pub returns-clause-idle : goal.returns-clause-idle
 returns-clause-idle c = record {
   alike = c.end.ensures.long ∙ (c.in_ok-found.ensures.long ∙ as_many c.args.rules.now);
   entered = c.end.ensures.entered;
-  chain = c.end.ensures.chain;
+  trail = c.end.ensures.trail;
   tasks = c.end.ensures.tasks;
 }

@@ -11,7 +11,7 @@ use Rattle.meta_validator.proofs.recursions.told.Goals as goal
 pub returns : goal.returns
 returns c =
     let name = c.args.first.now.name in
-    let arrow = arrows (rule_views c.args.rules.now) c.args.chain.now in
+    let arrow = arrows (rule_views c.args.rules.now) c.args.trail.now in
     let call = written (piece_of c.args.call) in
     let first = encode_utf8_all (text_of name) in
     let a = string_bytes c.in_ok-message.message in

@@ -33,7 +33,7 @@ loop-place-preserved c =
     let f = get_or fs i c.index-found-place.result in
     let at : slice_get fs i ≡ Some f = slice_get-get_or fs i c.index-found-place.result c.loop-place-test.true in
     record {
-      told = told_step fs i f c.loop-place.errors.items c.push.new.self.items c.in_ok-error.error at c.in-Ok.ensures.items
+      told = told_step fs i f c.loop-place.errors.items c.push.new.self.items c.in_ok-error.error at c.in_ok-push.ensures.items
           (subst (λ z. SaysAt (finding_of z).message (finding_of z).span c.in_ok-error.error) c.index-found-place.is c.in_ok-error.ensures.tells) c.loop-place.invariant.told;
       text = c.in_ok-error.ensures.survey ∙ c.loop-place.invariant.text;
     }

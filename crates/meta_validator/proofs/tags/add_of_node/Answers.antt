@@ -5,7 +5,7 @@ use Rattle.meta_nodes.specs.Spanned.{span_of}
 use Rattle.meta_table.specs.Names.{grammar_of}
 use Rattle.meta_validator.specs.Reporting.{findings_of}
 use Rattle.meta_validator.specs.Tags.{message_at}
-use Rattle.meta_validator.proofs.Tying.{span_at}
+use Rattle.meta_table.proofs.Numbered.{span_at}
 use Rattle.meta_validator.proofs.TagLemmas.{told_more}
 use Rattle.meta_validator.proofs.tags.add_of_node.Goals as goal
 

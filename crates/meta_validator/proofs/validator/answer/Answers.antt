@@ -1,29 +1,42 @@
-use Rattle.std.proofs.Common.{[], ◌∙◌, sym, ap, subst, ◌++◌}
+use Rattle.std.proofs.Common.{◌≡◌, ◌∙◌, sym, ap, subst, ◌++◌, refl}
 use Rattle.std.specs.Bool.{Decides}
 use Rattle.meta_nodes.specs.Erasure.{without_spans}
-use Rattle.meta_nodes.specs.Nodes.{unplaced}
+use Rattle.meta_nodes.specs.Nodes.{piece_of, unplaced, view_at}
+use Rattle.meta_nodes.specs.Spanned.{Span}
+use Rattle.meta_nodes.specs.declared.node.ParserExpr.{ParserExpr}
+use Rattle.meta_nodes.specs.declared.node.ParserExpr.TheVariants as is
 use Rattle.meta_flags.specs.Least.{is_set_at}
-use Rattle.meta_validator.specs.Facts.{Asked}
 use Rattle.meta_table.specs.Names.{grammar_of}
-use Rattle.meta_validator.specs.Names.{kind_in}
 use Rattle.meta_table.specs.Nodes.{all_nodes, postorder}
+use Rattle.meta_table.specs.Shapes as shapes
+use Rattle.meta_table.proofs.Numbered.{found_last}
+use Rattle.meta_validator.specs.Facts.{Asked}
+use Rattle.meta_validator.specs.Names.{kind_in}
 use Rattle.meta_validator.specs.declared.table.Table.{Table}
 use Rattle.meta_validator.proofs.Answering.{answers}
 use Rattle.meta_validator.proofs.Roots.{table_of}
-use Rattle.meta_validator.proofs.Tying.{found_last, stands_at, says}
+use Rattle.meta_validator.proofs.Tying.{stands_at, says}
 use Rattle.meta_validator.proofs.validator.answer.Goals as goal
+
+-- an expression says the same wherever it stands
+said_anywhere : (t : Span) (e : ParserExpr) → without_spans (view_at t e) ≡ without_spans (unplaced e)
+said_anywhere t (is.Str s) = refl
+said_anywhere t _ = refl
 
 pub returns : goal.returns
 returns c =
     let rs = c.args.rules.now in
-    let x = unplaced c.args.expr.now in
-    let names = kind_in (grammar_of rs) in
+    let g = grammar_of rs in
+    let x = view_at (piece_of c.of.result) c.args.expr.now in
+    let names = kind_in g in
     let all = all_nodes rs ++ postorder x in
-    let kinds = c.number.new.kinds in
-    let t : Table = record c.in_ok-table.table { kinds = kinds } in
-    let nodes = c.in_ok-own.ensures.nodes (all_nodes rs) (record { text = []; start = 0; end = 0 }) c.in_ok-table.ensures.starts in
-    let at = found_last (all_nodes rs) x c.in_ok-own.own (sym nodes.kinds.alike ∙ c.in_ok-own.ensures.last) in
-    let table = table_of rs t (postorder x) nodes.kinds c.in_ok-table.ensures.table.roots in
-    let right = answers rs t table c.args.question c.in_ok-marks.marks.items c.in_ok-marks.ensures.sound c.in_ok-marks.ensures.closed in
-    let d = right c.in_ok-own.own (without_spans x) (says names kinds.items c.in_ok-own.own x (stands_at names all kinds.items nodes.kinds x c.in_ok-own.own at)) in
-    subst (λ b. Decides b (Asked c.args.question (grammar_of rs) (without_spans x))) (sym (c.is_set-answer.ensures ∙ ap (λ m. is_set_at m c.in_ok-own.own) c.as_slice.ensures.value)) d
+    let kinds = c.in_ok-kinds_of.field-0 in
+    let t : Table = record { kinds = kinds; roots = c.in_ok-nodes.nodes.roots } in
+    let nodes = c.in_ok-own.ensures.nodes (all_nodes rs) c.in_ok-nodes.ensures.numbered in
+    let fit = c.in_ok-kinds_of.ensures all (subst (shapes.AreNodes all) (sym c.as_slice.ensures.value) nodes.nodes) in
+    let at = found_last (all_nodes rs) x c.in_ok-own.own (sym nodes.nodes.alike ∙ c.in_ok-own.ensures.last) in
+    let table = table_of rs t (postorder x) fit c.in_ok-nodes.ensures.roots in
+    let right = answers rs t table c.args.question c.in_ok-answers.answers.items c.in_ok-answers.ensures.sound c.in_ok-answers.ensures.closed in
+    let d = right c.in_ok-own.own (without_spans x) (says names kinds.items c.in_ok-own.own x (stands_at names all kinds.items fit x c.in_ok-own.own at)) in
+    subst (λ z. Decides c.is_set-answer.result (Asked c.args.question g z)) (said_anywhere _ c.args.expr.now)
+    (subst (λ b. Decides b (Asked c.args.question g (without_spans x))) (sym (c.is_set-answer.ensures ∙ ap (λ m. is_set_at m c.in_ok-own.own) c.as_slice-2.ensures.value)) d)

@@ -1,6 +1,6 @@
 use Rattle.std.proofs.Common.{inl, inr, ap}
 use Rattle.meta_ast.specs.Ast.{text_of}
-use Rattle.meta_base.specs.Language.Expression as plain
+use Rattle.meta_base.specs.Language.Expression as bare
 use Rattle.meta_nodes.specs.Nodes.{view_at, piece_of}
 use Rattle.meta_nodes.specs.Spanned as spanned
 use Rattle.meta_warnings.proofs.nodes.operands_of.Goals as goal
@@ -15,18 +15,18 @@ pub returns-in-Range : goal.returns-in-Range
 returns-in-Range c =
     let place = piece_of c.args.node.now.span in
     elim c.in-Range.is [
-      | inl h ↦ (place, plain.Range (text_of h.0) (text_of h.1), ap (view_at place) h.2)
-      | inr h ↦ (place, plain.PeekSlice h.0 h.1, ap (view_at place) h.2)
+      | inl h ↦ (place, bare.Range (text_of h.0) (text_of h.1), ap (view_at place) h.2)
+      | inr h ↦ (place, bare.PeekSlice h.0 h.1, ap (view_at place) h.2)
     ]
 
 pub returns-in-Str : goal.returns-in-Str
 returns-in-Str c =
     let place = piece_of c.args.node.now.span in
     elim c.in-Str.is [
-      | inl h ↦ (place, plain.Str (text_of h.0), ap (view_at place) h.1)
+      | inl h ↦ (place, bare.Str (text_of h.0), ap (view_at place) h.1)
       | inr k ↦ elim k [
-        | inl h ↦ (place, plain.Insens (text_of h.0), ap (view_at place) h.1)
-        | inr h ↦ (place, plain.Ident (text_of h.0), ap (view_at place) h.1)
+        | inl h ↦ (place, bare.Insens (text_of h.0), ap (view_at place) h.1)
+        | inr h ↦ (place, bare.Ident (text_of h.0), ap (view_at place) h.1)
       ]
     ]
 
@@ -71,7 +71,7 @@ returns-in-PosPred c =
 pub returns-in-PushLiteral : goal.returns-in-PushLiteral
 returns-in-PushLiteral c =
     let place = piece_of c.args.node.now.span in
-    (place, plain.PushLiteral (text_of c.in-PushLiteral.field-0), ap (view_at place) c.in-PushLiteral.is)
+    (place, bare.PushLiteral (text_of c.in-PushLiteral.field-0), ap (view_at place) c.in-PushLiteral.is)
 
 pub returns-in-NodeTag : goal.returns-in-NodeTag
 returns-in-NodeTag c =

@@ -9,7 +9,7 @@ loop-place-preserved c = λ more t.
     let x = c.place-item.result in
     let at : x ≡ get_or c.args.places.now c.loop-place.place-index x = search (rules, c.place-item.is) in
     let left = places_left c.args.message.now c.args.places.now c.loop-place.place-index x at c.loop-place-test.true in
-    rw c.in-Ok.ensures.items (told_more _ _ _ (said_at c.args.message.now (piece_of x)) c.loop-place.told.items c.in_ok-error.error left c.in_ok-error.ensures c.loop-place.invariant more t)
+    rw c.in_ok-push.ensures.items (told_more _ _ _ (said_at c.args.message.now (piece_of x)) c.loop-place.told.items c.in_ok-error.error left c.in_ok-error.ensures c.loop-place.invariant more t)
 
 pub returns : goal.returns
 returns c =

@@ -34,23 +34,23 @@ returns-then-not-is_empty-clause-refused c =
       tell = c.in_ok-errors.ensures.exact;
     })
 
-pub returns-in-Ok-clause-rules : goal.returns-in-Ok-clause-rules
-returns-in-Ok-clause-rules c =
+pub returns-clause-rules : goal.returns-clause-rules
+returns-clause-rules c =
     let read = c.in_ok-rules.ensures in
     let views = rule_views c.in_ok-rules.rules.items in
     let none : c.in_ok-errors.errors.items ≡ [] = first_of (search rules, grind (arith, common_steps)) in
-    let erased : rules_of c.in-Ok.rules.items ≡ rules_without_spans views = rw c.into_inner.ensures at c.in-Ok.ensures in
+    let erased : rules_of c.in_ok-erase_spans.field-0.items ≡ rules_without_spans views = rw c.into_inner.ensures at c.in_ok-erase_spans.ensures in
     record {
-      give = given c.args.pairs views (rules_of c.in-Ok.rules.items) read.flawless read.rules erased;
+      give = given c.args.pairs views (rules_of c.in_ok-erase_spans.field-0.items) read.flawless read.rules erased;
       no_reports = c.in_ok-errors.ensures.silent none;
       nothing_found = nothing_found views c.in_ok-errors.errors.items none c.in_ok-errors.ensures.exact;
       well_formed = rw erased (c.in_ok-errors.ensures.accepted none);
     }
 
-pub returns-in-Ok-clause-counts : goal.returns-in-Ok-clause-counts
-returns-in-Ok-clause-counts c =
+pub returns-clause-counts : goal.returns-clause-counts
+returns-clause-counts c =
     let read = c.in_ok-rules.ensures in
-    let erased : rules_of c.in-Ok.rules.items ≡ rules_without_spans (rule_views c.in_ok-rules.rules.items) = rw c.into_inner.ensures at c.in-Ok.ensures in
+    let erased : rules_of c.in_ok-erase_spans.field-0.items ≡ rules_without_spans (rule_views c.in_ok-rules.rules.items) = rw c.into_inner.ensures at c.in_ok-erase_spans.ensures in
     rw erased (counts_readable (pairs_text c.args.pairs) {us = named (pairs_trees c.args.pairs)} read.rules read.flawless)
 
 pub validate_ast_in-requires : goal.validate_ast_in-requires

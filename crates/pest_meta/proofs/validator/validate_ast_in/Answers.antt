@@ -1,17 +1,18 @@
 use Rattle.std.proofs.Common.{map, subst, sym}
 use Rattle.meta_nodes.specs.Nodes.{piece_of, rule_views}
-use Rattle.meta_stack.specs.Certain.{AreReports}
+use Rattle.meta_stack_pass.specs.Certain.{AreReports}
 use Rattle.meta_validator.specs.Reported.{AreReported}
 use Rattle.meta_validator.proofs.NothingElse.{none_endless}
-use Rattle.meta_validator.specs.Placed.{ArePiecesOf}
+use Rattle.meta_validator.specs.Placed.{AreIn, ArePiecesOf}
 use Rattle.pest_meta.proofs.InText.{reports_in}
 use Rattle.pest_meta.proofs.validator.validate_ast_in.Goals as goal
 
 pub returns-clause-exact : goal.returns-clause-exact
 returns-clause-exact c = record {
-  endless = map piece_of c.in-Ok.endless.items;
-  reports = subst (λ z. AreReports (rule_views z) (map piece_of c.in-Ok.endless.items)) c.as_slice.ensures.value c.in-Ok.ensures.exact;
-  tell = subst (λ z. AreReported (rule_views c.args.rules.now.items) (map piece_of z) c.in_ok-errors.errors.items) c.as_slice-2.ensures.value c.in_ok-errors.ensures.exact;
+  endless = map piece_of c.in_ok-endless.endless.items;
+  reports = subst (λ z. AreReports (rule_views z) (map piece_of c.in_ok-endless.endless.items)) c.as_slice-rules.ensures.value c.in_ok-endless.ensures.exact;
+  tell = subst (λ z. AreReported (rule_views z) (map piece_of c.in_ok-endless.endless.items) c.in_ok-errors.errors.items) c.as_slice-rules.ensures.value
+      (subst (λ z. AreReported (rule_views c.as_slice-rules.result.now) (map piece_of z) c.in_ok-errors.errors.items) c.as_slice.ensures.value c.in_ok-errors.ensures.exact);
 }
 
 pub returns-clause-silent : goal.returns-clause-silent
@@ -20,7 +21,10 @@ returns-clause-silent c = λ none.
     let told = returns-clause-exact c in
     subst (AreReports views) (none_endless views told.endless (subst (AreReported views told.endless) none told.tell)) told.reports
 
-pub validate_rules_in-requires-clause-endless_in_text : goal.validate_rules_in-requires-clause-endless_in_text
-validate_rules_in-requires-clause-endless_in_text c =
-    let told = subst (λ z. AreReports (rule_views z) (map piece_of c.in-Ok.endless.items)) c.as_slice.ensures.value c.in-Ok.ensures.exact in
-    subst (λ z. ArePiecesOf c.args.text.now (map piece_of z)) (sym c.as_slice-2.ensures.value) (reports_in c.args.text.now (rule_views c.args.rules.now.items) c.requires.in_text (map piece_of c.in-Ok.endless.items) told)
+pub validate_table_in-requires-clause-endless_in_text : goal.validate_table_in-requires-clause-endless_in_text
+validate_table_in-requires-clause-endless_in_text c =
+    let told = subst (λ z. AreReports (rule_views z) (map piece_of c.in_ok-endless.endless.items)) c.as_slice-rules.ensures.value c.in_ok-endless.ensures.exact in
+    subst (λ z. ArePiecesOf c.args.text.now (map piece_of z)) (sym c.as_slice.ensures.value) (reports_in c.args.text.now (rule_views c.args.rules.now.items) c.requires.in_text (map piece_of c.in_ok-endless.endless.items) told)
+
+pub validate_table_in-requires-clause-rules_in_text : goal.validate_table_in-requires-clause-rules_in_text
+validate_table_in-requires-clause-rules_in_text c = subst (λ z. AreIn c.args.text.now (rule_views z)) (sym c.as_slice-rules.ensures.value) c.requires.in_text

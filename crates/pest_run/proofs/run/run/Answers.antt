@@ -9,7 +9,7 @@ returns-in-Ok-clause-printed g c =
     let reported = c.unwrap_or_report in
     let answers = value parsed.result reported.result _ _ parsed.ensures.answer reported.ensures.value reported.ensures.report c.in-Ok.is in
     let comes = rw c.deref.ensures.value at c.outcome_of-outcome.ensures in
-    prints c.outcome_of-outcome.result c.args.grammar.now c.args.rule.now c.args.text.now c.args.format _ c.in-Ok.rules.items c.shown.result.told c.shown.result.status _ _ _ _ answers comes c.shown.ensures.ends
+    prints c.outcome_of-outcome.result c.args.grammar.now c.args.request.rule.now c.args.text.now c.args.request.format _ c.in-Ok.rules.items c.shown.result.told c.shown.result.status _ _ _ _ answers comes c.shown.ensures.ends
 
 pub returns-in-Ok-clause-reason : goal.returns-in-Ok-clause-reason
 returns-in-Ok-clause-reason g c =
@@ -17,7 +17,7 @@ returns-in-Ok-clause-reason g c =
     let reported = c.unwrap_or_report in
     let answers = value parsed.result reported.result _ _ parsed.ensures.answer reported.ensures.value reported.ensures.report c.in-Ok.is in
     let comes = rw c.deref.ensures.value at c.outcome_of-outcome.ensures in
-    tells c.outcome_of-outcome.result c.args.grammar.now c.args.rule.now c.args.text.now c.args.format _ c.in-Ok.rules.items c.shown.result.told c.shown.result.status _ _ _ _ answers comes c.shown.ensures.ends
+    tells c.outcome_of-outcome.result c.args.grammar.now c.args.request.rule.now c.args.text.now c.args.request.format _ c.in-Ok.rules.items c.shown.result.told c.shown.result.status _ _ _ _ answers comes c.shown.ensures.ends
 
 pub returns-clause-reason : goal.returns-clause-reason
 returns-clause-reason g c =
@@ -30,5 +30,5 @@ returns-clause-reason g c =
     let P : List ℕ → Type 0 = λ t. TellsLine t told.result.told old new in
     let value = rw c.in-Err-Text.field-0-is at c.as_str.ensures.value in
     let line : TellsLine (string_bytes c.in-Err-Text.report) told.result.told old new = subst P value told.ensures.tells in
-    λ one. refusal c.args.grammar.now c.args.rule.now c.args.text.now parsed.result reported.result c.in-Err-Text.report told.result.told old new
+    λ one. refusal c.args.grammar.now c.args.request.rule.now c.args.text.now parsed.result reported.result c.in-Err-Text.report told.result.told old new
     parsed.ensures.refused reported.ensures.value reported.ensures.report said line

@@ -1,4 +1,4 @@
-use Rattle.std.proofs.Common.{◌≡◌, ◌++◌, ◌∷◌, [], refl, ap, ◌∙◌, arith, rules}
+use Rattle.std.proofs.Common.{◌++◌, ◌∷◌, [], ap, ◌∙◌, arith, rules}
 use Rattle.std.proofs.Output.{has_written_append}
 use Rattle.meta_ast.specs.Pieces.{bytes_at}
 use Rattle.meta_ast.specs.declared.printing.pieces.Piece.TheVariants as piece

@@ -1,4 +1,4 @@
-use Rattle.std.proofs.Common.{◌≡◌, ◌+◌, ◌<◌, ◌++◌, map, ap, sym, ◌∙◌, arith}
+use Rattle.std.proofs.Common.{◌++◌, map, ap, sym, ◌∙◌, arith}
 use Rattle.meta_base.specs.Pieces.TreeViews.{tree_of}
 use Rattle.meta_base.proofs.Copying.{all_copies, begins_falls, begins_first, first_and_others, makes, steps_behind, steps_behind_push}
 use Rattle.meta_base.proofs.LettingGo.{nothing_left}

@@ -30,8 +30,8 @@ blanks-requires-clause-skips c =
     pushed_skip {m = c.args.self.now} (frame.Gap c.args.sequence) c.wait.ensures.now c.in_ok-wait-in-None-passed.ensures.frames (mode_of c.args.sequence.mode) c.in-Some.after.now later c.wait.ensures.steps
     (after_some c.requires.follows refl c.in-Some.is (λ part whole f g t. f.found _ _ _ g (in_time_before _ t)))
 
-pub returns : goal.returns
-returns c = after_none c.requires.follows refl c.in-None.is (λ part whole f g t. answers _ f.within t (f.failed _ g))
+pub returns-in-None : goal.returns-in-None
+returns-in-None c = after_none c.requires.follows c.back_to.ensures.frames c.in-None.is (λ part whole f g t. answers _ f.within t (f.failed _ _ g c.back_to.ensures.reset))
 
 pub returns-in_err-wait-in-None-passed : goal.returns-in_err-wait-in-None-passed
 returns-in_err-wait-in-None-passed c = led_astray _ _ _ c.from_residual.result stop.Memory c.from_residual.ensures.1 tt

@@ -16,9 +16,12 @@ pub returns-in_ok-wait-in-Nested : goal.returns-in_ok-wait-in-Nested
 returns-in_ok-wait-in-Nested c =
     let x = rw c.in-Nested.is at c.in_ok-answer.ensures.means in
     record {
-      bound = c.requires.bound;
-      left = c.requires.left;
-      starts = entered c.at_once.new.self c.args.frame (Run (mode_of c.args.mode) (said c.args.scene.now c.args.form.now)) c.args.rest.now (steps_of c.args.self.now + 1) c.at_once.ensures.frames x.0 c.wait.ensures.now c.in_ok-wait-in-Nested.ensures.frames c.requires.follows;
+      running = record {
+        bound = c.requires.bound;
+        left = c.requires.left;
+        starts = entered c.at_once.new.self c.args.frame (Run (mode_of c.args.mode) (said c.args.scene.now c.args.form.now)) c.args.rest.now (steps_of c.args.self.now + 1) c.at_once.ensures.frames x.0 c.wait.ensures.now c.in_ok-wait-in-Nested.ensures.frames c.requires.follows;
+      };
+      nested = x.1;
     }
 
 pub returns-in_err-answer : goal.returns-in_err-answer

@@ -6,8 +6,8 @@ use Rattle.meta_matcher.proofs.machine.Machine.lookahead.Goals as goal
 
 pub enter-requires-clause-follows : goal.enter-requires-clause-follows
 enter-requires-clause-follows c =
-    awaits_same refl (λ whole d. follows_ahead (record { rest = c.args.rest; mark = c.in_ok-mark.mark }) c.requires.left c.in_ok-mark.ensures d) c.requires.starts
+    awaits_same refl (λ whole d. follows_ahead (record { rest = c.args.rest; saved = c.in_ok-saved.saved }) c.requires.left c.in_ok-saved.ensures d) c.requires.starts
 
-pub returns-in_err-mark : goal.returns-in_err-mark
-returns-in_err-mark c =
+pub returns-in_err-saved : goal.returns-in_err-saved
+returns-in_err-saved c =
     led_astray _ _ _ c.from_residual.result stop.Memory c.from_residual.ensures.1 tt

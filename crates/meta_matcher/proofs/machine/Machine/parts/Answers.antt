@@ -37,7 +37,7 @@ pub enter-requires-clause-follows : goal.enter-requires-clause-follows
 enter-requires-clause-follows c =
     let w = rw c.in-Choice.is at c.requires.running.starts in
     let b = rw c.in-Choice.is at c.requires.running.bound in
-    rw (c.deref-in-Choice.ensures, c.deref-in-Choice-2.ensures) (awaits_same refl (λ whole d. follows_left b.1 c.requires.running.left d) w)
+    rw (c.deref-in-Choice.ensures, c.deref-in-Choice-2.ensures) (awaits_same refl (λ whole d. follows_left _ (omega arith) b.1 c.requires.running.left d) w)
 
 pub enter-requires-in-Opt-clause-follows : goal.enter-requires-in-Opt-clause-follows
 enter-requires-in-Opt-clause-follows c =

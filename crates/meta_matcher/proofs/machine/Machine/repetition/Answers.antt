@@ -5,5 +5,5 @@ use Rattle.meta_matcher.proofs.machine.Machine.repetition.Goals as goal
 
 pub turn-requires-clause-follows : goal.turn-requires-clause-follows
 turn-requires-clause-follows c =
-    let r : Repetition = record { body = c.args.body; mode = c.args.mode; rest = c.args.rest; mark = c.in_ok-mark.mark } in
-    awaits_same refl (λ whole e. follows_turn r c.requires.bound c.requires.left c.in_ok-mark.ensures e) c.requires.ends
+    let r : Repetition = record { body = c.args.body; mode = c.args.mode; rest = c.args.rest; saved = c.in_ok-saved.saved } in
+    awaits_same refl (λ whole e. follows_turn r c.requires.bound c.requires.left c.in_ok-saved.ensures e) c.requires.ends

@@ -4,4 +4,4 @@ use Rattle.meta_nodes.specs.Nodes.{view}
 use Rattle.meta_nodes.proofs.compared.ParserNodePartialEq.eq.Goals as goal
 
 pub returns-clause-exact : goal.returns-clause-exact
-returns-clause-exact c = Decides-at _ _ c.equal_nodes.ensures (spanned_eq-Decides (view c.args.self.now) (view c.args.other.now))
+returns-clause-exact c = Decides-at _ _ c.equal.ensures (spanned_eq-Decides (view c.args.self.now) (view c.args.other.now))

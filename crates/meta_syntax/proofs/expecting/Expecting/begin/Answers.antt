@@ -98,7 +98,7 @@ returns-in-Seq c = record {
       let less = both_steps (effort c.args.rest.now (parts_cost first.now others.now)) (effort c.args.rest.now (cost first.now)) n (omega arith) (omega arith) in
       c.begin_part.ensures.next c.args.text.now c.args.self.now k.0 top (steps n) work
       (record { good = and_first _ _ g; spelled = s.0 }) c.requires.ready
-      (sequence_follows c.args.text.now first others c.args.mode c.count-mark.result c.args.rest (sought_of c.args.self.now) k.0 c.requires.ready.left (record { good = and_first _ _ o; spelled = s.1 }) (ltb-true _ _ (and_second (good others.now) _ o)) k.1)
+      (sequence_follows c.args.text.now first others c.args.mode c.count-saved.result c.args.rest (sought_of c.args.self.now) k.0 c.requires.ready.left (record { good = and_first _ _ o; spelled = s.1 }) (ltb-true _ _ (and_second (good others.now) _ o)) k.1)
       k.2 (omega (arith, less)) m;
 }
 
@@ -115,7 +115,7 @@ returns-in-Choice c = record {
       let less = both_steps (effort c.args.rest.now (cost second.now)) (effort c.args.rest.now (cost first.now)) n (omega arith) (omega arith) in
       c.begin_part-in-Choice.ensures.next c.args.text.now c.args.self.now k.0 top (steps n) work
       (record { good = and_first _ _ g; spelled = s.0 }) c.requires.ready
-      (choice_follows c.args.text.now first second c.args.mode c.count-mark.result c.args.rest (sought_of c.args.self.now) k.0 c.requires.ready.left (record { good = and_second (good first.now) _ g; spelled = s.1 }) k.1)
+      (choice_follows c.args.text.now first second c.args.mode c.count-saved.result c.args.rest (sought_of c.args.self.now) k.0 c.requires.ready.left (record { good = and_second (good first.now) _ g; spelled = s.1 }) k.1)
       k.2 (omega (arith, less)) m;
 }
 
@@ -140,7 +140,7 @@ returns-in-Opt c = record {
       let less = one_step (effort c.args.rest.now (cost c.in-Opt.body.now)) n (omega arith) in
       c.begin_part-in-Opt.ensures.next c.args.text.now c.args.self.now k.0 top (steps n) work
       (record { good = g; spelled = s }) c.requires.ready
-      (option_follows c.args.text.now c.in-Opt.body c.args.mode c.count-mark.result c.args.rest (sought_of c.args.self.now) k.0 c.requires.ready.left k.1)
+      (option_follows c.args.text.now c.in-Opt.body c.args.mode c.count-saved.result c.args.rest (sought_of c.args.self.now) k.0 c.requires.ready.left k.1)
       k.2 (omega (arith, less)) m;
 }
 
@@ -157,7 +157,7 @@ returns-in-Rep c = record {
       let less = both_steps (effort c.args.rest.now 0) (effort c.args.rest.now (cost body.now)) n (omega arith) (omega arith) in
       c.begin_part-in-Rep.ensures.next c.args.text.now c.args.self.now k.0 top (steps n) work
       turn.runnable c.requires.ready
-      (first_turn_follows c.args.text.now body c.args.mode c.count-mark.result c.args.rest (sought_of c.args.self.now) k.0 c.requires.ready.left turn k.1)
+      (first_turn_follows c.args.text.now body c.args.mode c.count-saved.result c.args.rest (sought_of c.args.self.now) k.0 c.requires.ready.left turn k.1)
       k.2 (omega (arith, less)) m;
 }
 
@@ -174,7 +174,7 @@ returns-in-Characters c = record {
       let less = both_steps (effort c.args.rest.now 0) (effort c.args.rest.now (cost body.now)) n (omega arith) (omega arith) in
       c.begin_part-in-Characters.ensures.next c.args.text.now c.args.self.now k.0 top (steps n) work
       turn.runnable c.requires.ready
-      (first_turn_follows c.args.text.now body c.args.mode c.count-mark.result c.args.rest (sought_of c.args.self.now) k.0 c.requires.ready.left turn k.1)
+      (first_turn_follows c.args.text.now body c.args.mode c.count-saved.result c.args.rest (sought_of c.args.self.now) k.0 c.requires.ready.left turn k.1)
       k.2 (omega (arith, less)) m;
 }
 
@@ -191,7 +191,7 @@ returns-in-RepOnce c = record {
       let less = both_steps (effort c.args.rest.now 0) (effort c.args.rest.now (cost body.now)) n (omega arith) (omega arith) in
       c.begin_part-in-RepOnce.ensures.next c.args.text.now c.args.self.now k.0 top (steps n) work
       turn.runnable c.requires.ready
-      (once_follows c.args.text.now body c.args.mode c.count-mark.result c.args.rest (sought_of c.args.self.now) k.0 c.requires.ready.left turn k.1)
+      (once_follows c.args.text.now body c.args.mode c.count-saved.result c.args.rest (sought_of c.args.self.now) k.0 c.requires.ready.left turn k.1)
       k.2 (omega (arith, less)) m;
 }
 
@@ -206,7 +206,7 @@ returns-in-NegPred c = record {
       let less = one_step (effort c.args.rest.now (cost c.in-NegPred.body.now)) n (omega arith) in
       c.begin_part-in-NegPred.ensures.next c.args.text.now c.args.self.now k.0 top (steps n) work
       (record { good = g; spelled = s }) c.requires.ready
-      (negation_follows c.args.text.now c.in-NegPred.body c.args.mode c.count-mark.result c.args.rest (sought_of c.args.self.now) k.0 c.requires.ready.left c.count-mark.ensures k.1)
+      (negation_follows c.args.text.now c.in-NegPred.body c.args.mode c.count-saved.result c.args.rest (sought_of c.args.self.now) k.0 c.requires.ready.left c.count-saved.ensures k.1)
       k.2 (omega (arith, less)) m;
 }
 

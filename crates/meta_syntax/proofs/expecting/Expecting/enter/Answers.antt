@@ -36,11 +36,11 @@ returns c = record {
       let row = c.in-Some.ensures in
       let less = one_step (effort c.args.rest.now (cost c.in-Some.row.body.now)) (effort c.args.rest.now (rank_of c.args.rule + 3)) (omega (arith, row.cost)) in
       begin_next c.args.text.now c.args.frames.now.items c.push.new.self.items
-      (record { wait = wait.Call c.args.rule c.in-Some.row.kind; start = record { mode = c.args.mode; mark = c.count-mark.result; rest = c.args.rest } })
+      (record { wait = wait.Call c.args.rule c.in-Some.row.kind; start = record { mode = c.args.mode; saved = c.count-saved.result; rest = c.args.rest } })
       c.args.self.now c.in-Some.row.body c.body_mode.result c.args.rest h.0 top (steps (effort c.args.rest.now (rank_of c.args.rule + 3))) work
       c.in_ok-push.ensures.items
       (record { good = row.good; spelled = row.spelled })
       c.requires.ready
-      (call_follows c.args.text.now c.args.rule c.in-Some.row.kind c.args.mode c.body_mode.result c.count-mark.result c.args.rest c.in-Some.row.body (sought_of c.args.self.now) h.0 c.requires.ready.left row c.body_mode.ensures.means c.count-mark.ensures h.1)
+      (call_follows c.args.text.now c.args.rule c.in-Some.row.kind c.args.mode c.body_mode.result c.count-saved.result c.args.rest c.in-Some.row.body (sought_of c.args.self.now) h.0 c.requires.ready.left row c.body_mode.ensures.means c.count-saved.ensures h.1)
       h.2 (omega (arith, less)) l;
 }

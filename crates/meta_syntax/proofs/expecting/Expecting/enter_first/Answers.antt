@@ -17,6 +17,6 @@ returns c = record {
       let far = work_on c.args.frames.now.items c.push.new.self.items (record { wait = wait.FirstOf c.args.others; start = start }) c.in_ok-push.ensures.items in
       c.in_ok-step.ensures.next top work
       (asked_on c.args.text.now c.args.frames.now.items c.push.new.self.items (record { wait = wait.FirstOf c.args.others; start = start }) _ h.0 top c.in_ok-push.ensures.items
-      (rule_follows c.args.text.now c.args.first c.args.others start.mode start.mark start.rest (sought_of c.args.self.now) k h.0 c.requires.ready.left t h.1) h.2)
+      (rule_follows c.args.text.now c.args.first c.args.others start.mode start.saved start.rest (sought_of c.args.self.now) k h.0 c.requires.ready.left t h.1) h.2)
       (omega (arith, far, less, l));
 }

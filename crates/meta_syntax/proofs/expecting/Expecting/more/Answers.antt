@@ -16,6 +16,6 @@ returns c = record {
       let less = both_steps (effort next.now 0) (effort next.now (cost c.args.body.now)) n (omega (arith, e, far)) (omega (arith, e, below, far)) in
       c.begin_part.ensures.next c.args.text.now c.skip.new.self q top (steps n) work b.turn.runnable
       (record { left = s.goes_on.left; truly = s.truly })
-      (first_turn_follows c.args.text.now c.args.body c.args.mode c.count-mark.result next (sought_of c.skip.new.self) q s.goes_on.left b.turn (b.goes_on (sought_of c.skip.new.self) next.now s.means s.goes_on))
+      (first_turn_follows c.args.text.now c.args.body c.args.mode c.count-saved.result next (sought_of c.skip.new.self) q s.goes_on.left b.turn (b.goes_on (sought_of c.skip.new.self) next.now s.means s.goes_on))
       w (omega (arith, less)) l;
 }

@@ -43,6 +43,6 @@ returns c = record {
       c.begin_part.ensures.next c.args.text.now c.skip.new.self h.0 top (steps n) work
       (record { good = p.good w.good; spelled = p.spelled w.spelled })
       (record { left = s.goes_on.left; truly = s.truly })
-      (part_follows c.args.text.now c.args.left.now part others c.args.mode c.count-mark.result c.args.after.now next (sought_of c.args.self.now) (sought_of c.skip.new.self) k h.0 w a s.means s.goes_on h.1)
+      (part_follows c.args.text.now c.args.left.now part others c.args.mode c.count-saved.result c.args.after.now next (sought_of c.args.self.now) (sought_of c.skip.new.self) k h.0 w a s.means s.goes_on h.1)
       h.2 (omega (arith, less)) l;
 }

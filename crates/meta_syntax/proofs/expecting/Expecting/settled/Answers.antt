@@ -9,4 +9,4 @@ returns-in-Some-clause-means c =
 pub returns-in_ok-tell-in-None-clause-means : goal.returns-in_ok-tell-in-None-clause-means
 returns-in_ok-tell-in-None-clause-means c =
     let x = rw c.in-None.is at c.in_ok-answer.ensures.means in
-    record { ran = λ classes. settled_failed c.args.rule c.requires.settled c.requires.defined _ _ _ c.requires.kind (x.ran classes).found c.call_counts.ensures c.count-mark.ensures c.in_ok-tell-in-None.ensures.told }
+    record { ran = λ classes. settled_failed c.args.rule c.requires.settled c.requires.defined _ _ _ c.requires.kind (x.ran classes).found c.call_counts.ensures c.count-saved.ensures c.in_ok-tell-in-None.ensures.told }

@@ -15,10 +15,10 @@ returns c = record {
       let far = s.goes_on.shorter in
       let less = both_steps (effort c.args.after.now 0) (effort c.in_ok-next.next.now (cost c.args.body.now)) n (omega (arith, e)) (omega (arith, e, below, far)) in
       begin_next c.args.text.now c.args.frames.now.items c.push.new.self.items
-      (record { wait = wait.Repetition c.args.body; start = record { mode = c.args.mode; mark = c.count-mark.result; rest = c.args.after } })
+      (record { wait = wait.Repetition c.args.body; start = record { mode = c.args.mode; saved = c.count-saved.result; rest = c.args.after } })
       c.skip.new.self c.args.body c.args.mode c.in_ok-next.next h.0 top (steps n) work
       c.in_ok-push.ensures.items t.turn.runnable
       (record { left = s.goes_on.left; truly = s.truly })
-      (turn_follows c.args.text.now c.args.body c.args.mode c.count-mark.result c.args.after c.in_ok-next.next (sought_of c.args.self.now) (sought_of c.skip.new.self) k h.0 t s.means s.goes_on h.1)
+      (turn_follows c.args.text.now c.args.body c.args.mode c.count-saved.result c.args.after c.in_ok-next.next (sought_of c.args.self.now) (sought_of c.skip.new.self) k h.0 t s.means s.goes_on h.1)
       h.2 (omega (arith, less)) l;
 }

@@ -8,11 +8,11 @@ use Rattle.meta_syntax.proofs.grammar.PestParser.parse.Goals as goal
 pub new-requires : goal.new-requires
 new-requires c =
     let t = c.in_ok-entries.ensures.trees in
-    let e = c.in-Ok.ensures t.0 (ap named_entries c.deref.ensures.value ∙ t.2) in
+    let e = c.in_ok-trees.ensures t.0 (ap named_entries c.deref.ensures.value ∙ t.2) in
     record { nested = nested_in_text c.args.rule c.args.text.now _ c.utf8.text (subst (Spells c.args.rule c.args.text.now) (sym e) t.1) }
 
-pub returns-in-Ok-clause-spelled : goal.returns-in-Ok-clause-spelled
-returns-in-Ok-clause-spelled c =
+pub returns-clause-spelled : goal.returns-clause-spelled
+returns-clause-spelled c =
     let t = c.in_ok-entries.ensures.trees in
-    let e = c.in-Ok.ensures t.0 (ap named_entries c.deref.ensures.value ∙ t.2) in
+    let e = c.in_ok-trees.ensures t.0 (ap named_entries c.deref.ensures.value ∙ t.2) in
     rw c.new.ensures.text (subst (Spells c.args.rule c.args.text.now) (sym (ap named c.new.ensures.trees ∙ e)) t.1)

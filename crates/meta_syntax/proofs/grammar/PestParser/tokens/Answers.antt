@@ -9,22 +9,22 @@ recognize-requires c = record {
   remembers = c.new-recognizer.ensures.remembers c.args.text.now;
 }
 
-pub returns-in-Ok-Some-clause-trees : goal.returns-in-Ok-Some-clause-trees
-returns-in-Ok-Some-clause-trees c =
-    let x = rw c.in-Ok-Some.field-0-is at c.in-Ok-Some.ensures.means in
+pub returns-clause-trees : goal.returns-clause-trees
+returns-clause-trees c =
+    let x = rw c.in-Some.is at c.in_ok-recognize.ensures.means in
     rw c.into_entries.ensures (spelled c.args.rule c.args.text.now _ _ _ _ _ x c.new-recognizer.ensures.entries)
 
-pub returns-in-Ok-Some-clause-whole : goal.returns-in-Ok-Some-clause-whole
-returns-in-Ok-Some-clause-whole c =
-    let x = rw c.in-Ok-Some.field-0-is at c.in-Ok-Some.ensures.means in
+pub returns-clause-whole : goal.returns-clause-whole
+returns-clause-whole c =
+    let x = rw c.in-Some.is at c.in_ok-recognize.ensures.means in
     rw c.into_entries.ensures (tokens_whole c.args.rule c.args.text.now _ (spelled c.args.rule c.args.text.now _ _ _ _ _ x c.new-recognizer.ensures.entries))
 
-pub returns-in-Ok-None-clause-trees : goal.returns-in-Ok-None-clause-trees
-returns-in-Ok-None-clause-trees c =
-    let x = rw c.in-Ok-None.field-0-is at c.in-Ok-None.ensures.means in
+pub returns-in_default-clause-trees : goal.returns-in_default-clause-trees
+returns-in_default-clause-trees c =
+    let x = rw c.in_default.is at c.in_ok-recognize.ensures.means in
     refuses c.args.rule c.args.text.now _ c.syntax_error.result (refused c.args.rule c.args.text.now _ _ _ _ x c.new-recognizer.ensures.furthest) c.syntax_error.ensures
 
 pub syntax_error-requires : goal.syntax_error-requires
 syntax_error-requires c =
-    let x = rw c.in-Ok-None.field-0-is at c.in-Ok-None.ensures.means in
+    let x = rw c.in_default.is at c.in_ok-recognize.ensures.means in
     fails_on_character c.args.rule c.args.text.now _ c.utf8.text (refused c.args.rule c.args.text.now _ _ _ _ x c.new-recognizer.ensures.furthest)

@@ -100,7 +100,7 @@ option-returns-in-None-clause-means t c = let x = rw c.in-None.is at c.in_ok-aft
 pub negation-returns-in-Some-clause-means : goal.negation-returns-in-Some-clause-means
 negation-returns-in-Some-clause-means t c =
     let x = rw c.in-Some.is at c.in_ok-run.ensures.means in
-    fails_not x c.cut.ensures c.count_of_entries-mark.ensures
+    fails_not x c.cut.ensures c.count_of_entries-saved.ensures
 
 pub negation-returns-in-None-clause-means : goal.negation-returns-in-None-clause-means
 negation-returns-in-None-clause-means t c = let x = rw c.in-None.is at c.in_ok-run.ensures.means in finds_not x
@@ -123,7 +123,7 @@ sequence-returns-in_default-clause-means t c =
 pub sequence-returns-in_default-2-clause-means : goal.sequence-returns-in_default-2-clause-means
 sequence-returns-in_default-2-clause-means t c =
     let x = rw c.in_default-2.is at c.in_ok-after.ensures.means in
-    fails_part c.loop-next.invariant.means c.in_ok-next.ensures.means _ _ c.parts_of-parts.ensures.parts c.cut.ensures c.count_of_entries-mark.ensures x
+    fails_part c.loop-next.invariant.means c.in_ok-next.ensures.means _ _ c.parts_of-parts.ensures.parts c.cut.ensures c.count_of_entries-saved.ensures x
 
 pub sequence-returns-in_default-others-clause-means : goal.sequence-returns-in_default-others-clause-means
 sequence-returns-in_default-others-clause-means t c =
@@ -175,7 +175,7 @@ turns-loop-next-preserved t c =
 pub turns-returns-in-None-clause-means : goal.turns-returns-in-None-clause-means
 turns-returns-in-None-clause-means t c =
     let x = rw c.in-None.is at c.in_ok-after.ensures.means in
-    finds_turns c.loop-next.invariant.means c.in_ok-next.ensures.means x c.cut.ensures c.count_of_entries-mark.ensures
+    finds_turns c.loop-next.invariant.means c.in_ok-next.ensures.means x c.cut.ensures c.count_of_entries-saved.ensures
 
 pub blanks-loop-after-preserved : goal.blanks-loop-after-preserved
 blanks-loop-after-preserved t c =

@@ -53,11 +53,11 @@ returns-in_ok-push-in-Choice c = record {
       let n = effort c.args.rest.now (2 + max (cost first.now) (cost second.now)) in
       let less = both_steps (effort c.args.rest.now (cost second.now)) (effort c.args.rest.now (cost first.now)) n (omega arith) (omega arith) in
       begin_next c.args.text.now c.args.frames.now.items c.push.new.self.items
-      (record { wait = wait.Choice second; start = record { mode = c.args.mode; mark = c.count_of_entries-mark.result; rest = c.args.rest } })
+      (record { wait = wait.Choice second; start = record { mode = c.args.mode; saved = c.count_of_entries-saved.result; rest = c.args.rest } })
       c.args.self.now first c.args.mode c.args.rest k.0 top (steps n) work
       c.in_ok-push-in-Choice.ensures.items
       (record { good = and_first _ _ g; spelled = s.0 }) c.requires.ready
-      (choice_follows c.args.text.now first second c.args.mode c.count_of_entries-mark.result c.args.rest c.args.self.now.entries.items c.args.self.now.furthest k.0 c.requires.ready.left
+      (choice_follows c.args.text.now first second c.args.mode c.count_of_entries-saved.result c.args.rest c.args.self.now.entries.items c.args.self.now.furthest k.0 c.requires.ready.left
       (record { good = and_second (good first.now) _ g; spelled = s.1 }) k.1)
       k.2 (omega (arith, less)) m;
 }
@@ -82,10 +82,10 @@ returns-in_ok-push-in-Rep c = record {
       let n = effort c.args.rest.now (2 + cost body.now) in
       let less = both_steps (effort c.args.rest.now 0) (effort c.args.rest.now (cost body.now)) n (omega arith) (omega arith) in
       begin_next c.args.text.now c.args.frames.now.items c.push-in-Rep.new.self.items
-      (record { wait = wait.Repetition body; start = record { mode = c.args.mode; mark = c.count_of_entries-mark.result; rest = c.args.rest } })
+      (record { wait = wait.Repetition body; start = record { mode = c.args.mode; saved = c.count_of_entries-saved.result; rest = c.args.rest } })
       c.args.self.now body c.args.mode c.args.rest k.0 top (steps n) work
       c.in_ok-push-in-Rep.ensures.items turn.runnable c.requires.ready
-      (first_turn_follows c.args.text.now body c.args.mode c.count_of_entries-mark.result c.args.rest c.args.self.now.entries.items c.args.self.now.furthest k.0 c.requires.ready.left turn c.count_of_entries-mark.ensures k.1)
+      (first_turn_follows c.args.text.now body c.args.mode c.count_of_entries-saved.result c.args.rest c.args.self.now.entries.items c.args.self.now.furthest k.0 c.requires.ready.left turn c.count_of_entries-saved.ensures k.1)
       k.2 (omega (arith, less)) m;
 }
 

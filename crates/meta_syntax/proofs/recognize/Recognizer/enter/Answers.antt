@@ -53,11 +53,11 @@ returns c = record {
       let opened = rw c.gives_token.ensures at c.in_ok-open.ensures in
       let less = one_step (effort c.args.rest.now (cost c.in-Some-row_of.row.body.now)) (effort c.args.rest.now (rank_of c.args.rule + 3)) (omega (arith, row.cost)) in
       begin_next c.args.text.now c.args.frames.now.items c.push.new.self.items
-      (record { wait = wait.Call c.args.rule c.in-Some-row_of.row.kind; start = record { mode = c.args.mode; mark = c.count_of_entries-mark.result; rest = c.args.rest } })
+      (record { wait = wait.Call c.args.rule c.in-Some-row_of.row.kind; start = record { mode = c.args.mode; saved = c.count_of_entries-saved.result; rest = c.args.rest } })
       _ c.in-Some-row_of.row.body c.body_mode.result c.args.rest h1.0 top (steps (effort c.args.rest.now (rank_of c.args.rule + 3))) work
       c.in_ok-push.ensures.items
       (record { good = row.good; spelled = row.spelled })
       (record { left = c.requires.ready.left; remembers = c.in_default.ensures.remembers })
-      (call_follows c.args.text.now c.args.rule c.in-Some-row_of.row.kind c.args.mode c.body_mode.result c.count_of_entries-mark.result c.args.rest c.in-Some-row_of.row.body c.decided.new.self.entries.items c.open.new.entries.items c.decided.new.self.furthest h1.0 c.requires.ready.left row c.body_mode.ensures.means opened c.count_of_entries-mark.ensures h1.1)
+      (call_follows c.args.text.now c.args.rule c.in-Some-row_of.row.kind c.args.mode c.body_mode.result c.count_of_entries-saved.result c.args.rest c.in-Some-row_of.row.body c.decided.new.self.entries.items c.open.new.entries.items c.decided.new.self.furthest h1.0 c.requires.ready.left row c.body_mode.ensures.means opened c.count_of_entries-saved.ensures h1.1)
       h1.2 (omega (arith, less)) l;
 }

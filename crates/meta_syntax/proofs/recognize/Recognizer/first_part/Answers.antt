@@ -16,7 +16,7 @@ returns-in-Some c = record {
       c.parts.ensures.next
       (question_of (Run (mode_of c.args.start.mode) (followed (Some (expression_of c.args.first.now)) c.args.others.now)) c.args.start.rest.now (null c.args.first.now && null c.args.others.now) c.args.self.now)
       top n work
-      (parts_begin c.args.text.now c.args.first.now c.args.others.now c.args.start.mode c.args.start.mark c.args.start.rest.now c.in-Some.after.now _ _ _ _ c.requires.others c.requires.below c.requires.marked x g)
+      (parts_begin c.args.text.now c.args.first.now c.args.others.now c.args.start.mode c.args.start.saved c.args.start.rest.now c.in-Some.after.now _ _ _ _ c.requires.others c.requires.below c.requires.marked x g)
       h (first_less c.args.first.now c.args.others.now c.args.text.now c.args.start.rest.now c.in-Some.after.now n c.requires.below g e) l;
 }
 

@@ -43,6 +43,6 @@ returns c = record {
       (record { wait = wait.FirstOf _; start = c.args.start })
       c.in_ok-push.ensures.items in
       c.in_ok-step.ensures.next top work
-      (rule_asked c.args.text.now c.args.first c.args.others.now i _ _ c.args.start.mode c.args.start.mark c.args.start.rest c.args.self.now.entries.items c.first_of-2.new.self.entries.items c.args.self.now.furthest c.first_of-2.new.self.furthest h.0 top c.args.frames.now.items c.push.new.self.items c.in_ok-push.ensures.items c.requires.ready.left c.in-Some.ensures c.requires.others_take (taken_rest c.args.others.now (i + 1)) x h.1 h.2)
+      (rule_asked c.args.text.now c.args.first c.args.others.now i _ _ c.args.start.mode c.args.start.saved c.args.start.rest c.args.self.now.entries.items c.first_of-2.new.self.entries.items c.args.self.now.furthest c.first_of-2.new.self.furthest h.0 top c.args.frames.now.items c.push.new.self.items c.in_ok-push.ensures.items c.requires.ready.left c.in-Some.ensures c.requires.others_take (taken_rest c.args.others.now (i + 1)) x h.1 h.2)
       (rule_work c.args.first c.args.others.now i _ c.args.frames.now.items c.push.new.self.items c.args.start.rest.now work far c.in-Some.ensures l);
 }

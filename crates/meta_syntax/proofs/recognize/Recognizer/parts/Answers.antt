@@ -20,12 +20,12 @@ returns-then-may_nest c = record {
       let items = rw i.frames at c.in_ok-push.ensures.items in
       let less = both_steps (effort c.in_ok-next.next.now (cost c.loop-next.left.now)) (effort c.in_ok-next.next.now (cost c.parts_of-parts.result.first.now)) n (omega (arith, e, far, below)) (omega (arith, e, far, below, cheap)) in
       begin_next c.args.text.now c.args.frames.now.items c.push.new.self.items
-      (record { wait = wait.Sequence c.loop-next.left c.parts_of-parts.result.others; start = record { mode = c.args.start.mode; mark = c.args.start.mark; rest = c.in_ok-next.next } })
+      (record { wait = wait.Sequence c.loop-next.left c.parts_of-parts.result.others; start = record { mode = c.args.start.mode; saved = c.args.start.saved; rest = c.in_ok-next.next } })
       c.skip.new.self c.parts_of-parts.result.first c.args.start.mode c.in_ok-next.next h.0 top (steps n) work
       items
       (record { good = p.good i.good; spelled = p.spelled i.spelled })
       (record { left = s.goes_on.left; remembers = s.remembers })
-      (part_follows c.args.text.now c.loop-next.left c.parts_of-parts.result.first c.parts_of-parts.result.others c.args.start.mode c.args.start.mark c.loop-next.rest.now c.in_ok-next.next c.loop-next.self.entries.items c.skip.new.self.entries.items c.loop-next.self.furthest c.skip.new.self.furthest k h.0 (i.means k w) p.parts s.means s.goes_on h.1)
+      (part_follows c.args.text.now c.loop-next.left c.parts_of-parts.result.first c.parts_of-parts.result.others c.args.start.mode c.args.start.saved c.loop-next.rest.now c.in_ok-next.next c.loop-next.self.entries.items c.skip.new.self.entries.items c.loop-next.self.furthest c.skip.new.self.furthest k h.0 (i.means k w) p.parts s.means s.goes_on h.1)
       h.2 (omega (arith, less)) l;
 }
 

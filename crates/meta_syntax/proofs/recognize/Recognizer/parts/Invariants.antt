@@ -10,8 +10,8 @@ use Rattle.meta_syntax.proofs.recognize.Recognizer.parts.Given as goal
 abbrev pub invariant-loop-next : goal.invariant-loop-next
 invariant-loop-next l = record {
   text : shadow (Utf8 l.rest);
-  means : (k : Question) → IsPartWay l.text l.others l.start.mode l.start.mark l.fn.self.entries.items l.fn.self.furthest l.start.rest.now k
-      → IsPartWay l.text l.left l.start.mode l.start.mark l.self.entries.items l.self.furthest l.rest k;
+  means : (k : Question) → IsPartWay l.text l.others l.start.mode l.start.saved l.fn.self.entries.items l.fn.self.furthest l.start.rest.now k
+      → IsPartWay l.text l.left l.start.mode l.start.saved l.self.entries.items l.self.furthest l.rest k;
   good : IsGood l.left;
   spelled : IsSpelled l.left;
   below : cost l.left < 1000;

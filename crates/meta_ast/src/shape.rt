@@ -1,0 +1,126 @@
+//! Which operands a tree has, and what stands round them: said once for each kind of tree. What is done with
+//! trees of any kind goes by it.
+mod copying;
+
+ghost use Rattle.std.specs.Prelude.{◌≡◌, ◌+◌, ◌*◌, ◌≤◌, ◌<◌, ℕ, IfOk};
+ghost use Rattle.meta_ast.specs.Shapes.{heaviness_of, meaning_of, LeafIs};
+
+pub use copying::{copied, copied_box};
+use std::alloc::AllocError;
+
+/// What stands between two operands.
+#[derive(Drop)]
+pub enum Joint {
+    /// One after another.
+    Sequence,
+    /// The first, or the second where that fails.
+    Choice,
+}
+
+/// A tree that is taken apart.
+#[derive(Drop)]
+pub enum Shape<L, S, J, O> {
+    /// It has no operands.
+    Leaf(L),
+    /// What stands round its operand, and the operand.
+    One(S, O),
+    /// What stands between its operands, the left one and the right one.
+    Two(J, O, O),
+}
+
+/// Trees that are taken apart and put together again.
+pub trait Shaped: Drop {
+    /// What may stand round one operand.
+    type Sign: Drop;
+    /// What may stand between two operands.
+    type Joint: Drop;
+
+    // what trees mean, and what their operands mean in them
+    ghost Meaning: { Type 0 };
+
+    ghost says: { Self → Meaning };
+
+    ghost around: { Self.Sign → Meaning → Meaning };
+
+    ghost between: { Self.Joint → Meaning → Meaning → Meaning };
+
+    // that a tree has no operands
+    ghost is_bare: { Self → Type 0 };
+
+    // how large a tree is, where left sides count double
+    ghost heaviness: { Self → ℕ };
+
+    /// The tree taken apart, without memory. What has no operands is left whole.
+    fn open(self) -> Shape<Self, Self::Sign, Self::Joint, Box<Self>>
+        ensures meaning { meaning_of says (λ operand. says operand.value) around between result ≡ says self }
+        ensures lighter { heaviness_of (λ operand. heaviness operand.value) result < heaviness self }
+        ensures bare { LeafIs is_bare result };
+
+    /// The shape of the tree: its operands as they stand there, and copies of all else. The only fault is a
+    /// want of memory.
+    fn shape<'a>(
+        &'a self,
+    ) -> Result<Shape<Self, Self::Sign, Self::Joint, &'a Box<Self>>, AllocError>
+        ensures meaning { IfOk result (λ shape.
+            meaning_of says (λ operand. says operand.now.value) around between shape ≡ says self.entry.now) }
+        ensures lighter { IfOk result (λ shape.
+            heaviness_of (λ operand. heaviness operand.now.value) shape < heaviness self.entry.now) };
+
+    /// An operand in its sign.
+    fn enclose(sign: Self::Sign, operand: Box<Self>) -> Self
+        ensures { says result ≡ around sign (says operand.value) };
+
+    /// Two operands side by side.
+    fn join(joint: Self::Joint, left: Box<Self>, right: Box<Self>) -> Self
+        ensures { says result ≡ between joint (says left.value) (says right.value) };
+
+    /// Takes a tree out of its box, and leaves one without operands there.
+    fn take(place: &mut Box<Self>) -> Self
+        ensures { result ≡ place.old.value };
+
+    /// Two trees as the operands of one.
+    fn chain(first: Box<Self>, second: Box<Self>) -> Self
+        ensures { heaviness result ≤ 2 * heaviness first.value + heaviness second.value + 1 };
+}
+
+/// Lets a tree go by a loop, without memory.
+pub fn let_go<T: Shaped>(tree: T) {
+    let mut rest = tree;
+    'parts: loop {
+        match rest.open() {
+            Shape::Leaf(leaf) => {
+                drop(leaf);
+                return;
+            }
+            Shape::One(sign, operand) => {
+                drop(sign);
+                rest = Box::into_inner(operand);
+            }
+            Shape::Two(joint, left, right) => {
+                drop(joint);
+                rest = leaned(left, right);
+            }
+        }
+    }
+}
+
+/// What is left of two sides, with less on the left: its operator is gone, or all of it.
+fn leaned<T: Shaped>(mut left: Box<T>, right: Box<T>) -> T
+    ensures { T.heaviness result < 2 * T.heaviness left.value + T.heaviness right.value + 1 }
+{
+    match T::take(&mut left).open() {
+        Shape::Leaf(leaf) => {
+            drop(leaf);
+            Box::into_inner(right)
+        }
+        Shape::One(sign, operand) => {
+            drop(sign);
+            T::chain(operand, right)
+        }
+        Shape::Two(joint, first, second) => {
+            drop(joint);
+            let _ = Box::replace(&mut left, T::chain(second, right));
+            T::chain(first, left)
+        }
+    }
+}

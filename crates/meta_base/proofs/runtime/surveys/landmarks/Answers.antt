@@ -1,0 +1,26 @@
+use Rattle.std.proofs.Common.{⊎_elim, List, sym, subst, arith}
+use Rattle.meta_base.specs.declared.runtime.surveys.Landmark.{Landmark}
+use Rattle.meta_base.specs.Pieces.Landmarks.{AreLandmarks}
+use Rattle.meta_base.proofs.Surveys.{start_is_landmark, order, landmarks_more, one_landmark}
+use Rattle.meta_base.proofs.runtime.surveys.landmarks.Goals as goal
+
+pub loop-count-init : goal.loop-count-init
+loop-count-init c =
+    let first = start_is_landmark c.args.text.now c.utf8.text in
+    record {
+      landmark = first;
+      before = omega arith;
+      landmarks = let P : List Landmark → Type 0 = λ l. AreLandmarks c.args.text.now l in subst P (sym c.in_ok-landmarks.ensures.items) (one_landmark _ _ first);
+    }
+
+pub moved-landmark-requires-clause-behind : goal.moved-landmark-requires-clause-behind
+moved-landmark-requires-clause-behind c =
+    ⊎_elim (λ le. le) (λ lt. absurd (c.floor_char_boundary-place.ensures.nearest c.loop-count.landmark.place lt (omega (arith, c.loop-count.invariant.before)) c.loop-count.invariant.landmark.between))
+    (order c.loop-count.landmark.place c.floor_char_boundary-place.result)
+
+pub loop-count-preserved : goal.loop-count-preserved
+loop-count-preserved c = record {
+  landmark = c.moved-landmark.ensures.landmark;
+  before = omega (arith, c.moved-landmark.ensures.place, c.floor_char_boundary-place.ensures.bound);
+  landmarks = let P : List Landmark → Type 0 = λ l. AreLandmarks c.args.text.now l in subst P (sym c.in_ok-push.ensures.items) (landmarks_more _ _ _ c.loop-count.invariant.landmarks c.moved-landmark.ensures.landmark);
+}

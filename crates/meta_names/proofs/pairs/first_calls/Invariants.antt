@@ -1,0 +1,11 @@
+use Rattle.std.proofs.Common.{◌≡◌, List, ◌++◌, map, drop}
+use Rattle.meta_base.specs.Language.Text.{Text}
+use Rattle.meta_base.specs.Pieces.Saying.{piece_of, written}
+use Rattle.meta_names.specs.Names.{first_places}
+use Rattle.meta_names.specs.NameSets.{HasNames}
+use Rattle.meta_names.proofs.pairs.first_calls.Given as goal
+
+abbrev pub invariant-loop-call : goal.invariant-loop-call
+invariant-loop-call l = (known : List Text) × HasNames known l.known
+    × (map written (first_places (map written (map piece_of l.definitions)) (map piece_of l.calls))
+    ≡ map (λ t. t.now) l.first.items ++ map written (first_places known (map piece_of (drop l.call-index l.calls))))

@@ -1,0 +1,82 @@
+//! The names of a whole grammar.
+ghost use Rattle.std.specs.Prelude.{[], ◌≡◌, IfErr, IfOk, OnOk, alloc_error, map};
+ghost use Rattle.meta_base.specs.Pieces.Saying.{Tell, piece_of};
+ghost use Rattle.meta_names.specs.Names.{AreIn};
+ghost use Rattle.meta_names.specs.GrammarNames.{AreWrittenAt, IsNameRefusal, complaints_of, first_calls, first_calls_of, name_complaints};
+
+use crate::found;
+use crate::keywords::{already_defined_in, pest_keywords_in};
+use crate::undefined::{names, undefined_in};
+use meta_base::grammar::Rule;
+use meta_base::runtime::{Error, Fault, Pairs, Span};
+use std::alloc::{AllocError, Global};
+
+/// The names that a grammar calls and does not define, each once, in the order of their first calls, each
+/// as it is written at that call. All of them are builtins. `pairs` are those of a parse of a text by
+/// `grammar_rules`; of any others it is answered by the same rule: what a `grammar_rule` begins with is
+/// its definition, where that is an `identifier`, and all `identifier`s behind it are calls.
+///
+/// Where names are wrong there is an error at each of these places, in this order:
+/// - `NAME is a pest keyword`, at each definition whose name pest keeps for itself;
+/// - `rule NAME already defined`, at each definition that has one of its name before it;
+/// - `rule NAME is undefined`, at each call of what is neither defined nor a builtin.
+///
+/// Any other fault is a want of memory.
+pub fn validate_pairs<'i>(alloc: Global, pairs: Pairs<'i, Rule>) -> Result<Vec<&'i str>, Fault>
+    ensures no_complaints { OnOk result (complaints_of pairs.entry ≡ []) }
+    ensures builtins { IfOk result (λ names. AreWrittenAt (first_calls_of pairs.entry) names.items) }
+    ensures refused { IfErr result (IsNameRefusal (complaints_of pairs.entry)) }
+{
+    let text = pairs.get_input();
+    let trees = pairs.trees();
+    let definitions = found::definitions(alloc, text, trees)?;
+    let calls = found::calls(alloc, text, trees)?;
+    let errors = name_errors(alloc, text, &definitions, &calls)?;
+    if !errors.is_empty() {
+        return Err(Fault::Grammar(errors));
+    }
+    Ok(first_calls(alloc, &definitions, &calls)?)
+}
+
+/// The errors that tell of the names of these definitions and calls, all in one text: of keywords, then of
+/// duplicates, then of undefined names. The only fault is a want of memory.
+fn name_errors<'i>(
+    alloc: Global,
+    text: &'i str,
+    definitions: &Vec<Span<'i>>,
+    calls: &Vec<Span<'i>>,
+) -> Result<Vec<Error<Rule>>, Fault>
+    requires definitions_in_text { AreIn text.now (map piece_of definitions.now.items) }
+    requires calls_in_text { AreIn text.now (map piece_of calls.now.items) }
+    ensures told { IfOk result (λ errors.
+        Tell (name_complaints (map piece_of definitions.now.items) (map piece_of calls.now.items))
+        errors.items) }
+    ensures memory { IfErr result (λ fault. fault ≡ Fault.Memory alloc_error) }
+{
+    let mut errors = pest_keywords_in(alloc, text, definitions)?;
+    let mut duplicates = already_defined_in(alloc, text, definitions)?;
+    let mut undefined = undefined_in(alloc, text, definitions, calls)?;
+    errors.append(&mut duplicates)?;
+    errors.append(&mut undefined)?;
+    Ok(errors)
+}
+
+/// The names of the calls that are no definition's, each once, in the order of their first calls.
+fn first_calls<'i>(
+    alloc: Global,
+    definitions: &[Span<'i>],
+    calls: &[Span<'i>],
+) -> Result<Vec<&'i str>, AllocError>
+    ensures { IfOk result (λ names.
+        AreWrittenAt (first_calls (map piece_of definitions.now) (map piece_of calls.now)) names.items) }
+{
+    let mut known = names(alloc, definitions)?;
+    let mut first = Vec::new(alloc);
+    for call in calls {
+        let name = call.as_str();
+        if known.insert(name)? {
+            first.push(name)?;
+        }
+    }
+    Ok(first)
+}

@@ -1,0 +1,408 @@
+//! From trees to nodes.
+ghost use Rattle.std.specs.Prelude.{◌≡◌, ◌≢◌, ◌<◌, ◌+◌, ℕ, List, IfOk, IfSome, MatchOption, MatchResult};
+ghost use Rattle.meta_base.specs.Language.State.{Trees, None'};
+ghost use Rattle.meta_base.specs.Pieces.NamedTrees.{named_trees_of};
+ghost use Rattle.meta_base.specs.Pieces.Span.{span_start, span_end};
+ghost use Rattle.meta_reader.specs.Flaws.{first_flaw};
+ghost use Rattle.meta_reader.specs.Pieces.{IsPiece, StandIn};
+ghost use Rattle.meta_reader.specs.Reading.{ATerm, AnExpression, both};
+ghost use Rattle.meta_reader.specs.Levels.{GoesOn, HoldsNoExpression, IsAlternative, IsAlternativeRead, IsOperandRead, IsInsideRead, IsLevelRead, IsTermBeside, IsTermRead, Opens, node_view, together, waits_of, work_of};
+ghost use Rattle.meta_reader.specs.Signs.{IsOperand};
+ghost use Rattle.meta_syntax.specs.Shape.{IsExpression, IsMore};
+ghost use Rattle.meta_nodes.specs.Spanned.{Span, Two};
+ghost use Rattle.meta_reader.specs.Views.{IsFirst, TakesTerm, IsBehindBar, IsRest, ReadsAs, all_from, binary_of, count_of};
+ghost use Rattle.meta_nodes.specs.Nodes.{view, view_at};
+
+use crate::rules::flaws::ReadError;
+use crate::rules::levels::{Beside, Level, Next, Within};
+use crate::rules::operators::postfixed;
+use crate::rules::pieces::span_at;
+use crate::rules::signs::{Sign, behind_signs, with_signs};
+use crate::rules::terminals::terminal;
+use meta_ast::deep::Deep;
+use meta_base::grammar::Rule;
+use meta_base::runtime::{FirstTree, TokenTree};
+use meta_nodes::{ParserExpr, ParserNode};
+use meta_syntax::trees::{first_tree, leading_tree};
+use std::alloc::{AllocError, Global};
+
+/// The operators between two nodes.
+#[derive(Clone, Copy)]
+pub enum Infix {
+    /// `~`
+    Sequence,
+    /// `|`
+    Choice,
+}
+
+/// What an operator makes of two nodes, wherever they stand.
+fn operation<'i>(
+    operator: Infix,
+    left: Box<ParserNode<'i>>,
+    right: Box<ParserNode<'i>>,
+) -> ParserExpr<'i>
+    ensures { (place : Span) → view_at place result
+        ≡ Two place (binary_of operator) (view left.entry.value) (view right.entry.value) }
+{
+    match operator {
+        Infix::Sequence => ParserExpr::Seq(left, right),
+        Infix::Choice => ParserExpr::Choice(left, right),
+    }
+}
+
+/// Two nodes with an operator between them, from the start of the left to the end of the right.
+fn combined<'i>(
+    alloc: Global,
+    text: &'i str,
+    operator: Infix,
+    left: Deep<ParserNode<'i>>,
+    right: Deep<ParserNode<'i>>,
+) -> Result<Deep<ParserNode<'i>>, AllocError>
+    requires { IsPiece text.now (span_start left.value.span) (span_end right.value.span) }
+    ensures { IfOk result (λ n. view n.value
+        ≡ both text.entry.now (binary_of operator) (view left.entry.value) (view right.entry.value)) }
+{
+    let span = span_at(text, left.value.span.start(), right.value.span.end());
+    let left = left.boxed(alloc)?;
+    let right = right.boxed(alloc)?;
+    let expr = operation(operator, left.into_inner(), right.into_inner());
+    let value = ParserNode { expr, span };
+    Ok(Deep { value })
+}
+
+/// The alternatives of an expression, without a bar before the first.
+fn behind_bar(trees: &[TokenTree<Rule>]) -> &[TokenTree<Rule>]
+    ensures { (text : List ℕ) → IsExpression text (named_trees_of trees.entry.now)
+        → IsBehindBar text (named_trees_of trees.entry.now) (named_trees_of result.now) }
+{
+    let Some(tree) = first_tree(trees) else {
+        return trees;
+    };
+    match tree.rule {
+        Rule::choice_operator => tree.others,
+        _ => trees,
+    }
+}
+
+/// The trees in the next term of a sequence, and what follows it, where a tilde goes before it.
+fn next_term(trees: &[TokenTree<Rule>]) -> Option<(&[TokenTree<Rule>], &[TokenTree<Rule>])>
+    ensures { (text : List ℕ) → IsMore text (named_trees_of trees.entry.now)
+        → MatchOption result (IsRest text (named_trees_of trees.entry.now))
+        (λ x. TakesTerm text (named_trees_of trees.entry.now)
+        (named_trees_of x.0.now) (named_trees_of x.1.now)) }
+{
+    let Some(tilde) = first_tree(trees) else {
+        return None;
+    };
+    let Rule::sequence_operator = tilde.rule else {
+        return None;
+    };
+    let Some(term) = first_tree(tilde.others) else {
+        return None;
+    };
+    Some((term.inner, term.others))
+}
+
+/// A node and what stands before it, with an operator between them; the node itself where nothing does.
+fn together<'i>(
+    alloc: Global,
+    text: &'i str,
+    operator: Infix,
+    before: Option<Deep<ParserNode<'i>>>,
+    node: Deep<ParserNode<'i>>,
+) -> Result<Deep<ParserNode<'i>>, AllocError>
+    requires { IfSome before
+        (λ left. IsPiece text.now (span_start left.value.span) (span_end node.value.span)) }
+    ensures { IfOk result (λ n. view n.value
+        ≡ together text.entry.now (binary_of operator) (node_view before.entry) (view node.entry.value)) }
+{
+    match before {
+        Some(left) => combined(alloc, text, operator, left, node),
+        None => Ok(node),
+    }
+}
+
+/// The first term of an alternative is next. `choice` is what is read before the alternative.
+fn first_term<'i, 't>(
+    choice: Option<Deep<ParserNode<'i>>>,
+    trees: &'t [TokenTree<Rule>],
+) -> Next<'i, 't>
+    requires { named_trees_of trees.now ≢ None' }
+    ensures goes_on { (text : List ℕ) → (us : Trees)
+        → IsAlternative text us (node_view choice.entry) (named_trees_of trees.entry.now)
+        → GoesOn text us result }
+    ensures work { work_of result < count_of (named_trees_of trees.entry.now) }
+{
+    let term = leading_tree(trees);
+    let beside = Beside {
+        choice,
+        sequence: None,
+        rest: term.others,
+    };
+    Next::Term(beside, term.inner)
+}
+
+/// What is next where the alternative at hand is read, and `rest` is behind it.
+fn behind_alternative<'i, 't>(
+    alloc: Global,
+    text: &'i str,
+    choice: Option<Deep<ParserNode<'i>>>,
+    sequence: Deep<ParserNode<'i>>,
+    rest: &'t [TokenTree<Rule>],
+) -> Result<Next<'i, 't>, AllocError>
+    requires { (us : Trees) × IsAlternativeRead text.now us choice sequence (named_trees_of rest.now) }
+    ensures goes_on { (us : Trees)
+        → IsAlternativeRead text.entry.now us choice.entry sequence.entry (named_trees_of rest.entry.now)
+        → IfOk result (GoesOn text.entry.now us) }
+    ensures work { IfOk result (λ next. work_of next < count_of (named_trees_of rest.entry.now)) }
+{
+    let choice = together(alloc, text, Infix::Choice, choice, sequence)?;
+    match first_tree(rest) {
+        Some(bar) => Ok(first_term(Some(choice), bar.others)),
+        None => Ok(Next::Done(choice.into_inner())),
+    }
+}
+
+/// What is next where the term at hand is read.
+fn behind_term<'i, 't>(
+    alloc: Global,
+    text: &'i str,
+    beside: Beside<'i, 't>,
+    node: ParserNode<'i>,
+) -> Result<Next<'i, 't>, AllocError>
+    requires { (us : Trees) × IsTermRead text.now us beside node }
+    ensures goes_on { (us : Trees) → IsTermRead text.entry.now us beside.entry node.entry
+        → IfOk result (GoesOn text.entry.now us) }
+    ensures work { IfOk result (λ next. work_of next < waits_of beside.entry) }
+{
+    let Beside {
+        choice,
+        sequence,
+        rest,
+    } = beside;
+    let sequence = together(alloc, text, Infix::Sequence, sequence, Deep { value: node })?;
+    match next_term(rest) {
+        Some((inner, after)) => {
+            let beside = Beside {
+                choice,
+                sequence: Some(sequence),
+                rest: after,
+            };
+            Ok(Next::Term(beside, inner))
+        }
+        None => behind_alternative(alloc, text, choice, sequence, rest),
+    }
+}
+
+/// What is next where a term's operand is read.
+fn behind_operand<'i, 't>(
+    alloc: Global,
+    text: &'i str,
+    beside: Beside<'i, 't>,
+    signs: Vec<Sign<'i>>,
+    operand: ParserNode<'i>,
+) -> Result<Next<'i, 't>, AllocError>
+    requires { (us : Trees) × IsOperandRead text.now us beside signs.items operand }
+    ensures goes_on { (us : Trees)
+        → IsOperandRead text.entry.now us beside.entry signs.entry.items operand.entry
+        → IfOk result (GoesOn text.entry.now us) }
+    ensures work { IfOk result (λ next. work_of next < waits_of beside.entry) }
+{
+    let node = with_signs(alloc, operand, signs)?;
+    behind_term(alloc, text, beside, node)
+}
+
+/// What an operand, which begins with a tree, puts round an expression, the trees in the expression and
+/// the postfix operators behind it; none where it holds no expression.
+fn inner_of<'t>(
+    tree: FirstTree<'t, Rule>,
+) -> Option<(Within, &'t [TokenTree<Rule>], &'t [TokenTree<Rule>])>
+    requires { (text : List ℕ) × IsOperand text (all_from tree) }
+    ensures { (text : List ℕ) → IsOperand text (all_from tree.entry)
+        → MatchOption result (HoldsNoExpression text tree.entry)
+        (λ x. Opens text (all_from tree.entry) x.0 (named_trees_of x.1.now) (named_trees_of x.2.now)) }
+{
+    match tree.rule {
+        Rule::opening_paren => {
+            let body = leading_tree(tree.others);
+            let close = leading_tree(body.others);
+            let within = Within::Parentheses {
+                start: tree.start,
+                end: close.end,
+            };
+            Some((within, body.inner, close.others))
+        }
+        Rule::_push => {
+            let paren = leading_tree(tree.inner);
+            let body = leading_tree(paren.others);
+            let within = Within::Push { start: tree.start };
+            Some((within, body.inner, tree.others))
+        }
+        _ => None,
+    }
+}
+
+/// An operand that holds no expression, by its trees, or its first flaw.
+fn operand<'i>(
+    alloc: Global,
+    text: &'i str,
+    tree: FirstTree<'_, Rule>,
+) -> Result<ParserNode<'i>, ReadError<'i>>
+    requires shape { HoldsNoExpression text.now tree }
+    requires nested { StandIn text.now (all_from tree) }
+    ensures { ReadsAs text.entry.now ATerm (all_from tree.entry) result }
+{
+    let node = terminal(alloc, text, tree)?;
+    postfixed(alloc, text, node, tree.others)
+}
+
+/// What is next where a term is to be read, by the trees in it; or the first flaw of its operand.
+fn term<'i, 't>(
+    alloc: Global,
+    text: &'i str,
+    beside: Beside<'i, 't>,
+    trees: &'t [TokenTree<Rule>],
+) -> Result<Next<'i, 't>, ReadError<'i>>
+    requires { (us : Trees) × IsTermBeside text.now us beside (named_trees_of trees.now) }
+    ensures goes_on { (us : Trees)
+        → IsTermBeside text.entry.now us beside.entry (named_trees_of trees.entry.now)
+        → MatchResult result (GoesOn text.entry.now us) (IsFirst (first_flaw text.entry.now us)) }
+    ensures work { IfOk result (λ next. work_of next
+        < waits_of beside.entry + count_of (named_trees_of trees.entry.now)) }
+{
+    let (signs, rest) = behind_signs(alloc, text, trees)?;
+    let tree = leading_tree(rest);
+    match inner_of(tree) {
+        Some((within, inner, postfixes)) => {
+            let level = Level {
+                beside,
+                signs,
+                within,
+                postfixes,
+            };
+            Ok(Next::Inner(level, inner))
+        }
+        None => {
+            let node = operand(alloc, text, tree)?;
+            Ok(behind_operand(alloc, text, beside, signs, node)?)
+        }
+    }
+}
+
+/// An expression in parentheses with the postfix operators behind them, or their first flaw. The
+/// outermost node begins with the first parenthesis, and the expression ends with the second.
+fn in_parentheses<'i>(
+    alloc: Global,
+    text: &'i str,
+    start: usize,
+    end: usize,
+    inside: ParserNode<'i>,
+    postfixes: &[TokenTree<Rule>],
+) -> Result<ParserNode<'i>, ReadError<'i>>
+    requires { (us : Trees)
+        × IsInsideRead text.now us (Within.Parentheses start end) inside (named_trees_of postfixes.now) }
+    ensures { (us : Trees)
+        → IsInsideRead text.entry.now us (Within.Parentheses start end) inside.entry
+        (named_trees_of postfixes.now)
+        → ReadsAs text.entry.now ATerm us result }
+{
+    let mut inside = inside;
+    inside.span = span_at(text, inside.span.start(), end);
+    let mut node = postfixed(alloc, text, inside, postfixes)?;
+    node.span = span_at(text, start, node.span.end());
+    Ok(node)
+}
+
+/// What `PUSH` makes of the expression in it, with the postfix operators behind, or their first flaw.
+/// It ends where the expression does.
+fn pushed<'i>(
+    alloc: Global,
+    text: &'i str,
+    start: usize,
+    inside: ParserNode<'i>,
+    postfixes: &[TokenTree<Rule>],
+) -> Result<ParserNode<'i>, ReadError<'i>>
+    requires { (us : Trees)
+        × IsInsideRead text.now us (Within.Push start) inside (named_trees_of postfixes.now) }
+    ensures { (us : Trees)
+        → IsInsideRead text.entry.now us (Within.Push start) inside.entry (named_trees_of postfixes.now)
+        → ReadsAs text.entry.now ATerm us result }
+{
+    let span = span_at(text, start, inside.span.end());
+    let inside = Deep { value: inside }.boxed(alloc)?;
+    let node = ParserNode {
+        expr: ParserExpr::Push(inside.into_inner()),
+        span,
+    };
+    postfixed(alloc, text, node, postfixes)
+}
+
+/// An operand whose inner expression is read, or the first flaw of its postfix operators.
+fn closed<'i>(
+    alloc: Global,
+    text: &'i str,
+    within: Within,
+    inside: ParserNode<'i>,
+    postfixes: &[TokenTree<Rule>],
+) -> Result<ParserNode<'i>, ReadError<'i>>
+    requires { (us : Trees) × IsInsideRead text.now us within inside (named_trees_of postfixes.now) }
+    ensures { (us : Trees)
+        → IsInsideRead text.entry.now us within inside.entry (named_trees_of postfixes.now)
+        → ReadsAs text.entry.now ATerm us result }
+{
+    match within {
+        Within::Parentheses { start, end } => {
+            in_parentheses(alloc, text, start, end, inside, postfixes)
+        }
+        Within::Push { start } => pushed(alloc, text, start, inside, postfixes),
+    }
+}
+
+/// What is next where the expression in a term is read; or the first flaw of the postfix operators.
+fn behind_level<'i, 't>(
+    alloc: Global,
+    text: &'i str,
+    level: Level<'i, 't>,
+    inside: ParserNode<'i>,
+) -> Result<Next<'i, 't>, ReadError<'i>>
+    requires { (us : Trees) × IsLevelRead text.now us level inside }
+    ensures goes_on { (us : Trees) → IsLevelRead text.entry.now us level.entry inside.entry
+        → MatchResult result (GoesOn text.entry.now us) (IsFirst (first_flaw text.entry.now us)) }
+    ensures work { IfOk result (λ next. work_of next < waits_of level.entry.beside) }
+{
+    let Level {
+        beside,
+        signs,
+        within,
+        postfixes,
+    } = level;
+    let node = closed(alloc, text, within, inside, postfixes)?;
+    Ok(behind_operand(alloc, text, beside, signs, node)?)
+}
+
+/// An expression, by the trees in it, or its first flaw. Expressions within one another lie in a list.
+pub fn expression<'i>(
+    alloc: Global,
+    text: &'i str,
+    trees: &[TokenTree<Rule>],
+) -> Result<ParserNode<'i>, ReadError<'i>>
+    requires shape { IsExpression text.now (named_trees_of trees.now) }
+    requires nested { StandIn text.now (named_trees_of trees.now) }
+    ensures { ReadsAs text.entry.now AnExpression (named_trees_of trees.now) result }
+{
+    let mut levels = Vec::new(alloc);
+    let mut next = first_term(None, behind_bar(trees));
+    'terms: loop {
+        match next {
+            Next::Term(beside, trees) => next = term(alloc, text, beside, trees)?,
+            Next::Inner(level, trees) => {
+                levels.push(level)?;
+                next = first_term(None, behind_bar(trees));
+            }
+            Next::Done(node) => match levels.pop() {
+                Some(level) => next = behind_level(alloc, text, level, node)?,
+                None => return Ok(node),
+            },
+        }
+    }
+}

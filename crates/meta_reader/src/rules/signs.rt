@@ -1,0 +1,133 @@
+//! The signs of predicates and the tags before what they stand for.
+ghost use Rattle.std.specs.Prelude.{◌≡◌, All, IfOk, chars};
+ghost use Rattle.meta_base.specs.Pieces.NamedTrees.{named_trees_of};
+ghost use Rattle.meta_base.specs.Pieces.Span.{span_end, span_text};
+ghost use Rattle.meta_nodes.specs.Nodes.{view, view_at};
+ghost use Rattle.meta_nodes.specs.Spanned.{One, Span};
+ghost use Rattle.meta_reader.specs.Pieces.{IsPiece, StandIn};
+ghost use Rattle.meta_reader.specs.Reading.{tag_name};
+ghost use Rattle.meta_reader.specs.Signs.{IsBehindSigns, sign_of, signed};
+ghost use Rattle.meta_syntax.specs.Shape.{IsTerm};
+
+use crate::rules::pieces::{span_at, text_of};
+use meta_ast::deep::Deep;
+use meta_base::grammar::Rule;
+use meta_base::runtime::{FirstTree, TokenTree};
+use meta_nodes::{ParserExpr, ParserNode};
+use meta_syntax::trees::first_tree;
+use std::alloc::{AllocError, Global};
+
+/// What a sign before an operand is.
+#[derive(Clone, Copy)]
+pub enum SignKind<'i> {
+    /// `&`
+    Positive,
+    /// `!`
+    Negative,
+    /// A tag, without its `#`.
+    Tag(&'i str),
+}
+
+/// A sign before an operand, and where it begins.
+#[derive(Clone, Copy)]
+pub struct Sign<'i> {
+    pub kind: SignKind<'i>,
+    pub start: usize,
+}
+
+/// The name of a tag: what is behind its `#`.
+fn tag_name<'i>(text: &'i str, tag: FirstTree<'_, Rule>) -> &'i str
+    requires { IsPiece text.now tag.start tag.end }
+    ensures { chars result.now ≡ tag_name text.entry.now tag.entry.start tag.entry.end }
+{
+    let mut characters = text_of(text, tag).chars();
+    match characters.next() {
+        Some(_) => characters.as_str(),
+        None => "",
+    }
+}
+
+/// The signs of predicates and the tags in a term, the first first, and what is behind them.
+pub fn behind_signs<'i, 't>(
+    alloc: Global,
+    text: &'i str,
+    trees: &'t [TokenTree<Rule>],
+) -> Result<(Vec<Sign<'i>>, &'t [TokenTree<Rule>]), AllocError>
+    requires shape { IsTerm text.now (named_trees_of trees.now) }
+    requires nested { StandIn text.now (named_trees_of trees.now) }
+    ensures { IfOk result (λ x. IsBehindSigns text.entry.now (named_trees_of trees.entry.now)
+        x.0.items (named_trees_of x.1.now)) }
+{
+    let mut signs = Vec::new(alloc);
+    let mut rest: &'t [TokenTree<Rule>] = trees;
+    while let Some(tree) = first_tree(rest) {
+        match tree.rule {
+            Rule::tag_id => {
+                let Some(equals) = first_tree(tree.others) else {
+                    return Ok((signs, rest));
+                };
+                signs.push(Sign {
+                    kind: SignKind::Tag(tag_name(text, tree)),
+                    start: tree.start,
+                })?;
+                rest = equals.others;
+            }
+            Rule::positive_predicate_operator => {
+                signs.push(Sign {
+                    kind: SignKind::Positive,
+                    start: tree.start,
+                })?;
+                rest = tree.others;
+            }
+            Rule::negative_predicate_operator => {
+                signs.push(Sign {
+                    kind: SignKind::Negative,
+                    start: tree.start,
+                })?;
+                rest = tree.others;
+            }
+            _ => return Ok((signs, rest)),
+        }
+    }
+    Ok((signs, rest))
+}
+
+/// What a sign makes of a node.
+fn signed_by<'i>(
+    alloc: Global,
+    kind: SignKind<'_>,
+    node: Deep<ParserNode<'i>>,
+) -> Result<ParserExpr<'i>, AllocError>
+    ensures { IfOk result (λ expr. (place : Span) → view_at place expr
+        ≡ One place (sign_of kind.entry) (view node.entry.value)) }
+{
+    match kind {
+        SignKind::Positive => Ok(ParserExpr::PosPred(node.boxed(alloc)?.into_inner())),
+        SignKind::Negative => Ok(ParserExpr::NegPred(node.boxed(alloc)?.into_inner())),
+        SignKind::Tag(tag) => {
+            let tag = String::from_str(alloc, tag)?;
+            Ok(ParserExpr::NodeTag(node.boxed(alloc)?.into_inner(), tag))
+        }
+    }
+}
+
+/// A node with predicates and tags round it, by their signs, the first first. Each ends where the node does.
+pub fn with_signs<'i>(
+    alloc: Global,
+    operand: ParserNode<'i>,
+    signs: Vec<Sign<'_>>,
+) -> Result<ParserNode<'i>, AllocError>
+    requires { All (λ sign. IsPiece (span_text operand.span) sign.start (span_end operand.span))
+        signs.items }
+    ensures { IfOk result (λ n. view n
+        ≡ signed (span_text operand.entry.span) signs.entry.items (view operand.entry)) }
+{
+    let mut node = operand;
+    let mut left = signs;
+    while let Some(sign) = left.pop() {
+        let span = span_at(node.span.get_input(), sign.start, node.span.end());
+        let expr = signed_by(alloc, sign.kind, Deep { value: node })?;
+        node = ParserNode { expr, span };
+    }
+    Ok(node)
+}

@@ -1,0 +1,17 @@
+pub mod Table
+pub mod Keys
+pub mod Memory
+pub mod Following
+pub mod Searching
+pub mod Visiting
+pub mod Names
+pub mod Kinds
+pub mod Answers
+pub mod Told
+pub mod Expressions
+pub mod Certain
+pub mod Reportable
+pub mod Leading
+pub mod Repeating
+pub mod Waiting
+pub mod Apart

@@ -1,0 +1,29 @@
+use Rattle.std.proofs.Common.{sym, subst, ap, ◌∙◌, take, get_or, ◌∷◌, [], ◌++◌, ◌+◌}
+use Rattle.std.proofs.lemmas.List.{take_more}
+use Rattle.meta_nodes.specs.Nodes.{view}
+use Rattle.meta_table.specs.Layout.{AreNumbered}
+use Rattle.meta_table.specs.Nodes.{all_nodes, postorder}
+use Rattle.meta_table.specs.Roots.{AreRoots}
+use Rattle.meta_table.proofs.LayoutLemmas.{laid_none, length-postorder}
+use Rattle.meta_table.proofs.Numbered.{found_last}
+use Rattle.meta_table.proofs.RootLemmas.{root_step, nodes_more}
+use Rattle.meta_table.proofs.table.tabulated.Goals as goal
+
+pub loop-place-preserved : goal.loop-place-preserved
+loop-place-preserved c =
+    let rs = c.args.rules.now in
+    let i = c.loop-place.place in
+    let d = get_or rs i c.index-rules-place.result in
+    let old = all_nodes (take i rs) in
+    let nodes = c.in_ok-root.ensures.nodes old c.loop-place.invariant.numbered in
+    let long = sym nodes.nodes.alike ∙ c.in_ok-root.ensures.last in
+    let at = found_last old (view d.node) c.in_ok-root.root long in
+    let roots = root_step (take i rs) d old (postorder (view d.node)) c.loop-place.table.roots.items c.in_ok-root.root at long (length-postorder (view d.node)) c.loop-place.invariant.roots in
+    let e = take_more rs i c.index-rules-place.result c.loop-place-test.true in
+    let m = ap (λ z. all_nodes z) e ∙ nodes_more (take i rs) d in
+    record {
+      numbered = subst (λ z. AreNumbered z c.number.new.nodes.items) (sym m) nodes;
+      roots = subst (λ z. AreRoots (take (i + 1) rs) (all_nodes (take (i + 1) rs)) z) (sym c.in_ok-push.ensures.items)
+          (subst (λ z. AreRoots z (all_nodes (take (i + 1) rs)) (c.loop-place.table.roots.items ++ c.in_ok-root.root ∷ [])) (sym e)
+          (subst (λ z. AreRoots (take i rs ++ d ∷ []) z (c.loop-place.table.roots.items ++ c.in_ok-root.root ∷ [])) (sym m) roots));
+    }

@@ -1,0 +1,31 @@
+-- Where the bodies of rules stand among the nodes of all bodies.
+use Rattle.std.specs.Prelude.{◌≡◌, ℕ, zero, suc, ◌+◌, List, Some, length, slice_get, unwrap_or}
+use Rattle.meta_nodes.specs.Nodes.{view}
+use Rattle.meta_nodes.specs.Spanned.{Spanned}
+use Rattle.meta_nodes.specs.declared.node.ParserRule.{ParserRule}
+use Rattle.meta_table.specs.Layout.{AreNumbered}
+use Rattle.meta_table.specs.Nodes.{all_nodes, size}
+use Rattle.meta_table.specs.declared.table.Table.{Table}
+
+-- the number of a rule's body
+abbrev pub root_of : List ℕ → ℕ → ℕ
+root_of roots k = unwrap_or (slice_get roots k) 0
+
+-- the number of the first node of a rule's body: it follows the body of the rule before
+abbrev pub first_of : List ℕ → ℕ → ℕ
+first_of roots zero = 0
+first_of roots (suc k) = suc (root_of roots k)
+
+-- the bodies of rules lie among these nodes, at these places, each behind the one before, and nothing else
+pub record AreRoots (rules : List ParserRule) (nodes : List Spanned) (roots : List ℕ) : Type 0 where
+  pub alike : length roots ≡ length rules
+  pub lie : (r i : ℕ) (rule : ParserRule) → slice_get rules r ≡ Some rule → slice_get roots r ≡ Some i
+      → slice_get nodes i ≡ Some (view rule.node)
+  pub begin : (r i : ℕ) (rule : ParserRule) → slice_get rules r ≡ Some rule → slice_get roots r ≡ Some i
+      → first_of roots r + size (view rule.node) ≡ i + 1
+  pub full : first_of roots (length roots) ≡ length nodes
+
+-- the nodes of all bodies, and the places of the bodies among them
+pub record IsTabled (rules : List ParserRule) (table : Table) : Type 0 where
+  pub numbered : AreNumbered (all_nodes rules) table.nodes.items
+  pub roots : AreRoots rules (all_nodes rules) table.roots.items
