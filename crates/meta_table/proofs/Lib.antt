@@ -4,3 +4,4 @@ pub mod LastNames
 pub mod Numbered
 pub mod LayoutLemmas
 pub mod RootLemmas
+pub mod RuleNumbers

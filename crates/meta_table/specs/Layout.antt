@@ -1,5 +1,5 @@
 -- How the nodes of bodies lie in a list: those inside a node right in front of it.
-use Rattle.std.specs.Prelude.{◌≡◌, ℕ, List, [], ◌∷◌, ◌++◌, Some, None, slice_get, flat_map, ⊤}
+use Rattle.std.specs.Prelude.{◌≡◌, ℕ, List, [], ◌∷◌, ◌++◌, Some, None, slice_get, flat_map, map, ⊤}
 use Rattle.std.specs.Borrow.{Bor}
 use Rattle.meta_nodes.specs.Nodes.{view}
 use Rattle.meta_nodes.specs.Spanned.{Spanned, Leaf, One, Two}
@@ -39,3 +39,7 @@ start_at ns i = elim (slice_get ns i) [
 pub record AreNumbered (all : List Spanned) (ns : List Node) : Type 0 where
   pub laid_out : AreLaidOut all
   pub nodes : AreNodes all ns
+
+-- for each node the number of the rule that it stands in
+abbrev pub rule_numbers : List Node → List ℕ
+rule_numbers ns = map (λ (n : Node). n.rule) ns

@@ -1,9 +1,9 @@
 -- Where the bodies of rules stand among the nodes of all bodies.
-use Rattle.std.specs.Prelude.{◌≡◌, ℕ, zero, suc, ◌+◌, List, Some, length, slice_get, unwrap_or}
+use Rattle.std.specs.Prelude.{◌≡◌, ℕ, zero, suc, ◌+◌, List, [], ◌∷◌, ◌++◌, Some, length, replicate, slice_get, unwrap_or}
 use Rattle.meta_nodes.specs.Nodes.{view}
 use Rattle.meta_nodes.specs.Spanned.{Spanned}
 use Rattle.meta_nodes.specs.declared.node.ParserRule.{ParserRule}
-use Rattle.meta_table.specs.Layout.{AreNumbered}
+use Rattle.meta_table.specs.Layout.{AreNumbered, rule_numbers}
 use Rattle.meta_table.specs.Nodes.{all_nodes, size}
 use Rattle.meta_table.specs.declared.table.Table.{Table}
 
@@ -25,7 +25,13 @@ pub record AreRoots (rules : List ParserRule) (nodes : List Spanned) (roots : Li
       → first_of roots r + size (view rule.node) ≡ i + 1
   pub full : first_of roots (length roots) ≡ length nodes
 
--- the nodes of all bodies, and the places of the bodies among them
+-- for each node of the bodies of rules the number of its rule, where the first rule has number k
+abbrev pub rules_by_node : ℕ → List ParserRule → List ℕ
+rules_by_node k [] = []
+rules_by_node k (r ∷ rules) = replicate (size (view r.node)) k ++ rules_by_node (suc k) rules
+
+-- the nodes of all bodies, their rules, and the places of the bodies among them
 pub record IsTabled (rules : List ParserRule) (table : Table) : Type 0 where
   pub numbered : AreNumbered (all_nodes rules) table.nodes.items
+  pub of_rules : rule_numbers table.nodes.items ≡ rules_by_node 0 rules
   pub roots : AreRoots rules (all_nodes rules) table.roots.items

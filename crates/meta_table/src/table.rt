@@ -1,11 +1,11 @@
 //! The nodes of all rules, numbered, each behind those inside it; by lists, so that a choice of many parts is
 //! no depth.
-ghost use Rattle.std.specs.Prelude.{◌≡◌, ◌+◌, ◌-◌, ◌++◌, ◌∷◌, [], IfOk, OnOk, List, length};
+ghost use Rattle.std.specs.Prelude.{◌≡◌, ◌+◌, ◌-◌, ◌++◌, ◌∷◌, [], IfOk, OnOk, List, length, replicate};
 ghost use Rattle.meta_nodes.specs.Nodes.{view_at, piece_of};
 ghost use Rattle.meta_nodes.specs.Spanned as spanned;
 ghost use Rattle.meta_nodes.specs.Spanned.{Spanned};
-ghost use Rattle.meta_table.specs.Layout.{AreNumbered, AreLaidOut, IsBehind, start_at, all_below, forwards};
-ghost use Rattle.meta_table.specs.Nodes.{postorder};
+ghost use Rattle.meta_table.specs.Layout.{AreNumbered, AreLaidOut, IsBehind, start_at, all_below, forwards, rule_numbers};
+ghost use Rattle.meta_table.specs.Nodes.{postorder, size};
 ghost use Rattle.meta_table.specs.Roots.{IsTabled};
 ghost use Rattle.meta_table.specs.declared.shapes.Shape.TheVariants as shapes;
 
@@ -131,6 +131,8 @@ fn add_node<'n, 'i>(
     nodes: &mut Vec<Node<'n, 'i>>,
 ) -> Result<(), AllocError>
     ensures last { OnOk result (length nodes.new.items ≡ length nodes.old.items + 1) }
+    ensures rules { OnOk result (rule_numbers nodes.new.items
+        ≡ rule_numbers nodes.old.items ++ rule ∷ []) }
     ensures nodes { OnOk result ((done : List Spanned)
         → AreNumbered done nodes.old.items
         → IsBehind done (view_at (piece_of span.entry) expr.now)
@@ -161,10 +163,12 @@ fn add_nodes<'n, 'i>(
     inside: Vec<&'n ParserNode<'i>>,
     nodes: &mut Vec<Node<'n, 'i>>,
 ) -> Result<(), AllocError>
-    ensures { OnOk result ((done : List Spanned)
+    ensures nodes { OnOk result ((done : List Spanned)
         → AreNumbered done nodes.old.items
         → AreLaidOut (done ++ forwards inside.entry.items)
         → AreNumbered (done ++ forwards inside.entry.items) nodes.new.items) }
+    ensures rules { OnOk result (rule_numbers nodes.new.items
+        ≡ rule_numbers nodes.old.items ++ replicate (length (forwards inside.entry.items)) rule) }
 {
     let mut inside = inside;
     while let Some(next) = inside.pop() {
@@ -185,6 +189,8 @@ pub fn number<'n, 'i>(
     ensures nodes { OnOk result ((done : List Spanned)
         → AreNumbered done nodes.old.items
         → AreNumbered (done ++ postorder (view_at (piece_of span.entry) expr.now)) nodes.new.items) }
+    ensures rules { OnOk result (rule_numbers nodes.new.items
+        ≡ rule_numbers nodes.old.items ++ replicate (size (view_at (piece_of span.entry) expr.now)) rule) }
 {
     let mut waiting = Vec::new(alloc);
     push_operands(expr, &mut waiting)?;

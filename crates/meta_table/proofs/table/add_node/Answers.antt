@@ -1,10 +1,11 @@
-use Rattle.std.proofs.Common.{◌≡◌, ◌∙◌, ◌-◌, ap, sym, subst, rules, length}
+use Rattle.std.proofs.Common.{◌≡◌, ◌∙◌, ◌-◌, ap, subst, rules, length}
 use Rattle.meta_nodes.specs.Nodes.{view, piece_of}
 use Rattle.meta_table.specs.Layout.{start_at}
 use Rattle.meta_table.specs.Shapes.{IsMadeOf}
 use Rattle.meta_table.specs.declared.shapes.Shape.TheVariants as is
 use Rattle.meta_table.specs.declared.table.Node.{Node}
 use Rattle.meta_table.proofs.LayoutLemmas.{put_leaf, put_one, put_two}
+use Rattle.meta_table.proofs.RuleNumbers.{numbers_push}
 use Rattle.meta_table.proofs.table.add_node.Goals as goal
 use Rattle.meta_table.proofs.table.add_node.Goals.{in-Nothing, in-Inside, in-Both}
 
@@ -36,3 +37,9 @@ returns-clause-nodes c = λ done h b.
           let start = ap (λ p. p.start) w.placed-is ∙ (w.placed_between-placed.ensures.start ∙ ap (λ z. start_at z (start_at z (own - 1) - 1)) same) in
           put_two done old new own h is_own n pushed t m.0 (view w.in-Both.field-1.now) (view w.in-Both.field-2.now) b (m.1 t) shape start
     ]
+
+pub returns-clause-rules : goal.returns-clause-rules
+returns-clause-rules c =
+    let placed = c.match-taken_apart.placed in
+    let n : Node = record { expr = c.args.expr; span = c.args.span; shape = placed.shape; start = placed.start; rule = c.args.rule } in
+    numbers_push c.args.nodes.now.items c.push.new.self.items n c.in_ok-push.ensures.items

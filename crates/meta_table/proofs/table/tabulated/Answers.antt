@@ -1,12 +1,13 @@
-use Rattle.std.proofs.Common.{sym, subst, ap, ◌∙◌, take, get_or, ◌∷◌, [], ◌++◌, ◌+◌}
-use Rattle.std.proofs.lemmas.List.{take_more}
+use Rattle.std.proofs.Common.{◌≡◌, sym, subst, ap, arith, ◌∙◌, take, get_or, ◌∷◌, [], ◌++◌, ◌+◌, ◌≤◌, length, replicate}
+use Rattle.std.proofs.lemmas.List.{length-take-le, take_more}
 use Rattle.meta_nodes.specs.Nodes.{view}
 use Rattle.meta_table.specs.Layout.{AreNumbered}
-use Rattle.meta_table.specs.Nodes.{all_nodes, postorder}
-use Rattle.meta_table.specs.Roots.{AreRoots}
-use Rattle.meta_table.proofs.LayoutLemmas.{laid_none, length-postorder}
+use Rattle.meta_table.specs.Nodes.{all_nodes, postorder, size}
+use Rattle.meta_table.specs.Roots.{AreRoots, rules_by_node}
+use Rattle.meta_table.proofs.LayoutLemmas.{length-postorder}
 use Rattle.meta_table.proofs.Numbered.{found_last}
 use Rattle.meta_table.proofs.RootLemmas.{root_step, nodes_more}
+use Rattle.meta_table.proofs.RuleNumbers.{rules_more}
 use Rattle.meta_table.proofs.table.tabulated.Goals as goal
 
 pub loop-place-preserved : goal.loop-place-preserved
@@ -21,7 +22,12 @@ loop-place-preserved c =
     let roots = root_step (take i rs) d old (postorder (view d.node)) c.loop-place.table.roots.items c.in_ok-root.root at long (length-postorder (view d.node)) c.loop-place.invariant.roots in
     let e = take_more rs i c.index-rules-place.result c.loop-place-test.true in
     let m = ap (λ z. all_nodes z) e ∙ nodes_more (take i rs) d in
+    let short : i ≤ length rs = (let t = c.loop-place-test.true in omega arith) in
+    let own : rules_by_node 0 (take (i + 1) rs) ≡ rules_by_node 0 (take i rs) ++ replicate (size (view d.node)) i =
+    ap (λ z. rules_by_node 0 z) e ∙ (rules_more 0 (take i rs) d
+    ∙ ap (λ n. rules_by_node 0 (take i rs) ++ replicate (size (view d.node)) n) (let n = length-take-le i rs short in omega arith)) in
     record {
+      of_rules = c.in_ok-root.ensures.rules ∙ (ap (λ z. z ++ replicate (size (view d.node)) i) c.loop-place.invariant.of_rules ∙ sym own);
       numbered = subst (λ z. AreNumbered z c.number.new.nodes.items) (sym m) nodes;
       roots = subst (λ z. AreRoots (take (i + 1) rs) (all_nodes (take (i + 1) rs)) z) (sym c.in_ok-push.ensures.items)
           (subst (λ z. AreRoots z (all_nodes (take (i + 1) rs)) (c.loop-place.table.roots.items ++ c.in_ok-root.root ∷ [])) (sym e)
