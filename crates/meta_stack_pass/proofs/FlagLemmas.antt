@@ -1,7 +1,7 @@
 -- More flags give more answers.
 use Rattle.std.proofs.Common.{◌≡◌, ℕ, List, Option, Some, None, Bool, true, false, ◌&&◌, ◌||◌, nat_eq, slice_get, refl}
 use Rattle.meta_flags.proofs.LeastLemmas.{settled}
-use Rattle.meta_stack_pass.specs.Answers.{at_place, null_kind, changing_kind, still_kind, some_part, leading, answer, AreSound, AreClosed, AreAnswers}
+use Rattle.meta_stack_pass.specs.Answers.{at_place, changing_kind, still_kind, some_part, leading, answer, AreSound, AreClosed, AreAnswers}
 use Rattle.meta_stack_pass.specs.Table.{called_by, parts_of}
 use Rattle.meta_stack_pass.specs.declared.facts.Question.{Question}
 use Rattle.meta_stack_pass.specs.declared.facts.Question.TheVariants as asks
@@ -27,15 +27,6 @@ place_more p r f None h = h
 place_more p r f (Some j) h = f j h
 
 module _ (roots : List ℕ) (p r : ℕ → Bool) (f : (j : ℕ) → p j ≡ true → r j ≡ true) where
-  null_more : (k : Kind) → null_kind roots p k ≡ true → null_kind roots r k ≡ true
-  null_more (is.Call n) h = place_more p r f (slice_get roots n) h
-  null_more (is.Push j) h = f j h
-  null_more (is.Tag j) h = f j h
-  null_more (is.Repeat j a b c) h = f j h
-  null_more (is.Seq j k) h = and_more (p j) (p k) (r j) (r k) (f j) (f k) h
-  null_more (is.Choice j k) h = or_more (p j) (p k) (r j) (r k) (f j) (f k) h
-  null_more _ h = h
-
   changing_more : (k : Kind) → changing_kind roots p k ≡ true → changing_kind roots r k ≡ true
   changing_more (is.Call n) h = place_more p r f (slice_get roots n) h
   changing_more (is.Tag j) h = f j h
@@ -64,7 +55,6 @@ module _ (roots : List ℕ) (p r : ℕ → Bool) (f : (j : ℕ) → p j ≡ true
   leading_more s (Some q) ps h = or_more (nat_eq q s) (at_place p (slice_get roots q)) (nat_eq q s) (at_place r (slice_get roots q)) (λ e. e) (place_more p r f (slice_get roots q)) h
 
   answer_more : (q : Question) (n : Node) → answer q roots p n ≡ true → answer q roots r n ≡ true
-  answer_more asks.TakesNothing n h = or_more n.free (null_kind roots p n.kind) n.free (null_kind roots r n.kind) (λ e. e) (null_more n.kind) h
   answer_more asks.AltersStack n h = changing_more n.kind h
   answer_more asks.MayBeStill n h = still_more n.kind h
   answer_more (asks.LeadsTo s) n h = leading_more s (called_by n.kind) (parts_of n.kind) h

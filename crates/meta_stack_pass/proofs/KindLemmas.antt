@@ -17,7 +17,7 @@ use Rattle.meta_table.specs.Roots.{IsTabled}
 use Rattle.meta_table.specs.declared.table.Node as plain_node
 use Rattle.meta_table.specs.declared.table.Table as plain_table
 use Rattle.meta_table.proofs.Numbered.{span_at}
-use Rattle.meta_stack_pass.specs.Kinds.{AreTabled, IsNode, Fits, is_free, leaf_kind, kind_of_code, node_kind}
+use Rattle.meta_stack_pass.specs.Kinds.{AreTabled, IsNode, Fits, leaf_kind, kind_of_code, node_kind}
 use Rattle.meta_stack_pass.specs.declared.table.Node.{Node}
 use Rattle.meta_stack_pass.specs.declared.table.Kind.{Kind}
 
@@ -48,7 +48,6 @@ abbrev pub node_of : (Text → Kind) → plain_node.Node → Node
 node_of kind_of n = record {
   kind = node_kind kind_of n.expr.now n.shape;
   rule = n.rule;
-  free = is_free (view_at (piece_of n.span) n.expr.now);
   span = n.span;
 }
 
@@ -61,7 +60,6 @@ is_node : (kind_of : Text → Kind) (all : List Spanned) (i : ℕ) (n : plain_no
 is_node kind_of all i n x h = record {
   fits = fits_node kind_of all i n x h.said h.shape;
   place = sym (span_at (piece_of n.span) n.expr.now) ∙ ap span_of h.said;
-  free = ap (λ z. is_free z) h.said;
 }
 
 -- the table of rules, with what its nodes do

@@ -12,6 +12,7 @@ pub mod KindLemmas
 pub mod Builtins
 pub mod Tied
 pub mod Answering
+pub mod Nullable
 pub mod Whole
 pub mod FlagLemmas
 pub mod Least

@@ -2,6 +2,7 @@
 use Rattle.std.proofs.Common.{◌≡◌, ℕ, List, Bool, true, false, ◌&&◌, not, ◌⊎◌, inl, inr, refl}
 use Rattle.meta_base.specs.Language.Expression.{whitespace, comment}
 use Rattle.meta_nodes.specs.declared.node.ParserRule.{ParserRule}
+use Rattle.meta_nullable.specs.Facts.{AreNullable}
 use Rattle.meta_abstract_stacks.specs.Reports.{SkippingAltersStack, skips_in}
 use Rattle.meta_stack_pass.specs.Answers.{AreSound, AreClosed}
 use Rattle.meta_stack_pass.specs.Certain.{IsTableOf}
@@ -23,8 +24,7 @@ use Rattle.meta_stack_pass.proofs.Ordered.{bodies_inside, in_order}
 pub record IsFound (rules : List ParserRule) (t : Table) : Type 0 where
   pub tabled : AreTabled rules (kind_in (grammar_of rules)) (nodes_of t) t.roots.items
   pub skips : t.skips ≡ skips_in (grammar_of rules)
-  pub sound : AreSound asks.TakesNothing (nodes_of t) t.roots.items t.nullable.items
-  pub closed : AreClosed asks.TakesNothing (nodes_of t) t.roots.items t.nullable.items
+  pub nullable : AreNullable rules t.nullable.items
   pub calls : AreCalls (nodes_of t) t.roots.items t.recursive.items t.ranks.items
   pub calm : SkippingAltersStack (grammar_of rules) → ⊥
   pub limit : t.limit ≡ 3067
@@ -37,8 +37,7 @@ as_it_should rules t h = record {
   exact = h.calls.exact;
   inside = bodies_inside rules (kind_in (grammar_of rules)) t h.tabled;
   skips = h.skips;
-  sound = h.sound;
-  nullable = sound_answers asks.TakesNothing (nodes_of t) t.roots.items t.nullable.items h.sound h.closed;
+  nullable = h.nullable;
   calm = h.calm;
   limit = h.limit;
   turns = h.turns;

@@ -12,6 +12,7 @@ use Rattle.meta_nodes.specs.Erasure.{rules_without_spans, without_spans}
 use Rattle.meta_nodes.specs.Nodes.{piece_of, view, rule_views}
 use Rattle.meta_nodes.specs.Spanned.{Span, Spanned, SpannedRule}
 use Rattle.meta_nodes.specs.declared.node.ParserRule.{ParserRule}
+use Rattle.meta_nullable.specs.Facts.{AreNullable}
 use Rattle.meta_abstract_stacks.specs.Stack.{AbstractStack, In, entry}
 use Rattle.meta_abstract_stacks.specs.Reading as says
 use Rattle.meta_abstract_stacks.specs.Reading.{reading, name_reading}
@@ -29,17 +30,14 @@ use Rattle.meta_table.specs.Names.{grammar_of}
 use Rattle.meta_stack_pass.specs.Names.{kind_in}
 use Rattle.meta_stack_pass.specs.Kinds.{AreTabled}
 use Rattle.meta_stack_pass.specs.Reportable.{AreReportable, AreSilent, FindsMore}
-use Rattle.meta_stack_pass.specs.Table.{IsMeaning, nodes_of}
+use Rattle.meta_stack_pass.specs.Table.{IsMeaning}
 use Rattle.meta_stack_pass.specs.Told.{is_flagged}
 use Rattle.meta_stack_pass.specs.Visiting.{AllReported, FindsAll, FindsIn, RootsStand, StandsFor}
-use Rattle.meta_stack_pass.specs.declared.facts.Question.TheVariants as asks
 use Rattle.meta_stack_pass.specs.declared.memory.Memory.{Memory}
 use Rattle.meta_stack_pass.specs.declared.table.Node.{Node}
 use Rattle.meta_stack_pass.specs.declared.table.Table.{Table}
-use Rattle.meta_stack_pass.proofs.Answered.{answered, recursive, recursive_reaches}
-use Rattle.meta_stack_pass.proofs.Answering as answering
-use Rattle.meta_stack_pass.proofs.FlagLemmas.{sound_answers}
-use Rattle.meta_stack_pass.proofs.Least.{may_stay_null}
+use Rattle.meta_stack_pass.proofs.Answered.{recursive, recursive_reaches}
+use Rattle.meta_stack_pass.proofs.Nullable.{decided, knows_nullable, null_at}
 use Rattle.meta_stack_pass.proofs.Reached.{flagged_reaches}
 use Rattle.meta_stack_pass.proofs.Reporting.{told_otherwise}
 use Rattle.meta_table.proofs.Resolved.{got_like}
@@ -211,7 +209,7 @@ module _ (rules : List ParserRule) (t : Table) (h : IsTableOf rules t) (flags : 
   stand = roots_stand t meaning read nullable t.roots.items (bodies rules) (h.tabled.roots.alike ∙ sym (length-map rules (λ (q : ParserRule). view q.node)))
       (λ r i x a b. let (rule, at, e) = body_at rules r x b in
       subst (λ z. StandsFor t meaning read nullable i z) e
-      (tied.stands rules t h.tabled h.ordered nullable (λ j y g. answering.null_at rules (nodes_of t) t.roots.items h.tabled t.nullable.items h.nullable y j g) (view rule.node) i (h.tabled.roots.lie r i rule at a)))
+      (tied.stands rules t h.tabled h.ordered nullable (λ j y g. null_at rules t.roots.items h.tabled.roots t.nullable.items h.nullable y j g) (view rule.node) i (h.tabled.roots.lie r i rule at a)))
 
   abbrev Reports : Spanned → List Span → Type 0
   Reports = ReportedFrom t.limit t.turns (is_flagged (grammar_of rules) t.recursive.items) (grammar_of rules) nullable
@@ -241,24 +239,18 @@ module _ (rules : List ParserRule) (t : Table) (h : IsTableOf rules t) (flags : 
       recursive = is_flagged (grammar_of rules) t.recursive.items;
       reaches_itself = flagged_reaches rules t h;
       nullable = nullable;
-      knows = λ x. (
-        may_stay_null rules (nodes_of t) t.roots.items h.tabled t.nullable.items h.sound (without_spans x),
-        answering.stays_so rules (nodes_of t) t.roots.items h.tabled t.nullable.items h.nullable,
-      );
+      knows = λ x. decided rules t.roots.items h.tabled.roots t.nullable.items h.nullable (without_spans x);
       turns = t.turns;
       most_searched = h.turns;
       read = read_to found f;
       certain = λ limit k. reports_certain limit t.turns (is_flagged (grammar_of rules) t.recursive.items) (rule_views rules) nullable
-          (answering.knows_nullable rules (nodes_of t) t.roots.items h.tabled t.nullable.items h.nullable) h.calm (map piece_of found) (read_to found f limit k);
+          (knows_nullable rules t.roots.items h.tabled.roots t.nullable.items h.nullable) h.calm (map piece_of found) (read_to found f limit k);
     };
   }
 
 -- where nothing may be reported in any body, nothing is
 module _ (rules : List ParserRule) (ns : List Node) (roots : List ℕ) (tabled : AreTabled rules (kind_in (grammar_of rules)) ns roots) (flags : List Bool) (may : AreReportable ns roots flags)
-    (off : (r i : ℕ) → slice_get roots r ≡ Some i → is_set_at flags i ≡ false) where
-  abbrev null : List Bool
-  null = (answered asks.TakesNothing ns roots).flags
-
+    (off : (r i : ℕ) → slice_get roots r ≡ Some i → is_set_at flags i ≡ false) (null : List Bool) (right : AreNullable rules null) where
   abbrev takes_nothing : Spanned → Bool
   takes_nothing x = may_stay (λ n. name_flag (grammar_of rules) roots null n) (without_spans x)
 
@@ -272,21 +264,17 @@ module _ (rules : List ParserRule) (ns : List Node) (roots : List ℕ) (tabled :
       subst (λ z. none_in z []) same (silent rules ns roots tabled flags may r i rule at root (off r i root) 3067 64 (recursive rules ns roots tabled) takes_nothing)
 
   pub plain_none : AreFound (rule_views rules) []
-  plain_none =
-      let a = answered asks.TakesNothing ns roots in record {
-        silent = λ s. refl;
-        plain = λ n. record {
-          recursive = recursive rules ns roots tabled;
-          reaches_itself = recursive_reaches rules ns roots tabled;
-          nullable = takes_nothing;
-          knows = λ x. (
-            may_stay_null rules ns roots tabled null a.sound (without_spans x),
-            answering.stays_so rules ns roots tabled null (sound_answers asks.TakesNothing ns roots null a.sound a.closed),
-          );
-          turns = 64;
-          most_searched = refl;
-          certain = λ limit k s i. absurd i;
-          read = λ limit k. with_limit 3067 refl limit k 64 (recursive rules ns roots tabled) (grammar_of rules) takes_nothing _ _
-              (subst (λ z. AllReported none_in z []) (same_bodies rules) (all_silent none_in (bodies rules) body_silent));
-        };
-      }
+  plain_none = record {
+    silent = λ s. refl;
+    plain = λ n. record {
+      recursive = recursive rules ns roots tabled;
+      reaches_itself = recursive_reaches rules ns roots tabled;
+      nullable = takes_nothing;
+      knows = λ x. decided rules roots tabled.roots null right (without_spans x);
+      turns = 64;
+      most_searched = refl;
+      certain = λ limit k s i. absurd i;
+      read = λ limit k. with_limit 3067 refl limit k 64 (recursive rules ns roots tabled) (grammar_of rules) takes_nothing _ _
+          (subst (λ z. AllReported none_in z []) (same_bodies rules) (all_silent none_in (bodies rules) body_silent));
+    };
+  }

@@ -1,10 +1,7 @@
 -- What is asked of all nodes, and answered by the answers for their operands.
-use Rattle.std.specs.Prelude.{◌≡◌, ℕ, List, Option, Some, None, Bool, true, false, ◌&&◌, ◌||◌, slice_get, nat_eq, ⊤}
-use Rattle.meta_base.specs.Language.Expression.{Expression, Grammar}
-use Rattle.meta_base.specs.Language.WellFormed.{IsNullable}
+use Rattle.std.specs.Prelude.{◌≡◌, ℕ, List, Option, Some, None, Bool, true, false, ◌&&◌, ◌||◌, slice_get, nat_eq}
 use Rattle.meta_flags.specs.Least as least
 use Rattle.meta_flags.specs.Least.{Follows, is_set_at}
-use Rattle.meta_abstract_stacks.specs.Reports.{AltersStack}
 use Rattle.meta_stack_pass.specs.Table.{called_by, parts_of}
 use Rattle.meta_stack_pass.specs.declared.table.Kind.{Kind}
 use Rattle.meta_stack_pass.specs.declared.table.Kind.TheVariants as is
@@ -17,16 +14,6 @@ use Rattle.meta_stack_pass.specs.declared.facts.Question.TheVariants as asks
 abbrev pub at_place : (ℕ → Bool) → Option ℕ → Bool
 at_place p None = false
 at_place p (Some i) = p i
-
--- it may take nothing, by its operands
-abbrev pub null_kind : List ℕ → (ℕ → Bool) → Kind → Bool
-null_kind roots p (is.Call r) = at_place p (slice_get roots r)
-null_kind roots p (is.Push j) = p j
-null_kind roots p (is.Tag j) = p j
-null_kind roots p (is.Repeat j required optional endless) = p j
-null_kind roots p (is.Seq j k) = p j && p k
-null_kind roots p (is.Choice j k) = p j || p k
-null_kind roots p _ = false
 
 -- it changes the stack outside predicates
 abbrev pub changing_kind : List ℕ → (ℕ → Bool) → Kind → Bool
@@ -67,7 +54,6 @@ leading roots p r None ps = some_part p ps
 
 -- the answer for a node
 abbrev pub answer : Question → List ℕ → (ℕ → Bool) → Node → Bool
-answer asks.TakesNothing roots p n = n.free || null_kind roots p n.kind
 answer asks.AltersStack roots p n = changing_kind roots p n.kind
 answer asks.MayBeStill roots p n = still_kind roots p n.kind
 answer (asks.LeadsTo r) roots p n = leading roots p r (called_by n.kind) (parts_of n.kind)
@@ -88,10 +74,3 @@ AreSound q ns roots = least.AreSound (answer q roots) ns
 -- a node whose answer is yes by the flags has its flag set
 abbrev pub AreClosed : Question → List Node → List ℕ → List Bool → Type 0
 AreClosed q ns roots = least.AreClosed (answer q roots) ns
-
--- what a question asks of an expression; what nodes are read as and where they lead is said of numbers alone
-abbrev pub Asked : Question → Grammar → Expression → Type 0
-Asked asks.TakesNothing g e = IsNullable g e
-Asked asks.AltersStack g e = AltersStack g e
-Asked asks.MayBeStill g e = ⊤
-Asked (asks.LeadsTo r) g e = ⊤

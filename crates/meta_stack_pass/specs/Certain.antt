@@ -10,19 +10,18 @@ use Rattle.meta_flags.specs.Least.{is_set_at}
 use Rattle.meta_nodes.specs.Erasure.{rules_without_spans, without_spans}
 use Rattle.meta_nodes.specs.Spanned.{Span, Spanned, SpannedRule}
 use Rattle.meta_nodes.specs.declared.node.ParserRule.{ParserRule}
+use Rattle.meta_nullable.specs.Facts.{AreNullable}
 use Rattle.meta_abstract_stacks.specs.Recursion.{ReachesByCalls}
 use Rattle.meta_abstract_stacks.specs.Reported.{IsCertainAt, ReportedFrom}
 use Rattle.meta_abstract_stacks.specs.Reports.{SkippingAltersStack, skips_in}
 use Rattle.meta_abstract_stacks.specs.Stack.{In}
 use Rattle.meta_abstract_stacks.specs.Turns.{most_stacks}
-use Rattle.meta_stack_pass.specs.Answers.{AreAnswers, AreSound}
 use Rattle.meta_stack_pass.specs.Leading.{LeadsBack}
 use Rattle.meta_table.specs.Names.{grammar_of}
 use Rattle.meta_stack_pass.specs.Names.{kind_in}
 use Rattle.meta_stack_pass.specs.Kinds.{AreTabled}
 use Rattle.meta_stack_pass.specs.Table.{AreInside, IsOrdered, nodes_of}
 use Rattle.meta_stack_pass.specs.Visiting.{AllReported}
-use Rattle.meta_stack_pass.specs.declared.facts.Question.TheVariants as asks
 use Rattle.meta_stack_pass.specs.declared.table.Table.{Table}
 
 -- each of these places is that of a repetition in some rule's own body that is reported, and that certainly
@@ -91,8 +90,7 @@ pub record IsTableOf (rules : List ParserRule) (t : Table) : Type 0 where
   pub exact : (r : ℕ) → (is_set_at t.recursive.items r ≡ true) ↔ LeadsBack (nodes_of t) t.roots.items r
   pub inside : AreInside t
   pub skips : t.skips ≡ skips_in (grammar_of rules)
-  pub sound : AreSound asks.TakesNothing (nodes_of t) t.roots.items t.nullable.items
-  pub nullable : AreAnswers asks.TakesNothing (nodes_of t) t.roots.items t.nullable.items
+  pub nullable : AreNullable rules t.nullable.items
   pub calm : SkippingAltersStack (grammar_of rules) → ⊥
   pub limit : t.limit ≡ 3067
   pub turns : t.turns ≡ 64

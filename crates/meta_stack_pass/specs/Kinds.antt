@@ -1,15 +1,14 @@
 -- What the nodes of bodies do, each behind those inside it.
-use Rattle.std.specs.Prelude.{◌≡◌, ℕ, zero, ◌-◌, ◌<◌, min, List, [], ◌∷◌, length, Option, Some, None, Bool, true, false, slice_get, nat_eq, ℤ, pos}
+use Rattle.std.specs.Prelude.{◌≡◌, ℕ, zero, ◌-◌, ◌<◌, min, List, [], ◌∷◌, length, Option, Some, None, Bool, true, false, slice_get, ℤ, pos}
 use Rattle.meta_base.specs.Language.Text.{Text}
 use Rattle.meta_base.specs.Language.Expression as bare
 use Rattle.meta_base.specs.Language.Expression.{Expression}
 use Rattle.meta_nodes.specs.Nodes.{piece_of}
-use Rattle.meta_nodes.specs.Spanned.{Spanned, Leaf, One, Two, Unary, PosPred, NegPred, Opt, Rep, RepOnce, RepExact, RepMin, RepMax, RepMinMax, Push, Tag, span_of}
+use Rattle.meta_nodes.specs.Spanned.{Spanned, Leaf, One, Two, span_of}
 use Rattle.meta_nodes.specs.declared.node.ParserExpr.{ParserExpr}
 use Rattle.meta_nodes.specs.declared.node.ParserExpr.TheVariants as code
 use Rattle.meta_nodes.specs.declared.node.ParserRule.{ParserRule}
 use Rattle.meta_ast.specs.Ast.{text_of}
-use Rattle.meta_table.specs.Names.{is_end}
 use Rattle.meta_table.specs.Nodes.{all_nodes, IsSimple}
 use Rattle.meta_table.specs.Roots.{AreRoots}
 use Rattle.meta_table.specs.Shapes.{sign_of, joint_of}
@@ -77,32 +76,6 @@ node_kind kind_of e shapes.Leaf = kind_of_code kind_of e
 node_kind kind_of e (shapes.One sign j) = wrap_kind sign j
 node_kind kind_of e (shapes.Two joint j k) = both_kind joint j k
 
--- what may take nothing, whatever its operands do
-abbrev pub leaf_free : Expression → Bool
-leaf_free (bare.Str t) = is_empty_text t
-leaf_free (bare.Insens t) = is_empty_text t
-leaf_free (bare.Ident n) = is_end n
-leaf_free (bare.PushLiteral t) = true
-leaf_free _ = false
-
-abbrev pub unary_free : Unary → Bool
-unary_free PosPred = true
-unary_free NegPred = true
-unary_free Opt = true
-unary_free Push = false
-unary_free (Tag t) = false
-unary_free Rep = true
-unary_free RepOnce = false
-unary_free (RepExact n) = nat_eq n 0
-unary_free (RepMin n) = nat_eq n 0
-unary_free (RepMax n) = true
-unary_free (RepMinMax m n) = nat_eq m 0
-
-abbrev pub is_free : Spanned → Bool
-is_free (Leaf s e) = leaf_free e
-is_free (One s f x) = unary_free f
-is_free (Two s f x y) = false
-
 -- what a node at a place does, by the places of those inside it
 abbrev pub Fits : (Text → Kind) → List Spanned → ℕ → Kind → Spanned → Type 0
 Fits kind_of nodes i k (Leaf s e) = IsSimple e × (k ≡ leaf_kind kind_of e)
@@ -117,7 +90,6 @@ pub record IsNode (kind_of : Text → Kind) (nodes : List Spanned) (i : ℕ) (n 
     (x : Spanned) : Type 0 where
   pub fits : Fits kind_of nodes i n.kind x
   pub place : piece_of n.span ≡ span_of x
-  pub free : n.free ≡ is_free x
 
 -- the list says of each of these nodes what it does
 pub record AreNodes (kind_of : Text → Kind) (nodes : List Spanned) (ns : List Node) : Type 0 where

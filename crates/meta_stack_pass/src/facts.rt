@@ -1,5 +1,4 @@
-//! Which nodes may take nothing, which change the stack, which may be read as taking nothing, and which lead
-//! to calls of a rule.
+//! Which nodes change the stack, which may be read as taking nothing, and which lead to calls of a rule.
 ghost use Rattle.std.specs.Prelude.{◌≡◌, IfOk, slice_get};
 ghost use Rattle.meta_flags.specs.Least.{is_set_at};
 ghost use Rattle.meta_stack_pass.specs.Answers as spec;
@@ -13,8 +12,6 @@ use std::alloc::{AllocError, Global};
 /// What is asked of each node.
 #[derive(Clone, Copy)]
 pub enum Question {
-    /// Whether it may succeed without taking anything.
-    TakesNothing,
     /// Whether it changes the stack, outside predicates.
     AltersStack,
     /// Whether it may be read as taking nothing, from some stack.
@@ -30,21 +27,6 @@ pub(crate) fn is_root_set(roots: &[usize], flags: &[bool], rule: usize) -> bool
     match roots.get(rule) {
         Some(root) => is_set(flags, *root),
         None => false,
-    }
-}
-
-/// Whether a node may take nothing by the flags of its operands.
-fn takes_nothing(roots: &[usize], flags: &[bool], kind: Kind) -> bool
-    ensures { result ≡ spec.null_kind roots.now (is_set_at flags.now) kind }
-{
-    match kind {
-        Kind::Call(rule) => is_root_set(roots, flags, rule),
-        Kind::Push(body) | Kind::Tag(body) | Kind::Repeat(body, _, _, _) => is_set(flags, body),
-        Kind::Seq(first, second) => is_set(flags, first) && is_set(flags, second),
-        Kind::Choice(first, second) => is_set(flags, first) || is_set(flags, second),
-        Kind::Still | Kind::Leaf | Kind::PosPred(_) | Kind::NegPred(_) | Kind::Opt(_) => false,
-        Kind::Peek | Kind::Pop | Kind::Drop | Kind::PeekAll | Kind::PopAll => false,
-        Kind::PushLiteral(_) => false,
     }
 }
 
@@ -108,7 +90,6 @@ fn answer<'i>(question: Question, roots: &[usize], flags: &[bool], node: Node<'i
     ensures { result ≡ spec.answer question roots.now (is_set_at flags.now) node.entry }
 {
     match question {
-        Question::TakesNothing => node.free || takes_nothing(roots, flags, node.kind),
         Question::AltersStack => changes_stack(roots, flags, node.kind),
         Question::MayBeStill => may_be_still(roots, flags, node.kind),
         Question::LeadsTo(rule) => leads_to(roots, flags, rule, node.kind),

@@ -1,18 +1,16 @@
 //! What the nodes of all rules do.
 ghost use Rattle.std.specs.Prelude.{◌≡◌, IfOk};
 ghost use Rattle.meta_ast.specs.Ast.{text_of};
-ghost use Rattle.meta_nodes.specs.Nodes.{view_at};
-ghost use Rattle.meta_nodes.specs.Spanned as spanned;
 ghost use Rattle.meta_table.specs.NameMaps.{KnowsRules};
 ghost use Rattle.meta_table.specs.Names.{grammar_of};
 ghost use Rattle.meta_table.specs.Roots.{IsTabled};
-ghost use Rattle.meta_stack_pass.specs.Kinds.{AreTabled, both_kind, is_empty_text, is_free, kind_of_code, node_kind, slice_kind, text_kind, wrap_kind};
+ghost use Rattle.meta_stack_pass.specs.Kinds.{AreTabled, both_kind, is_empty_text, kind_of_code, node_kind, slice_kind, text_kind, wrap_kind};
 ghost use Rattle.meta_stack_pass.specs.Names.{kind_in};
 
 use crate::names::kind_of_name;
 use crate::table::{Kind, Node};
 use meta_nodes::{ParserExpr, ParserRule};
-use meta_table::{Joint, Names, Shape, Sign, is_end};
+use meta_table::{Joint, Names, Shape, Sign, Table};
 use std::alloc::{AllocError, Global};
 
 /// What an expression without operands does.
@@ -71,33 +69,6 @@ fn is_empty_text(text: &String) -> bool
     text.is_empty()
 }
 
-/// Whether an expression may take nothing, whatever its operands do.
-fn is_free<'i>(expr: &ParserExpr<'i>) -> bool
-    ensures { (t : spanned.Span) → result ≡ is_free (view_at t expr.now) }
-{
-    match expr {
-        ParserExpr::Str(text) => is_empty_text(text),
-        ParserExpr::Insens(text) => is_empty_text(text),
-        ParserExpr::Range(_, _) => false,
-        ParserExpr::Ident(name) => is_end(name),
-        ParserExpr::PeekSlice(_, _) => false,
-        ParserExpr::PosPred(_) => true,
-        ParserExpr::NegPred(_) => true,
-        ParserExpr::Opt(_) => true,
-        ParserExpr::Push(_) => false,
-        ParserExpr::PushLiteral(_) => true,
-        ParserExpr::NodeTag(_, _) => false,
-        ParserExpr::Seq(_, _) => false,
-        ParserExpr::Choice(_, _) => false,
-        ParserExpr::Rep(_) => true,
-        ParserExpr::RepOnce(_) => false,
-        ParserExpr::RepExact(_, count) => *count == 0,
-        ParserExpr::RepMin(_, count) => *count == 0,
-        ParserExpr::RepMax(_, _) => true,
-        ParserExpr::RepMinMax(_, low, _) => *low == 0,
-    }
-}
-
 fn kind_of_wrap(sign: Sign, body: usize) -> Kind
     ensures { result ≡ wrap_kind sign body }
 {
@@ -149,7 +120,7 @@ pub(crate) fn nodes_with_kinds<'i>(
     alloc: Global,
     rules: &[ParserRule<'i>],
     names: &Names,
-    table: &meta_table::Table<'_, 'i>,
+    table: &Table<'_, 'i>,
 ) -> Result<Vec<Node<'i>>, AllocError>
     requires known { KnowsRules rules.now names.now }
     requires tabled { IsTabled rules.now table.now }
@@ -162,7 +133,6 @@ pub(crate) fn nodes_with_kinds<'i>(
         nodes.push(Node {
             kind: kind_of_node(rules, names, node.expr, node.shape),
             rule: node.rule,
-            free: is_free(node.expr),
             span: node.span,
         })?;
     }

@@ -6,12 +6,12 @@ ghost use Rattle.meta_base.specs.Language.Expression.{whitespace, comment};
 ghost use Rattle.meta_base.specs.Pieces.Saying.{Tell};
 ghost use Rattle.meta_flags.specs.Least.{is_set_at};
 ghost use Rattle.meta_nodes.specs.Nodes.{rule_views, piece_of};
+ghost use Rattle.meta_nullable.specs.Groundwork.{IsGroundwork};
 ghost use Rattle.meta_abstract_stacks.specs.Reports.{skips_in};
 ghost use Rattle.meta_stack_pass.specs.Certain.{AreFound, AreReports, IsSorted, TellReports, complaint_at};
 ghost use Rattle.meta_stack_pass.specs.Expressions.{body_flag, name_flag};
 ghost use Rattle.meta_table.specs.NameMaps.{KnowsRules};
 ghost use Rattle.meta_table.specs.Names.{grammar_of, last_place};
-ghost use Rattle.meta_table.specs.Roots.{IsTabled};
 ghost use Rattle.meta_stack_pass.specs.Table.{AreInside, IsOrdered};
 ghost use Rattle.meta_stack_pass.specs.Reportable.{FindsMore, IsToVisit};
 ghost use Rattle.meta_stack_pass.specs.Visiting.{FindsAll, Keeps};
@@ -31,7 +31,8 @@ use meta_base::grammar::Rule;
 use meta_base::runtime::{Error, ErrorVariant, Fault, Span, Survey};
 use meta_flags::is_set;
 use meta_nodes::ParserRule;
-use meta_table::{Names, names_of, tabulated};
+use meta_nullable::{Groundwork, groundwork_of};
+use meta_table::Names;
 use std::alloc::{AllocError, Global};
 
 /// How many abstract stacks there are.
@@ -107,16 +108,15 @@ pub struct ToVisit<'i> {
 fn to_visit_in<'i>(
     alloc: Global,
     rules: &[ParserRule<'i>],
-    names: &Names,
-    table: &meta_table::Table<'_, 'i>,
+    groundwork: &Groundwork<'_, 'i>,
 ) -> Result<Option<ToVisit<'i>>, AllocError>
-    requires known { KnowsRules rules.now names.now }
-    requires tabled { IsTabled rules.now table.now }
+    requires { IsGroundwork rules.now groundwork.now }
     ensures { IfOk result (λ found. MatchOption found (AreFound (rule_views rules.now) [])
         (λ visited. IsToVisit rules.now visited)) }
 {
-    let nodes = nodes_with_kinds(alloc, rules, names, table)?;
-    let roots = table.copied_roots(alloc)?;
+    let names = &groundwork.names;
+    let nodes = nodes_with_kinds(alloc, rules, names, &groundwork.table)?;
+    let roots = groundwork.table.copied_roots(alloc)?;
     let reportable = reportable_nodes(alloc, roots.as_slice(), nodes.as_slice())?;
     if !is_some_root_set(roots.as_slice(), reportable.as_slice()) {
         return Ok(None);
@@ -130,12 +130,7 @@ fn to_visit_in<'i>(
     if !leaves_stack(rules, names, roots.as_slice(), changing.as_slice()) {
         return Ok(None);
     }
-    let nullable = answers(
-        alloc,
-        Question::TakesNothing,
-        roots.as_slice(),
-        nodes.as_slice(),
-    )?;
+    let nullable = groundwork.facts.copied_nullable(alloc)?;
     let Calls { recursive, ranks } = calls_of(alloc, roots.as_slice(), nodes.as_slice())?;
     let table = Table {
         nodes,
@@ -321,14 +316,12 @@ fn visit_all<'i>(
 fn all_reports<'i>(
     alloc: Global,
     rules: &[ParserRule<'i>],
-    names: &Names,
-    table: &meta_table::Table<'_, 'i>,
+    groundwork: &Groundwork<'_, 'i>,
 ) -> Result<Vec<Span<'i>>, AllocError>
-    requires known { KnowsRules rules.now names.now }
-    requires tabled { IsTabled rules.now table.now }
+    requires { IsGroundwork rules.now groundwork.now }
     ensures { IfOk result (λ found. AreFound (rule_views rules.now) (map piece_of found.items)) }
 {
-    match to_visit_in(alloc, rules, names, table)? {
+    match to_visit_in(alloc, rules, groundwork)? {
         None => Ok(Vec::new(alloc)),
         Some(visited) => visit_all(alloc, &visited.table, visited.reportable.as_slice()),
     }
@@ -350,23 +343,20 @@ pub fn sorted_reports<'i>(
 ) -> Result<Vec<Span<'i>>, AllocError>
     ensures exact { IfOk result (λ found. AreReports (rule_views rules.now) (map piece_of found.items)) }
 {
-    let names = names_of(alloc, rules)?;
-    let table = tabulated(alloc, rules)?;
-    sorted_reports_in(alloc, rules, &names, &table)
+    let groundwork = groundwork_of(alloc, rules)?;
+    sorted_reports_in(alloc, rules, &groundwork)
 }
 
-/// The same places, by the names and the table of the rules. The only fault is a want of memory.
+/// The same places, by the groundwork that was laid for the rules. The only fault is a want of memory.
 pub fn sorted_reports_in<'i>(
     alloc: Global,
     rules: &[ParserRule<'i>],
-    names: &Names,
-    table: &meta_table::Table<'_, 'i>,
+    groundwork: &Groundwork<'_, 'i>,
 ) -> Result<Vec<Span<'i>>, AllocError>
-    requires known { KnowsRules rules.now names.now }
-    requires tabled { IsTabled rules.now table.now }
+    requires { IsGroundwork rules.now groundwork.now }
     ensures exact { IfOk result (λ found. AreReports (rule_views rules.now) (map piece_of found.items)) }
 {
-    let mut found = all_reports(alloc, rules, names, table)?;
+    let mut found = all_reports(alloc, rules, groundwork)?;
     sort_spans(&mut found)?;
     Ok(found)
 }
@@ -420,6 +410,5 @@ pub fn validate_stack_repetition<'i>(
     ensures memory { IfErr result (λ fault. fault ≡ Fault.Memory alloc_error) }
 {
     let found = sorted_reports(alloc, rules.as_slice())?;
-    let errors = errors_at(alloc, found.as_slice())?;
-    Ok(errors)
+    errors_at(alloc, found.as_slice())
 }

@@ -108,8 +108,6 @@ pub struct Node<'i> {
     pub kind: Kind,
     /// The number of the rule that it stands in.
     pub rule: usize,
-    /// Whether it may take nothing, whatever its operands do.
-    pub free: bool,
     pub span: Span<'i>,
 }
 

@@ -8,18 +8,18 @@ use Rattle.meta_nodes.specs.Nodes.{view}
 use Rattle.meta_nodes.specs.declared.node.ParserRule.{ParserRule}
 use Rattle.meta_flags.specs.Least.{is_set_at}
 use Rattle.meta_table.specs.Names.{grammar_of, rule_said, last_place}
-use Rattle.meta_validator.specs.Names.{kind_in}
-use Rattle.meta_validator.specs.Kinds.{Says, repeated, wrap_kind}
-use Rattle.meta_validator.specs.Facts.{AreFacts}
+use Rattle.meta_nullable.specs.Names.{kind_in}
+use Rattle.meta_nullable.specs.Kinds.{Says, repeated, wrap_kind}
+use Rattle.meta_nullable.specs.Facts.{AreFacts}
 use Rattle.meta_validator.specs.Taking.{RepeatedTakes, AllRepeatedTake, SkippedTake}
 use Rattle.meta_validator.specs.Findings.{is_skipped_name}
-use Rattle.meta_validator.specs.declared.facts.Facts.{Facts}
-use Rattle.meta_validator.specs.declared.kinds.Wrap.TheVariants as wraps
+use Rattle.meta_nullable.specs.declared.facts.Facts.{Facts}
+use Rattle.meta_nullable.specs.declared.kinds.Wrap.TheVariants as wraps
 use Rattle.meta_validator.specs.Reports.{Reported, endless, bad_skipped, recursive, Repeats, repeats_any, repeats_once, repeats_min}
 use Rattle.meta_validator.proofs.Certain.{sure_null}
-use Rattle.meta_validator.proofs.Tying.{says}
-use Rattle.meta_table.proofs.Resolved.{Named, absent, named, resolved}
-use Rattle.meta_validator.proofs.Answering.{got_root, same_rule, no_rule}
+use Rattle.meta_nullable.proofs.Tying.{says}
+use Rattle.meta_table.proofs.Resolved.{Named, absent, named, resolved, got_like}
+use Rattle.meta_nullable.proofs.Answering.{same_rule, no_rule}
 use Rattle.meta_validator.proofs.Reports.{accepted}
 use Rattle.meta_validator.proofs.Walk.{no_walk}
 
@@ -83,7 +83,7 @@ module _ (rules : List ParserRule) (facts : Facts) (right : AreFacts rules facts
     where
       go : (o : Option ℕ) → Named rules n o → Rooted n r
       go o (absent h) = absurd (no_rule (sym h ∙ e))
-      go o (named {r = k} rule at h) = let (j, got) = got_root rules facts.table.roots.items k rule at (sym right.table.alike) in
+      go o (named {r = k} rule at h) = let (j, got) = got_like rules facts.table.roots.items k rule at (sym right.table.alike) in
           let same : rule_said rule ≡ r = same_rule h e in
           rooted k j rule at got same (subst (λ z. Lies j z.body) same (says (kind_in G) facts.table.kinds.items j (view rule.node) (right.table.stand k j rule at got)))
 

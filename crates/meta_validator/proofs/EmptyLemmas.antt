@@ -11,18 +11,18 @@ use Rattle.meta_nodes.specs.Spanned.{Span, Spanned, Leaf, One, Two, Unary, PosPr
 use Rattle.meta_nodes.specs.declared.node.ParserRule.{ParserRule}
 use Rattle.meta_flags.specs.Least.{is_set_at}
 use Rattle.meta_validator.specs.Taking.{RepeatedTakes, AllRepeatedTake, SkippedTake}
-use Rattle.meta_validator.specs.Facts.{AreFacts}
+use Rattle.meta_nullable.specs.Facts.{AreFacts}
 use Rattle.meta_validator.specs.Findings.{Finding, Reports, reports_none, reports_at, OfRepeated, never_fails, takes_nothing, goes_on, OfRepetition, repetition, no_repetition, OfSkipped, skipped, not_skipped, is_endless, is_repetition, is_skipped_name}
 use Rattle.meta_table.specs.Names.{grammar_of}
-use Rattle.meta_validator.specs.Names.{kind_in}
+use Rattle.meta_nullable.specs.Names.{kind_in}
 use Rattle.meta_table.specs.Nodes.{all_nodes}
-use Rattle.meta_validator.specs.Kinds.{Fits, wrap_kind, wrap_of, Says}
-use Rattle.meta_validator.specs.declared.facts.Facts.{Facts}
-use Rattle.meta_validator.specs.declared.kinds.Wrap.TheVariants as wraps
-use Rattle.meta_validator.specs.declared.table.Kind.{Kind}
+use Rattle.meta_nullable.specs.Kinds.{Fits, wrap_kind, wrap_of, Says}
+use Rattle.meta_nullable.specs.declared.facts.Facts.{Facts}
+use Rattle.meta_nullable.specs.declared.kinds.Wrap.TheVariants as wraps
+use Rattle.meta_nullable.specs.declared.table.Kind.{Kind}
 use Rattle.meta_validator.proofs.Accepting.{well_formed}
 use Rattle.meta_validator.proofs.ReportingLemmas.{leaf_kinds, says_at, got_within}
-use Rattle.meta_validator.proofs.Tying.{says}
+use Rattle.meta_nullable.proofs.Tying.{says}
 
 pub clash : (b : Bool) → b ≡ true → b ≡ false → ⊥
 clash b g h = let e = sym g ∙ h in cc

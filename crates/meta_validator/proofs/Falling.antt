@@ -6,16 +6,16 @@ use Rattle.meta_base.specs.Language.WellFormed.{LeftCalls, left_name, left_first
 use Rattle.meta_nodes.specs.Nodes.{view}
 use Rattle.meta_nodes.specs.declared.node.ParserRule.{ParserRule}
 use Rattle.meta_table.specs.Names.{grammar_of, rule_said, last_place, is_end}
-use Rattle.meta_validator.specs.Names.{kind_in, name_kind}
-use Rattle.meta_validator.specs.Kinds.{Says, counted, repeated, wrap_kind}
-use Rattle.meta_validator.specs.Facts.{AreFacts}
+use Rattle.meta_nullable.specs.Names.{kind_in, name_kind}
+use Rattle.meta_nullable.specs.Kinds.{Says, counted, repeated, wrap_kind}
+use Rattle.meta_nullable.specs.Facts.{AreFacts}
 use Rattle.meta_validator.specs.Cycles.{rank_at, Falls, AllFall, NoneRises, FallsFrom}
-use Rattle.meta_validator.specs.declared.facts.Facts.{Facts}
-use Rattle.meta_validator.specs.declared.table.Kind.{Kind}
-use Rattle.meta_validator.specs.declared.kinds.Wrap.TheVariants as wraps
-use Rattle.meta_validator.proofs.Tying.{says}
-use Rattle.meta_table.proofs.Resolved.{Named, absent, named, resolved}
-use Rattle.meta_validator.proofs.Answering.{got_root, same_rule, no_rule}
+use Rattle.meta_nullable.specs.declared.facts.Facts.{Facts}
+use Rattle.meta_nullable.specs.declared.table.Kind.{Kind}
+use Rattle.meta_nullable.specs.declared.kinds.Wrap.TheVariants as wraps
+use Rattle.meta_nullable.proofs.Tying.{says}
+use Rattle.meta_table.proofs.Resolved.{Named, absent, named, resolved, got_like}
+use Rattle.meta_nullable.proofs.Answering.{same_rule, no_rule}
 
 pub data Root (rules : List ParserRule) (facts : Facts) (n : Text) : Option ℕ → ℕ → Type 0 where
   root : {r j : ℕ} (rule : ParserRule) → rule_of (grammar_of rules) n ≡ Some (rule_said rule) → slice_get facts.table.roots.items r ≡ Some j → Says (kind_in (grammar_of rules)) facts.table.kinds.items j (rule_said rule).body → Root rules facts n (Some r) j
@@ -42,7 +42,7 @@ module _ (rules : List ParserRule) (facts : Facts) (order : List ℕ) (right : A
     where
       go : (o : Option ℕ) → Named rules n o → (j : ℕ) × Root rules facts n o j
       go o (absent h) = absurd (no_rule (sym h ∙ e))
-      go o (named {r = k} rule at h) = let (j, got) = got_root rules facts.table.roots.items k rule at (sym right.table.alike) in
+      go o (named {r = k} rule at h) = let (j, got) = got_like rules facts.table.roots.items k rule at (sym right.table.alike) in
           (j, root rule h got (says (kind_in G) facts.table.kinds.items j (view rule.node) (right.table.stand k j rule at got)))
 
   pub body_lies : (n : Text) (o : Option ℕ) (j : ℕ) (r : Rule) → rule_of G n ≡ Some r → Root rules facts n o j → Lies j r.body

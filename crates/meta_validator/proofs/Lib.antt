@@ -2,11 +2,7 @@ pub mod FlagLemmas
 pub mod Certain
 pub mod Walk
 pub mod Reports
-pub mod NameLemmas
-pub mod Tying
 pub mod ReportingLemmas
-pub mod Roots
-pub mod Answering
 pub mod Falling
 pub mod Accepting
 pub mod EmptyLemmas

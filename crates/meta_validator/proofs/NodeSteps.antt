@@ -12,22 +12,22 @@ use Rattle.meta_nodes.specs.Nodes.{rule_views}
 use Rattle.meta_nodes.specs.Spanned.{Span, Spanned, Leaf, One, Two, Seq, Choice, SpannedRule}
 use Rattle.meta_nodes.specs.declared.node.ParserRule.{ParserRule}
 use Rattle.meta_flags.specs.Least.{is_set_at}
-use Rattle.meta_validator.specs.Facts.{AreFacts}
+use Rattle.meta_nullable.specs.Facts.{AreFacts}
 use Rattle.meta_validator.specs.LeftRecursion.{IsNoName, said, Means, Passes}
 use Rattle.meta_table.specs.Names.{grammar_of, last_place, is_end}
-use Rattle.meta_validator.specs.Names.{kind_in, name_kind}
+use Rattle.meta_nullable.specs.Names.{kind_in, name_kind}
 use Rattle.meta_table.specs.Nodes.{IsSimple, all_nodes, size}
-use Rattle.meta_validator.specs.Kinds.{Fits, leaf_kind, wrap_kind, wrap_of, both_kind}
+use Rattle.meta_nullable.specs.Kinds.{Fits, leaf_kind, wrap_kind, wrap_of, both_kind}
 use Rattle.meta_validator.specs.Regions.{IsNodeOf, ArePassing}
 use Rattle.meta_validator.specs.Searching.{ordered, called_in, inside_of, size_at, cost, unentered, name_of, last_name, IsSearch}
 use Rattle.meta_validator.specs.Walk.{without}
-use Rattle.meta_validator.specs.declared.facts.Facts.{Facts}
-use Rattle.meta_validator.specs.declared.kinds.Wrap.{Wrap}
+use Rattle.meta_nullable.specs.declared.facts.Facts.{Facts}
+use Rattle.meta_nullable.specs.declared.kinds.Wrap.{Wrap}
 use Rattle.meta_table.specs.declared.shapes.Joint.TheVariants as joints
-use Rattle.meta_validator.specs.declared.kinds.Wrap.TheVariants as wraps
+use Rattle.meta_nullable.specs.declared.kinds.Wrap.TheVariants as wraps
 use Rattle.meta_validator.specs.declared.recursions.Task.{Task}
 use Rattle.meta_validator.specs.declared.recursions.Task.TheVariants.{Visit, Leave}
-use Rattle.meta_validator.specs.declared.table.Kind.{Kind}
+use Rattle.meta_nullable.specs.declared.table.Kind.{Kind}
 use Rattle.meta_validator.proofs.Certain.{sure_null}
 use Rattle.meta_table.proofs.LayoutLemmas.{some_size}
 use Rattle.meta_validator.proofs.NoneWalks.{at_end, in_rules, sort, Sort, of_name, of_no_name}

@@ -12,24 +12,24 @@ use Rattle.meta_nodes.specs.Nodes.{rule_view, rule_views}
 use Rattle.meta_nodes.specs.Spanned.{Spanned, SpannedRule}
 use Rattle.meta_nodes.specs.declared.node.ParserRule.{ParserRule}
 use Rattle.meta_flags.specs.Least.{is_set_at}
-use Rattle.meta_validator.specs.Facts.{AreFacts}
+use Rattle.meta_nullable.specs.Facts.{AreFacts}
 use Rattle.meta_validator.specs.LeftRecursion.{Means}
-use Rattle.meta_validator.specs.RightAnswers.{AreSound, AreClosed}
+use Rattle.meta_nullable.specs.RightAnswers.{AreSound, AreClosed}
 use Rattle.meta_table.specs.Names.{grammar_of, last_place, is_end}
-use Rattle.meta_validator.specs.Names.{kind_in, name_kind}
+use Rattle.meta_nullable.specs.Names.{kind_in, name_kind}
 use Rattle.meta_table.specs.Nodes.{all_nodes}
-use Rattle.meta_validator.specs.Kinds.{Says, counted, repeated, wrap_kind, text_kind}
+use Rattle.meta_nullable.specs.Kinds.{Says, counted, repeated, wrap_kind, text_kind}
 use Rattle.meta_validator.specs.Walk.{without}
 use Rattle.meta_validator.specs.Without.{without_kind, IsWithout}
-use Rattle.meta_validator.specs.declared.facts.Facts.{Facts}
-use Rattle.meta_validator.specs.declared.kinds.Wrap.{Wrap}
-use Rattle.meta_validator.specs.declared.kinds.Wrap.TheVariants as wraps
-use Rattle.meta_validator.specs.declared.table.Kind.{Kind}
-use Rattle.meta_validator.specs.declared.table.Kind.TheVariants as is
-use Rattle.meta_validator.specs.declared.table.Question.TheVariants as asks
-use Rattle.meta_validator.specs.declared.table.Table.{Table}
+use Rattle.meta_nullable.specs.declared.facts.Facts.{Facts}
+use Rattle.meta_nullable.specs.declared.kinds.Wrap.{Wrap}
+use Rattle.meta_nullable.specs.declared.kinds.Wrap.TheVariants as wraps
+use Rattle.meta_nullable.specs.declared.table.Kind.{Kind}
+use Rattle.meta_nullable.specs.declared.table.Kind.TheVariants as is
+use Rattle.meta_nullable.specs.declared.table.Question.TheVariants as asks
+use Rattle.meta_nullable.specs.declared.table.KindTable.{KindTable}
 use Rattle.meta_table.proofs.Resolved.{Named, absent, named, resolved}
-use Rattle.meta_validator.proofs.Answering.{Sense, absent_from, lies_at, sense_of, kinds_by, answered, no_rule, same_rule}
+use Rattle.meta_nullable.proofs.Answering.{Sense, absent_from, lies_at, sense_of, kinds_by, answered, no_rule, same_rule}
 use Rattle.meta_validator.proofs.NoneWalks.{in_rules}
 use Rattle.meta_validator.proofs.ReportingLemmas.{says_at}
 use Rattle.meta_validator.proofs.Walk.{Compared, same_name, other_name, compared, rule_without, rule_gone, rule_within, null_more}
@@ -156,7 +156,7 @@ module _ (rules : List ParserRule) (facts : Facts) (right : AreFacts rules facts
           let seen : slice_get (rule_views rules) v ≡ Some (rule_view rule) = subst (λ z. slice_get (rule_views rules) z ≡ Some (rule_view rule)) same (body_of k rule here) in
           same_rule e f ∙ ap rule_without_spans (same_some seen at)
 
-  module _ (t : Table) (gone_from : IsWithout v facts.table t) where
+  module _ (t : KindTable) (gone_from : IsWithout v facts.table t) where
     abbrev place_now : Text → Option ℕ
     place_now n = place_without v (place_of n)
 

@@ -9,7 +9,7 @@ use Rattle.meta_table.specs.Roots.{AreRoots}
 use Rattle.meta_table.specs.Nodes.{all_nodes, size}
 use Rattle.meta_validator.specs.Regions.{IsNodeOf}
 use Rattle.meta_table.specs.Roots.{root_of, first_of}
-use Rattle.meta_validator.proofs.Answering.{got_root}
+use Rattle.meta_table.proofs.Resolved.{got_like}
 use Rattle.meta_validator.proofs.ReportingLemmas.{got_within}
 use Rattle.meta_table.proofs.LayoutLemmas.{some_size}
 
@@ -37,7 +37,7 @@ module _ (rules : List ParserRule) (roots : List ℕ) (are : AreRoots rules (all
   rule_at k i e = let w = slice_get_within roots k i e in let a = are.alike in got_within rules k (omega arith)
 
   pub has_root : (k : ℕ) (r : SpannedRule) → slice_get (rule_views rules) k ≡ Some r → (i : ℕ) × (slice_get roots k ≡ Some i)
-  has_root k r e = let (rule, here, same) = got_rule rules k r e in got_root rules roots k rule here (sym are.alike)
+  has_root k r e = let (rule, here, same) = got_rule rules k r e in got_like rules roots k rule here (sym are.alike)
 
   -- bodies follow one another
   pub rises : (k m : ℕ) → k < m → m ≤ length roots → suc (root_of roots k) ≤ first_of roots m

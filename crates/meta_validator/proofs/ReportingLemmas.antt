@@ -13,20 +13,20 @@ use Rattle.meta_nodes.specs.Nodes.{view, piece_of, rule_view, rule_views}
 use Rattle.meta_nodes.specs.Spanned.{Span, span_of, Spanned, Leaf, One, Two, Unary, PosPred, NegPred, Opt, Rep, RepOnce, RepExact, RepMin, RepMax, RepMinMax, Push, Tag, Seq, Choice}
 use Rattle.meta_nodes.specs.declared.node.ParserRule.{ParserRule}
 use Rattle.meta_flags.specs.Least.{is_set_at}
-use Rattle.meta_validator.specs.Facts.{AreFacts}
+use Rattle.meta_nullable.specs.Facts.{AreFacts}
 use Rattle.meta_validator.specs.Findings.{Finding, found_at, is_skipped_name, last_alternative, Reports, reports_none, reports_at, OfRepeated, never_fails, takes_nothing, goes_on, OfRepetition, repetition, no_repetition, OfChoice, unreachable, reachable, no_choice, OfSkipped, skipped, not_skipped}
 use Rattle.meta_table.specs.Names.{grammar_of, last_place, is_end}
-use Rattle.meta_validator.specs.Names.{kind_in, name_kind}
+use Rattle.meta_nullable.specs.Names.{kind_in, name_kind}
 use Rattle.meta_table.specs.Nodes.{all_nodes}
-use Rattle.meta_validator.specs.Kinds.{Says, Fits, leaf_kind, wrap_kind, wrap_of}
+use Rattle.meta_nullable.specs.Kinds.{Says, Fits, leaf_kind, wrap_kind, wrap_of}
 use Rattle.meta_validator.specs.Reporting.{AreSpans, repeated_at, repetition_at, alternative_of, alternative_at, unreachable_at, choice_at, skipped_at}
-use Rattle.meta_validator.specs.declared.facts.Facts.{Facts}
-use Rattle.meta_validator.specs.declared.kinds.Wrap.{Wrap}
-use Rattle.meta_validator.specs.declared.kinds.Wrap.TheVariants as wraps
-use Rattle.meta_validator.specs.declared.table.Kind.{Kind}
-use Rattle.meta_validator.specs.declared.table.Kind.TheVariants as is
-use Rattle.meta_validator.proofs.Answering.{got_root}
-use Rattle.meta_validator.proofs.Tying.{stands_at, says}
+use Rattle.meta_nullable.specs.declared.facts.Facts.{Facts}
+use Rattle.meta_nullable.specs.declared.kinds.Wrap.{Wrap}
+use Rattle.meta_nullable.specs.declared.kinds.Wrap.TheVariants as wraps
+use Rattle.meta_nullable.specs.declared.table.Kind.{Kind}
+use Rattle.meta_nullable.specs.declared.table.Kind.TheVariants as is
+use Rattle.meta_table.proofs.Resolved.{got_like}
+use Rattle.meta_nullable.proofs.Tying.{stands_at, says}
 use Rattle.meta_table.proofs.Numbered.{span_at}
 
 -- 1. one more is looked at
@@ -205,7 +205,7 @@ module _ (rules : List ParserRule) (facts : Facts) (right : AreFacts rules facts
 
   -- 5. rules that are skipped
   skipped_right : (r : ℕ) (rule : ParserRule) → slice_get rules r ≡ Some rule → OfSkipped G (rule_view rule) (skipped_at facts rule (slice_get facts.table.roots.items r))
-  skipped_right r rule e = let (i, at) = got_root rules facts.table.roots.items r rule e (sym right.table.alike) in
+  skipped_right r rule e = let (i, at) = got_like rules facts.table.roots.items r rule e (sym right.table.alike) in
       subst (λ o. OfSkipped G (rule_view rule) (skipped_at facts rule o)) (sym at) (go i at (is_skipped_name (text_of rule.name)) refl)
     where
       go : (i : ℕ) → slice_get facts.table.roots.items r ≡ Some i → (b : Bool) → is_skipped_name (text_of rule.name) ≡ b → OfSkipped G (rule_view rule) (if b then repeated_at facts (string_bytes rule.name) (piece_of rule.node.span) i else [])

@@ -13,21 +13,21 @@ use Rattle.meta_nodes.specs.Spanned.{Span, Spanned, Leaf, One, Two, Unary, Spann
 use Rattle.meta_nodes.specs.declared.node.ParserRule.{ParserRule}
 use Rattle.meta_flags.specs.Least.{is_set_at}
 use Rattle.meta_validator.specs.Cycles.{rank_at}
-use Rattle.meta_validator.specs.Facts.{AreFacts}
+use Rattle.meta_nullable.specs.Facts.{AreFacts}
 use Rattle.meta_validator.specs.LeftRecursion.{Means}
 use Rattle.meta_validator.specs.Levels.{Rests, AllRest, IsSettled, AreSettled, own_answer, own_answer_at}
 use Rattle.meta_table.specs.Names.{grammar_of, last_place, is_end}
-use Rattle.meta_validator.specs.Names.{kind_in, name_kind}
+use Rattle.meta_nullable.specs.Names.{kind_in, name_kind}
 use Rattle.meta_table.specs.Nodes.{IsSimple, all_nodes}
-use Rattle.meta_validator.specs.Kinds.{Says, Fits, counted, repeated, wrap_of, wrap_kind, leaf_kind}
+use Rattle.meta_nullable.specs.Kinds.{Says, Fits, counted, repeated, wrap_of, wrap_kind, leaf_kind}
 use Rattle.meta_validator.specs.Regions.{IsNodeOf, ArePassingSoFar}
 use Rattle.meta_table.specs.Roots.{first_of}
-use Rattle.meta_validator.specs.Table.{at_root}
+use Rattle.meta_nullable.specs.Table.{at_root}
 use Rattle.meta_validator.specs.Walk.{without}
-use Rattle.meta_validator.specs.declared.facts.Facts.{Facts}
-use Rattle.meta_validator.specs.declared.kinds.Wrap.TheVariants as wraps
-use Rattle.meta_validator.specs.declared.table.Kind.{Kind}
-use Rattle.meta_validator.proofs.Answering.{Sense, absent_from, lies_at, sense_of, end_null, no_rule, same_rule}
+use Rattle.meta_nullable.specs.declared.facts.Facts.{Facts}
+use Rattle.meta_nullable.specs.declared.kinds.Wrap.TheVariants as wraps
+use Rattle.meta_nullable.specs.declared.table.Kind.{Kind}
+use Rattle.meta_nullable.proofs.Answering.{Sense, absent_from, lies_at, sense_of, end_null, no_rule, same_rule}
 use Rattle.meta_table.proofs.LayoutLemmas.{some_size}
 use Rattle.meta_validator.proofs.NoneWalks.{in_rules}
 use Rattle.meta_validator.proofs.PassingSteps.{flag_before, flag_at, Lower, lower, equal, lower_or_equal}

@@ -1,10 +1,5 @@
-pub mod Table
-pub mod RightAnswers
 pub mod Walk
 pub mod Reports
-pub mod Names
-pub mod Kinds
-pub mod Facts
 pub mod Cycles
 pub mod Levels
 pub mod Without

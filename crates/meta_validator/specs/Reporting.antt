@@ -8,10 +8,10 @@ use Rattle.meta_base.specs.declared.runtime.places.Span as code_span
 use Rattle.meta_flags.specs.Least.{is_set_at}
 use Rattle.meta_validator.specs.Findings.{Finding, found_at, is_skipped_name}
 use Rattle.meta_table.specs.Nodes.{all_nodes}
-use Rattle.meta_validator.specs.declared.facts.Facts.{Facts}
+use Rattle.meta_nullable.specs.declared.facts.Facts.{Facts}
 use Rattle.meta_validator.specs.declared.findings.Finding as code
-use Rattle.meta_validator.specs.declared.table.Kind.{Kind}
-use Rattle.meta_validator.specs.declared.table.Kind.TheVariants as is
+use Rattle.meta_nullable.specs.declared.table.Kind.{Kind}
+use Rattle.meta_nullable.specs.declared.table.Kind.TheVariants as is
 
 -- what a finding of code says
 abbrev pub finding_of : code.Finding → Finding

@@ -14,8 +14,8 @@ use Rattle.meta_validator.specs.Regions.{IsNodeOf}
 use Rattle.meta_validator.specs.Walk.{Walked, WalkLeads}
 use Rattle.meta_validator.specs.declared.recursions.Task.{Task}
 use Rattle.meta_validator.specs.declared.recursions.Walk.{Walk}
-use Rattle.meta_validator.specs.declared.table.Kind.{Kind}
-use Rattle.meta_validator.specs.declared.table.Kind.TheVariants as is
+use Rattle.meta_nullable.specs.declared.table.Kind.{Kind}
+use Rattle.meta_nullable.specs.declared.table.Kind.TheVariants as is
 use Rattle.meta_validator.specs.declared.recursions.Task.TheVariants.{Visit, Leave}
 
 -- a list from its end to its start

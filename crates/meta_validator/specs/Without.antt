@@ -1,23 +1,23 @@
 -- A table where calls of a rule count as neither.
 use Rattle.std.specs.Prelude.{◌≡◌, ℕ, List, Bool, map, nat_eq, if◌then◌else◌}
-use Rattle.meta_validator.specs.RightAnswers.{AreSound, AreClosed}
-use Rattle.meta_validator.specs.declared.table.Kind.{Kind}
-use Rattle.meta_validator.specs.declared.table.Kind.TheVariants as is
-use Rattle.meta_validator.specs.declared.table.Question.TheVariants as asks
-use Rattle.meta_validator.specs.declared.table.Table.{Table}
+use Rattle.meta_nullable.specs.RightAnswers.{AreSound, AreClosed}
+use Rattle.meta_nullable.specs.declared.table.Kind.{Kind}
+use Rattle.meta_nullable.specs.declared.table.Kind.TheVariants as is
+use Rattle.meta_nullable.specs.declared.table.Question.TheVariants as asks
+use Rattle.meta_nullable.specs.declared.table.KindTable.{KindTable}
 
 abbrev pub without_kind : ℕ → Kind → Kind
 without_kind r (is.Call n) = if nat_eq n r then is.Taking else is.Call n
 without_kind r (is.EndCall n) = if nat_eq n r then is.End else is.EndCall n
 without_kind r k = k
 
-pub record IsWithout (r : ℕ) (old new : Table) : Type 0 where
+pub record IsWithout (r : ℕ) (old new : KindTable) : Type 0 where
   pub kinds : new.kinds.items ≡ map (without_kind r) old.kinds.items
   pub roots : new.roots.items ≡ old.roots.items
 
 -- these nodes may take nothing where calls of the rule count as neither
-pub record AreAnswersWithout (r : ℕ) (old : Table) (answers : List Bool) : Type 0 where
-  pub table : Table
+pub record AreAnswersWithout (r : ℕ) (old : KindTable) (answers : List Bool) : Type 0 where
+  pub table : KindTable
   pub without_it : IsWithout r old table
   pub sound : AreSound asks.TakesNothing table answers
   pub closed : AreClosed asks.TakesNothing table answers

@@ -7,14 +7,13 @@ ghost use Rattle.std.specs.Prelude.{◌≡◌, ◌<◌, ◌≤◌, ◌+◌, ◌*
 ghost use Rattle.meta_base.specs.Language.Text.{Text};
 ghost use Rattle.meta_base.specs.Language.WellFormed.{Leads};
 ghost use Rattle.meta_flags.specs.Least.{unset};
-ghost use Rattle.meta_validator.specs.Facts.{AreFacts};
+ghost use Rattle.meta_nullable.specs.Facts.{AreFacts};
 ghost use Rattle.meta_table.specs.Names.{grammar_of};
 ghost use Rattle.meta_validator.specs.Cycles.{AllFall, Falls, FallsFrom, IsBelowRoot, NoneRises, rank_at};
 
-use crate::facts::Facts;
-use crate::table::Kind;
 use meta_flags::is_set;
 use meta_nodes::ParserRule;
+use meta_nullable::{Facts, Kind};
 use std::alloc::{AllocError, Global};
 
 /// What is to be done with a node.

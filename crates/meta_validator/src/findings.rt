@@ -2,7 +2,7 @@
 //! reached, and rules that are skipped although they may take nothing.
 ghost use Rattle.std.specs.Prelude.{◌≡◌, ◌++◌, ◌∷◌, [], IfOk, OnOk, map, string_bytes, slice_get, List, Option};
 ghost use Rattle.meta_nodes.specs.Nodes.{piece_of, rule_views};
-ghost use Rattle.meta_validator.specs.Facts.{AreFacts};
+ghost use Rattle.meta_nullable.specs.Facts.{AreFacts};
 ghost use Rattle.meta_validator.specs.Findings.{found_at, OfRepetition, OfChoice, OfSkipped, Reports};
 ghost use Rattle.meta_table.specs.Names.{grammar_of};
 ghost use Rattle.meta_nodes.specs.declared.node.ParserRule.{ParserRule};
@@ -10,12 +10,11 @@ ghost use Rattle.meta_table.specs.Nodes.{all_nodes};
 ghost use Rattle.meta_table.specs.Roots.{IsTabled};
 ghost use Rattle.meta_validator.specs.Reporting.{findings_of, AreSpans, repeated_at, repetition_at, alternative_of, unreachable_at, choice_at, skipped_at};
 
-use crate::facts::Facts;
-use crate::table::Kind;
 use meta_base::runtime::Span;
 use meta_flags::is_set;
 use meta_nodes::ParserRule;
-use meta_table::is_literal;
+use meta_nullable::{Facts, Kind};
+use meta_table::{Table, is_literal};
 use std::alloc::{AllocError, Global};
 
 /// What is wrong, and where.
@@ -126,7 +125,7 @@ fn report_repetition<'i>(
 /// The spans of all nodes, each behind those inside it.
 pub(crate) fn spans_of<'i>(
     alloc: Global,
-    table: &meta_table::Table<'_, 'i>,
+    table: &Table<'_, 'i>,
 ) -> Result<Vec<Span<'i>>, AllocError>
     ensures { IfOk result (λ spans. (rules : List ParserRule) → IsTabled rules table.now
         → AreSpans rules spans.items) }

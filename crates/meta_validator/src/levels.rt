@@ -6,11 +6,9 @@ ghost use Rattle.meta_flags.specs.Least.{unset};
 ghost use Rattle.meta_validator.specs.Cycles.{NoneRises, rank_at};
 ghost use Rattle.meta_validator.specs.Levels.{AllRest, IsRootWithin, Rests};
 
-use crate::answers::listened_to;
 use crate::cycles::{Step, none_rises, number_at};
-use crate::facts::Facts;
-use crate::table::Kind;
 use meta_flags::is_set;
+use meta_nullable::{Facts, Kind, listened_to};
 use std::alloc::{AllocError, Global};
 
 /// The nodes on which it depends whether a node may take nothing, two at most. A call of a rule that takes

@@ -1,19 +1,17 @@
 //! What may take nothing where a call of the rule in whose body it stands counts as one that takes something.
 ghost use Rattle.std.specs.Prelude.{◌≡◌, ℕ, ◌+◌, ◌<◌, ◌≤◌, Some, true, false, IfOk, OnOk, length, slice_get};
 ghost use Rattle.meta_flags.specs.Least.{is_set_at};
-ghost use Rattle.meta_validator.specs.Facts.{AreFacts};
+ghost use Rattle.meta_nullable.specs.Facts.{AreFacts};
 ghost use Rattle.meta_validator.specs.Levels.{AllRest, AreSettled, IsSettled, own_answer, own_answer_at};
-ghost use Rattle.meta_validator.specs.RightAnswers.{AreSound, AreClosed};
+ghost use Rattle.meta_nullable.specs.RightAnswers.{AreSound, AreClosed};
 ghost use Rattle.meta_validator.specs.Regions.{ArePassing, ArePassingBelow};
 ghost use Rattle.meta_validator.specs.Without.{AreAnswersWithout, IsWithout, without_kind};
 
-use crate::answers::answers_to;
 use crate::cycles::number_at;
-use crate::facts::Facts;
 use crate::levels::levels_of;
-use crate::table::{Kind, Question, Table};
 use meta_flags::{is_set, who_listens};
 use meta_nodes::ParserRule;
+use meta_nullable::{Facts, Kind, KindTable, Question, answers_to};
 use std::alloc::{AllocError, Global};
 
 /// What a node does where calls of a rule count as neither.
@@ -28,7 +26,7 @@ fn kind_without(kind: Kind, rule: usize) -> Kind
 }
 
 /// The table where calls of a rule count as neither.
-fn table_without(alloc: Global, table: &Table, rule: usize) -> Result<Table, AllocError>
+fn table_without(alloc: Global, table: &KindTable, rule: usize) -> Result<KindTable, AllocError>
     ensures { IfOk result (λ other. IsWithout rule table.now other) }
 {
     let mut kinds = Vec::new(alloc);
@@ -39,7 +37,7 @@ fn table_without(alloc: Global, table: &Table, rule: usize) -> Result<Table, All
     for root in &table.roots {
         roots.push(*root)?;
     }
-    Ok(Table { kinds, roots })
+    Ok(KindTable { kinds, roots })
 }
 
 /// Which nodes may take nothing where calls of a rule count as neither.

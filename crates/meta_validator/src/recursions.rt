@@ -8,7 +8,7 @@ ghost use Rattle.meta_nodes.specs.Nodes.{rule_views, rule_view, piece_of};
 ghost use Rattle.meta_nodes.specs.Spanned.{SpannedRule};
 ghost use Rattle.meta_flags.specs.Least.{is_set_at};
 ghost use Rattle.meta_validator.specs.Cycles.{NoneRises};
-ghost use Rattle.meta_validator.specs.Facts.{AreFacts};
+ghost use Rattle.meta_nullable.specs.Facts.{AreFacts};
 ghost use Rattle.meta_validator.specs.Findings.{OfRecursion, Reports, places};
 ghost use Rattle.meta_validator.specs.Flags.{NoneSet};
 ghost use Rattle.meta_validator.specs.LeftRecursion.{Means, arrows, name_at, told_trail};
@@ -20,15 +20,14 @@ ghost use Rattle.meta_validator.specs.Reporting.{AreSpans, finding_of, findings_
 ghost use Rattle.meta_validator.specs.Searching.{ordered, called_in, inside_of, cost, unentered, IsSearch, IsGoing, IsIdle, IsSought, IsClosing, NeverComesBack};
 
 use crate::cycles::{falls_from, has_no_cycle};
-use crate::facts::Facts;
 use crate::findings::{Finding, kind_of_node};
 use crate::flags::Flags;
 use crate::levels::left_levels;
 use crate::passing::passing;
-use crate::table::Kind;
 use meta_base::runtime::Span;
 use meta_flags::is_set;
 use meta_nodes::ParserRule;
+use meta_nullable::{Facts, Kind};
 use meta_table::{Names, rule_of_name};
 use std::alloc::{AllocError, Global};
 use std::mem;

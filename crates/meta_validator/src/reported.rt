@@ -6,19 +6,17 @@ ghost use Rattle.meta_base.specs.Pieces.Span.{span_text};
 ghost use Rattle.meta_base.specs.Pieces.Survey.{survey_text};
 ghost use Rattle.meta_nodes.specs.Nodes.{piece_of, rule_views};
 ghost use Rattle.meta_validator.specs.Findings.{AreFound, AreAllFound, IsSortedBySpan, endless_at};
-ghost use Rattle.meta_table.specs.NameMaps.{KnowsRules};
+ghost use Rattle.meta_nullable.specs.Groundwork.{IsGroundwork};
 ghost use Rattle.meta_table.specs.Names.{grammar_of};
-ghost use Rattle.meta_table.specs.Roots.{IsTabled};
 ghost use Rattle.meta_validator.specs.Reporting.{finding_of, findings_of};
 
-use crate::facts::facts_of;
 use crate::findings::{Finding, choices, repetitions, skips, spans_of};
 use crate::recursions::recursions;
 use crate::tags::tags;
 use meta_base::grammar::Rule;
 use meta_base::runtime::{Error, ErrorVariant, Fault, Span, Survey};
 use meta_nodes::ParserRule;
-use meta_table::Names;
+use meta_nullable::Groundwork;
 use std::alloc::{AllocError, Global};
 
 /// What is found of repetitions that are known to be endless.
@@ -43,29 +41,27 @@ fn endless_findings<'i>(alloc: Global, endless: &[Span<'i>]) -> Result<Vec<Findi
 fn all_findings<'i>(
     alloc: Global,
     rules: &[ParserRule<'i>],
-    names: &Names,
-    table: &meta_table::Table<'_, 'i>,
+    groundwork: &Groundwork<'_, 'i>,
     endless: &[Span<'i>],
 ) -> Result<Vec<Finding<'i>>, AllocError>
-    requires known { KnowsRules rules.now names.now }
-    requires tabled { IsTabled rules.now table.now }
+    requires groundwork { IsGroundwork rules.now groundwork.now }
     ensures found { IfOk result (λ found.
         AreFound (rule_views rules.now) (map piece_of endless.now) (findings_of found.items)) }
     ensures accepted { IfOk result (λ found. findings_of found.items ≡ []
         → IsWellFormed (grammar_of rules.now)) }
 {
-    let facts = facts_of(alloc, rules, names, table)?;
-    let spans = spans_of(alloc, table)?;
-    let found = repetitions(alloc, rules, &facts, spans.as_slice())?;
+    let facts = &groundwork.facts;
+    let spans = spans_of(alloc, &groundwork.table)?;
+    let found = repetitions(alloc, rules, facts, spans.as_slice())?;
     let known = endless_findings(alloc, endless)?;
     let found = with_others(found, known)?;
-    let choices = choices(alloc, rules, &facts, spans.as_slice())?;
+    let choices = choices(alloc, rules, facts, spans.as_slice())?;
     let found = with_others(found, choices)?;
-    let skips = skips(alloc, rules, &facts)?;
+    let skips = skips(alloc, rules, facts)?;
     let found = with_others(found, skips)?;
-    let recursions = recursions(alloc, rules, names, &facts, spans.as_slice())?;
+    let recursions = recursions(alloc, rules, &groundwork.names, facts, spans.as_slice())?;
     let found = with_others(found, recursions)?;
-    let tags = tags(alloc, rules, names)?;
+    let tags = tags(alloc, rules, &groundwork.names)?;
     let found = with_others(found, tags)?;
     Ok(found)
 }
@@ -96,18 +92,16 @@ fn sort_by_span<'i>(found: &mut Vec<Finding<'i>>) -> Result<(), AllocError>
 pub(crate) fn sorted_findings<'i>(
     alloc: Global,
     rules: &[ParserRule<'i>],
-    names: &Names,
-    table: &meta_table::Table<'_, 'i>,
+    groundwork: &Groundwork<'_, 'i>,
     endless: &[Span<'i>],
 ) -> Result<Vec<Finding<'i>>, AllocError>
-    requires known { KnowsRules rules.now names.now }
-    requires tabled { IsTabled rules.now table.now }
+    requires groundwork { IsGroundwork rules.now groundwork.now }
     ensures found { IfOk result (λ sorted.
         AreAllFound (rule_views rules.now) (map piece_of endless.now) (findings_of sorted.items)) }
     ensures accepted { IfOk result (λ sorted. findings_of sorted.items ≡ []
         → IsWellFormed (grammar_of rules.now)) }
 {
-    let mut found = all_findings(alloc, rules, names, table, endless)?;
+    let mut found = all_findings(alloc, rules, groundwork, endless)?;
     sort_by_span(&mut found)?;
     Ok(found)
 }

@@ -1,29 +1,22 @@
 //! What may take nothing, and what cannot fail.
 ghost use Rattle.std.specs.Prelude.{◌≡◌, ◌↔◌, [], IsTrue, IfOk, IfErr, alloc_error, map};
-ghost use Rattle.std.specs.Bool.{Decides};
 ghost use Rattle.meta_base.specs.Language.WellFormed.{IsNullable, CannotFail, IsWellFormed};
 ghost use Rattle.meta_nodes.specs.Erasure.{without_spans, rules_without_spans};
 ghost use Rattle.meta_nodes.specs.Nodes.{piece_of, rule_views, unplaced};
-ghost use Rattle.meta_validator.specs.Facts.{Asked};
 ghost use Rattle.meta_validator.specs.Findings.{AreAllFound};
-ghost use Rattle.meta_table.specs.NameMaps.{KnowsRules};
+ghost use Rattle.meta_nullable.specs.Groundwork.{IsGroundwork};
 ghost use Rattle.meta_table.specs.Names.{grammar_of};
-ghost use Rattle.meta_table.specs.Roots.{IsTabled};
 ghost use Rattle.meta_validator.specs.Placed.{AreIn, ArePiecesOf};
 ghost use Rattle.meta_validator.specs.Reported.{AreReported};
 ghost use Rattle.meta_validator.specs.Reporting.{findings_of};
 
-use crate::answers::answers_to;
 use crate::findings::Finding;
-use crate::kinds::kinds_of;
 use crate::reported::{errors_in, errors_of, sorted_findings};
-use crate::table::{Question, Table};
 use meta_base::grammar::Rule;
 use meta_base::runtime::{Error, Fault, Span};
-use meta_flags::{is_set, who_listens};
 use meta_nodes::{ParserExpr, ParserRule};
-use meta_table::{Names, names_of, number, tabulated};
-use std::alloc::{AllocError, Global};
+use meta_nullable::{Groundwork, Question, answer_for, groundwork_of};
+use std::alloc::Global;
 
 /// Whether an expression may succeed without taking anything, where its names mean these rules (the last of
 /// a name): empty strings, `SOI`, `EOI`, predicates, `e?`, `e*`, `e{,n}` and what is repeated from 0 times
@@ -38,7 +31,7 @@ pub fn is_non_progressing<'i>(
         ↔ IsNullable (rules_without_spans (rule_views rules.now.items)) (without_spans (unplaced expr.now))) }
     ensures memory { IfErr result (λ fault. fault ≡ Fault.Memory alloc_error) }
 {
-    Ok(answer(alloc, expr, rules.as_slice(), Question::TakesNothing)?)
+    Ok(answer_for(alloc, expr, rules.as_slice(), Question::TakesNothing)?)
 }
 
 /// Whether an expression cannot fail, where its names mean these rules (the last of a name): empty strings,
@@ -54,26 +47,24 @@ pub fn is_non_failing<'i>(
         ↔ CannotFail (rules_without_spans (rule_views rules.now.items)) (without_spans (unplaced expr.now))) }
     ensures memory { IfErr result (λ fault. fault ≡ Fault.Memory alloc_error) }
 {
-    Ok(answer(alloc, expr, rules.as_slice(), Question::CannotFail)?)
+    Ok(answer_for(alloc, expr, rules.as_slice(), Question::CannotFail)?)
 }
 
 /// All that is found in rules, by place. The only fault is a want of memory.
 fn found_in<'i>(
     alloc: Global,
     rules: &[ParserRule<'i>],
-    names: &Names,
-    table: &meta_table::Table<'_, 'i>,
+    groundwork: &Groundwork<'_, 'i>,
     endless: &[Span<'i>],
 ) -> Result<Vec<Finding<'i>>, Fault>
-    requires known { KnowsRules rules.now names.now }
-    requires tabled { IsTabled rules.now table.now }
+    requires groundwork { IsGroundwork rules.now groundwork.now }
     ensures found { IfOk result (λ found.
         AreAllFound (rule_views rules.now) (map piece_of endless.now) (findings_of found.items)) }
     ensures accepted { IfOk result (λ found. findings_of found.items ≡ []
         → IsWellFormed (grammar_of rules.now)) }
     ensures memory { IfErr result (λ fault. fault ≡ Fault.Memory alloc_error) }
 {
-    Ok(sorted_findings(alloc, rules, names, table, endless)?)
+    Ok(sorted_findings(alloc, rules, groundwork, endless)?)
 }
 
 /// What is wrong with rules, in the order of their places (at one place repetitions, then those of `endless`,
@@ -96,30 +87,26 @@ pub fn validate_rules<'i>(
     ensures memory { IfErr result (λ fault. fault ≡ Fault.Memory alloc_error) }
 {
     let rules = rules.as_slice();
-    let names = names_of(alloc, rules)?;
-    let table = tabulated(alloc, rules)?;
-    validate_table(alloc, rules, &names, &table, endless)
+    let groundwork = groundwork_of(alloc, rules)?;
+    validate_by(alloc, rules, &groundwork, endless)
 }
 
-/// What is wrong with rules, as `validate_rules` tells it, by their names and their table. The only fault is
-/// a want of memory.
-pub fn validate_table<'i>(
+/// What is wrong with rules, as `validate_rules` tells it, by the groundwork that was laid for them. The only
+/// fault is a want of memory.
+pub fn validate_by<'i>(
     alloc: Global,
     rules: &[ParserRule<'i>],
-    names: &Names,
-    table: &meta_table::Table<'_, 'i>,
+    groundwork: &Groundwork<'_, 'i>,
     endless: &[Span<'i>],
 ) -> Result<Vec<Error<Rule>>, Fault>
-    requires known { KnowsRules rules.now names.now }
-    requires tabled { IsTabled rules.now table.now }
+    requires groundwork { IsGroundwork rules.now groundwork.now }
     ensures exact { IfOk result (λ errors.
         AreReported (rule_views rules.now) (map piece_of endless.now) errors.items) }
     ensures accepted { IfOk result (λ errors. errors.items ≡ [] → IsWellFormed (grammar_of rules.now)) }
     ensures memory { IfErr result (λ fault. fault ≡ Fault.Memory alloc_error) }
 {
-    let found = found_in(alloc, rules, names, table, endless)?;
-    let errors = errors_of(alloc, found.as_slice())?;
-    Ok(errors)
+    let found = found_in(alloc, rules, groundwork, endless)?;
+    errors_of(alloc, found.as_slice())
 }
 
 /// What is wrong with rules, as `validate_rules` tells it, where all their spans, and those of `endless`, are
@@ -139,23 +126,20 @@ pub fn validate_rules_in<'i>(
     ensures memory { IfErr result (λ fault. fault ≡ Fault.Memory alloc_error) }
 {
     let rules = rules.as_slice();
-    let names = names_of(alloc, rules)?;
-    let table = tabulated(alloc, rules)?;
-    validate_table_in(alloc, text, rules, &names, &table, endless)
+    let groundwork = groundwork_of(alloc, rules)?;
+    validate_by_in(alloc, text, rules, &groundwork, endless)
 }
 
-/// What is wrong with rules, as `validate_rules_in` tells it, by their names and their table. The only fault
-/// is a want of memory.
-pub fn validate_table_in<'i>(
+/// What is wrong with rules, as `validate_rules_in` tells it, by the groundwork that was laid for them. The
+/// only fault is a want of memory.
+pub fn validate_by_in<'i>(
     alloc: Global,
     text: &str,
     rules: &[ParserRule<'i>],
-    names: &Names,
-    table: &meta_table::Table<'_, 'i>,
+    groundwork: &Groundwork<'_, 'i>,
     endless: &[Span<'i>],
 ) -> Result<Vec<Error<Rule>>, Fault>
-    requires known { KnowsRules rules.now names.now }
-    requires tabled { IsTabled rules.now table.now }
+    requires groundwork { IsGroundwork rules.now groundwork.now }
     requires rules_in_text { AreIn text.now (rule_views rules.now) }
     requires endless_in_text { ArePiecesOf text.now (map piece_of endless.now) }
     ensures exact { IfOk result (λ errors.
@@ -163,36 +147,6 @@ pub fn validate_table_in<'i>(
     ensures accepted { IfOk result (λ errors. errors.items ≡ [] → IsWellFormed (grammar_of rules.now)) }
     ensures memory { IfErr result (λ fault. fault ≡ Fault.Memory alloc_error) }
 {
-    let found = found_in(alloc, rules, names, table, endless)?;
-    let errors = errors_in(alloc, text, found.as_slice())?;
-    Ok(errors)
-}
-
-/// The answer for an expression: its nodes are put behind those of the rules, and then asked.
-fn answer<'i>(
-    alloc: Global,
-    expr: &ParserExpr<'i>,
-    rules: &[ParserRule<'i>],
-    question: Question,
-) -> Result<bool, AllocError>
-    ensures { IfOk result (λ yes. Decides yes
-        (Asked question (grammar_of rules.now) (without_spans (unplaced expr.now)))) }
-{
-    let names = names_of(alloc, rules)?;
-    let mut nodes = tabulated(alloc, rules)?;
-    let own = number(
-        alloc,
-        rules.len(),
-        expr,
-        Span::of("", 0, 0),
-        &mut nodes.nodes,
-    )?;
-    let table = Table {
-        kinds: kinds_of(alloc, rules, &names, nodes.nodes.as_slice())?,
-        roots: nodes.roots,
-    };
-    let listeners = who_listens(alloc, &table)?;
-    let answers = answers_to(alloc, &table, &listeners, question)?;
-    let answer = is_set(answers.as_slice(), own);
-    Ok(answer)
+    let found = found_in(alloc, rules, groundwork, endless)?;
+    errors_in(alloc, text, found.as_slice())
 }

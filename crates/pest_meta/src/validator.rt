@@ -14,10 +14,10 @@ pub use meta_names::{
     validate_rust_keywords, validate_undefined,
 };
 use meta_nodes::ParserRule;
+use meta_nullable::groundwork_of;
 use meta_stack_pass::sorted_reports_in;
 pub use meta_stack_pass::validate_stack_repetition;
-use meta_table::{names_of, tabulated};
-use meta_validator::validator::{validate_table, validate_table_in};
+use meta_validator::validator::{validate_by, validate_by_in};
 pub use meta_validator::validator::{is_non_failing, is_non_progressing};
 use std::alloc::Global;
 
@@ -51,11 +51,9 @@ pub fn validate_ast<'i>(
     ensures memory { IfErr result (λ fault. fault ≡ Fault.Memory alloc_error) }
 {
     let rules = rules.as_slice();
-    let names = names_of(alloc, rules)?;
-    let table = tabulated(alloc, rules)?;
-    let endless = sorted_reports_in(alloc, rules, &names, &table)?;
-    let errors = validate_table(alloc, rules, &names, &table, endless.as_slice())?;
-    Ok(errors)
+    let groundwork = groundwork_of(alloc, rules)?;
+    let endless = sorted_reports_in(alloc, rules, &groundwork)?;
+    validate_by(alloc, rules, &groundwork, endless.as_slice())
 }
 
 /// What is wrong with rules, as `validate_ast` tells it, where all their spans are of one text: that is
@@ -73,9 +71,7 @@ pub fn validate_ast_in<'i>(
     ensures memory { IfErr result (λ fault. fault ≡ Fault.Memory alloc_error) }
 {
     let rules = rules.as_slice();
-    let names = names_of(alloc, rules)?;
-    let table = tabulated(alloc, rules)?;
-    let endless = sorted_reports_in(alloc, rules, &names, &table)?;
-    let errors = validate_table_in(alloc, text, rules, &names, &table, endless.as_slice())?;
-    Ok(errors)
+    let groundwork = groundwork_of(alloc, rules)?;
+    let endless = sorted_reports_in(alloc, rules, &groundwork)?;
+    validate_by_in(alloc, text, rules, &groundwork, endless.as_slice())
 }

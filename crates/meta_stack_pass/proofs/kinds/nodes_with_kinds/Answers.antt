@@ -1,6 +1,5 @@
-use Rattle.std.proofs.Common.{◌≡◌, ◌∙◌, ◌<◌, ◌≤◌, ap, ap₂, map, length, rules}
+use Rattle.std.proofs.Common.{◌≡◌, ◌∙◌, ◌<◌, ◌≤◌, ap, map, length, rules}
 use Rattle.std.proofs.lemmas.List.{take_all}
-use Rattle.meta_nodes.specs.Nodes.{piece_of}
 use Rattle.meta_table.specs.Names.{grammar_of}
 use Rattle.meta_table.proofs.Numbered.{mapped_more}
 use Rattle.meta_stack_pass.specs.Names.{kind_in}
@@ -13,8 +12,8 @@ loop-place-preserved c =
     let names = kind_in (grammar_of c.args.rules.now) in
     let ns = c.args.table.now.nodes.items in
     let n = c.index-node.result.now in
-    let made : Node = record { kind = c.kind_of_node.result; rule = n.rule; free = c.is_free.result; span = n.span } in
-    let same : made ≡ node_of names n = ap₂ (λ k b. record made { kind = k; free = b }) c.kind_of_node.ensures (c.is_free.ensures (piece_of n.span)) in
+    let made : Node = record { kind = c.kind_of_node.result; rule = n.rule; span = n.span } in
+    let same : made ≡ node_of names n = ap (λ k. record made { kind = k }) c.kind_of_node.ensures in
     let inside : c.loop-place.place < length ns = search rules in
     mapped_more (node_of names) ns c.loop-place.place n c.loop-place.nodes.items c.push.new.self.items made inside c.in_ok-push.ensures.items
     (same ∙ ap (node_of names) c.index-node.ensures) c.loop-place.invariant

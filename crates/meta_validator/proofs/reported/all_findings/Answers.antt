@@ -54,5 +54,5 @@ returns-clause-accepted c = λ e.
     let ks = findings_of c.in_ok-recursions.recursions.items in
     let ts = findings_of c.in_ok-tags.tags.items in
     let all = in_turn fs js gs hs ks ts _ _ _ _ (findings_of c.in_ok-found-6.found.items) c.in_ok-found-2.ensures c.in_ok-found-3.ensures c.in_ok-found-4.ensures c.in_ok-found-5.ensures c.in_ok-found-6.ensures in
-    empty_well_formed c.args.rules.now c.in_ok-facts.facts c.in_ok-facts.ensures fs gs hs ks
+    empty_well_formed c.args.rules.now c.args.groundwork.now.facts c.requires.groundwork.facts fs gs hs ks
     c.in_ok-found.ensures c.in_ok-skips.ensures c.in_ok-recursions.ensures.none (without_last fs gs hs ks ts (without_second fs js (gs ++ (hs ++ (ks ++ ts))) (sym all ∙ e)))

@@ -1,30 +1,35 @@
 use Rattle.std.proofs.Common.{map, subst, sym}
+use Rattle.std.proofs.lemmas.Result.{IfOk-weaker}
 use Rattle.meta_nodes.specs.Nodes.{piece_of, rule_views}
 use Rattle.meta_stack_pass.specs.Certain.{AreReports}
 use Rattle.meta_validator.specs.Reported.{AreReported}
 use Rattle.meta_validator.proofs.NothingElse.{none_endless}
 use Rattle.meta_validator.specs.Placed.{AreIn, ArePiecesOf}
 use Rattle.pest_meta.proofs.InText.{reports_in}
+use Rattle.pest_meta.specs.Findings.{TellFindings}
 use Rattle.pest_meta.proofs.validator.validate_ast_in.Goals as goal
 
 pub returns-clause-exact : goal.returns-clause-exact
-returns-clause-exact c = record {
-  endless = map piece_of c.in_ok-endless.endless.items;
-  reports = subst (λ z. AreReports (rule_views z) (map piece_of c.in_ok-endless.endless.items)) c.as_slice-rules.ensures.value c.in_ok-endless.ensures.exact;
-  tell = subst (λ z. AreReported (rule_views z) (map piece_of c.in_ok-endless.endless.items) c.in_ok-errors.errors.items) c.as_slice-rules.ensures.value
-      (subst (λ z. AreReported (rule_views c.as_slice-rules.result.now) (map piece_of z) c.in_ok-errors.errors.items) c.as_slice.ensures.value c.in_ok-errors.ensures.exact);
-}
+returns-clause-exact c =
+    let endless = map piece_of c.in_ok-endless.endless.items in
+    IfOk-weaker c.validate_by_in.result _ _ (λ errors told. record {
+      endless = endless;
+      reports = subst (λ z. AreReports (rule_views z) endless) c.as_slice-rules.ensures.value c.in_ok-endless.ensures.exact;
+      tell = subst (λ z. AreReported (rule_views z) endless errors.items) c.as_slice-rules.ensures.value
+          (subst (λ z. AreReported (rule_views c.as_slice-rules.result.now) (map piece_of z) errors.items) c.as_slice.ensures.value told);
+    }) c.validate_by_in.ensures.exact
 
 pub returns-clause-silent : goal.returns-clause-silent
-returns-clause-silent c = λ none.
+returns-clause-silent c =
     let views = rule_views c.args.rules.now.items in
-    let told = returns-clause-exact c in
+    IfOk-weaker c.validate_by_in.result (λ errors. TellFindings views errors.items) _ (λ errors told none.
     subst (AreReports views) (none_endless views told.endless (subst (AreReported views told.endless) none told.tell)) told.reports
+    ) (returns-clause-exact c)
 
-pub validate_table_in-requires-clause-endless_in_text : goal.validate_table_in-requires-clause-endless_in_text
-validate_table_in-requires-clause-endless_in_text c =
+pub validate_by_in-requires-clause-endless_in_text : goal.validate_by_in-requires-clause-endless_in_text
+validate_by_in-requires-clause-endless_in_text c =
     let told = subst (λ z. AreReports (rule_views z) (map piece_of c.in_ok-endless.endless.items)) c.as_slice-rules.ensures.value c.in_ok-endless.ensures.exact in
     subst (λ z. ArePiecesOf c.args.text.now (map piece_of z)) (sym c.as_slice.ensures.value) (reports_in c.args.text.now (rule_views c.args.rules.now.items) c.requires.in_text (map piece_of c.in_ok-endless.endless.items) told)
 
-pub validate_table_in-requires-clause-rules_in_text : goal.validate_table_in-requires-clause-rules_in_text
-validate_table_in-requires-clause-rules_in_text c = subst (λ z. AreIn c.args.text.now (rule_views z)) (sym c.as_slice-rules.ensures.value) c.requires.in_text
+pub validate_by_in-requires-clause-rules_in_text : goal.validate_by_in-requires-clause-rules_in_text
+validate_by_in-requires-clause-rules_in_text c = subst (λ z. AreIn c.args.text.now (rule_views z)) (sym c.as_slice-rules.ensures.value) c.requires.in_text

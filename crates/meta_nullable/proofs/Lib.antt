@@ -1,0 +1,4 @@
+pub mod NameLemmas
+pub mod Tying
+pub mod Roots
+pub mod Answering

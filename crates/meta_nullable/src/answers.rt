@@ -1,0 +1,80 @@
+//! Which nodes answer a question with yes: the least flags that follow from one another.
+ghost use Rattle.std.specs.Prelude.{IfOk};
+ghost use Rattle.meta_nullable.specs.RightAnswers.{AreSound, AreClosed};
+
+use crate::table::{Kind, KindTable, Question};
+use meta_flags::{Inference, Listeners, Listening, Told, least_flags};
+use std::alloc::{AllocError, Global};
+
+/// The nodes on which the answer for a node depends, two at most. It saves time alone: no answer rests on it.
+pub fn listened_to(table: &KindTable, kind: Kind) -> (Option<usize>, Option<usize>) {
+    match kind {
+        Kind::Taking | Kind::Still | Kind::End => (None, None),
+        Kind::Call(rule) | Kind::EndCall(rule) => (table.roots.get(rule).copied(), None),
+        Kind::Ahead(body)
+        | Kind::NotAhead(body)
+        | Kind::Free(body)
+        | Kind::Inside(body)
+        | Kind::Again(body)
+        | Kind::OnceAgain(body) => (Some(body), None),
+        Kind::Seq(first, second) | Kind::Choice(first, second) => (Some(first), Some(second)),
+    }
+}
+
+impl Listening for KindTable {
+    fn count(&self) -> usize {
+        self.kinds.len()
+    }
+
+    fn tell<T: Told>(&self, node: usize, told: &mut T) {
+        if let Some(kind) = self.kinds.get(node) {
+            let (first, second) = listened_to(self, *kind);
+            if let Some(first) = first {
+                told.listens_to(first);
+            }
+            if let Some(second) = second {
+                told.listens_to(second);
+            }
+        }
+    }
+}
+
+/// A question about the nodes of a table.
+#[derive(Clone, Copy)]
+struct Asked<'a> {
+    question: Question,
+    table: &'a KindTable,
+}
+
+impl<'a> Inference for Asked<'a> {
+    ghost use Rattle.meta_nullable.specs.Table.{fires};
+
+    type Item = Kind;
+
+    ghost items = { λ asked. asked.table.now.kinds.items };
+
+    ghost infers = { λ asked. fires asked.question asked.table.now.roots.items };
+
+    fn count(&self) -> usize {
+        self.table.kinds.len()
+    }
+
+    fn infers(&self, answers: &[bool], node: usize) -> bool {
+        self.table
+            .fires(self.question, answers, self.table.kind_at(node))
+    }
+}
+
+/// Which nodes answer a question with yes: the least flags that follow from one another. The only fault is a
+/// want of memory.
+pub fn answers_to(
+    alloc: Global,
+    table: &KindTable,
+    listeners: &Listeners,
+    question: Question,
+) -> Result<Vec<bool>, AllocError>
+    ensures sound { IfOk result (λ answers. AreSound question table.now answers.items) }
+    ensures closed { IfOk result (λ answers. AreClosed question table.now answers.items) }
+{
+    least_flags(alloc, &Asked { question, table }, listeners)
+}

@@ -1,0 +1,46 @@
+//! The answer for one expression.
+ghost use Rattle.std.specs.Prelude.{IfOk};
+ghost use Rattle.std.specs.Bool.{Decides};
+ghost use Rattle.meta_nodes.specs.Erasure.{without_spans};
+ghost use Rattle.meta_nodes.specs.Nodes.{unplaced};
+ghost use Rattle.meta_nullable.specs.Facts.{Asked};
+ghost use Rattle.meta_table.specs.Names.{grammar_of};
+
+use crate::answers::answers_to;
+use crate::kinds::kinds_of;
+use crate::table::{KindTable, Question};
+use meta_base::runtime::Span;
+use meta_flags::{is_set, who_listens};
+use meta_nodes::{ParserExpr, ParserRule};
+use meta_table::{names_of, number, tabulated};
+use std::alloc::{AllocError, Global};
+
+/// The answer for an expression, where its names mean these rules (the last of a name): its nodes are put
+/// behind those of the rules, and then asked. The only fault is a want of memory.
+pub fn answer_for<'i>(
+    alloc: Global,
+    expr: &ParserExpr<'i>,
+    rules: &[ParserRule<'i>],
+    question: Question,
+) -> Result<bool, AllocError>
+    ensures { IfOk result (λ yes. Decides yes
+        (Asked question (grammar_of rules.now) (without_spans (unplaced expr.now)))) }
+{
+    let names = names_of(alloc, rules)?;
+    let mut nodes = tabulated(alloc, rules)?;
+    let own = number(
+        alloc,
+        rules.len(),
+        expr,
+        Span::of("", 0, 0),
+        &mut nodes.nodes,
+    )?;
+    let table = KindTable {
+        kinds: kinds_of(alloc, rules, &names, nodes.nodes.as_slice())?,
+        roots: nodes.roots,
+    };
+    let listeners = who_listens(alloc, &table)?;
+    let answers = answers_to(alloc, &table, &listeners, question)?;
+    let answer = is_set(answers.as_slice(), own);
+    Ok(answer)
+}
