@@ -23,3 +23,4 @@ pub mod Telling
 pub mod Skipping
 pub mod Holding
 pub mod Turning
+pub mod Converting

@@ -2,7 +2,6 @@
 use Rattle.std.proofs.Common.{◌≡◌, refl, sym, ◌∙◌, subst, ℕ, ◌+◌, ◌≤◌, cond, List, [], ◌∷◌, ◌++◌, Option, Some, None, Bool, true, false, arith, ◌⊎◌, inl, inr}
 use Rattle.std.specs.Str.{chars, bytes_eq}
 use Rattle.std.specs.HashMap.{HashMap}
-use Rattle.std.specs.Map.{lookup}
 use Rattle.std.proofs.lemmas.Slice.Eq.{bytes_eq-Decides}
 use denote.Ref.{Bor}
 use Rattle.meta_base.specs.Language.Text.{Text}

@@ -10,7 +10,6 @@ use Rattle.std.proofs.lemmas.List.Folds.{Any-from_list_any}
 use Rattle.std.proofs.lemmas.Slice.Eq.{bytes_eq-Decides}
 use denote.Ref.{Bor}
 use Rattle.meta_base.specs.Language.Expression.{Expression, Ident, Grammar}
-use Rattle.meta_ast.specs.Ast.{text_of}
 use Rattle.meta_ast.specs.declared.ast.Expr.{Expr}
 use Rattle.meta_optimizer.specs.declared.strings.Names.{Names}
 use Rattle.meta_optimizer.specs.declared.strings.Found.{Found}

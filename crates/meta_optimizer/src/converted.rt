@@ -1,16 +1,22 @@
 //! Rules as optimized rules.
-ghost use Rattle.std.specs.Prelude.{◌≡◌, ◌*◌, IfOk};
+ghost use Rattle.std.specs.Prelude.{◌≡◌, ◌*◌, [], IfOk};
 ghost use Rattle.meta_base.specs.Language.Expression.{Expression};
 ghost use Rattle.meta_ast.specs.Ast.{expression_of, rule_of_code};
+ghost use Rattle.meta_ast.specs.ExprWalks.{unary_of};
+ghost use Rattle.meta_ast.specs.Frames.{around as under};
+ghost use Rattle.meta_ast.specs.Operands.{operands};
 ghost use Rattle.meta_ast.specs.Optimized.{optimized_expression_of, optimized_rule_of};
+ghost use Rattle.meta_ast.specs.OptimizedSigns.{under_sign};
 ghost use Rattle.meta_ast.specs.Weight.{weight};
-ghost use Rattle.meta_optimizer.specs.Converting.{with_operand, waits_of, WaitsUnrolled};
+ghost use Rattle.meta_optimizer.specs.Converting.{IsUncounted, WaitsUnrolled, waits_of, with_operand};
 ghost use Rattle.meta_optimizer.specs.Unrolled.{IsUnrolled};
 
 use crate::{OptimizedExpr, OptimizedRule};
-use meta_ast::ast::{Expr, Rule};
+use meta_ast::ast::{Expr, Rule, Sign};
 use meta_ast::deep::Deep;
+use meta_ast::optimized::{PlainSign, Sign as OptimizedSign};
 use meta_ast::rebuilt::{Rebuild, Step, rebuilt};
+use meta_ast::shape::{Joint, Shape, Shaped};
 use std::alloc::{AllocError, Global};
 
 /// The same rule, as an optimized one. The only fault is a want of memory.
@@ -23,21 +29,14 @@ pub(crate) fn rule_to_optimized_rule(alloc: Global, rule: Rule) -> Result<Optimi
     Ok(OptimizedRule { name, ty, expr })
 }
 
-// What stands around an operand while that is made an optimized one.
+/// What stands around an operand while that is made an optimized one.
 #[derive(Drop)]
 enum Around {
-    PosPred,
-    NegPred,
-    Opt,
-    Rep,
-    RepOnce,
-    Push,
-    NodeTag(String),
-    // A `~` or a `|` whose left side is at hand, with the right one; and with the left one as it is made.
-    FirstOfSeq(Deep<Box<Expr>>),
-    FirstOfChoice(Deep<Box<Expr>>),
-    SecondOfSeq(Deep<Box<OptimizedExpr>>),
-    SecondOfChoice(Deep<Box<OptimizedExpr>>),
+    Sign(OptimizedSign),
+    /// The operand is the left one, and this the right one.
+    First(Joint, Deep<Expr>),
+    /// The operand is the right one, and this the left one as it is made.
+    Second(Joint, Deep<Box<OptimizedExpr>>),
 }
 
 impl Rebuild for Around {
@@ -61,29 +60,20 @@ impl Rebuild for Around {
 
     ghost waits = { λ around. waits_of around };
 
+    #[tactic(auto, using(crate::proofs::Converting::uncounted))]
     fn open(expr: Expr) -> Result<Step<Expr, Around, OptimizedExpr>, AllocError> {
-        use OptimizedExpr as E;
-        let (around, operand) = match expr {
-            Expr::Str(text) => return Ok(Step::Made(E::Str(text))),
-            Expr::Insens(text) => return Ok(Step::Made(E::Insens(text))),
-            Expr::Range(first, last) => return Ok(Step::Made(E::Range(first, last))),
-            Expr::Ident(name) => return Ok(Step::Made(E::Ident(name))),
-            Expr::PeekSlice(start, end) => return Ok(Step::Made(E::PeekSlice(start, end))),
-            Expr::Skip(texts) => return Ok(Step::Made(E::Skip(texts))),
-            Expr::PushLiteral(text) => return Ok(Step::Made(E::PushLiteral(text))),
-            Expr::PosPred(inner) => (Around::PosPred, inner),
-            Expr::NegPred(inner) => (Around::NegPred, inner),
-            Expr::Opt(inner) => (Around::Opt, inner),
-            Expr::Rep(inner) => (Around::Rep, inner),
-            Expr::RepOnce(inner) => (Around::RepOnce, inner),
-            Expr::Push(inner) => (Around::Push, inner),
-            Expr::NodeTag(inner, tag) => (Around::NodeTag(tag), inner),
-            Expr::Seq(left, right) => (Around::FirstOfSeq(Deep { value: right }), left),
-            Expr::Choice(left, right) => (Around::FirstOfChoice(Deep { value: right }), left),
-            Expr::RepExact(..) | Expr::RepMin(..) | Expr::RepMax(..) | Expr::RepMinMax(..) =>
-                unreachable!("a repetition that is not unrolled"),
-        };
-        Ok(Step::Inside(around, Box::into_inner(operand)))
+        match expr.open() {
+            Shape::Leaf(leaf) => Ok(Step::Made(optimized_leaf(leaf))),
+            Shape::One(sign, operand) => {
+                let around = Around::Sign(optimized_sign(sign));
+                Ok(Step::Inside(around, Box::into_inner(operand)))
+            }
+            Shape::Two(joint, left, right) => {
+                let value = Box::into_inner(right);
+                let around = Around::First(joint, Deep { value });
+                Ok(Step::Inside(around, Box::into_inner(left)))
+            }
+        }
     }
 
     fn close(
@@ -91,27 +81,57 @@ impl Rebuild for Around {
         alloc: Global,
         operand: OptimizedExpr,
     ) -> Result<Step<Expr, Around, OptimizedExpr>, AllocError> {
-        use OptimizedExpr as E;
-        let operand = Deep { value: operand }.boxed(alloc)?.into_inner();
-        let whole = match self {
-            Around::FirstOfSeq(right) => {
-                let around = Around::SecondOfSeq(Deep { value: operand });
-                return Ok(Step::Inside(around, Box::into_inner(right.into_inner())));
+        let operand = Deep { value: operand }.boxed(alloc)?;
+        match self {
+            Around::Sign(sign) => {
+                let whole = OptimizedExpr::enclose(sign, operand.into_inner());
+                Ok(Step::Made(whole))
             }
-            Around::FirstOfChoice(right) => {
-                let around = Around::SecondOfChoice(Deep { value: operand });
-                return Ok(Step::Inside(around, Box::into_inner(right.into_inner())));
+            Around::First(joint, right) => {
+                let around = Around::Second(joint, operand);
+                Ok(Step::Inside(around, right.into_inner()))
             }
-            Around::PosPred => E::PosPred(operand),
-            Around::NegPred => E::NegPred(operand),
-            Around::Opt => E::Opt(operand),
-            Around::Rep => E::Rep(operand),
-            Around::RepOnce => E::RepOnce(operand),
-            Around::Push => E::Push(operand),
-            Around::NodeTag(tag) => E::NodeTag(operand, tag),
-            Around::SecondOfSeq(left) => E::Seq(left.into_inner(), operand),
-            Around::SecondOfChoice(left) => E::Choice(left.into_inner(), operand),
-        };
-        Ok(Step::Made(whole))
+            Around::Second(joint, left) => {
+                let whole = OptimizedExpr::join(joint, left.into_inner(), operand.into_inner());
+                Ok(Step::Made(whole))
+            }
+        }
+    }
+}
+
+/// What stands round an operand, as it stands round an optimized one.
+fn optimized_sign(sign: Sign) -> OptimizedSign
+    requires { IsUncounted sign }
+    ensures { (operand : Expression) → under_sign result operand ≡ under (unary_of sign) operand }
+{
+    let sign = match sign {
+        Sign::PosPred => PlainSign::PosPred,
+        Sign::NegPred => PlainSign::NegPred,
+        Sign::Opt => PlainSign::Opt,
+        Sign::Rep => PlainSign::Rep,
+        Sign::RepOnce => PlainSign::RepOnce,
+        Sign::Push => PlainSign::Push,
+        Sign::NodeTag(tag) => PlainSign::NodeTag(tag),
+        Sign::RepExact(_) | Sign::RepMin(_) | Sign::RepMax(_) | Sign::RepMinMax(_, _) =>
+            unreachable!("a repetition that is not unrolled"),
+    };
+    OptimizedSign::Plain(sign)
+}
+
+/// An expression without operands.
+fn optimized_leaf(leaf: Expr) -> OptimizedExpr
+    requires { operands (expression_of leaf) ≡ [] }
+    ensures { optimized_expression_of result ≡ expression_of leaf }
+{
+    use OptimizedExpr as E;
+    match leaf {
+        Expr::Str(text) => E::Str(text),
+        Expr::Insens(text) => E::Insens(text),
+        Expr::Range(first, last) => E::Range(first, last),
+        Expr::Ident(name) => E::Ident(name),
+        Expr::PeekSlice(start, end) => E::PeekSlice(start, end),
+        Expr::Skip(texts) => E::Skip(texts),
+        Expr::PushLiteral(text) => E::PushLiteral(text),
+        _ => unreachable!("an expression with operands"),
     }
 }

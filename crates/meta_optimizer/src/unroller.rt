@@ -164,11 +164,11 @@ fn copies(
         → expression_of others.value ≡ in_sequence (f ∷ fs)
         → expression_of r.value ≡ in_sequence (replicate count (expression_of expr.now) ++ (f ∷ fs))) }
 {
-    let mut chain = others;
+    let mut sequence = others;
     for turn in 0..count {
         let copy = copy_of(expr)?;
-        let longer = sequence_of(alloc, copy, chain)?;
-        chain = Deep { value: longer };
+        let longer = sequence_of(alloc, copy, sequence)?;
+        sequence = Deep { value: longer };
     }
-    Ok(chain)
+    Ok(sequence)
 }

@@ -11,7 +11,7 @@ pub struct Link {
     pub target: usize,
 }
 
-/// For each rule the links that begin there, as a chain: the first one, and behind each link the next.
+/// For each rule the links that begin there, as a list: the first one, and behind each link the next.
 #[derive(Drop)]
 struct LinkLists {
     /// Whether links are taken as they are, and not from their targets to their sources.
@@ -60,7 +60,7 @@ pub(crate) fn turned(link: Link, down: bool) -> Link
     }
 }
 
-/// Puts a link at the head of a chain.
+/// Puts a link at the head of its list.
 fn put(lists: &mut LinkLists, place: usize, link: Link) -> Result<(), AllocError> {
     let mut next = None;
     if let Some(head) = lists.heads.get_mut(link.source) {
@@ -89,7 +89,7 @@ fn lists_of(
     Ok(lists)
 }
 
-/// The next link of a rule, which is taken off its chain.
+/// The next link of a rule, which is taken off its list.
 fn next_link(lists: &mut LinkLists, rule: usize) -> Option<usize> {
     let head = lists.heads.get_mut(rule)?;
     let link = (*head)?;

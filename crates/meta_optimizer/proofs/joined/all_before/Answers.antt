@@ -1,4 +1,4 @@
-use Rattle.std.proofs.Common.{◌≡◌, ◌∙◌, ◌++◌, sym}
+use Rattle.std.proofs.Common.{◌∙◌, sym}
 use Rattle.std.proofs.lemmas.List.{append_assoc}
 use Rattle.meta_ast.specs.Ast.{text_of}
 use Rattle.meta_optimizer.specs.Joined.{in_order}

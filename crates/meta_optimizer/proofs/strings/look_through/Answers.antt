@@ -1,8 +1,8 @@
-use Rattle.std.proofs.Common.{◌≡◌, ◌∙◌, ◌∷◌, refl, sym, ap, subst, Bool, true, false, List, ℕ, Some, None, [], rules, vec_len, string_bytes}
+use Rattle.std.proofs.Common.{◌≡◌, ◌∷◌, refl, sym, subst, true, false, Some, None, [], rules, vec_len}
 use Rattle.std.specs.Str.{chars}
 use Rattle.std.proofs.lemmas.Map.Text.{hash_map_updates_str}
-use Rattle.meta_base.specs.Language.Expression.{Grammar, Ident}
-use Rattle.meta_optimizer.specs.Bodies.{met_at, AreRight, HoldsBodies}
+use Rattle.meta_base.specs.Language.Expression.{Ident}
+use Rattle.meta_optimizer.specs.Bodies.{met_at}
 use Rattle.meta_optimizer.proofs.NamedStrings.{named_so, missing_so}
 use Rattle.meta_optimizer.proofs.Looking.{Looking, Marks, Settled, begins, all_known, nothing, no_rule, one_deeper, one_known, ended, met_still, met_here}
 use Rattle.meta_optimizer.proofs.strings.look_through.Goals as goal

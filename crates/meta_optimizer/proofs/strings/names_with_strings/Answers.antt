@@ -1,4 +1,4 @@
-use Rattle.std.proofs.Common.{◌≡◌, ◌∙◌, map, subst, string_bytes}
+use Rattle.std.proofs.Common.{◌∙◌, subst, string_bytes}
 use Rattle.std.specs.HashMap.{get_by_text}
 use Rattle.std.specs.List.{All}
 use Rattle.std.specs.Option.{IsSome}

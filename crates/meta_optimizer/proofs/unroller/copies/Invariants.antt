@@ -6,4 +6,4 @@ use Rattle.meta_optimizer.proofs.unroller.copies.Given as goal
 
 abbrev pub invariant-loop-turn : goal.invariant-loop-turn
 invariant-loop-turn l = (f : Expression) (fs : List Expression) → expression_of l.fn.others.value ≡ in_sequence (f ∷ fs)
-    → expression_of l.chain.value ≡ in_sequence (replicate l.turn (expression_of l.expr) ++ (f ∷ fs))
+    → expression_of l.sequence.value ≡ in_sequence (replicate l.turn (expression_of l.expr) ++ (f ∷ fs))
