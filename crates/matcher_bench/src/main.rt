@@ -10,9 +10,9 @@ ghost use Rattle.std.specs.Prelude.{IfOk};
 ghost use Rattle.meta_matcher.specs.Answers.{IsSoundMatcher};
 
 use anyhow::{Context, Result, bail};
-use meta_matcher::compile::Unfit;
+use meta_forms::compile::Unfit;
 use meta_matcher::matcher::{Found, Matcher, Refusal};
-use meta_matcher::properties::NoProperties;
+use meta_forms::properties::NoProperties;
 use pest_meta::optimizer::release;
 use pest_meta::parse_and_optimize;
 use std::alloc::Global;

@@ -6,17 +6,19 @@ use Rattle.meta_base.specs.Language.Expression.{Atomic, CompoundAtomic, Grammar,
 use Rattle.meta_base.specs.Language.Meaning.{Run, gives_token, inherited, mode_in, seen_from}
 use Rattle.meta_base.specs.Language.State.{Classes, Failure, None', State, Success, moved}
 use Rattle.meta_base.specs.Language.Matching.{begins, character_outcome, starts_in, text_outcome}
-use Rattle.meta_matcher.specs.declared.form.Form.{Form}
-use Rattle.meta_matcher.specs.declared.form.Form.TheVariants as form
-use Rattle.meta_matcher.specs.declared.form.Property.{Property}
-use Rattle.meta_matcher.specs.declared.form.Row.{Row}
+use Rattle.meta_forms.specs.declared.form.Form.{Form}
+use Rattle.meta_forms.specs.declared.form.Form.TheVariants as form
+use Rattle.meta_forms.specs.declared.form.Property.{Property}
+use Rattle.meta_forms.specs.declared.form.Row.{Row}
 use Rattle.meta_matcher.specs.declared.machine.Scene.{Scene}
 use Rattle.meta_matcher.specs.declared.modes.Mode as mode
 use Rattle.meta_matcher.specs.declared.modes.Mode.TheVariants as in_mode
 use Rattle.meta_matcher.specs.Frames.{FailsFrom, starting}
 use Rattle.meta_matcher.specs.Machines.{IsBoundIn, IsSoundIn, grammar_in, names_within, said}
-use Rattle.meta_matcher.specs.Programs.{IsBarred, IsBound, characters_of, expression_of, may_begin, may_start, rule_of_row}
-use Rattle.meta_matcher.specs.Runs.{Notes, Now, Ran, mode_of, noting, standing}
+use Rattle.meta_forms.specs.Programs.{IsBarred, IsBound, characters_of, expression_of, may_begin, may_start, rule_of_row}
+use Rattle.meta_forms.specs.Rests.{standing}
+use Rattle.meta_matcher.specs.Runs.{Notes, Now, Ran, mode_of, noting}
+use Rattle.meta_forms.proofs.TextLemmas.{not_begun}
 use Rattle.meta_matcher.proofs.Noting.{ran_ahead, ran_range, ran_rep_once, ran_restore, ran_right, ran_seq_fails, ran_str, ran_tag}
 use Rattle.meta_matcher.proofs.Spans.{ran_set}
 use Rattle.meta_matcher.proofs.Stacking.{ran_push}
@@ -25,10 +27,6 @@ use Rattle.meta_matcher.proofs.Steps.{call_failed, ran_one, row_known, row_meant
 neither : (a b : Bool) → (a || b) ≡ false → (a ≡ false) × (b ≡ false)
 neither true b h = cc
 neither false b h = (refl, h)
-
-pub not_begun : (t : Text) (c : ℕ) (u : Text) → may_start t c ≡ false → begins nat_eq t (c ∷ u) ≡ false
-not_begun [] c u h = cc
-not_begun (d ∷ t) c u h = rw h refl
 
 misses : (set : ℕ → Bool) (c : ℕ) (s : State) (u : Text) → s.rest ≡ c ∷ u → set c ≡ false → Failure ≡ character_outcome set s
 misses set c s u e h = sym (ap (λ t. if starts_in set t then Success (moved 1 s) None' else Failure) e ∙ ap (λ b. if b then Success (moved 1 s) None' else Failure) h)

@@ -1,4 +1,3 @@
-pub mod Leaving
 pub mod Barring
 pub mod Noting
 pub mod Passing
@@ -7,10 +6,6 @@ pub mod Parts
 pub mod Steps
 pub mod Waiting
 pub mod Whole
-pub mod Compiling
-pub mod Indexing
-pub mod Forming
 pub mod Stacking
 pub mod Timing
-pub mod Texts
 pub mod Totals

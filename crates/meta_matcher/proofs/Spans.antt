@@ -1,37 +1,21 @@
 -- Forms that match one character of a set, and as many as there are.
-use Rattle.std.proofs.Common.{◌≡◌, refl, sym, ◌∙◌, ap, subst, ℕ, suc, ◌+◌, List, [], ◌∷◌, Bool, true, false, ◌&&◌, ◌||◌, ◌==◌, if◌then◌else◌, nat_eq, length, arith, eqb-true}
+use Rattle.std.proofs.Common.{◌≡◌, refl, sym, ap, subst, ℕ, suc, ◌+◌, List, [], ◌∷◌, Bool, true, false, ◌&&◌, ◌||◌, ◌==◌, if◌then◌else◌, nat_eq, length, arith, eqb-true}
 use Rattle.meta_ast.specs.Ast.{text_of}
 use Rattle.meta_base.specs.Language.Text.{Text, size_of}
 use Rattle.meta_base.specs.Language.Expression.{Choice, Expression, Grammar, Rep}
 use Rattle.meta_base.specs.Language.State.{Classes, Failure, Mode, None', State, Success, moved}
 use Rattle.meta_base.specs.Language.Matching.{begins, character_outcome, starts_in, text_outcome}
 use Rattle.meta_base.specs.Language.Meaning.{Run, Skipping, Turns}
-use Rattle.meta_matcher.specs.declared.form.Form.{Form}
-use Rattle.meta_matcher.specs.declared.form.Form.TheVariants as form
-use Rattle.meta_matcher.specs.declared.form.Property.{Property}
+use Rattle.meta_forms.specs.declared.form.Form.{Form}
+use Rattle.meta_forms.specs.declared.form.Form.TheVariants as form
+use Rattle.meta_forms.specs.declared.form.Property.{Property}
 use Rattle.meta_matcher.specs.declared.modes.Mode as mode
-use Rattle.meta_matcher.specs.Programs.{IsBound, characters_of, expression_of, is_one, is_set}
-use Rattle.meta_matcher.specs.Runs.{Notes, Ran, mode_of, span}
+use Rattle.meta_forms.specs.Programs.{IsBound, characters_of, expression_of, is_one, is_set}
+use Rattle.meta_forms.specs.Rests.{span}
+use Rattle.meta_matcher.specs.Runs.{Notes, Ran, mode_of}
 use Rattle.meta_matcher.proofs.Noting.{ran_left, ran_range, ran_rep, ran_rep_none, ran_right, ran_str, ran_turns_end, ran_turns_more}
 use Rattle.meta_matcher.proofs.Steps.{ran_one}
-use Rattle.meta_matcher.proofs.Texts.{clash, here, moved_none, moved_on, same_end}
-
--- how far the characters of a set reach: to one that is not of it, and past one that is
-pub stops_here : (set : ℕ → Bool) (p : ℕ) (cs : Text) (ts : List Text) → Failure ≡ character_outcome set (here p cs ts) → here p cs ts ≡ moved (span set cs) (here p cs ts)
-stops_here set p [] ts e = sym (moved_none p [] ts)
-stops_here set p (c ∷ u) ts e = go (set c) e
-  where
-    go : (b : Bool) → Failure ≡ (if b then Success (moved 1 (here p (c ∷ u) ts)) None' else Failure) → here p (c ∷ u) ts ≡ moved (if b then suc (span set u) else 0) (here p (c ∷ u) ts)
-    go true e = clash (sym e) tt (λ k. k)
-    go false e = sym (moved_none p (c ∷ u) ts)
-
-pub goes_further : (set : ℕ → Bool) (p : ℕ) (cs : Text) (ts : List Text) (s : State) → Success s None' ≡ character_outcome set (here p cs ts) → moved (span set cs) (here p cs ts) ≡ moved (span set s.rest) s
-goes_further set p [] ts s e = clash e tt (λ k. k)
-goes_further set p (c ∷ u) ts s e = go (set c) e
-  where
-    go : (b : Bool) → Success s None' ≡ (if b then Success (moved 1 (here p (c ∷ u) ts)) None' else Failure) → moved (if b then suc (span set u) else 0) (here p (c ∷ u) ts) ≡ moved (span set s.rest) s
-    go true e = moved_on (span set u) p c u ts ∙ ap (λ x. moved (span set x.rest) x) (sym (same_end s (moved 1 (here p (c ∷ u) ts)) e))
-    go false e = clash e tt (λ k. k)
+use Rattle.meta_forms.proofs.TextLemmas.{here, moved_none, moved_on}
 
 -- a set by its form
 both_sets : (f h : ℕ → Bool) (t : Text) → starts_in (λ c. f c || h c) t ≡ (starts_in f t || starts_in h t)

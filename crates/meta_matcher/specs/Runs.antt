@@ -1,48 +1,24 @@
 -- What a run answers.
-use Rattle.std.specs.Prelude.{◌≡◌, ℕ, suc, ◌-◌, ◌≤◌, ◌&&◌, max, List, [], ◌∷◌, ◌++◌, Bool, Option, Some, None, drop, take, length, chars, if◌then◌else◌, nat_eq, ⊤}
+use Rattle.std.specs.Prelude.{◌≡◌, ℕ, ◌&&◌, max, List, ◌++◌, Bool, Option, Some, None, take, length, if◌then◌else◌, nat_eq}
 use Rattle.std.specs.Borrow.{Bor}
 use Rattle.meta_base.specs.Language.Text.{Text}
 use Rattle.meta_base.specs.Language.Expression.{Grammar}
-use Rattle.meta_base.specs.Language.State.{Mode, NonAtomicMode, AtomicMode, CompoundAtomicMode, State, Trees, None', Outcome, Success, Failure, Classes}
+use Rattle.meta_base.specs.Language.State.{Mode, NonAtomicMode, AtomicMode, CompoundAtomicMode, State, Trees, Outcome, Success, Failure, Classes}
 use Rattle.meta_base.specs.Language.Meaning.{Does, Task}
 use Rattle.meta_base.specs.Language.Expected.{expected_at}
 use Rattle.meta_base.specs.Language.FurthestFailure.{furthest}
 use Rattle.meta_syntax.specs.Entries.{Entry, entries_of}
-use Rattle.meta_matcher.specs.declared.form.Property.{Property}
-use Rattle.meta_matcher.specs.Programs.{Fits}
+use Rattle.meta_forms.specs.declared.form.Property.{Property}
+use Rattle.meta_forms.specs.Programs.{Fits}
 use Rattle.meta_matcher.specs.Told.{with_name, with_names}
 use Rattle.meta_matcher.specs.declared.modes.Mode as mode
 use Rattle.meta_matcher.specs.declared.modes.Mode.TheVariants as in_mode
 
+-- a mode of the code, as one of the language
 abbrev pub mode_of : mode.Mode → Mode
 mode_of in_mode.NonAtomic = NonAtomicMode
 mode_of in_mode.Atomic = AtomicMode
 mode_of in_mode.CompoundAtomic = CompoundAtomicMode
-
--- these bytes are what is left of a text from some place on
-abbrev pub IsLeft : List ℕ → List ℕ → Type 0
-IsLeft text rest = rest ≡ drop (length text - length rest) text
-
--- the state in a text with these bytes left
-abbrev pub standing : List ℕ → List ℕ → List Text → State
-standing text rest ts = record { position = length text - length rest; rest = chars rest; stack = ts }
-
--- what a form without tokens does that keeps the stack
-abbrev pub leaving : List ℕ → List Text → Option (Bor (List ℕ)) → Outcome
-leaving text ts None = Failure
-leaving text ts (Some after) = Success (standing text after.now ts) None'
-
-abbrev pub GoesOn : List ℕ → List ℕ → List ℕ → Type 0
-GoesOn text rest after = record { left : IsLeft text after; shorter : length after ≤ length rest }
-
-abbrev pub Progress : List ℕ → List ℕ → Option (Bor (List ℕ)) → Type 0
-Progress text rest None = ⊤
-Progress text rest (Some after) = GoesOn text rest after.now
-
--- how many characters from the start on are in a set
-abbrev pub span : (ℕ → Bool) → Text → ℕ
-span set [] = 0
-span set (c ∷ u) = let n = span set u in if set c then suc n else 0
 
 -- what is noted of failures: the furthest place of one, and which names are told at the place that is asked
 -- for

@@ -3,22 +3,25 @@ ghost use Rattle.std.specs.Prelude.{◌≡◌, false, true, IfErr, IfOk, OnOk, [
 ghost use Rattle.meta_ast.specs.Ast.{text_of};
 ghost use Rattle.meta_base.specs.Language.Expression.{Ident, PeekSlice, PushLiteral, rule_of};
 ghost use Rattle.meta_base.specs.Language.Meaning.{Run};
-ghost use Rattle.meta_matcher.specs.declared.form.Form.TheVariants.{Call};
+ghost use Rattle.meta_forms.specs.declared.form.Form.TheVariants.{Call};
 ghost use Rattle.meta_matcher.specs.Frames.{ComesAtOnce, FailsFrom, IsOutOfTexts, IsStuckAtOnce, starting};
 ghost use Rattle.meta_matcher.specs.Machines.{GivesIn, IsBoundIn, IsSaved, IsSoundIn, grammar_in, now_of, said, steps_of};
-ghost use Rattle.meta_matcher.specs.Runs.{IsLeft, IsReset, Progress, forgetting, mode_of, noting};
+ghost use Rattle.meta_forms.specs.Rests.{IsLeft, Progress};
+ghost use Rattle.meta_matcher.specs.Runs.{IsReset, forgetting, mode_of, noting};
 ghost use Rattle.meta_matcher.specs.Stacked.{stack_of};
 ghost use Rattle.meta_matcher.specs.declared.machine.Stop.TheVariants.{Memory};
 
 use crate::entries::{Entry, close, cut, open, written};
-use crate::form::{Form, Program, Row};
 use crate::frames::{AtOnce, Frame, Saved};
-use crate::leaves::{ahead_to, character, insens, literal, literals, newline, one, slice, within};
 use crate::modes::{Mode, call_counts, is_seen_from, noted};
-use crate::sets::{is_barred, one_of};
 use crate::skipping::{repeated, repeated_once};
 use crate::stack::{Stack, pushed, shared, texts_of};
 use crate::told::{count, forget, tell};
+use meta_forms::form::{Form, Program, Row};
+use meta_forms::leaves::{
+    ahead_to, character, insens, literal, literals, newline, one, slice, within,
+};
+use meta_forms::sets::{is_barred, one_of};
 use std::alloc::{AllocError, Global};
 
 /// Why a run has no answer.

@@ -3,15 +3,16 @@ ghost use Rattle.std.specs.Prelude.{◌≡◌, IfErr, IfNone, IfOk, IfSome, char
 ghost use Rattle.meta_ast.specs.Optimized.{optimized_rules_of};
 ghost use Rattle.meta_base.specs.Language.Expression.{rule_of};
 ghost use Rattle.meta_base.specs.Language.State.{Classes};
-ghost use Rattle.meta_matcher.specs.Programs.{Fits, IsSkippedRule, grammar_of};
+ghost use Rattle.meta_forms.specs.Programs.{Fits, IsSkippedRule, grammar_of};
 
-use crate::compile::{Unfit, program_of, same};
 use crate::ending::Ending;
 use crate::entries::Entry;
-use crate::form::{Program, Row};
 use crate::machine::{Machine, Scene, Stop};
-use crate::properties::Properties;
 use meta_ast::optimized::OptimizedRule;
+use meta_forms::compile::{Unfit, program_of};
+use meta_forms::form::{Program, Row};
+use meta_forms::properties::Properties;
+use meta_forms::texts::same;
 use std::alloc::Global;
 
 /// What a rule matched.

@@ -7,7 +7,7 @@ ghost use Rattle.meta_matcher.specs.Runs.{mode_of, noted};
 use meta_ast::ast::RuleType;
 
 /// The atomicity.
-#[derive(Clone, Copy, Debug, PartialEq, Eq)]
+#[derive(Clone, Copy)]
 pub enum Mode {
     NonAtomic,
     Atomic,

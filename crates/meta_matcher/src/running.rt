@@ -1,27 +1,25 @@
 //! The steps of a machine: what it does with the form at hand, and with an answer.
-ghost use Rattle.std.specs.Prelude.{◌≡◌, ◌+◌, ◌-◌, ◌*◌, ◌≤◌, ℕ, List, IfErr, IfOk, OnOk, [], ◌∷◌, drop, false, length, reverse, take, true};
+ghost use Rattle.std.specs.Prelude.{◌≡◌, ◌+◌, ◌-◌, ◌*◌, ◌≤◌, IfErr, IfOk, OnOk, [], ◌∷◌, drop, length, reverse, take};
 ghost use Rattle.meta_ast.specs.Ast.{text_of};
 ghost use Rattle.meta_base.specs.Language.Expression.{Choice, Ident, NegPred, Opt, PosPred, Push, Rep, Seq, rule_of};
-ghost use Rattle.meta_base.specs.Language.Meaning.{Run, Skipping, Turns};
-ghost use Rattle.meta_base.specs.Language.State.{NonAtomicMode};
+ghost use Rattle.meta_base.specs.Language.Meaning.{Run};
 ghost use Rattle.meta_matcher.specs.Answers.{IsStopped};
-ghost use Rattle.meta_matcher.specs.Frames.{Awaits, Comes, Decides, FindsFrom, Finishes, Follows, GivesFrom, IsAhead, IsBlank, IsBoundSecond, IsCall, IsComment, IsFirst, IsGap, IsLeftSide, IsNegated, IsNested, IsOnTheWay, IsOptional, IsPushed, IsResumed, IsRunning, IsSecond, IsStarting, IsTurn, IsTurnGap, Leads, Skips, comments, said_second, starting, top_of};
+ghost use Rattle.meta_matcher.specs.Frames.{Awaits, Comes, Finishes, Follows, GivesFrom, IsAhead, IsBlank, IsBoundSecond, IsCall, IsComment, IsFirst, IsGap, IsLeftSide, IsNegated, IsNested, IsOnTheWay, IsOptional, IsPushed, IsResumed, IsRunning, IsSecond, IsStarting, Leads, Skips, comments, said_second, starting, top_of};
 ghost use Rattle.meta_matcher.specs.Endings.{classes_in};
 ghost use Rattle.meta_matcher.specs.Machines.{IsBoundIn, IsRowIn, IsSoundIn, grammar_in, names_within, now_of, round, said, steps_of};
-ghost use Rattle.meta_matcher.specs.Programs.{Fits, rule_of_row};
-ghost use Rattle.meta_matcher.specs.Runs.{IsLeft, Now, mode_of};
+ghost use Rattle.meta_forms.specs.Programs.{Fits, rule_of_row};
+ghost use Rattle.meta_forms.specs.Rests.{IsLeft};
+ghost use Rattle.meta_matcher.specs.Runs.{mode_of};
 
 use crate::ending::Ending;
 use crate::entries::{close, cut, open, written};
-use crate::form::{Form, Row};
-use crate::frames::{
-    AtOnce, Called, Came, Control, Frame, Predicate, Repetition, Saved, Second, Sequence,
-};
+use crate::frames::{AtOnce, Called, Came, Control, Frame, Predicate, Saved, Second, Sequence};
 use crate::machine::{Machine, Scene, Steps, Stop};
 use crate::modes::{Mode, body_mode, call_counts, gives_token};
 use crate::skipping::passed;
 use crate::stack::{pushed, shared};
 use crate::told::count;
+use meta_forms::form::{Form, Row};
 use std::alloc::AllocError;
 
 /// What was taken of a text, of which this is left.
@@ -37,7 +35,7 @@ fn taken<'a>(rest: &'a str, after: &'a str) -> &'a str
 impl<'a> Machine<'a> {
     /// Puts a frame on the list.
     #[inline(always)]
-    fn wait(&mut self, frame: Frame<'a>) -> Result<(), AllocError>
+    pub(crate) fn wait(&mut self, frame: Frame<'a>) -> Result<(), AllocError>
         ensures now { now_of self.new ≡ now_of self.old }
         ensures steps { self.new.steps ≡ self.old.steps }
         ensures frames { OnOk result
@@ -386,125 +384,6 @@ impl<'a> Machine<'a> {
         }
     }
 
-    /// As many turns as there are.
-    fn repetition(
-        &mut self,
-        scene: &Scene<'a>,
-        body: &'a Form,
-        mode: Mode,
-        rest: &'a str,
-    ) -> Result<Control<'a>, AllocError>
-        requires bound { IsBoundIn scene.now body.now }
-        requires left { IsLeft scene.now.text.now rest.now }
-        requires ends { Awaits scene.now self.old
-            (Finishes scene.now (starting (Run (mode_of mode) (Rep (said scene.now body.now)))
-            rest.now (now_of self.old) (steps_of self.old))) }
-        ensures { IfOk result (IsOnTheWay scene.entry.now self.new (steps_of self.old + 1)) }
-    {
-        let saved = self.saved()?;
-        let repetition = Repetition {
-            body,
-            mode,
-            rest,
-            saved,
-        };
-        self.turn(scene, repetition, rest)
-    }
-
-    /// Runs the form of a repetition.
-    #[inline]
-    fn turn(
-        &mut self,
-        scene: &Scene<'a>,
-        repetition: Repetition<'a>,
-        rest: &'a str,
-    ) -> Result<Control<'a>, AllocError>
-        requires left { IsLeft scene.now.text.now rest.now }
-        requires follows { Awaits scene.now self.old (IsTurn scene.now repetition
-            (starting (Run (mode_of repetition.mode) (said scene.now repetition.body.now))
-            rest.now (now_of self.old) (steps_of self.old + 1))) }
-        ensures { IfOk result (IsOnTheWay scene.entry.now self.new (steps_of self.old + 1)) }
-    {
-        let body = repetition.body;
-        let mode = repetition.mode;
-        self.wait(Frame::Turn(repetition))?;
-        Ok(Control::Run(body, mode, rest))
-    }
-
-    /// The form of a repetition has an answer.
-    #[inline]
-    fn after_turn(
-        &mut self,
-        scene: &Scene<'a>,
-        repetition: Repetition<'a>,
-        answer: Option<&'a str>,
-    ) -> Result<Control<'a>, AllocError>
-        requires sound { IsSoundIn scene.now }
-        requires follows { IsResumed scene.now self.old (IsTurn scene.now repetition) answer }
-        ensures { IfOk result (IsOnTheWay scene.entry.now self.new (steps_of self.old + 1)) }
-    {
-        match answer {
-            Some(after) => self.next_turn(scene, repetition.body, repetition.mode, after),
-            None => {
-                self.back_to(repetition.saved);
-                Ok(Control::Answer(Some(repetition.rest)))
-            }
-        }
-    }
-
-    /// One more turn, with what is skipped before it.
-    #[inline]
-    fn next_turn(
-        &mut self,
-        scene: &Scene<'a>,
-        body: &'a Form,
-        mode: Mode,
-        rest: &'a str,
-    ) -> Result<Control<'a>, AllocError>
-        requires sound { IsSoundIn scene.now }
-        requires bound { IsBoundIn scene.now body.now }
-        requires left { IsLeft scene.now.text.now rest.now }
-        requires ends { Awaits scene.now self.old
-            (Finishes scene.now (starting (Turns (mode_of mode) (said scene.now body.now))
-            rest.now (now_of self.old) (steps_of self.old))) }
-        ensures { IfOk result (IsOnTheWay scene.entry.now self.new (steps_of self.old + 1)) }
-    {
-        let saved = self.saved()?;
-        let repetition = Repetition {
-            body,
-            mode,
-            rest,
-            saved,
-        };
-        match passed(scene, mode, rest) {
-            Some(next) => self.turn(scene, repetition, next),
-            None => {
-                self.wait(Frame::TurnGap(repetition))?;
-                self.blanks(scene, rest)
-            }
-        }
-    }
-
-    /// What lies before the form of a repetition is skipped.
-    #[inline]
-    fn after_turn_gap(
-        &mut self,
-        scene: &Scene<'a>,
-        repetition: Repetition<'a>,
-        answer: Option<&'a str>,
-    ) -> Result<Control<'a>, AllocError>
-        requires follows { IsResumed scene.now self.old (IsTurnGap scene.now repetition) answer }
-        ensures { IfOk result (IsOnTheWay scene.entry.now self.new (steps_of self.old + 1)) }
-    {
-        match answer {
-            Some(after) => self.turn(scene, repetition, after),
-            None => {
-                self.back_to(repetition.saved);
-                Ok(Control::Answer(Some(repetition.rest)))
-            }
-        }
-    }
-
     /// Nothing, where a form fails.
     fn negation(
         &mut self,
@@ -684,7 +563,11 @@ impl<'a> Machine<'a> {
     }
 
     /// Skips the blanks, if there is a rule for them, and then the comments.
-    fn blanks(&mut self, scene: &Scene<'a>, rest: &'a str) -> Result<Control<'a>, AllocError>
+    pub(crate) fn blanks(
+        &mut self,
+        scene: &Scene<'a>,
+        rest: &'a str,
+    ) -> Result<Control<'a>, AllocError>
         requires sound { IsSoundIn scene.now }
         requires left { IsLeft scene.now.text.now rest.now }
         requires skips { Awaits scene.now self.old

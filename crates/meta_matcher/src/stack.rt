@@ -1,6 +1,5 @@
 //! The stack of texts, as a list that is shared.
-ghost use Rattle.std.specs.Prelude.{◌≡◌, ◌∷◌, ◌-◌, ◌≤◌, [], IfOk, IfSome, IfNone, None, Option, chars, drop, length, map, reverse, take};
-ghost use Rattle.meta_base.specs.Language.Matching.{end_place, place};
+ghost use Rattle.std.specs.Prelude.{◌≡◌, ◌∷◌, IfOk, chars, map};
 ghost use Rattle.meta_matcher.specs.Stacked.{stack_of};
 
 use std::alloc::{AllocError, Global};
@@ -57,31 +56,4 @@ pub fn texts_of<'a>(alloc: Global, stack: &Stack<'a>) -> Result<Vec<&'a str>, Al
         entries = below.as_ref();
     }
     Ok(texts)
-}
-
-/// A slice's number as a place in a stack of so many entries: from the end where it is below zero.
-pub fn place(count: usize, number: i32) -> Option<usize>
-    ensures { result ≡ place count number }
-{
-    if number >= 0 {
-        let at = number as usize;
-        if at <= count { Some(at) } else { None }
-    } else {
-        let back = number.unsigned_abs() as usize;
-        if back <= count {
-            Some(count - back)
-        } else {
-            None
-        }
-    }
-}
-
-/// A slice's end as a place: the stack's length where there is none.
-pub fn end_place(count: usize, number: Option<i32>) -> Option<usize>
-    ensures { result ≡ end_place count number }
-{
-    match number {
-        Some(number) => place(count, number),
-        None => Some(count),
-    }
 }

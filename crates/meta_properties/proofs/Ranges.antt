@@ -1,6 +1,6 @@
 -- What ranges hold, by both definitions of it.
 use Rattle.std.proofs.Common.{◌≡◌, ◌∙◌, refl, ap, ℕ, ◌<◌, List, [], ◌∷◌, Some, ◌&&◌, ◌||◌, nat_le, arith}
-use Rattle.meta_matcher.specs.Programs.{is_in_ranges}
+use Rattle.meta_forms.specs.Programs.{is_in_ranges}
 use Rattle.meta_properties.specs.Sets.{is_in_property}
 use Rattle.ucd_sets.specs.Lookup.{by_name}
 use Rattle.ucd_sets.specs.Loose.{normalize}

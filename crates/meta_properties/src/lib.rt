@@ -2,10 +2,10 @@
 #![tactic(auto)]
 
 ghost use Rattle.std.specs.Prelude.{◌≡◌, ◌<◌, ℕ, IfOk, IfSome, chars};
-ghost use Rattle.meta_matcher.specs.Programs.{is_in_ranges};
+ghost use Rattle.meta_forms.specs.Programs.{is_in_ranges};
 ghost use Rattle.meta_properties.specs.Sets.{is_in_property};
 
-use meta_matcher::properties::Properties;
+use meta_forms::properties::Properties;
 use meta_names::unicode_property_names;
 use std::alloc::{AllocError, Global};
 use ucd_sets::{by_name, normalize};

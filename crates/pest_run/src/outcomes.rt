@@ -12,7 +12,7 @@ use crate::arguments::Format;
 use crate::messages::failure_message;
 use meta_base::grammar::Rule;
 use meta_base::runtime::{Error, ErrorVariant, Fault, Position};
-use meta_matcher::compile::Unfit;
+use meta_forms::compile::Unfit;
 use meta_matcher::entries::Entry;
 use meta_matcher::machine::Stop;
 use meta_matcher::matcher::{Found, Matcher, Refusal};

@@ -1,0 +1,5 @@
+pub mod Leaving
+pub mod Compiling
+pub mod Indexing
+pub mod Forming
+pub mod TextLemmas

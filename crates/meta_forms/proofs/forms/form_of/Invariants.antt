@@ -1,0 +1,13 @@
+use Rattle.std.proofs.Common.{◌≡◌, ◌+◌}
+use Rattle.meta_ast.specs.Optimized.{optimized_expression_of, optimized_rules_of}
+use Rattle.meta_ast.specs.Rebuilding.{filled, waiting}
+use Rattle.meta_forms.specs.Compiled.{names_in}
+use Rattle.meta_forms.specs.Forming.{comes_of, effort, waits_of, with_operand}
+use Rattle.meta_forms.proofs.Forming.{IsUnderWay}
+use Rattle.meta_forms.proofs.forms.form_of.Given as goal
+
+abbrev pub invariant-steps : goal.invariant-steps
+invariant-steps l = IsUnderWay (optimized_rules_of l.rules.rules.now) l.properties (optimized_expression_of l.expr) l.step l.outside.items
+
+abbrev pub decreases-steps : goal.decreases-steps
+decreases-steps l = effort l.step + waiting waits_of l.outside.items

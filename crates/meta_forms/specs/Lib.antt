@@ -1,0 +1,6 @@
+pub mod Programs
+pub mod Rests
+pub mod Compiled
+pub mod Indexed
+pub mod Forming
+pub mod FormWeight
