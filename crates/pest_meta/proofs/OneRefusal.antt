@@ -1,5 +1,5 @@
 -- A text is refused with one list of errors at most, by what they say and where.
-use Rattle.std.proofs.Common.{◌≡◌, ℕ, List, [], ◌∷◌, Some, ◌⊎◌, inl, inr, refl, sym, ap, subst, ◌∙◌}
+use Rattle.std.proofs.Common.{◌≡◌, ℕ, List, [], ◌∷◌, ◌⊎◌, inl, inr, sym, ap, subst, ◌∙◌}
 use Rattle.meta_base.specs.Language.State.{Trees}
 use Rattle.meta_base.specs.Pieces.LineColumn.{line_column}
 use Rattle.meta_base.specs.Pieces.PrintedError.{message_of, printed_line}
@@ -8,9 +8,7 @@ use Rattle.meta_base.specs.declared.runtime.errors.Error.{Error}
 use Rattle.meta_base.specs.declared.runtime.errors.InputLocation.TheVariants as at
 use Rattle.meta_base.specs.declared.runtime.errors.LineColLocation.TheVariants as in_lines
 use Rattle.meta_base.proofs.FailurePlaces.{one_place}
-use Rattle.meta_nodes.specs.Spanned.{SpannedRule}
 use Rattle.meta_reader.specs.Flaws.{Flaw}
-use Rattle.meta_reader.specs.Reading.{ReadsRules}
 use Rattle.meta_reader.specs.Refusals.{cause_message, TellsOf}
 use Rattle.meta_reader.proofs.Uniqueness.{rules_once}
 use Rattle.meta_syntax.specs.MetaGrammar.{meta_grammar}
@@ -20,7 +18,7 @@ use Rattle.meta_validator.specs.Alike.{AreAlike, IsAlike}
 use Rattle.meta_validator.specs.Reported.{AreReported}
 use Rattle.meta_validator.proofs.OneFindingList.{one_list_of_errors, says_alike, tell_alike}
 use Rattle.pest_meta.specs.Findings.{TellFindings}
-use Rattle.pest_meta.specs.Spelling.{AreFlawed, complaints_in, HaveFindings, HasWrongRules, IsMisnamed, IsNoGrammar, IsRefusedGrammar, IsRefusedWith}
+use Rattle.pest_meta.specs.Spelling.{AreFlawed, complaints_in, HaveFindings, HasWrongRules, IsMisnamed, IsNoGrammar, IsRefusedWith}
 use Rattle.pest_meta.proofs.OneReportList.{one_list_of_reports}
 use Rattle.pest_meta.proofs.OneText.{rules_stand}
 use Rattle.pest_meta.proofs.Spelled.{empty_classes, flawed_give_none, trees_once, trees_or_fails}

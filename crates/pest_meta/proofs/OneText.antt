@@ -1,10 +1,10 @@
 -- All that is read from a text stands in it, and so does what the stack pass reports of it.
-use Rattle.std.proofs.Common.{◌≡◌, ℕ, List, [], ◌∷◌, ◌++◌, map, Bool, Option, Some, inl, inr, refl, ap, ◌∙◌}
+use Rattle.std.proofs.Common.{◌≡◌, ℕ, List, [], ◌∷◌, ◌++◌, map, Bool, Some, inl, inr, refl}
 use Rattle.std.proofs.lemmas.List.Elements.{All-nil, All-cons, All-head, All-tail, All-same, All-append}
 use Rattle.std.specs.List.{All}
 use Rattle.meta_base.specs.Language.State.{Trees}
 use Rattle.meta_nodes.specs.Spanned.{Span, span_of, Spanned, Leaf, One, Two, Unary, placed, SpannedRule}
-use Rattle.meta_reader.specs.Reading.{Category, Postfixed, done, more, Reads, barred, unbarred, one_alternative, choice, one_term, sequence, tagged, pos_pred, neg_pred, bare, grouped, leaf, pushed, literally_pushed, ReadsRule, line_doc, normal, modified, ReadsRules, end_of_input, grammar_doc, documented, defined}
+use Rattle.meta_reader.specs.Reading.{Category, Postfixed, done, more, Reads, barred, unbarred, one_alternative, choice, one_term, sequence, tagged, pos_pred, neg_pred, bare, grouped, leaf, pushed, literally_pushed, ReadsRule, normal, modified, ReadsRules, end_of_input, grammar_doc, documented, defined}
 use Rattle.meta_stack_pass.specs.Visiting.{AllReported}
 use Rattle.meta_abstract_stacks.specs.Reading as says
 use Rattle.meta_abstract_stacks.specs.Reported.{Own, ReportedIn}

@@ -1,6 +1,8 @@
-use Rattle.std.proofs.Common.{map, subst}
+use Rattle.std.proofs.Common.{◌≡◌, [], IfOk, map, subst}
 use Rattle.std.proofs.lemmas.Result.{IfOk-weaker}
+use Rattle.meta_base.specs.Language.WellFormed.{IsWellFormed}
 use Rattle.meta_nodes.specs.Nodes.{piece_of, rule_views}
+use Rattle.meta_table.specs.Names.{grammar_of}
 use Rattle.meta_stack_pass.specs.Certain.{AreReports}
 use Rattle.meta_validator.specs.Reported.{AreReported}
 use Rattle.meta_validator.proofs.NothingElse.{none_endless}
@@ -16,6 +18,10 @@ returns-clause-exact c =
       tell = subst (λ z. AreReported (rule_views z) endless errors.items) c.as_slice-rules.ensures.value
           (subst (λ z. AreReported (rule_views c.as_slice-rules.result.now) (map piece_of z) errors.items) c.as_slice.ensures.value told);
     }) c.validate_by.ensures.exact
+
+pub returns-clause-accepted : goal.returns-clause-accepted
+returns-clause-accepted c =
+    subst (λ z. IfOk c.validate_by.result (λ errors. errors.items ≡ [] → IsWellFormed (grammar_of z))) c.as_slice-rules.ensures.value c.validate_by.ensures.accepted
 
 pub returns-clause-silent : goal.returns-clause-silent
 returns-clause-silent c =
