@@ -11,8 +11,8 @@ ghost use Rattle.meta_matcher.specs.Answers.{IsSoundMatcher};
 
 use anyhow::{Context, Result, bail};
 use meta_forms::compile::Unfit;
-use meta_matcher::matcher::{Found, Matcher, Refusal};
 use meta_forms::properties::NoProperties;
+use meta_matcher::matcher::{Found, Matcher, Refusal};
 use pest_meta::optimizer::release;
 use pest_meta::parse_and_optimize;
 use std::alloc::Global;

@@ -10,10 +10,10 @@ ghost use Rattle.std.specs.Prelude.{◌∷◌, []};
 ghost use Rattle.meta_forms.specs.Programs.{is_in_ranges};
 
 use meta_forms::compile::Unfit;
+use meta_forms::properties::Properties;
 use meta_matcher::entries::Entry;
 use meta_matcher::machine::Stop;
 use meta_matcher::matcher::{Found, Matcher, Refusal};
-use meta_forms::properties::Properties;
 use pest_meta::optimizer::release;
 use pest_meta::parse_and_optimize;
 use std::alloc::{AllocError, Global};

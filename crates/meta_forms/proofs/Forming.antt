@@ -1,5 +1,5 @@
 -- One more that stands around an operand, innermost, and one less, while a form is made.
-use Rattle.std.proofs.Common.{◌≡◌, ◌+◌, ◌≤◌, ◌<◌, List, [], ◌∷◌, ◌++◌, Bor, ap, subst, sym, ◌∙◌, arith}
+use Rattle.std.proofs.Common.{◌≡◌, ◌+◌, ◌≤◌, ◌<◌, List, [], ◌∷◌, ◌++◌, Bor, ap, subst, ◌∙◌, arith}
 use Rattle.std.specs.Prelude.{⊤}
 use Rattle.meta_base.specs.Language.Expression.{Expression, Grammar}
 use Rattle.meta_ast.specs.Rebuilding.{GoesOn, filled, waiting}

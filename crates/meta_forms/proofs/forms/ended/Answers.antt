@@ -1,5 +1,5 @@
 use Rattle.std.proofs.Common.{ap, ◌∙◌, refl}
-use Rattle.meta_forms.specs.Compiled.{Compiles, names_in}
+use Rattle.meta_forms.specs.Compiled.{names_in}
 use Rattle.meta_forms.specs.Forming.{with_operand}
 use Rattle.meta_forms.specs.Programs.{expression_of}
 use Rattle.meta_forms.proofs.forms.ended.Goals as goal

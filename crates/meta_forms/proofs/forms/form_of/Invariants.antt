@@ -1,8 +1,7 @@
-use Rattle.std.proofs.Common.{◌≡◌, ◌+◌}
+use Rattle.std.proofs.Common.{◌+◌}
 use Rattle.meta_ast.specs.Optimized.{optimized_expression_of, optimized_rules_of}
-use Rattle.meta_ast.specs.Rebuilding.{filled, waiting}
-use Rattle.meta_forms.specs.Compiled.{names_in}
-use Rattle.meta_forms.specs.Forming.{comes_of, effort, waits_of, with_operand}
+use Rattle.meta_ast.specs.Rebuilding.{waiting}
+use Rattle.meta_forms.specs.Forming.{effort, waits_of}
 use Rattle.meta_forms.proofs.Forming.{IsUnderWay}
 use Rattle.meta_forms.proofs.forms.form_of.Given as goal
 

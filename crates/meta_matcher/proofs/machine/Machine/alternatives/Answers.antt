@@ -1,6 +1,6 @@
 use Rattle.std.proofs.Common.{◌+◌, ◌≤◌, refl, arith}
 use Rattle.meta_base.specs.Language.Meaning.{Run}
-use Rattle.meta_matcher.specs.Machines.{now_of, said, steps_of}
+use Rattle.meta_matcher.specs.Machines.{said, steps_of}
 use Rattle.meta_matcher.specs.Runs.{mode_of}
 use Rattle.meta_matcher.specs.declared.frames.Frame.TheVariants as frame
 use Rattle.meta_matcher.proofs.Timing.{led_astray, stuck_at_once, within_then, within_top}
