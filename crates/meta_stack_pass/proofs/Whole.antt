@@ -12,7 +12,6 @@ use Rattle.meta_nodes.specs.Erasure.{rules_without_spans, without_spans}
 use Rattle.meta_nodes.specs.Nodes.{piece_of, view, rule_views}
 use Rattle.meta_nodes.specs.Spanned.{Span, Spanned, SpannedRule}
 use Rattle.meta_nodes.specs.declared.node.ParserRule.{ParserRule}
-use Rattle.meta_nullable.specs.Facts.{AreNullable}
 use Rattle.meta_abstract_stacks.specs.Stack.{AbstractStack, In, entry}
 use Rattle.meta_abstract_stacks.specs.Reading as says
 use Rattle.meta_abstract_stacks.specs.Reading.{reading, name_reading}
@@ -37,7 +36,7 @@ use Rattle.meta_stack_pass.specs.declared.memory.Memory.{Memory}
 use Rattle.meta_stack_pass.specs.declared.table.Node.{Node}
 use Rattle.meta_stack_pass.specs.declared.table.Table.{Table}
 use Rattle.meta_stack_pass.proofs.Answered.{recursive, recursive_reaches}
-use Rattle.meta_stack_pass.proofs.Nullable.{decided, knows_nullable, null_at}
+use Rattle.meta_stack_pass.proofs.Nullable.{decided, is_null, knows_nullable, null_at, settled_null}
 use Rattle.meta_stack_pass.proofs.Reached.{flagged_reaches}
 use Rattle.meta_stack_pass.proofs.Reporting.{told_otherwise}
 use Rattle.meta_table.proofs.Resolved.{got_like}
@@ -250,9 +249,9 @@ module _ (rules : List ParserRule) (t : Table) (h : IsTableOf rules t) (flags : 
 
 -- where nothing may be reported in any body, nothing is
 module _ (rules : List ParserRule) (ns : List Node) (roots : List ℕ) (tabled : AreTabled rules (kind_in (grammar_of rules)) ns roots) (flags : List Bool) (may : AreReportable ns roots flags)
-    (off : (r i : ℕ) → slice_get roots r ≡ Some i → is_set_at flags i ≡ false) (null : List Bool) (right : AreNullable rules null) where
+    (off : (r i : ℕ) → slice_get roots r ≡ Some i → is_set_at flags i ≡ false) where
   abbrev takes_nothing : Spanned → Bool
-  takes_nothing x = may_stay (λ n. name_flag (grammar_of rules) roots null n) (without_spans x)
+  takes_nothing x = may_stay (is_null rules) (without_spans x)
 
   abbrev none_in : Spanned → List Span → Type 0
   none_in = ReportedFrom 3067 64 (recursive rules ns roots tabled) (grammar_of rules) takes_nothing
@@ -270,7 +269,7 @@ module _ (rules : List ParserRule) (ns : List Node) (roots : List ℕ) (tabled :
       recursive = recursive rules ns roots tabled;
       reaches_itself = recursive_reaches rules ns roots tabled;
       nullable = takes_nothing;
-      knows = λ x. decided rules roots tabled.roots null right (without_spans x);
+      knows = λ x. settled_null rules (without_spans x);
       turns = 64;
       most_searched = refl;
       certain = λ limit k s i. absurd i;

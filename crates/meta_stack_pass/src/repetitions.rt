@@ -1,17 +1,19 @@
 //! The whole pass.
-ghost use Rattle.std.specs.Prelude.{◌≡◌, ◌<◌, ◌&&◌, not, IfOk, IfErr, OnOk, MatchOption, alloc_error, map, is_some, [], ◌∷◌};
+ghost use Rattle.std.specs.Prelude.{◌≡◌, ◌<◌, ◌&&◌, not, IfOk, IfErr, IfSome, OnOk, MatchOption, alloc_error, map, is_some, [], ◌∷◌};
 ghost use Rattle.std.specs.List.{filter};
 ghost use Rattle.std.specs.Str.{IsAscii};
 ghost use Rattle.meta_base.specs.Language.Expression.{whitespace, comment};
 ghost use Rattle.meta_base.specs.Pieces.Saying.{Tell};
 ghost use Rattle.meta_flags.specs.Least.{is_set_at};
 ghost use Rattle.meta_nodes.specs.Nodes.{rule_views, piece_of};
+ghost use Rattle.meta_nullable.specs.Facts.{AreFacts, AreNullable};
 ghost use Rattle.meta_nullable.specs.Groundwork.{IsGroundwork};
 ghost use Rattle.meta_abstract_stacks.specs.Reports.{skips_in};
 ghost use Rattle.meta_stack_pass.specs.Certain.{AreFound, AreReports, IsSorted, TellReports, complaint_at};
 ghost use Rattle.meta_stack_pass.specs.Expressions.{body_flag, name_flag};
 ghost use Rattle.meta_table.specs.NameMaps.{KnowsRules};
 ghost use Rattle.meta_table.specs.Names.{grammar_of, last_place};
+ghost use Rattle.meta_table.specs.Roots.{IsTabled};
 ghost use Rattle.meta_stack_pass.specs.Table.{AreInside, IsOrdered};
 ghost use Rattle.meta_stack_pass.specs.Reportable.{FindsMore, IsToVisit};
 ghost use Rattle.meta_stack_pass.specs.Visiting.{FindsAll, Keeps};
@@ -31,8 +33,8 @@ use meta_base::grammar::Rule;
 use meta_base::runtime::{Error, ErrorVariant, Fault, Span, Survey};
 use meta_flags::is_set;
 use meta_nodes::ParserRule;
-use meta_nullable::{Groundwork, groundwork_of};
-use meta_table::Names;
+use meta_nullable::{Facts, Groundwork, facts_of};
+use meta_table::{Names, names_of, tabulated};
 use std::alloc::{AllocError, Global};
 
 /// How many abstract stacks there are.
@@ -94,6 +96,28 @@ fn leaves_stack<'i>(
         && !is_body_set(rules, names, roots, flags, "COMMENT")
 }
 
+/// Which nodes may take nothing, by the facts that are lent, or found out where none are.
+fn nullable_flags<'i>(
+    alloc: Global,
+    rules: &[ParserRule<'i>],
+    names: &Names,
+    table: &meta_table::Table<'_, 'i>,
+    lent: Option<&Facts>,
+) -> Result<Vec<bool>, AllocError>
+    requires known { KnowsRules rules.now names.now }
+    requires tabled { IsTabled rules.now table.now }
+    requires facts { IfSome lent (λ facts. AreFacts rules.now facts.now) }
+    ensures { IfOk result (λ flags. AreNullable rules.now flags.items) }
+{
+    match lent {
+        Some(facts) => facts.copied_nullable(alloc),
+        None => {
+            let Facts { nullable, .. } = facts_of(alloc, rules, names, table)?;
+            Ok(nullable)
+        }
+    }
+}
+
 /// What is visited.
 #[derive(Drop)]
 pub struct ToVisit<'i> {
@@ -108,15 +132,18 @@ pub struct ToVisit<'i> {
 fn to_visit_in<'i>(
     alloc: Global,
     rules: &[ParserRule<'i>],
-    groundwork: &Groundwork<'_, 'i>,
+    names: &Names,
+    table: &meta_table::Table<'_, 'i>,
+    lent: Option<&Facts>,
 ) -> Result<Option<ToVisit<'i>>, AllocError>
-    requires { IsGroundwork rules.now groundwork.now }
+    requires known { KnowsRules rules.now names.now }
+    requires tabled { IsTabled rules.now table.now }
+    requires facts { IfSome lent (λ facts. AreFacts rules.now facts.now) }
     ensures { IfOk result (λ found. MatchOption found (AreFound (rule_views rules.now) [])
         (λ visited. IsToVisit rules.now visited)) }
 {
-    let names = &groundwork.names;
-    let nodes = nodes_with_kinds(alloc, rules, names, &groundwork.table)?;
-    let roots = groundwork.table.copied_roots(alloc)?;
+    let nodes = nodes_with_kinds(alloc, rules, names, table)?;
+    let roots = table.copied_roots(alloc)?;
     let reportable = reportable_nodes(alloc, roots.as_slice(), nodes.as_slice())?;
     if !is_some_root_set(roots.as_slice(), reportable.as_slice()) {
         return Ok(None);
@@ -130,7 +157,7 @@ fn to_visit_in<'i>(
     if !leaves_stack(rules, names, roots.as_slice(), changing.as_slice()) {
         return Ok(None);
     }
-    let nullable = groundwork.facts.copied_nullable(alloc)?;
+    let nullable = nullable_flags(alloc, rules, names, table, lent)?;
     let Calls { recursive, ranks } = calls_of(alloc, roots.as_slice(), nodes.as_slice())?;
     let table = Table {
         nodes,
@@ -316,12 +343,16 @@ fn visit_all<'i>(
 fn all_reports<'i>(
     alloc: Global,
     rules: &[ParserRule<'i>],
-    groundwork: &Groundwork<'_, 'i>,
+    names: &Names,
+    table: &meta_table::Table<'_, 'i>,
+    lent: Option<&Facts>,
 ) -> Result<Vec<Span<'i>>, AllocError>
-    requires { IsGroundwork rules.now groundwork.now }
+    requires known { KnowsRules rules.now names.now }
+    requires tabled { IsTabled rules.now table.now }
+    requires facts { IfSome lent (λ facts. AreFacts rules.now facts.now) }
     ensures { IfOk result (λ found. AreFound (rule_views rules.now) (map piece_of found.items)) }
 {
-    match to_visit_in(alloc, rules, groundwork)? {
+    match to_visit_in(alloc, rules, names, table, lent)? {
         None => Ok(Vec::new(alloc)),
         Some(visited) => visit_all(alloc, &visited.table, visited.reportable.as_slice()),
     }
@@ -343,8 +374,11 @@ pub fn sorted_reports<'i>(
 ) -> Result<Vec<Span<'i>>, AllocError>
     ensures exact { IfOk result (λ found. AreReports (rule_views rules.now) (map piece_of found.items)) }
 {
-    let groundwork = groundwork_of(alloc, rules)?;
-    sorted_reports_in(alloc, rules, &groundwork)
+    let names = names_of(alloc, rules)?;
+    let table = tabulated(alloc, rules)?;
+    let mut found = all_reports(alloc, rules, &names, &table, None)?;
+    sort_spans(&mut found)?;
+    Ok(found)
 }
 
 /// The same places, by the groundwork that was laid for the rules. The only fault is a want of memory.
@@ -356,7 +390,12 @@ pub fn sorted_reports_in<'i>(
     requires { IsGroundwork rules.now groundwork.now }
     ensures exact { IfOk result (λ found. AreReports (rule_views rules.now) (map piece_of found.items)) }
 {
-    let mut found = all_reports(alloc, rules, groundwork)?;
+    let Groundwork {
+        names,
+        table,
+        facts,
+    } = groundwork;
+    let mut found = all_reports(alloc, rules, names, table, Some(facts))?;
     sort_spans(&mut found)?;
     Ok(found)
 }

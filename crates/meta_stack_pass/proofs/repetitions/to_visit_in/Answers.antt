@@ -14,17 +14,10 @@ use Rattle.meta_stack_pass.specs.declared.table.Node.{Node}
 use Rattle.meta_stack_pass.specs.Kinds.{AreTabled}
 use Rattle.meta_base.specs.Language.Text.{Text}
 use Rattle.meta_nodes.specs.declared.node.ParserRule.{ParserRule}
-use Rattle.meta_nullable.specs.Facts.{AreNullable}
-use Rattle.meta_nullable.specs.Groundwork.{IsGroundwork}
-use Rattle.meta_nullable.specs.declared.groundwork.Groundwork.{Groundwork}
-use Rattle.meta_nullable.proofs.Roots.{nullable_nodes}
 use Rattle.meta_stack_pass.proofs.Silence.{behind, silent}
 use Rattle.meta_stack_pass.proofs.Tabled.{as_it_should, is_calm, is_changed}
 use Rattle.meta_stack_pass.proofs.Whole.{plain_none}
 use Rattle.meta_stack_pass.proofs.repetitions.to_visit_in.Goals as goal
-
-right_flags : (rules : List ParserRule) (made : Groundwork) → IsGroundwork rules made → AreNullable rules made.facts.nullable.items
-right_flags rules made h = nullable_nodes rules made.facts.table made.facts.nullable.items h.facts.tabled h.facts.nullable
 
 tabled_at : (rules : List ParserRule) (kind_of : Text → Kind) (ns : List Node) (rs ts : List ℕ) → rs ≡ ts → AreTabled rules kind_of ns ts → AreTabled rules kind_of ns rs
 tabled_at rules kind_of ns rs ts e h = subst (λ z. AreTabled rules kind_of ns z) (sym e) h
@@ -53,7 +46,6 @@ returns-then-not-is_some_root_set c =
     plain_none c.args.rules.now c.in_ok-nodes.nodes.items c.in_ok-roots.roots.items (tabled_at _ _ _ _ _ c.in_ok-roots.ensures c.in_ok-nodes.ensures) flags
     (may_at _ _ _ _ flags c.as_slice-2.ensures.value c.as_slice.ensures.value c.in_ok-reportable.ensures)
     (off_at _ _ _ _ c.as_slice-3.ensures.value c.as_slice-4.ensures.value (c.is_some_root_set.ensures c.if-not-is_some_root_set.true))
-    c.args.groundwork.now.facts.nullable.items (right_flags c.args.rules.now c.args.groundwork.now c.requires)
 
 pub returns-then-not-leaves_stack : goal.returns-then-not-leaves_stack
 returns-then-not-leaves_stack c =
@@ -81,7 +73,7 @@ returns c =
       table = as_it_should c.args.rules.now _ (record {
         tabled = tabled_at _ _ _ _ _ c.in_ok-roots.ensures c.in_ok-nodes.ensures;
         skips = c.is_skipping.ensures;
-        nullable = subst (AreNullable c.args.rules.now) (sym c.in_ok-nullable.ensures) (right_flags c.args.rules.now c.args.groundwork.now c.requires);
+        nullable = c.in_ok-nullable.ensures;
         calls = calls_at _ _ _ _ _ _ c.as_slice-10.ensures.value c.as_slice-9.ensures.value c.in_ok-recursive.ensures;
         calm = calm;
         limit = refl;
