@@ -23,15 +23,15 @@ IsUncounted _ = ⊤
 -- an operand inside it
 abbrev pub with_operand : Around → Expression → Expression
 with_operand (around.Sign s) x = under_sign s x
-with_operand (around.First j right) x = joined j x (expression_of right.value)
+with_operand (around.First j right) x = joined j x (expression_of right.value.value)
 with_operand (around.Second j left) x = joined j (optimized_expression_of left.value.value) x
 
 -- what waits in it has no counted repetition
 abbrev pub WaitsUnrolled : Around → Type 0
-WaitsUnrolled (around.First j right) = IsUnrolled (expression_of right.value)
+WaitsUnrolled (around.First j right) = IsUnrolled (expression_of right.value.value)
 WaitsUnrolled _ = ⊤
 
 -- how much there is to be done once the operand is made
 abbrev pub waits_of : Around → ℕ
-waits_of (around.First j right) = 4 * weight (expression_of right.value) + 3
+waits_of (around.First j right) = 4 * weight (expression_of right.value.value) + 3
 waits_of _ = 1

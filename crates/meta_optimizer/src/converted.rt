@@ -34,7 +34,7 @@ pub(crate) fn rule_to_optimized_rule(alloc: Global, rule: Rule) -> Result<Optimi
 enum Around {
     Sign(OptimizedSign),
     /// The operand is the left one, and this the right one.
-    First(Joint, Deep<Expr>),
+    First(Joint, Deep<Box<Expr>>),
     /// The operand is the right one, and this the left one as it is made.
     Second(Joint, Deep<Box<OptimizedExpr>>),
 }
@@ -69,8 +69,7 @@ impl Rebuild for Around {
                 Ok(Step::Inside(around, Box::into_inner(operand)))
             }
             Shape::Two(joint, left, right) => {
-                let value = Box::into_inner(right);
-                let around = Around::First(joint, Deep { value });
+                let around = Around::First(joint, Deep { value: right });
                 Ok(Step::Inside(around, Box::into_inner(left)))
             }
         }
@@ -89,7 +88,7 @@ impl Rebuild for Around {
             }
             Around::First(joint, right) => {
                 let around = Around::Second(joint, operand);
-                Ok(Step::Inside(around, right.into_inner()))
+                Ok(Step::Inside(around, Box::into_inner(right.into_inner())))
             }
             Around::Second(joint, left) => {
                 let whole = OptimizedExpr::join(joint, left.into_inner(), operand.into_inner());
