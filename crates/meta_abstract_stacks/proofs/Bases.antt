@@ -4,9 +4,9 @@ use Rattle.std.specs.Prelude.{⊤}
 use Rattle.meta_base.specs.Language.Expression.{Grammar, Expression, Str, Insens, Range, Ident, PeekSlice, PosPred, NegPred, Seq, Choice, Opt, Rep, RepOnce, RepExact, RepMin, RepMax, RepMinMax, Skip, Push, RestoreOnErr, Rule, rule_of, PushLiteral, NodeTag}
 use Rattle.meta_base.specs.Language.Text.{Text}
 use Rattle.meta_base.specs.Language.Builtins.{Builtin, One, Property, Newline, Soi, Eoi, Peek, Pop, Drop, PeekAll, PopAll, builtin_of}
+use Rattle.meta_base.proofs.Basics.{first_of_both, second_of_both}
 use Rattle.meta_abstract_stacks.specs.Stack.{Base, Empty, Blank, Any, AbstractStack, unknown, is_empty, all_blank, push_mark, pop_one, pop_all, popped, common, both_marks, join, join_any, failed, is_among}
 use Rattle.meta_abstract_stacks.specs.Reading.{Reading, surely, maybe, anything, from, only_if, peek_all_reading, pop_all_reading, top_reading, drop_reading, builtin_reading, slice_reading, text_reading, pushed_reading, stays, tried, Copy, Required, Optional, Endless, Walk, turns, onward, walk, walked, at_least_copies, from_to_copies, reading, rule_reading, name_reading, literal_reading}
-use Rattle.meta_abstract_stacks.proofs.Stacks.{and_left, and_right}
 
 abbrev pub FromBase : AbstractStack → AbstractStack → Type 0
 FromBase a b = b.intact ≡ true → (a.intact ≡ true) × (b.base ≡ a.base)
@@ -27,7 +27,7 @@ lost h = cc
 onto : (a b c : AbstractStack) → FromBase a b → FromBase b c → FromBase a c
 onto a b c f h i = let j = h i in let k = f j.0 in (k.0, j.1 ∙ k.1)
 
-common_same : (b : Base) → common b b ≡ b
+pub common_same : (b : Base) → common b b ≡ b
 common_same Empty = refl
 common_same Blank = refl
 common_same Any = refl
@@ -40,8 +40,8 @@ join_from a b c f h = go (nat_eq (length b.marks) (length c.marks)) (all_blank b
   where
     go : (x y : Bool) → FromBase a (if x then record { base = common b.base c.base; marks = both_marks b.marks c.marks; intact = b.intact && c.intact } else (if y then record { base = Blank; marks = []; intact = false } else unknown))
     go true y i =
-        let j = f (and_left b.intact c.intact i) in
-        let k = h (and_right b.intact c.intact i) in (j.0, common_from a.base b.base c.base j.1 k.1)
+        let j = f (first_of_both b.intact c.intact i) in
+        let k = h (second_of_both b.intact c.intact i) in (j.0, common_from a.base b.base c.base j.1 k.1)
     go false true i = lost i
     go false false i = lost i
 
@@ -90,7 +90,7 @@ popped_from [] Blank i h = lost h
 popped_from [] Any i h = lost h
 
 pop_all_from : (a : AbstractStack) → FromBase a (pop_all a)
-pop_all_from a h = (and_left a.intact (is_empty a.base) h, empty a.base (and_right a.intact (is_empty a.base) h))
+pop_all_from a h = (first_of_both a.intact (is_empty a.base) h, empty a.base (second_of_both a.intact (is_empty a.base) h))
   where
     empty : (b : Base) → is_empty b ≡ true → Empty ≡ b
     empty Empty h = refl

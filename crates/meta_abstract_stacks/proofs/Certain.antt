@@ -4,6 +4,7 @@ use Rattle.meta_base.specs.Language.Expression.{Grammar, Expression, Seq, Rep}
 use Rattle.meta_base.specs.Language.State.{Classes, Mode, IsRuleMode, State, Trees, Outcome, Success, Failure}
 use Rattle.meta_base.specs.Language.Text.{Text}
 use Rattle.meta_base.specs.Language.Meaning.{Does, Run, Turns, Skipping, seq, seq_first, seq_second, rep, rep_none, turn, turn_none, rep_once, rep_min, in_sequence}
+use Rattle.meta_base.proofs.Basics.{same_some}
 use Rattle.meta_abstract_stacks.specs.Stack.{Base, AbstractStack, Describes, made_intact, failed, are_among}
 use Rattle.meta_abstract_stacks.specs.Reading.{Reading, tried, opt_reading, Copy, Endless, lands, loops_within, loops}
 use Rattle.meta_abstract_stacks.specs.Reports.{skips_in, reading_in, Repeats, any_times, once_or_more, at_least, Route, Turn, next, turn_start, Visits, visit, visit_seq_first, visit_seq_second, visit_choice_first, visit_choice_second, visit_opt, visit_push, visit_pos_pred, visit_neg_pred, visit_turn, TurnAt, now, after_required, after_optional, after_turn, ReachesRoute, reach, reach_seq_first, reach_seq_second, reach_choice_first, reach_choice_second, reach_opt, reach_push, reach_pos_pred, reach_neg_pred, reach_turn, IsReport, IsCertain, visit_tag, reach_tag}
@@ -16,9 +17,6 @@ use Rattle.meta_abstract_stacks.proofs.Bases.{AllFrom, Keeps, reading_keeps}
 
 abbrev at : Base → List Bool → AbstractStack
 at b ms = record { base = b; marks = ms; intact = true }
-
-same_some : {A : Type 0} {a b : A} → Some a ≡ Some b → a ≡ b
-same_some h = cc
 
 has_this : (q : Option AbstractStack) (a : AbstractStack) (ts : List Text) → q ≡ Some a → Has q ts → Describes a ts
 has_this q a ts e h = subst (λ x. Has x ts) e h

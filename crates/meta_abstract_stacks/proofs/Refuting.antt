@@ -5,13 +5,11 @@ use Rattle.meta_base.specs.Language.Expression.{Expression, Ident, Rep, RepExact
 use Rattle.meta_base.specs.Language.State.{Classes, AtomicMode, State, None', Success}
 use Rattle.meta_base.specs.Language.Meaning.{Does, Run, rep_none, other, atomic}
 use Rattle.meta_base.specs.Language.Text.{Text}
+use Rattle.meta_base.proofs.Basics.{same_some}
 use Rattle.meta_abstract_stacks.specs.Refuted.{peeked, peeked_twice, top, top_of_none, alone}
 use Rattle.meta_abstract_stacks.specs.Stack.{AbstractStack}
 use Rattle.meta_abstract_stacks.specs.Reading.{Required}
 use Rattle.meta_abstract_stacks.specs.Reports.{Repetition, repetition, Repeats, any_times, once_or_more, at_least, Route, Here, Turn, HasTurn, StandsAt, to_itself, to_seq_first, to_seq_second, to_choice_first, to_choice_second, to_opt, to_push, to_pos_pred, to_neg_pred, to_turn, now, after_required, ReachesRoute, reach, reach_turn, IsCertain, to_tag}
-
-same_some : {A : Type 0} {a b : A} → Some a ≡ Some b → a ≡ b
-same_some h = cc
 
 name_alone : {e p : Expression} {r : Route} (n : Text) → StandsAt e r p → e ≡ Ident n → p ≡ Ident n
 name_alone n to_itself h = h

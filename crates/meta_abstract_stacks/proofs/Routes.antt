@@ -3,6 +3,7 @@ use Rattle.std.proofs.Common.{◌≡◌, ◌⊎◌, inl, inr, ℕ, zero, suc, Li
 use Rattle.meta_base.specs.Language.Text.{Text}
 use Rattle.meta_base.specs.Language.Expression.{Grammar, Expression}
 use Rattle.meta_base.proofs.CannotFailIsNullable.{nullable_of}
+use Rattle.meta_base.proofs.Basics.{same_some}
 use Rattle.meta_nodes.specs.Erasure.{without_spans}
 use Rattle.meta_nodes.specs.Spanned.{span_of, Span, Spanned, Leaf, One, Two, Unary, PosPred, NegPred, Opt, Rep, RepOnce, RepExact, RepMin, RepMax, RepMinMax, Push, Tag, Binary, Seq, Choice}
 use Rattle.meta_abstract_stacks.specs.Stack.{AbstractStack, In, entry, is_among}
@@ -12,10 +13,7 @@ use Rattle.meta_abstract_stacks.specs.Reported.{turn_starts, starts, copies_of, 
 use Rattle.meta_abstract_stacks.specs.Walks.{next_after}
 use Rattle.meta_abstract_stacks.proofs.Certain.{certain}
 
-same_some : {A : Type 0} {a b : A} → Some a ≡ Some b → a ≡ b
-same_some h = cc
-
-in_split : {A : Type 0} (x : A) (ys zs : List A) → In x (ys ++ zs) → In x ys ⊎ In x zs
+pub in_split : {A : Type 0} (x : A) (ys zs : List A) → In x (ys ++ zs) → In x ys ⊎ In x zs
 in_split x [] zs h = inr h
 in_split x (y ∷ ys) zs (inl e) = inl (inl e)
 in_split x (y ∷ ys) zs (inr i) = elim (in_split x ys zs i) [ inl j ↦ inl (inr j) | inr j ↦ inr j ]

@@ -8,6 +8,7 @@ use Rattle.meta_base.specs.Language.Text.{Text}
 use Rattle.meta_base.specs.Language.Matching.{begins, text_outcome, character_outcome, starts_in, newline_outcome, end_outcome, slice_at, slice_outcome, place, end_place, builtin_outcome, other_outcome, named_outcome, peek_outcome, range_set}
 use Rattle.meta_base.specs.Language.Builtins.{Builtin, One, Property, Newline, Soi, Eoi, Peek, Pop, Drop, PeekAll, PopAll, builtin_of}
 use Rattle.meta_base.specs.Language.Meaning.{Does, Task, Run, Turns, Skipping, str, insens, range, slice, skip, call, other, pos_pred, neg_pred, push, restore, seq, seq_first, seq_second, left, right, opt, opt_none, rep, rep_none, turn, turn_none, rep_once, rep_exact, rep_min, rep_max, rep_min_max, skips, atomic, compound_atomic, between, ahead, not_ahead, with_token, in_sequence, exactly, at_least, at_most, from_to, skipped, push_literal, tag}
+use Rattle.meta_base.proofs.Basics.{same_some}
 use Rattle.meta_abstract_stacks.specs.Reports.{AltersStack, by_push, by_builtin, by_rule, in_left, in_right, in_first, in_second, in_opt, in_rep, in_rep_once, in_rep_exact, in_rep_min, in_rep_max, in_rep_min_max, in_restore, TakesEntries, SkippingAltersStack, skips_in, by_push_literal, in_tag}
 use Rattle.meta_abstract_stacks.proofs.Walking.{Kept}
 
@@ -45,9 +46,6 @@ slice_keeps (Some i) (Some j) s = text_keeps nat_eq _ s
 pub slices_keep : (i : ℤ) (j : Option ℤ) (s : State) → Keeps s (slice_outcome i j s)
 slices_keep i j s = slice_keeps (place (length s.stack) i) (end_place (length s.stack) j) s
 
-pub outcome_same : {o p : Outcome} → Some o ≡ Some p → o ≡ p
-outcome_same h = cc
-
 pub token_keeps : (r : Rule) (m : Mode) (s : State) (o : Outcome) → Keeps s o → Keeps s (with_token r m s o)
 token_keeps r m s Failure k = tt
 token_keeps r m s (Success t us) k = k
@@ -62,18 +60,18 @@ not_ahead_keeps s (Success t us) = tt
 
 peek_keeps : (ts : List Text) (s : State) (o : Outcome) → peek_outcome ts s ≡ Some o → Keeps s o
 peek_keeps [] s o h = cc
-peek_keeps (t ∷ ts) s o h = subst (Keeps s) (outcome_same h) (text_keeps nat_eq t s)
+peek_keeps (t ∷ ts) s o h = subst (Keeps s) (same_some h) (text_keeps nat_eq t s)
 
 pub builtin_keeps : (classes : Classes) (m : Mode) (b : Builtin) (s : State) (o : Outcome) → (TakesEntries b → ⊥) → builtin_outcome classes m b s ≡ Some o → Keeps s o
-builtin_keeps classes m (One set) s o n h = subst (Keeps s) (outcome_same h) (one_keeps set s)
-builtin_keeps classes m (Property k) s o n h = subst (Keeps s) (outcome_same h) (one_keeps (classes k) s)
-builtin_keeps classes m Newline s o n h = subst (Keeps s) (outcome_same h) (newline_keeps s)
-builtin_keeps classes m Soi s o n h = subst (Keeps s) (outcome_same h) (place_keeps _ s)
-builtin_keeps classes m Eoi s o n h = subst (Keeps s) (outcome_same h) (end_keeps m s.rest s)
+builtin_keeps classes m (One set) s o n h = subst (Keeps s) (same_some h) (one_keeps set s)
+builtin_keeps classes m (Property k) s o n h = subst (Keeps s) (same_some h) (one_keeps (classes k) s)
+builtin_keeps classes m Newline s o n h = subst (Keeps s) (same_some h) (newline_keeps s)
+builtin_keeps classes m Soi s o n h = subst (Keeps s) (same_some h) (place_keeps _ s)
+builtin_keeps classes m Eoi s o n h = subst (Keeps s) (same_some h) (end_keeps m s.rest s)
 builtin_keeps classes m Peek s o n h = peek_keeps s.stack s o h
 builtin_keeps classes m Pop s o n h = absurd (n tt)
 builtin_keeps classes m Drop s o n h = absurd (n tt)
-builtin_keeps classes m PeekAll s o n h = subst (Keeps s) (outcome_same h) (text_keeps nat_eq _ s)
+builtin_keeps classes m PeekAll s o n h = subst (Keeps s) (same_some h) (text_keeps nat_eq _ s)
 builtin_keeps classes m PopAll s o n h = absurd (n tt)
 
 named_keeps : (classes : Classes) (m : Mode) (q : Option Builtin) (s : State) (o : Outcome) → ((b : Builtin) → q ≡ Some b → TakesEntries b → ⊥) → named_outcome classes m q s ≡ Some o → Keeps s o
@@ -81,7 +79,7 @@ named_keeps classes m None s o n h = cc
 named_keeps classes m (Some b) s o n h = builtin_keeps classes m b s o (n b refl) h
 
 other_keeps : (classes : Classes) (m : Mode) (n : Text) (s : State) (o : Outcome) → ((b : Builtin) → builtin_of n ≡ Some b → TakesEntries b → ⊥) → other_outcome classes m n s ≡ Some o → Keeps s o
-other_keeps classes Between n s o c h = subst (Keeps s) (outcome_same h) tt
+other_keeps classes Between n s o c h = subst (Keeps s) (same_some h) tt
 other_keeps classes NonAtomicMode n s o c h = named_keeps classes NonAtomicMode (builtin_of n) s o c h
 other_keeps classes AtomicMode n s o c h = named_keeps classes AtomicMode (builtin_of n) s o c h
 other_keeps classes CompoundAtomicMode n s o c h = named_keeps classes CompoundAtomicMode (builtin_of n) s o c h
@@ -187,7 +185,7 @@ module _ (g : Grammar) where
   module _ (classes : Classes) (blank : rule_of g whitespace ≡ None) (remark : rule_of g comment ≡ None) where
     fails : {n : Text} {s : State} {o : Outcome} → rule_of g n ≡ None → Does g classes (Run Between (Ident n)) s o → o ≡ Failure
     fails e (call h d) = cc
-    fails e (other f h) = sym (outcome_same h)
+    fails e (other f h) = sym (same_some h)
 
     rests : {e : Expression} {s : State} {o : Outcome} → ((t : State) (p : Outcome) → Does g classes (Run Between e) t p → p ≡ Failure) → Does g classes (Run Between (Rep e)) s o → o ≡ Success s None'
     rests f (rep_none d) = refl

@@ -3,17 +3,20 @@ use Rattle.std.proofs.Common.{◌≡◌, ℕ, zero, suc, ◌-◌, min, List, [],
 use Rattle.std.proofs.Math.Dec.{leb-zero}
 use mathlib.Core.List.{reverse_aux}
 use Rattle.std.specs.Char.{eq_ignore_ascii_case}
-use Rattle.meta_base.specs.Language.Expression.{Grammar, Expression, Str, Insens, Range, Ident, PeekSlice, PosPred, NegPred, Seq, Choice, Opt, Rep, RepOnce, RepExact, RepMin, RepMax, RepMinMax, Skip, Push, RestoreOnErr, RuleType, Normal, Silent, Atomic, CompoundAtomic, NonAtomic, Rule, rule_of, whitespace, comment, PushLiteral, NodeTag}
+use Rattle.std.proofs.lemmas.Bool.{not-true}
+use Rattle.meta_base.specs.Language.Expression.{Grammar, Expression, Str, Insens, Range, Ident, PeekSlice, PosPred, NegPred, Seq, Choice, Opt, Rep, RepOnce, RepExact, RepMin, RepMax, RepMinMax, Skip, Push, RestoreOnErr, Rule, rule_of, whitespace, comment, PushLiteral, NodeTag}
 use Rattle.meta_base.specs.Language.State.{Classes, Mode, IsRuleMode, NonAtomicMode, AtomicMode, CompoundAtomicMode, Between, State, None', Outcome, Success, Failure}
 use Rattle.meta_base.specs.Language.Text.{Text}
 use Rattle.meta_base.specs.Language.Matching.{text_outcome, slice_at, slice_outcome, other_outcome, named_outcome, peek_outcome, pop_outcome, drop_outcome, with_stack, range_set, concatenated}
 use Rattle.meta_base.specs.Language.Builtins.{Builtin, One, Property, Newline, Soi, Eoi, Peek, Pop, Drop, PeekAll, PopAll, builtin_of}
-use Rattle.meta_base.specs.Language.Meaning.{Does, Run, Skipping, str, insens, range, slice, skip, call, other, pos_pred, neg_pred, push, restore, seq, seq_first, seq_second, left, right, opt, opt_none, rep_once, rep_exact, rep_min, rep_max, rep_min_max, ahead, not_ahead, pushed, with_token, in_sequence, body_mode, mode_in, push_literal, tag, with_top}
+use Rattle.meta_base.specs.Language.Meaning.{Does, Run, Skipping, str, insens, range, slice, skip, call, other, pos_pred, neg_pred, push, restore, seq, seq_first, seq_second, left, right, opt, opt_none, rep_once, rep_exact, rep_min, rep_max, rep_min_max, ahead, not_ahead, pushed, with_token, in_sequence, body_mode, push_literal, tag, with_top}
+use Rattle.meta_base.proofs.RuleModes.{in_rule_mode}
+use Rattle.meta_base.proofs.Basics.{first_of_both, second_of_both, same_some}
 use Rattle.meta_abstract_stacks.specs.Stack.{Base, Empty, Blank, Any, AbstractStack, AreBlank, Above, Marked, Describes, unknown, all_blank, push_mark, pop_all, popped, failed}
 use Rattle.meta_abstract_stacks.specs.Reading.{Reading, surely, maybe, anything, from, only_if, peek_all_reading, pop_all_reading, top_reading, drop_reading, builtin_reading, slice_reading, text_reading, pushed_reading, ahead_reading, not_ahead_reading, seq_reading, choice_reading, opt_reading, stays, Copy, Required, Optional, Endless, at_least_copies, from_to_copies, reading, rule_reading, name_reading, walked, literal_reading}
-use Rattle.meta_abstract_stacks.proofs.Stacks.{and_left, and_right, Has, Can, either_left, either_right, has_failed, pushes, blank_entries}
-use Rattle.meta_abstract_stacks.proofs.Walking.{Agrees, Kept, stays_still, is_not, walked_agrees, listed, copied}
-use Rattle.meta_abstract_stacks.proofs.Skipping.{Keeps, text_keeps, one_keeps, slices_keep, builtin_keeps, outcome_same}
+use Rattle.meta_abstract_stacks.proofs.Stacks.{Has, Can, either_left, either_right, has_failed, pushes, blank_entries}
+use Rattle.meta_abstract_stacks.proofs.Walking.{Agrees, Kept, stays_still, walked_agrees, listed, copied}
+use Rattle.meta_abstract_stacks.proofs.Skipping.{Keeps, text_keeps, one_keeps, slices_keep, builtin_keeps}
 
 maybe_agrees : (a : AbstractStack) (s : State) (o : Outcome) → Describes a s.stack → Keeps s o → Agrees (maybe a) s o
 maybe_agrees a s Failure h k = tt
@@ -55,11 +58,11 @@ pop_all_agrees a s h = go (all_blank a) refl
 
 peek_agrees : (ms : List Bool) (b : Base) (ts : List Text) (a : AbstractStack) (s : State) (o : Outcome) → Above ms b ts → Describes a s.stack → peek_outcome ts s ≡ Some o → Agrees (top_reading ms b a) s o
 peek_agrees ms b [] a s o k h e = cc
-peek_agrees (true ∷ ms) b (t ∷ ts) a s o k h e = subst (Agrees (surely a) s) (outcome_same e) (surely_agrees t a s k.0 h)
-peek_agrees (false ∷ ms) b (t ∷ ts) a s o k h e = subst (Agrees (maybe a) s) (outcome_same e) (maybe_agrees a s (text_outcome nat_eq t s) h (text_keeps nat_eq t s))
+peek_agrees (true ∷ ms) b (t ∷ ts) a s o k h e = subst (Agrees (surely a) s) (same_some e) (surely_agrees t a s k.0 h)
+peek_agrees (false ∷ ms) b (t ∷ ts) a s o k h e = subst (Agrees (maybe a) s) (same_some e) (maybe_agrees a s (text_outcome nat_eq t s) h (text_keeps nat_eq t s))
 peek_agrees [] Empty (t ∷ ts) a s o k h e = absurd k
-peek_agrees [] Blank (t ∷ ts) a s o k h e = subst (Agrees (maybe a) s) (outcome_same e) (maybe_agrees a s (text_outcome nat_eq t s) h (text_keeps nat_eq t s))
-peek_agrees [] Any (t ∷ ts) a s o k h e = subst (Agrees (maybe a) s) (outcome_same e) (maybe_agrees a s (text_outcome nat_eq t s) h (text_keeps nat_eq t s))
+peek_agrees [] Blank (t ∷ ts) a s o k h e = subst (Agrees (maybe a) s) (same_some e) (maybe_agrees a s (text_outcome nat_eq t s) h (text_keeps nat_eq t s))
+peek_agrees [] Any (t ∷ ts) a s o k h e = subst (Agrees (maybe a) s) (same_some e) (maybe_agrees a s (text_outcome nat_eq t s) h (text_keeps nat_eq t s))
 
 -- with the stack that is left
 left_agrees : (b : AbstractStack) (ts : List Text) (s : State) (o : Outcome) → Describes b ts → Agrees (maybe b) s (with_stack ts o)
@@ -68,11 +71,11 @@ left_agrees b ts s (Success t us) h = (h, λ q. cc)
 
 pop_agrees : (ms : List Bool) (b : Base) (ts : List Text) (i : Bool) (s : State) (o : Outcome) → Above ms b ts → pop_outcome ts s ≡ Some o → Agrees (top_reading ms b (popped ms b i)) s o
 pop_agrees ms b [] i s o k e = cc
-pop_agrees (true ∷ ms) b (t ∷ ts) i s o k e = subst (Agrees (surely (popped (true ∷ ms) b i)) s) (outcome_same e) (subst (λ x. Agrees (surely (popped (true ∷ ms) b i)) s (with_stack ts (text_outcome nat_eq x s))) (sym k.0) (k.1, λ q. refl))
-pop_agrees (false ∷ ms) b (t ∷ ts) i s o k e = subst (Agrees (maybe (popped (false ∷ ms) b i)) s) (outcome_same e) (left_agrees (popped (false ∷ ms) b i) ts s (text_outcome nat_eq t s) k.1)
+pop_agrees (true ∷ ms) b (t ∷ ts) i s o k e = subst (Agrees (surely (popped (true ∷ ms) b i)) s) (same_some e) (subst (λ x. Agrees (surely (popped (true ∷ ms) b i)) s (with_stack ts (text_outcome nat_eq x s))) (sym k.0) (k.1, λ q. refl))
+pop_agrees (false ∷ ms) b (t ∷ ts) i s o k e = subst (Agrees (maybe (popped (false ∷ ms) b i)) s) (same_some e) (left_agrees (popped (false ∷ ms) b i) ts s (text_outcome nat_eq t s) k.1)
 pop_agrees [] Empty (t ∷ ts) i s o k e = absurd k
-pop_agrees [] Blank (t ∷ ts) i s o k e = subst (Agrees (maybe (popped [] Blank i)) s) (outcome_same e) (left_agrees (popped [] Blank i) ts s (text_outcome nat_eq t s) k.1)
-pop_agrees [] Any (t ∷ ts) i s o k e = subst (Agrees (maybe (popped [] Any i)) s) (outcome_same e) (left_agrees (popped [] Any i) ts s (text_outcome nat_eq t s) tt)
+pop_agrees [] Blank (t ∷ ts) i s o k e = subst (Agrees (maybe (popped [] Blank i)) s) (same_some e) (left_agrees (popped [] Blank i) ts s (text_outcome nat_eq t s) k.1)
+pop_agrees [] Any (t ∷ ts) i s o k e = subst (Agrees (maybe (popped [] Any i)) s) (same_some e) (left_agrees (popped [] Any i) ts s (text_outcome nat_eq t s) tt)
 
 drop_agrees : (ms : List Bool) (b : Base) (ts : List Text) (i : Bool) (s : State) → Above ms b ts → Agrees (drop_reading ms b (record { base = b; marks = ms; intact = i })) s (drop_outcome ts s)
 drop_agrees (m ∷ ms) b [] i s k = absurd k
@@ -93,9 +96,9 @@ builtin_agrees classes m (Some Soi) a s o h e = maybe_agrees a s o h (builtin_ke
 builtin_agrees classes m (Some Eoi) a s o h e = maybe_agrees a s o h (builtin_keeps classes m Eoi s o (λ x. x) e)
 builtin_agrees classes m (Some Peek) a s o h e = peek_agrees a.marks a.base s.stack a s o h h e
 builtin_agrees classes m (Some Pop) a s o h e = pop_agrees a.marks a.base s.stack a.intact s o h e
-builtin_agrees classes m (Some Drop) a s o h e = subst (Agrees (drop_reading a.marks a.base a) s) (outcome_same e) (drop_agrees a.marks a.base s.stack a.intact s h)
-builtin_agrees classes m (Some PeekAll) a s o h e = subst (Agrees (peek_all_reading a) s) (outcome_same e) (peek_all_agrees a (concatenated s.stack) s (blank_text s.stack) h)
-builtin_agrees classes m (Some PopAll) a s o h e = subst (Agrees (pop_all_reading a) s) (outcome_same e) (pop_all_agrees a s h)
+builtin_agrees classes m (Some Drop) a s o h e = subst (Agrees (drop_reading a.marks a.base a) s) (same_some e) (drop_agrees a.marks a.base s.stack a.intact s h)
+builtin_agrees classes m (Some PeekAll) a s o h e = subst (Agrees (peek_all_reading a) s) (same_some e) (peek_all_agrees a (concatenated s.stack) s (blank_text s.stack) h)
+builtin_agrees classes m (Some PopAll) a s o h e = subst (Agrees (pop_all_reading a) s) (same_some e) (pop_all_agrees a s h)
 
 other_agrees : (classes : Classes) (m : Mode) (n : Text) (a : AbstractStack) (s : State) (o : Outcome) → IsRuleMode m → Describes a s.stack → other_outcome classes m n s ≡ Some o → Agrees (builtin_reading (builtin_of n) a) s o
 other_agrees classes Between n a s o r h e = absurd r
@@ -179,13 +182,13 @@ module _ (g : Grammar) (classes : Classes) where
         let n = skipping m t (Success u vs) l in
         let c : Agrees (from (f x).ok h) u (Success v ws) = with_agrees (f x).ok h u (Success v ws) (subst (λ y. Has (f x).ok y) (sym n.0) p.0) (λ y z. j m r u (Success v ws) e y z) in
         let q = from (f x).ok h in
-        (c.0, λ y. c.1 (and_left q.still (not skips) (and_right (f x).still (q.still && not skips) y)) ∙ n.1 (is_not skips (and_right q.still (not skips) (and_right (f x).still (q.still && not skips) y))) ∙ p.1 (and_left (f x).still (q.still && not skips) y))
+        (c.0, λ y. c.1 (first_of_both q.still (not skips) (second_of_both (f x).still (q.still && not skips) y)) ∙ n.1 (not-true skips (second_of_both q.still (not skips) (second_of_both (f x).still (q.still && not skips) y))) ∙ p.1 (first_of_both (f x).still (q.still && not skips) y))
 
     choice_sound : (a b : Expression) (f h : AbstractStack → Reading) → IsSound a f → IsSound b h → IsSound (Choice a b) (λ x. choice_reading x (f x) (from (failed (f x).err x) h))
     choice_sound a b f h i j m r s o (left {t = t} {us = us} d) x k =
         let p : Agrees (f x) s (Success t us) = i m r s (Success t us) d x k in
         let q = from (failed (f x).err x) h in
-        (either_left (f x).ok q.ok t.stack p.0, λ y. p.1 (stays_still (f x).ok (f x).still t.stack p.0 (and_left (stays (f x)) (stays q) y)))
+        (either_left (f x).ok q.ok t.stack p.0, λ y. p.1 (stays_still (f x).ok (f x).still t.stack p.0 (first_of_both (stays (f x)) (stays q) y)))
     choice_sound a b f h i j m r s o (right d e) x k = go o (with_agrees (failed (f x).err x) h s o (has_failed (f x).err x s.stack (i m r s Failure d x k) k) (λ y n. j m r s o e y n))
       where
         can : (q : Option AbstractStack) → Can q → Can (failed q x)
@@ -194,7 +197,7 @@ module _ (g : Grammar) (classes : Classes) where
 
         go : (o : Outcome) → Agrees (from (failed (f x).err x) h) s o → Agrees (choice_reading x (f x) (from (failed (f x).err x) h)) s o
         go Failure p = can (from (failed (f x).err x) h).err p
-        go (Success t us) p = let q = from (failed (f x).err x) h in (either_right (f x).ok q.ok t.stack p.0, λ y. p.1 (stays_still q.ok q.still t.stack p.0 (and_right (stays (f x)) (stays q) y)))
+        go (Success t us) p = let q = from (failed (f x).err x) h in (either_right (f x).ok q.ok t.stack p.0, λ y. p.1 (stays_still q.ok q.still t.stack p.0 (second_of_both (stays (f x)) (stays q) y)))
 
     pub opt_sound : (e : Expression) (f : AbstractStack → Reading) → IsSound e f → IsSound (Opt e) (λ x. opt_reading x (f x))
     opt_sound e f i m r s o (opt {t = t} {us = us} d) x k =
@@ -268,22 +271,6 @@ module _ (g : Grammar) (classes : Classes) (limit : ℕ) (skips : Bool) (skippin
     sound (NodeTag e t) m r s o (tag d) a h = sound e m r s o d a h
     sound (RestoreOnErr e) m r s o (restore d) a h = sound e m r s o d a h
 
-real_body : (y : RuleType) (b : Bool) (m : Mode) → IsRuleMode (mode_in y b m)
-real_body Normal true m = tt
-real_body Normal false NonAtomicMode = tt
-real_body Normal false AtomicMode = tt
-real_body Normal false CompoundAtomicMode = tt
-real_body Normal false Between = tt
-real_body Silent true m = tt
-real_body Silent false NonAtomicMode = tt
-real_body Silent false AtomicMode = tt
-real_body Silent false CompoundAtomicMode = tt
-real_body Silent false Between = tt
-real_body Atomic b m = tt
-real_body CompoundAtomic b m = tt
-real_body NonAtomic true m = tt
-real_body NonAtomic false m = tt
-
 module _ (limit : ℕ) (skips : Bool) (recursive : Text → Bool) (g : Grammar) (classes : Classes) (skipping : (m : Mode) (s : State) (o : Outcome) → Does g classes (Skipping m) s o → Kept skips s o) where
   rule_sound : (n : Text) (f : Expression → AbstractStack → Reading) → ((e : Expression) → IsSound g classes e (f e)) → IsSound g classes (Ident n) (rule_reading limit skips recursive g n (rule_of g n) f)
   rule_sound n f k m r s o (other e c) a h = subst (λ q. Agrees (rule_reading limit skips recursive g n q f a) s o) (sym e) (other_agrees classes m n a s o r h c)
@@ -291,7 +278,7 @@ module _ (limit : ℕ) (skips : Bool) (recursive : Text → Bool) (g : Grammar) 
     where
       go : (b : Bool) → Agrees (if b then anything else f x.body a) s (with_token x m s p)
       go true = anything_agrees g classes s (with_token x m s p)
-      go false = token_agrees g classes (f x.body a) x m s p (k x.body (body_mode x m) (real_body x.type_of (bytes_eq x.name whitespace || bytes_eq x.name comment) m) s p d a h)
+      go false = token_agrees g classes (f x.body a) x m s p (k x.body (body_mode x m) (in_rule_mode x.type_of (bytes_eq x.name whitespace || bytes_eq x.name comment) m) s p d a h)
 
   pub name_sound : (k : ℕ) (n : Text) → IsSound g classes (Ident n) (name_reading limit skips recursive g k n)
   name_sound zero n = rule_sound n (λ e b. anything) (λ e m r s o d a h. anything_agrees g classes s o)

@@ -1,17 +1,10 @@
 -- What the operations on abstract stacks describe.
-use Rattle.std.proofs.Common.{◌≡◌, ◌⊎◌, inl, inr, List, [], ◌∷◌, Bool, true, false, ◌&&◌, ◌||◌, if◌then◌else◌, Option, Some, None, refl, sym, length, nat_eq, nat_le, arith}
+use Rattle.std.proofs.Common.{◌≡◌, inl, inr, List, [], ◌∷◌, Bool, true, false, ◌&&◌, if◌then◌else◌, Option, Some, None, refl, sym, length, nat_eq, nat_le, arith}
 use Rattle.std.specs.Prelude.{⊤}
-use Rattle.std.proofs.lemmas.Bool.{eqb-true}
+use Rattle.std.proofs.lemmas.Bool.{eqb-true, or_cases}
 use Rattle.meta_base.specs.Language.Text.{Text}
+use Rattle.meta_base.proofs.Basics.{first_of_both, second_of_both}
 use Rattle.meta_abstract_stacks.specs.Stack.{In, Base, Empty, Blank, Any, AbstractStack, AreBlank, Below, Marked, Above, Describes, unknown, blank_above, all_blank, push_mark, popped, common, both_marks, join, join_any, failed, bool_eq, base_eq, marks_eq, stack_eq, is_among, are_among}
-
-pub and_left : (a b : Bool) → (a && b) ≡ true → a ≡ true
-and_left true b h = refl
-and_left false b h = cc
-
-pub and_right : (a b : Bool) → (a && b) ≡ true → b ≡ true
-and_right true b h = h
-and_right false b h = cc
 
 below_left : (b c : Base) (ts : List Text) → Below b ts → Below (common b c) ts
 below_left Empty Empty ts h = h
@@ -70,7 +63,7 @@ joins_left a b ts h = go (nat_eq (length a.marks) (length b.marks)) refl (all_bl
   where
     go : (x : Bool) → nat_eq (length a.marks) (length b.marks) ≡ x → (y : Bool) → (all_blank a && all_blank b) ≡ y → Describes (if x then record { base = common a.base b.base; marks = both_marks a.marks b.marks; intact = a.intact && b.intact } else (if y then record { base = Blank; marks = []; intact = false } else unknown)) ts
     go true e y f = above_left a.marks b.marks a.base b.base ts (eqb-true _ _ e) h
-    go false e true f = blank_entries a.marks a.base ts (and_left _ _ f) h
+    go false e true f = blank_entries a.marks a.base ts (first_of_both _ _ f) h
     go false e false f = tt
 
 pub joins_right : (a b : AbstractStack) (ts : List Text) → Describes b ts → Describes (join a b) ts
@@ -78,7 +71,7 @@ joins_right a b ts h = go (nat_eq (length a.marks) (length b.marks)) refl (all_b
   where
     go : (x : Bool) → nat_eq (length a.marks) (length b.marks) ≡ x → (y : Bool) → (all_blank a && all_blank b) ≡ y → Describes (if x then record { base = common a.base b.base; marks = both_marks a.marks b.marks; intact = a.intact && b.intact } else (if y then record { base = Blank; marks = []; intact = false } else unknown)) ts
     go true e y f = above_right a.marks b.marks a.base b.base ts (eqb-true _ _ e) h
-    go false e true f = blank_entries b.marks b.base ts (and_right _ _ f) h
+    go false e true f = blank_entries b.marks b.base ts (second_of_both _ _ f) h
     go false e false f = tt
 
 -- a stack that may be impossible
@@ -139,20 +132,16 @@ marks_same [] [] h = refl
 marks_same [] (n ∷ ns) h = cc
 marks_same (m ∷ ms) [] h = cc
 marks_same (m ∷ ms) (n ∷ ns) h =
-    let e = bools_same m n (and_left (bool_eq m n) (marks_eq ms ns) h) in
-    let f = marks_same ms ns (and_right (bool_eq m n) (marks_eq ms ns) h) in cc
+    let e = bools_same m n (first_of_both (bool_eq m n) (marks_eq ms ns) h) in
+    let f = marks_same ms ns (second_of_both (bool_eq m n) (marks_eq ms ns) h) in cc
 
 pub stacks_same : (a b : AbstractStack) → stack_eq a b ≡ true → a ≡ b
 stacks_same a b h =
-    let k = and_right (base_eq a.base b.base) (marks_eq a.marks b.marks && bool_eq a.intact b.intact) h in
-    let e = bases_same a.base b.base (and_left (base_eq a.base b.base) (marks_eq a.marks b.marks && bool_eq a.intact b.intact) h) in
-    let f = marks_same a.marks b.marks (and_left (marks_eq a.marks b.marks) (bool_eq a.intact b.intact) k) in
-    let l = bools_same a.intact b.intact (and_right (marks_eq a.marks b.marks) (bool_eq a.intact b.intact) k) in
+    let k = second_of_both (base_eq a.base b.base) (marks_eq a.marks b.marks && bool_eq a.intact b.intact) h in
+    let e = bases_same a.base b.base (first_of_both (base_eq a.base b.base) (marks_eq a.marks b.marks && bool_eq a.intact b.intact) h) in
+    let f = marks_same a.marks b.marks (first_of_both (marks_eq a.marks b.marks) (bool_eq a.intact b.intact) k) in
+    let l = bools_same a.intact b.intact (second_of_both (marks_eq a.marks b.marks) (bool_eq a.intact b.intact) k) in
     λ i. record { base = e i; marks = f i; intact = l i }
-
-or_cases : (p q : Bool) → (p || q) ≡ true → (p ≡ true) ⊎ (q ≡ true)
-or_cases true q h = inl refl
-or_cases false q h = inr h
 
 pub among : (bs : List AbstractStack) (a : AbstractStack) → is_among bs a ≡ true → In a bs
 among [] a h = cc

@@ -1,5 +1,6 @@
 -- Turns end where a start comes again or there is no ok; no limit beyond the number of stacks is met.
-use Rattle.std.proofs.Common.{◌≡◌, inl, inr, ℕ, zero, suc, ◌+◌, ◌<◌, List, [], ◌∷◌, Bool, true, false, ◌&&◌, ◌||◌, if◌then◌else◌, Option, Some, None, refl, sym, ap, subst, length, arith}
+use Rattle.std.proofs.Common.{◌≡◌, inl, inr, ℕ, zero, suc, ◌+◌, ◌<◌, List, [], ◌∷◌, Bool, true, false, ◌&&◌, if◌then◌else◌, Option, Some, None, refl, sym, ap, subst, length, arith}
+use Rattle.std.proofs.lemmas.Bool.{and_from, both_ways, or_left, or_right}
 use Rattle.meta_abstract_stacks.specs.Stack.{In, Base, Empty, Blank, Any, AbstractStack, bool_eq, base_eq, marks_eq, stack_eq, is_among}
 use Rattle.meta_abstract_stacks.specs.Reading.{Reading, Walk, turns}
 use Rattle.meta_abstract_stacks.specs.Reported.{turn_starts}
@@ -18,33 +19,17 @@ base_itself Empty = refl
 base_itself Blank = refl
 base_itself Any = refl
 
-both_true : (a b : Bool) → a ≡ true → b ≡ true → (a && b) ≡ true
-both_true true b h k = k
-both_true false b h k = cc
-
 marks_itself : (ms : List Bool) → marks_eq ms ms ≡ true
 marks_itself [] = refl
-marks_itself (m ∷ ms) = both_true (bool_eq m m) (marks_eq ms ms) (bool_itself m) (marks_itself ms)
+marks_itself (m ∷ ms) = and_from (bool_eq m m) (marks_eq ms ms) (bool_itself m) (marks_itself ms)
 
 stack_itself : (a : AbstractStack) → stack_eq a a ≡ true
-stack_itself a = both_true (base_eq a.base a.base) (marks_eq a.marks a.marks && bool_eq a.intact a.intact) (base_itself a.base) (both_true (marks_eq a.marks a.marks) (bool_eq a.intact a.intact) (marks_itself a.marks) (bool_itself a.intact))
-
-first_true : (a b : Bool) → a ≡ true → (a || b) ≡ true
-first_true true b h = refl
-first_true false b h = cc
-
-last_true : (a b : Bool) → b ≡ true → (a || b) ≡ true
-last_true true b h = refl
-last_true false b h = h
+stack_itself a = and_from (base_eq a.base a.base) (marks_eq a.marks a.marks && bool_eq a.intact a.intact) (base_itself a.base) (and_from (marks_eq a.marks a.marks) (bool_eq a.intact a.intact) (marks_itself a.marks) (bool_itself a.intact))
 
 pub is_in : (bs : List AbstractStack) (a : AbstractStack) → In a bs → is_among bs a ≡ true
 is_in [] a i = absurd i
-is_in (b ∷ bs) a (inl e) = first_true (stack_eq a b) (is_among bs a) (subst (λ x. stack_eq a x ≡ true) e (stack_itself a))
-is_in (b ∷ bs) a (inr i) = last_true (stack_eq a b) (is_among bs a) (is_in bs a i)
-
-not_both : (b : Bool) → b ≡ false → b ≡ true → ⊥
-not_both true h k = cc
-not_both false h k = cc
+is_in (b ∷ bs) a (inl e) = or_left (stack_eq a b) (is_among bs a) (subst (λ x. stack_eq a x ≡ true) e (stack_itself a))
+is_in (b ∷ bs) a (inr i) = or_right (stack_eq a b) (is_among bs a) (is_in bs a i)
 
 module _ (limit : ℕ) (step : AbstractStack → Reading) (keeps : KeepsFewMarks step) where
   end_of_turns : (k : ℕ) (seen : List AbstractStack) (q : Option AbstractStack) (w : Walk)
@@ -66,7 +51,7 @@ module _ (limit : ℕ) (step : AbstractStack → Reading) (keeps : KeepsFewMarks
       go : (b : Bool) → is_among seen a ≡ b → ((In a seen → ⊥) → Next)
           → TurnsEnd step seen (Some a) w (if b then [] else a ∷ turn_starts step k (a ∷ seen) (step a).ok) (if b then w else turns limit step k (a ∷ seen) (step a).ok (turned a (step a) w))
       go true e f = comes_again (among seen a e)
-      go false e f = let new : In a seen → ⊥ = λ i. not_both (is_among seen a) e (is_in seen a i) in goes_on new (f new)
+      go false e f = let new : In a seen → ⊥ = λ i. both_ways (is_among seen a) e (is_in seen a i) in goes_on new (f new)
 
   pub turns_end : (a : AbstractStack) (w : Walk) → HasFewMarks a → most_stacks < limit
       → TurnsEnd step [] (Some a) w (turn_starts step limit [] (Some a)) (turns limit step limit [] (Some a) w)

@@ -1,14 +1,16 @@
 -- A repetition agrees with the reading of its copies.
 use Rattle.std.proofs.Common.{◌≡◌, ◌⊎◌, inl, inr, ℕ, zero, suc, List, [], ◌∷◌, Bool, true, false, not, ◌&&◌, ◌||◌, is_some, if◌then◌else◌, Option, Some, None, refl, sym, ◌∙◌, subst}
 use Rattle.std.specs.Prelude.{⊤}
+use Rattle.std.proofs.lemmas.Bool.{not-true, or_left, or_right}
 use Rattle.meta_base.specs.Language.Expression.{Grammar, Expression, Opt, Rep}
 use Rattle.meta_base.specs.Language.State.{Classes, Mode, State, Trees, Outcome, Success, Failure}
 use Rattle.meta_base.specs.Language.Text.{Text}
 use Rattle.meta_base.specs.Language.Meaning.{Does, Run, Turns, Skipping, str, seq, seq_first, seq_second, opt, opt_none, rep, rep_none, turn, turn_none, in_sequence}
+use Rattle.meta_base.proofs.Basics.{first_of_both, second_of_both}
 use Rattle.meta_abstract_stacks.specs.Stack.{AbstractStack, Describes, join_any, failed, is_among}
 use Rattle.meta_abstract_stacks.specs.Reading.{Reading, stays, Copy, Required, Optional, Endless, is_one, is_single, Walk, turns, copy_from, onward, walk, walked}
 use Rattle.meta_abstract_stacks.specs.Stack.{In}
-use Rattle.meta_abstract_stacks.proofs.Stacks.{and_left, and_right, Has, Can, either_left, either_right, has_failed, among}
+use Rattle.meta_abstract_stacks.proofs.Stacks.{Has, Can, either_left, either_right, has_failed, among}
 
 -- what a reading says of an outcome
 abbrev pub Agrees : Reading → State → Outcome → Type 0
@@ -32,21 +34,9 @@ pub can_is_some : (q : Option AbstractStack) → Can q → is_some q ≡ true
 can_is_some None h = absurd h
 can_is_some (Some a) h = refl
 
-pub is_not : (b : Bool) → not b ≡ true → b ≡ false
-is_not true h = cc
-is_not false h = refl
-
 pub or_false : (b : Bool) → (b || false) ≡ true → b ≡ true
 or_false true h = refl
 or_false false h = h
-
-pub or_left : (a b : Bool) → a ≡ true → (a || b) ≡ true
-or_left true b h = refl
-or_left false b h = cc
-
-pub or_right : (a b : Bool) → b ≡ true → (a || b) ≡ true
-or_right true b h = refl
-or_right false b h = h
 
 module _ (limit : ℕ) (step : AbstractStack → Reading) where
   -- a set of starts that no turn leaves, whose failures a walk's stack covers
@@ -79,8 +69,8 @@ module _ (limit : ℕ) (step : AbstractStack → Reading) where
       covered' y ts (inr i) h d = either_left w.here (failed (step a).err a) ts (c.covered y ts i h d)
 
       still' : (y : AbstractStack) → In y (a ∷ seen) → (w.still && stays (step a)) ≡ true → stays (step y) ≡ true
-      still' y (inl e) h = subst (λ x. stays (step x) ≡ true) (sym e) (and_right w.still (stays (step a)) h)
-      still' y (inr i) h = c.still y i (and_left w.still (stays (step a)) h)
+      still' y (inl e) h = subst (λ x. stays (step x) ≡ true) (sym e) (second_of_both w.still (stays (step a)) h)
+      still' y (inr i) h = c.still y i (first_of_both w.still (stays (step a)) h)
 
   abbrev Gives : Type 0 → List AbstractStack → Option AbstractStack → Walk → Type 1
   Gives R seen q w = (S : AbstractStack → Type 0) → Closed S w → ((a : AbstractStack) → In a seen → S a) → ((a : AbstractStack) → q ≡ Some a → S a) → R
@@ -110,7 +100,7 @@ module _ (limit : ℕ) (step : AbstractStack → Reading) where
   unfolding turns
   turns_still zero seen q w h = cc
   turns_still (suc k) seen None w h = h
-  turns_still (suc k) seen (Some a) w h = go (is_among seen a) h (λ h. and_left w.still (stays (step a)) (turns_still k (a ∷ seen) (step a).ok (turned a w) h))
+  turns_still (suc k) seen (Some a) w h = go (is_among seen a) h (λ h. first_of_both w.still (stays (step a)) (turns_still k (a ∷ seen) (step a).ok (turned a w) h))
     where
       go : (b : Bool) → (if b then w else turns limit step k (a ∷ seen) (step a).ok (turned a w)).still ≡ true → ((turns limit step k (a ∷ seen) (step a).ok (turned a w)).still ≡ true → w.still ≡ true) → w.still ≡ true
       go true h f = h
@@ -128,8 +118,8 @@ module _ (limit : ℕ) (step : AbstractStack → Reading) where
 
   copy_still : (c : Copy) (q : Option AbstractStack) (w : Walk) → (onward limit step c q w).still ≡ true → w.still ≡ true
   copy_still c None w h = h
-  copy_still Required (Some a) w h = and_left w.still (stays (step a)) h
-  copy_still Optional (Some a) w h = and_left w.still (stays (step a)) h
+  copy_still Required (Some a) w h = first_of_both w.still (stays (step a)) h
+  copy_still Optional (Some a) w h = first_of_both w.still (stays (step a)) h
   copy_still Endless (Some a) w h = turns_still limit [] (Some a) (record { here = None; failing = w.failing; still = w.still }) h
 
   copy_failing : (c : Copy) (q : Option AbstractStack) (w : Walk) → w.failing ≡ true → (onward limit step c q w).failing ≡ true
@@ -164,7 +154,7 @@ module _ (limit : ℕ) (step : AbstractStack → Reading) where
         let p : Agrees (step a) t (Success u vs) = body _ _ d a (moved_on a h k) in
         with_has (step a).ok u.stack p.0 λ z l n.
         let r = turns_end S w c f z (c.onto a z i l) n in
-        (r.0, λ b q. r.1 b q ∙ p.1 (stays_still (step a).ok (step a).still u.stack p.0 (c.still a i b)) ∙ (skipping _ _ k).1 (is_not skips q))
+        (r.0, λ b q. r.1 b q ∙ p.1 (stays_still (step a).ok (step a).still u.stack p.0 (c.still a i b)) ∙ (skipping _ _ k).1 (not-true skips q))
 
     abbrev pub copied : Copy → Expression
     copied Required = e
@@ -193,10 +183,10 @@ module _ (limit : ℕ) (step : AbstractStack → Reading) where
       where
         required : (o : Outcome) → Agrees (step a) s o → Ends (not skips || true) (copy_from limit step Required a w) s o
         required Failure p = or_right w.failing (is_some (step a).err) (can_is_some (step a).err p)
-        required (Success t us) p = (p.0, λ b q. p.1 (stays_still (step a).ok (step a).still t.stack p.0 (and_right w.still (stays (step a)) b)))
+        required (Success t us) p = (p.0, λ b q. p.1 (stays_still (step a).ok (step a).still t.stack p.0 (second_of_both w.still (stays (step a)) b)))
     copy_ends Optional (Some a) w {s} h (opt {t = t} {us = us} d) =
         let p : Agrees (step a) s (Success t us) = body _ _ d a h in
-        (either_left (step a).ok (failed (step a).err a) t.stack p.0, λ b q. p.1 (stays_still (step a).ok (step a).still t.stack p.0 (and_right w.still (stays (step a)) b)))
+        (either_left (step a).ok (failed (step a).err a) t.stack p.0, λ b q. p.1 (stays_still (step a).ok (step a).still t.stack p.0 (second_of_both w.still (stays (step a)) b)))
     copy_ends Optional (Some a) w {s} h (opt_none d) =
         (either_right (step a).ok (failed (step a).err a) s.stack (has_failed (step a).err a s.stack (body _ _ d a h) h), λ b q. refl)
     copy_ends Endless (Some a) w h d =
@@ -217,7 +207,7 @@ module _ (limit : ℕ) (step : AbstractStack → Reading) where
         let r = walk_ends (d ∷ cs) v (subst (λ x. Has v.here x) (sym (skipping _ _ k).0) p.0) b in (
           r.0,
           λ x q. let n = or_false (not skips) q in
-              r.1 x (or_left (not skips) (is_single (d ∷ cs)) n) ∙ (skipping _ _ k).1 (is_not skips n) ∙ p.1 (walk_still (d ∷ cs) v x) (or_left (not skips) (is_one c) n),
+              r.1 x (or_left (not skips) (is_single (d ∷ cs)) n) ∙ (skipping _ _ k).1 (not-true skips n) ∙ p.1 (walk_still (d ∷ cs) v x) (or_left (not skips) (is_one c) n),
         )
 
     -- a repetition agrees with its reading
@@ -231,5 +221,5 @@ module _ (limit : ℕ) (step : AbstractStack → Reading) where
           λ x.
               let w = walk limit step cs (record { here = Some a; failing = false; still = true }) in
               let y = stays_still w.here (w.still && (not skips || is_single cs)) t.stack p.0 x in
-              p.1 (and_left w.still (not skips || is_single cs) y) (and_right w.still (not skips || is_single cs) y),
+              p.1 (first_of_both w.still (not skips || is_single cs) y) (second_of_both w.still (not skips || is_single cs) y),
         )

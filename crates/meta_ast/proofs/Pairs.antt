@@ -1,5 +1,6 @@
 -- Two more that are to be compared.
 use Rattle.std.proofs.Common.{◌≡◌, ℕ, ◌+◌, ◌≤◌, ◌<◌, Bool, true, false, ◌&&◌, List, [], ◌∷◌, ◌++◌, refl, sym, ap, ◌∙◌, arith}
+use Rattle.meta_base.proofs.RewritingsKeepOutcomes.{and_assoc}
 use Rattle.meta_ast.specs.Sameness.{are_both, are_equal, heaviness_of_all}
 use Rattle.meta_ast.specs.declared.sameness.Both.{Both}
 
@@ -7,10 +8,6 @@ swapped : (a b c : Bool) → (a && (b && c)) ≡ (b && (a && c))
 swapped true b c = refl
 swapped false true c = refl
 swapped false false c = refl
-
-joined : (b c d : Bool) → (b && (c && d)) ≡ ((b && c) && d)
-joined true c d = refl
-joined false c d = refl
 
 module _ {T : Type 0} (is_equal : T → T → Bool) where
   are_equal_last : (ps : List (Both T)) (p : Both T) → are_equal is_equal (ps ++ (p ∷ [])) ≡ (are_both is_equal p && are_equal is_equal ps)
@@ -21,13 +18,13 @@ module _ {T : Type 0} (is_equal : T → T → Bool) where
   -- the operands of two that are compared are put on a list
   pub one_put : (os ns : List (Both T)) (p : Both T) (answer : Bool) → ns ≡ os ++ (p ∷ []) → (answer && are_equal is_equal ns) ≡ ((answer && are_both is_equal p) && are_equal is_equal os)
   one_put os ns p answer i =
-      ap (λ b. answer && b) (ap (are_equal is_equal) i ∙ are_equal_last os p) ∙ joined answer (are_both is_equal p) (are_equal is_equal os)
+      ap (λ b. answer && b) (ap (are_equal is_equal) i ∙ are_equal_last os p) ∙ and_assoc answer (are_both is_equal p) (are_equal is_equal os)
 
   pub two_put : (os ms ns : List (Both T)) (p q : Both T) → ms ≡ os ++ (q ∷ []) → ns ≡ ms ++ (p ∷ []) → are_equal is_equal ns ≡ ((are_both is_equal p && are_both is_equal q) && are_equal is_equal os)
   two_put os ms ns p q i j =
       ap (are_equal is_equal) j ∙ (are_equal_last ms p
       ∙ (ap (λ b. are_both is_equal p && b) (ap (are_equal is_equal) i ∙ are_equal_last os q)
-      ∙ joined (are_both is_equal p) (are_both is_equal q) (are_equal is_equal os)))
+      ∙ and_assoc (are_both is_equal p) (are_both is_equal q) (are_equal is_equal os)))
 
   -- the last two are compared, and what is inside them waits
   pub remain : (whole before answer : Bool) (os ms ns : List (Both T)) (p : Both T) → (before && are_equal is_equal os) ≡ whole → before ≡ true → os ≡ ms ++ (p ∷ []) → (answer && are_equal is_equal ns) ≡ (are_both is_equal p && are_equal is_equal ms) → (answer && are_equal is_equal ns) ≡ whole

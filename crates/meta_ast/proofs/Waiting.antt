@@ -1,5 +1,5 @@
 -- Walks that keep what is to be met on a stack: an expression on its top comes first, and gives way to its operands.
-use Rattle.std.proofs.Common.{◌≡◌, ◌<◌, List, [], ◌∷◌, ◌++◌, length, refl, sym, ap, append_assoc, append-nil, arith, Result, Ok, Err, OnErr}
+use Rattle.std.proofs.Common.{◌≡◌, ◌<◌, List, [], ◌∷◌, ◌++◌, length, refl, sym, ap, append_assoc, append-nil, arith}
 use Rattle.meta_base.specs.Language.Expression.{Expression}
 use Rattle.meta_base.specs.Language.Expression as e
 use Rattle.meta_ast.specs.Operands.{operands, preorder}
@@ -75,10 +75,6 @@ preorder-some (e.RestoreOnErr x) = omega arith
 some_before : (xs ys : List Expression) → 0 < length xs → 0 < length (xs ++ ys)
 some_before [] ys h = absurd (omega arith)
 some_before (x ∷ xs) ys h = omega arith
-
-pub on_err : {X D P : Type 0} (r : Result X D) → P → OnErr r P
-on_err (Ok x) p = tt
-on_err (Err d) p = p
 
 module _ {E : Type 0} (says : E → Expression) where
   waiting-last : (xs : List E) (x : E) → waiting says (xs ++ (x ∷ [])) ≡ preorder (says x) ++ waiting says xs

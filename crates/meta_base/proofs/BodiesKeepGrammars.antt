@@ -8,10 +8,10 @@ use Rattle.meta_base.specs.Rewritings.Rewriting.{Strings, one, named, more, With
 use Rattle.meta_base.specs.Language.Builtins.{is_one_of}
 use Rattle.meta_base.specs.Language.Grammar.{keywords, HasDistinctNames, FitsItsTypes, FitsUnsigned32, FitsSigned32, EndFits, IsGrammar}
 use Rattle.meta_base.specs.Language.WellFormed.{IsNullable, nullable_str, nullable_insens, nullable_soi, nullable_eoi, nullable_call, nullable_pos_pred, nullable_neg_pred, nullable_opt, nullable_rep, nullable_rep_max, nullable_seq, nullable_left, nullable_right, nullable_rep_once, nullable_push, nullable_exact_zero, nullable_exact, nullable_min_zero, nullable_min, nullable_min_max_zero, nullable_min_max, nullable_skip, nullable_restore, LeftCalls, left_name, left_first, left_second, left_pos_pred, left_neg_pred, left_left, left_right, left_opt, left_rep, left_rep_once, left_rep_exact, left_rep_min, left_rep_max, left_rep_min_max, left_push, left_restore, Leads, at_once, by_way, Reaches, itself, onward, InRules, InSomeRule, IsWellFormed, CountIsReadable, HasReadableCounts, NamesHaveReadableCounts, IsPlainName, of_rule, of_builtin, IsPlain, nullable_push_literal, nullable_tag, left_tag}
-use Rattle.meta_base.proofs.OneOutcome.{same_rule}
 use Rattle.meta_base.proofs.StepsKeepOutcomes.{Matched, neither, two, no_rule, each_pair}
 use Rattle.meta_base.proofs.Everywhere.{Condition, nothing, HoldsHere, Everywhere, everywhere, at_part, weaker, kept_within, kept_along}
 use Rattle.meta_base.proofs.SomeRule.{holds_of_named, each_rule}
+use Rattle.meta_base.proofs.Basics.{same_some}
 
 -- 1. conditions
 -- counts are readable
@@ -149,11 +149,11 @@ module _ (B : RuleType → Expression → Expression → Type 0) where
 
   forward : {p q : Option Rule} {r : Rule} → Matched B p q → p ≡ Some r → Behind q r
   forward neither e = cc
-  forward (two {r = s} {b = b} x) e = subst (λ r. (c : Expression) × (Some (record s { body = b }) ≡ Some (record r { body = c })) × B r.type_of r.body c) (same_rule e) (b, refl, x)
+  forward (two {r = s} {b = b} x) e = subst (λ r. (c : Expression) × (Some (record s { body = b }) ≡ Some (record r { body = c })) × B r.type_of r.body c) (same_some e) (b, refl, x)
 
   backward : {p q : Option Rule} {r : Rule} → Matched B p q → q ≡ Some r → Before p r
   backward neither e = cc
-  backward (two {r = s} {b = b} x) e = subst (λ r. (a : Expression) × (Some s ≡ Some (record r { body = a })) × B r.type_of a r.body) (same_rule e) (s.body, refl, x)
+  backward (two {r = s} {b = b} x) e = subst (λ r. (a : Expression) × (Some s ≡ Some (record r { body = a })) × B r.type_of a r.body) (same_some e) (s.body, refl, x)
 
 module _ (g : Grammar) (R : RuleType → Expression → Expression → Type 0) (B : ℕ → ℕ → Type 0) (k : KeepsAtRoot g R B) where
   -- 3. at any place of a body

@@ -6,6 +6,7 @@ use Rattle.std.specs.Ordering.{nat_cmp, is_lt, ordering_reverse}
 use Rattle.std.specs.Cmp.{IsTotalOrder}
 use Rattle.std.proofs.lemmas.Cmp.{tied_itself}
 use Rattle.std.specs.String.{string_eq}
+use Rattle.std.proofs.lemmas.Bool.{and_parts}
 use Rattle.meta_base.specs.Rewritings.Equality.{text_eq-Decides}
 use Rattle.meta_base.specs.Pieces.Comparing.{ascending_rules, SaySame, SameError}
 use Rattle.meta_base.specs.declared.grammar.Rule.{Rule}
@@ -22,6 +23,7 @@ use Rattle.meta_base.specs.contracts.grammar.RulePartialEq.TheImpl as equality
 use Rattle.meta_base.specs.contracts.grammar.RuleOrd.TheImpl as order
 use Rattle.meta_base.specs.contracts.grammar.RuleOrd.TheImpl.Laws.{total-law}
 use Rattle.meta_base.specs.contracts.grammar.Rule.{the_type}
+use Rattle.meta_base.proofs.Basics.{same_some}
 use denote.Enum.Bare.{same_true, true_same}
 use denote.Enum.Declared.{tag_of}
 
@@ -81,10 +83,6 @@ below_next Less h = refl
 below_next Equal h = cc
 below_next Greater h = cc
 
-both : (a b : Bool) → (a && b) ≡ true → (a ≡ true) × (b ≡ true)
-both true b h = (refl, h)
-both false b h = cc
-
 cmp_before : (j : ℕ) → nat_cmp 0 (suc j) ≡ Less
 cmp_before j = grind (arith, nat_tests)
 
@@ -94,26 +92,23 @@ cmp_behind i = grind (arith, nat_tests)
 cmp_within : (i j : ℕ) → nat_cmp (suc i) (suc j) ≡ nat_cmp i j
 cmp_within i j = grind (arith, nat_tests)
 
-some_one : {K : Type 0} {a b : K} → Some a ≡ Some b → a ≡ b
-some_one h = cc
-
 module _ {K : Type 0} (R : K → K → Ordering) (total : IsTotalOrder R) where
   -- the first of an ascending list is below each that follows
   first_below : (x : K) (xs : List K) (j : ℕ) (b : K) → ascends R (x ∷ xs) ≡ true → slice_get xs j ≡ Some b → R x b ≡ Less
   first_below x [] j b h g = cc
-  first_below x (y ∷ xs) zero b h g = subst (λ b. R x b ≡ Less) (some_one g) (below_next (R x y) (both _ _ h).0)
-  first_below x (y ∷ xs) (suc j) b h g = total.trans x y b (below_next (R x y) (both _ _ h).0) (first_below y xs j b (both _ _ h).1 g)
+  first_below x (y ∷ xs) zero b h g = subst (λ b. R x b ≡ Less) (same_some g) (below_next (R x y) (and_parts _ _ h).0)
+  first_below x (y ∷ xs) (suc j) b h g = total.trans x y b (below_next (R x y) (and_parts _ _ h).0) (first_below y xs j b (and_parts _ _ h).1 g)
 
   rest_ascends : (x : K) (xs : List K) → ascends R (x ∷ xs) ≡ true → ascends R xs ≡ true
   rest_ascends x [] h = refl
-  rest_ascends x (y ∷ xs) h = (both _ _ h).1
+  rest_ascends x (y ∷ xs) h = (and_parts _ _ h).1
 
   -- elements of an ascending list compare as their places do
   as_places : (xs : List K) (i j : ℕ) (a b : K) → ascends R xs ≡ true → slice_get xs i ≡ Some a → slice_get xs j ≡ Some b → R a b ≡ nat_cmp i j
   as_places [] i j a b h f g = cc
-  as_places (x ∷ xs) zero zero a b h f g = rw (sym (some_one f), sym (some_one g)) (tied_itself total x)
-  as_places (x ∷ xs) zero (suc j) a b h f g = rw (← some_one f) (first_below x xs j b h g ∙ sym (cmp_before j))
-  as_places (x ∷ xs) (suc i) zero a b h f g = rw (← some_one g) (total.antisymm a x ∙ (ap ordering_reverse (first_below x xs i a h f) ∙ sym (cmp_behind i)))
+  as_places (x ∷ xs) zero zero a b h f g = rw (sym (same_some f), sym (same_some g)) (tied_itself total x)
+  as_places (x ∷ xs) zero (suc j) a b h f g = rw (← same_some f) (first_below x xs j b h g ∙ sym (cmp_before j))
+  as_places (x ∷ xs) (suc i) zero a b h f g = rw (← same_some g) (total.antisymm a x ∙ (ap ordering_reverse (first_below x xs i a h f) ∙ sym (cmp_behind i)))
   as_places (x ∷ xs) (suc i) (suc j) a b h f g = as_places xs i j a b (rest_ascends x xs h) f g ∙ sym (cmp_within i j)
 
 pub rules_as_places : (a b : Rule) (i j : ℕ) → slice_get ascending_rules i ≡ Some a → slice_get ascending_rules j ≡ Some b → order.ghosts.cmp a b ≡ nat_cmp i j
@@ -142,9 +137,9 @@ same_tag m n h = grind (arith, nat_tests)
 tag_at : (rs : List Rule) (n i : ℕ) (a : Rule) → counts_up n rs ≡ true → slice_get rs i ≡ Some a → tag_of the_type a ≡ n + i
 tag_at [] n i a h f = cc
 tag_at (r ∷ rs) n zero a h f =
-    subst (λ r. tag_of the_type r ≡ n + 0) (some_one f) (same_tag (tag_of the_type r) n (both (nat_eq (tag_of the_type r) n) (counts_up (n + 1) rs) h).0)
+    subst (λ r. tag_of the_type r ≡ n + 0) (same_some f) (same_tag (tag_of the_type r) n (and_parts (nat_eq (tag_of the_type r) n) (counts_up (n + 1) rs) h).0)
 tag_at (r ∷ rs) n (suc i) a h f =
-    let e : tag_of the_type a ≡ (n + 1) + i = tag_at rs (n + 1) i a (both (nat_eq (tag_of the_type r) n) (counts_up (n + 1) rs) h).1 f in omega (arith, e)
+    let e : tag_of the_type a ≡ (n + 1) + i = tag_at rs (n + 1) i a (and_parts (nat_eq (tag_of the_type r) n) (counts_up (n + 1) rs) h).1 f in omega (arith, e)
 
 pub rule_at : (a : Rule) (i : ℕ) → slice_get ascending_rules i ≡ Some a → tag_of the_type a ≡ i
 rule_at a i f = let e : tag_of the_type a ≡ 0 + i = tag_at ascending_rules 0 i a refl f in omega arith

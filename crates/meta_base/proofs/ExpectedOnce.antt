@@ -1,19 +1,14 @@
 -- Two derivations from one start tell the same names.
-use Rattle.std.proofs.Common.{◌≡◌, ℕ, List, [], ◌++◌, ◌&&◌, refl, sym, ◌∙◌, ap, ap₂, subst}
+use Rattle.std.proofs.Common.{◌≡◌, ℕ, List, [], ◌++◌, ◌&&◌, refl, sym, ◌∙◌, ap, ap₂}
 use Rattle.meta_base.specs.Language.Text.{Text}
 use Rattle.meta_base.specs.Language.Expression.{Grammar, Rule}
 use Rattle.meta_base.specs.Language.State.{Classes, Mode, State, Outcome}
 use Rattle.meta_base.specs.Language.Meaning.{Does, Task, Run, str, insens, range, slice, skip, call, other, pos_pred, neg_pred, push, restore, seq, seq_first, seq_second, left, right, opt, opt_none, rep_none, turn, turn_none, rep_exact, rep_max, rep_min_max, skips, atomic, compound_atomic, between, body_mode, seen_from, gives_token, rep, rep_once, rep_min, push_literal, tag}
 use Rattle.meta_base.specs.Language.FurthestFailure.{furthest, is_eoi}
 use Rattle.meta_base.specs.Language.Expected.{expected, expected_at, told}
-use Rattle.meta_base.proofs.FailurePlaces.{one_place}
-use Rattle.meta_base.proofs.OneOutcome.{same, same_state, same_rule, from, with_rule}
-use Rattle.meta_base.proofs.Moving.{some_outcome}
-use mathlib.Core.Path.{path_j, subst_refl}
-
--- what does not change along a path
-subst_keeps : {A X : Type 0} (P : A → Type 0) (f : (x : A) → P x → X) {x y : A} (p : x ≡ y) (u : P x) → f y (subst P p u) ≡ f x u
-subst_keeps P f {x} p u = path_j (λ y p. f y (subst P p u) ≡ f x u) (ap (f x) (subst_refl P u)) p
+use Rattle.meta_base.proofs.FailurePlaces.{one_place, subst_keeps}
+use Rattle.meta_base.proofs.OneOutcome.{same, same_state, from, with_rule}
+use Rattle.meta_base.proofs.Basics.{same_some}
 
 module _ (g : Grammar) (classes : Classes) (place : ℕ) where
   same_from : {k : Task} {s t : State} {o : Outcome} (e : s ≡ t) (d : Does g classes k t o) → expected_at place (from g classes e d) ≡ expected_at place d
@@ -34,13 +29,13 @@ module _ (g : Grammar) (classes : Classes) (place : ℕ) where
   one_list slice slice = refl
   one_list skip skip = refl
   one_list (call {m = m} {n = n} {s = s} {o = o} {r = r} h d) (call i e) =
-      let q = same_rule (sym h ∙ i) in
+      let q = same_some (sym h ∙ i) in
       let f = same g classes d (with_rule g classes m q e) in
       let x = one_list d (with_rule g classes m q e) ∙ same_with m q e in
       ap (λ w. told (seen_from m && gives_token r.type_of m) n place s o w) x ∙ ap₂ (λ r o. told (seen_from m && gives_token r.type_of m) n place s o (expected_at place e)) q f
   one_list (call h d) (other i c) = cc
   one_list (other h b) (call i d) = cc
-  one_list (other {m = m} {n = n} {s = s} h b) (other i c) = ap (λ o. told (seen_from m && is_eoi n) n place s o []) (some_outcome (sym b ∙ c))
+  one_list (other {m = m} {n = n} {s = s} h b) (other i c) = ap (λ o. told (seen_from m && is_eoi n) n place s o []) (same_some (sym b ∙ c))
   one_list (pos_pred d) (pos_pred e) = one_list d e
   one_list (neg_pred d) (neg_pred e) = refl
   one_list (push d) (push e) = one_list d e

@@ -4,12 +4,12 @@ use Rattle.meta_base.specs.Language.Expression.{Grammar, Rule}
 use Rattle.meta_base.specs.Language.State.{Classes, Mode, State, Outcome}
 use Rattle.meta_base.specs.Language.Meaning.{Does, Task, Run, str, insens, range, slice, skip, call, other, pos_pred, neg_pred, push, restore, seq, seq_first, seq_second, left, right, opt, opt_none, rep_none, turn, turn_none, rep_exact, rep_max, rep_min_max, skips, atomic, compound_atomic, between, body_mode, seen_from, gives_token, rep, rep_once, rep_min, push_literal, tag}
 use Rattle.meta_base.specs.Language.FurthestFailure.{furthest, place_of, is_eoi}
-use Rattle.meta_base.proofs.OneOutcome.{same, same_state, same_rule, from, with_rule}
-use Rattle.meta_base.proofs.Moving.{some_outcome}
+use Rattle.meta_base.proofs.OneOutcome.{same, same_state, from, with_rule}
+use Rattle.meta_base.proofs.Basics.{same_some}
 use mathlib.Core.Path.{path_j, subst_refl}
 
 -- what does not change along a path
-subst_keeps : {A X : Type 0} (P : A → Type 0) (f : (x : A) → P x → X) {x y : A} (p : x ≡ y) (u : P x) → f y (subst P p u) ≡ f x u
+pub subst_keeps : {A X : Type 0} (P : A → Type 0) (f : (x : A) → P x → X) {x y : A} (p : x ≡ y) (u : P x) → f y (subst P p u) ≡ f x u
 subst_keeps P f {x} p u = path_j (λ y p. f y (subst P p u) ≡ f x u) (ap (f x) (subst_refl P u)) p
 
 module _ (g : Grammar) (classes : Classes) where
@@ -31,14 +31,14 @@ module _ (g : Grammar) (classes : Classes) where
   one_place slice slice = refl
   one_place skip skip = refl
   one_place (call {m = m} {s = s} h d) (call i e) =
-      let q = same_rule (sym h ∙ i) in
+      let q = same_some (sym h ∙ i) in
       let o = same g classes d (with_rule g classes m q e) in
       let x = one_place d (with_rule g classes m q e) ∙ same_with m q e in
       let y = ap₂ (λ r o. place_of (seen_from m && gives_token r.type_of m) s o) q o in
       ap₂ (λ i j. max i j) y x
   one_place (call h d) (other i c) = cc
   one_place (other h b) (call i d) = cc
-  one_place (other {m = m} {n = n} {s = s} h b) (other i c) = ap (place_of (seen_from m && is_eoi n) s) (some_outcome (sym b ∙ c))
+  one_place (other {m = m} {n = n} {s = s} h b) (other i c) = ap (place_of (seen_from m && is_eoi n) s) (same_some (sym b ∙ c))
   one_place (pos_pred d) (pos_pred e) = one_place d e
   one_place (neg_pred d) (neg_pred e) = one_place d e
   one_place (push d) (push e) = one_place d e

@@ -31,4 +31,7 @@ pub mod LettingGo
 pub mod Copying
 pub mod FailuresStand
 pub mod InBytes
-mod Comparisons
+pub mod Comparisons
+pub mod Basics
+pub mod LastPlaces
+pub mod Beginnings

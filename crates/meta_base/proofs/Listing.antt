@@ -4,14 +4,14 @@ use Rattle.meta_base.specs.Language.Expression.{Grammar, Expression, Seq, Rep}
 use Rattle.meta_base.specs.Language.State.{Classes, Mode, AtomicMode, CompoundAtomicMode, State, Trees, None', joined, Outcome, Success, Failure}
 use Rattle.meta_base.specs.Language.Meaning.{Does, Task, Run, Turns, Skipping, seq, seq_first, seq_second, rep_none, turn, turn_none, atomic, compound_atomic, rep}
 use Rattle.meta_base.proofs.OneOutcome.{same, same_state, same_trees, from}
-use Rattle.meta_base.proofs.RewritingsKeepOutcomes.{joined-assoc, joined-none}
 use Rattle.meta_base.specs.Rewritings.Listing.{ListingKeeps}
 use Rattle.meta_base.proofs.Listed.{listed-turns}
+use Rattle.meta_base.proofs.Steps.{joined_assoc, joined_nil}
 
 same_joined : (us is vs ws js ks f l : Trees) → us ≡ None' → vs ≡ None' → joined js ks ≡ joined f l → joined (joined us (joined (joined is (joined vs ws)) js)) ks ≡ joined is (joined (joined ws f) l)
 same_joined us is vs ws js ks f l p q r =
     ap₂ (λ a b. joined (joined a (joined (joined is (joined b ws)) js)) ks) p q
-    ∙ (joined-assoc (joined is ws) js ks ∙ (joined-assoc is ws (joined js ks) ∙ (ap (λ a. joined is (joined ws a)) r ∙ ap (λ a. joined is a) (sym (joined-assoc ws f l)))))
+    ∙ (joined_assoc (joined is ws) js ks ∙ (joined_assoc is ws (joined js ks) ∙ (ap (λ a. joined is (joined ws a)) r ∙ ap (λ a. joined is a) (sym (joined_assoc ws f l)))))
 
 module _ (g : Grammar) (classes : Classes) (m : Mode) (nothing : (s : State) → Does g classes (Skipping m) s (Success s None')) where
   abbrev Goes : Expression → State → State → Trees → Type 0
@@ -48,7 +48,7 @@ module _ (g : Grammar) (classes : Classes) (m : Mode) (nothing : (s : State) →
       later = None';
       goes = e;
       turns = turn_none (nothing w) (fails_behind e (from g classes (sym (stays_put k).0) d));
-      trees = sym (joined-none ws);
+      trees = sym (joined_nil ws);
     }
     listed {ws = ks} (turn {us = us} {ws = js} k (seq {t = t} {u = u} {v = z} {us = is} {vs = vs} {ws = ws} a l b) c) e =
         let r = listed c e in

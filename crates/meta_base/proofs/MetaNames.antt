@@ -4,6 +4,7 @@ use Rattle.meta_base.specs.Language.Text.{Text}
 use Rattle.meta_base.specs.Pieces.MetaRules.{name_of, meta_rules}
 use Rattle.meta_base.specs.declared.grammar.Rule.{Rule}
 use Rattle.meta_base.specs.declared.grammar.Rule.TheVariants.{EOI}
+use Rattle.meta_base.proofs.Basics.{same_some}
 
 -- the first rule of a name
 abbrev found_in : List Rule → Text → Option Rule
@@ -14,8 +15,5 @@ found : (r : Rule) → found_in (EOI ∷ meta_rules) (name_of r) ≡ Some r
 found EOI = refl
 found _ = refl
 
-same_rule : {r q : Rule} → Some r ≡ Some q → r ≡ q
-same_rule h = cc
-
 pub name_of-injective : (r q : Rule) → name_of r ≡ name_of q → r ≡ q
-name_of-injective r q h = same_rule (sym (found r) ∙ (ap (found_in (EOI ∷ meta_rules)) h ∙ found q))
+name_of-injective r q h = same_some (sym (found r) ∙ (ap (found_in (EOI ∷ meta_rules)) h ∙ found q))

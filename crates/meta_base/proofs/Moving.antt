@@ -11,6 +11,7 @@ use Rattle.meta_base.specs.Language.Meaning.{Does, Task, Run, Turns, Skipping, s
 use native.Mathlib.Nat.{suc-min-suc}
 use Rattle.meta_base.specs.Language.Expression.{Part, whole, of_seq_left, of_seq_right, of_choice_left, of_choice_right, of_opt, of_rep, of_rep_once, of_rep_exact, of_rep_min, of_rep_max, of_rep_min_max, of_push, of_restore, of_tag}
 use Rattle.meta_base.specs.Language.WellFormed.{IsNullable, nullable_str, nullable_insens, nullable_soi, nullable_eoi, nullable_call, nullable_pos_pred, nullable_neg_pred, nullable_opt, nullable_rep, nullable_rep_max, nullable_seq, nullable_left, nullable_right, nullable_rep_once, nullable_push, nullable_exact_zero, nullable_exact, nullable_min_zero, nullable_min, nullable_min_max_zero, nullable_min_max, nullable_skip, nullable_restore, IsPlainBuiltin, nullable_push_literal, nullable_tag}
+use Rattle.meta_base.proofs.Basics.{same_some}
 
 -- from i characters to j: fewer, or as many and P
 abbrev pub Goes : Type 0 → ℕ → ℕ → Type 0
@@ -100,12 +101,6 @@ end_took : {P : Type 0} (m : Mode) (u : Text) (s : State) → P → Took P s (en
 end_took m [] s p = took (inr (p, refl))
 end_took m (c ∷ u) s p = failed
 
-pub some_outcome : {o p : Outcome} → Some o ≡ Some p → o ≡ p
-some_outcome h = cc
-
-pub some_builtin : {b c : Builtin} → Some b ≡ Some c → b ≡ c
-some_builtin h = cc
-
 -- a name of a builtin that takes nothing is `SOI` or `EOI`
 module _ (g : Grammar) where
   abbrev Stays : Text → Builtin → Type 0
@@ -132,21 +127,21 @@ module _ (g : Grammar) where
   found [] n b e h = last (is_one_of property_names n) h
     where
       last : (c : Bool) → (if c then Some (Property n) else None) ≡ Some b → Stays n b
-      last true h = subst (λ b. Stays n b) (some_builtin h) tt
+      last true h = subst (λ b. Stays n b) (same_some h) tt
       last false h = cc
   found (q ∷ bs) n b e h = go (bytes_eq q.name n) refl h (λ h. found bs n b e.1 h)
     where
       go : (c : Bool) → bytes_eq q.name n ≡ c → (if c then Some q.builtin else looked_up bs n) ≡ Some b → (looked_up bs n ≡ Some b → Stays n b) → Stays n b
-      go true i h f = subst (λ b. Stays n b) (some_builtin h) (subst (λ n. Stays n q.builtin) ((bytes_eq-Decides q.name n).0 i) e.0)
+      go true i h f = subst (λ b. Stays n b) (same_some h) (subst (λ n. Stays n q.builtin) ((bytes_eq-Decides q.name n).0 i) e.0)
       go false i h f = f h
 
   module _ (classes : Classes) where
     builtin_took : (m : Mode) (n : Text) (b : Builtin) (s : State) (o : Outcome) → IsPlainBuiltin b → Stays n b → builtin_outcome classes m b s ≡ Some o → Took (IsNullable g (Ident n)) s o
-    builtin_took m n (One set) s o i p h = subst (Took (IsNullable g (Ident n)) s) (some_outcome h) (one_took set s)
-    builtin_took m n (Property k) s o i p h = subst (Took (IsNullable g (Ident n)) s) (some_outcome h) (one_took (classes k) s)
-    builtin_took m n Newline s o i p h = subst (Took (IsNullable g (Ident n)) s) (some_outcome h) (newline_took s)
-    builtin_took m n Soi s o i p h = subst (Took (IsNullable g (Ident n)) s) (some_outcome h) (stays (nat_eq s.position 0) s p)
-    builtin_took m n Eoi s o i p h = subst (Took (IsNullable g (Ident n)) s) (some_outcome h) (end_took m s.rest s p)
+    builtin_took m n (One set) s o i p h = subst (Took (IsNullable g (Ident n)) s) (same_some h) (one_took set s)
+    builtin_took m n (Property k) s o i p h = subst (Took (IsNullable g (Ident n)) s) (same_some h) (one_took (classes k) s)
+    builtin_took m n Newline s o i p h = subst (Took (IsNullable g (Ident n)) s) (same_some h) (newline_took s)
+    builtin_took m n Soi s o i p h = subst (Took (IsNullable g (Ident n)) s) (same_some h) (stays (nat_eq s.position 0) s p)
+    builtin_took m n Eoi s o i p h = subst (Took (IsNullable g (Ident n)) s) (same_some h) (end_took m s.rest s p)
     builtin_took m n Peek s o i p h = absurd i
     builtin_took m n Pop s o i p h = absurd i
     builtin_took m n Drop s o i p h = absurd i
@@ -161,7 +156,7 @@ module _ (g : Grammar) where
         go (Some b) e h = builtin_took m n b s o (i b e) (found builtins n b each_stays e) h
 
     other_took : (m : Mode) (n : Text) (s : State) (o : Outcome) → ((b : Builtin) → builtin_of n ≡ Some b → IsPlainBuiltin b) → other_outcome classes m n s ≡ Some o → Took (IsNullable g (Ident n)) s o
-    other_took Between n s o i h = subst (Took (IsNullable g (Ident n)) s) (some_outcome h) failed
+    other_took Between n s o i h = subst (Took (IsNullable g (Ident n)) s) (same_some h) failed
     other_took NonAtomicMode n s o i h = named_took NonAtomicMode n s o i h
     other_took AtomicMode n s o i h = named_took AtomicMode n s o i h
     other_took CompoundAtomicMode n s o i h = named_took CompoundAtomicMode n s o i h

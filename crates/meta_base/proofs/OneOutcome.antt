@@ -1,17 +1,15 @@
 -- A task has at most one outcome from one state.
-use Rattle.std.proofs.Common.{◌≡◌, Some, refl, sym, ◌∙◌, ap, subst}
+use Rattle.std.proofs.Common.{◌≡◌, refl, sym, ◌∙◌, ap, subst}
 use Rattle.meta_base.specs.Language.Expression.{Grammar, Rule}
 use Rattle.meta_base.specs.Language.State.{Classes, Mode, State, Trees, Outcome, Success}
 use Rattle.meta_base.specs.Language.Meaning.{Does, Task, Run, str, insens, range, slice, skip, call, other, pos_pred, neg_pred, push, restore, seq, seq_first, seq_second, left, right, opt, opt_none, rep_none, turn, turn_none, rep_exact, rep_max, rep_min_max, skips, atomic, compound_atomic, between, ahead, not_ahead, pushed, body_mode, rep, rep_once, rep_min, push_literal, tag}
+use Rattle.meta_base.proofs.Basics.{same_some}
 
 pub same_state : {s t : State} {us vs : Trees} → Success s us ≡ Success t vs → s ≡ t
 same_state h = cc
 
 pub same_trees : {s t : State} {us vs : Trees} → Success s us ≡ Success t vs → us ≡ vs
 same_trees h = cc
-
-pub same_rule : {q r : Rule} → Some q ≡ Some r → q ≡ r
-same_rule h = cc
 
 module _ (g : Grammar) (classes : Classes) where
   -- the same task from an equal state
@@ -28,7 +26,7 @@ module _ (g : Grammar) (classes : Classes) where
   same slice slice = refl
   same skip skip = refl
   same (call {m = m} h d) (call i e) =
-      let q = same_rule (sym h ∙ i) in
+      let q = same_some (sym h ∙ i) in
       let o = same d (with_rule m q e) in cc
   same (call h d) (other i c) = cc
   same (other h b) (call i d) = cc

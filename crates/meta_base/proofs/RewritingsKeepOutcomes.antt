@@ -5,7 +5,7 @@ use Rattle.std.specs.List.{sum_by}
 use Rattle.std.proofs.lemmas.List.Sums.{sum_by-append}
 use Rattle.std.specs.Char.{len_utf8, eq_ignore_ascii_case}
 use Rattle.meta_base.specs.Language.Expression.{Grammar, Expression, Str, Insens, Ident, NegPred, Seq, Choice, Opt, Rep, RuleType, Normal, Silent, Atomic, CompoundAtomic, NonAtomic, Rule}
-use Rattle.meta_base.specs.Language.State.{Classes, Mode, AtomicMode, CompoundAtomicMode, State, Trees, None', Tree, joined, Outcome, Success, Failure, moved}
+use Rattle.meta_base.specs.Language.State.{Classes, Mode, AtomicMode, CompoundAtomicMode, State, Trees, None', joined, Outcome, Success, Failure, moved}
 use Rattle.meta_base.specs.Language.Text.{Text}
 use Rattle.meta_base.specs.Language.Matching.{begins, any_begins, distance, text_outcome, character_outcome}
 use Rattle.meta_base.specs.Language.Builtins.{builtins}
@@ -13,6 +13,7 @@ use Rattle.meta_base.specs.Language.Meaning.{Does, Task, Run, Turns, Skipping, s
 use Rattle.meta_base.specs.Rewritings.Rewriting.{by_rotating, by_unrolling, by_skipping, by_joining, by_factoring, Strings, one, named, more, Rewrites, rotate_sequence, rotate_choice, unroll_exact, unroll_min, unroll_max, unroll_min_max, skip_until, join_literals, join_insensitive, factor_prefix, factor_optional, factor_optional_compound, factor_absorbed, KeepsAny, Rotates, Unrolls, Joins, Factors}
 use Rattle.meta_base.proofs.OneOutcome.{same, same_state, same_trees, from}
 use Rattle.meta_base.proofs.Congruence.{Implies}
+use Rattle.meta_base.proofs.Steps.{joined_assoc, joined_nil}
 
 -- the modes in which the body of a rule of a type may run
 pub data RunsIn : RuleType → Mode → Type 0 where
@@ -29,16 +30,8 @@ runs_in Atomic b m = atomic_only
 runs_in CompoundAtomic b m = compound_only
 runs_in NonAtomic b m = non_atomic
 
-pub joined-assoc : (us vs ws : Trees) → joined (joined us vs) ws ≡ joined us (joined vs ws)
-joined-assoc None' vs ws = refl
-joined-assoc (Tree r i j us os) vs ws = ap (λ x. Tree r i j us x) (joined-assoc os vs ws)
-
-pub joined-none : (us : Trees) → joined us None' ≡ us
-joined-none None' = refl
-joined-none (Tree r i j us os) = ap (λ x. Tree r i j us x) (joined-none os)
-
 regrouped : (us vs ws xs ys : Trees) → joined (joined us (joined vs ws)) (joined xs ys) ≡ joined us (joined vs (joined ws (joined xs ys)))
-regrouped us vs ws xs ys = simp joined-assoc
+regrouped us vs ws xs ys = simp joined_assoc
 
 -- moving twice
 abbrev Equal : State → State → Type 0
@@ -57,7 +50,7 @@ moved-moved n m s =
     let j = add_assoc s.position (sum_by len_utf8 (take n s.rest)) (sum_by len_utf8 (take m (drop n s.rest))) in
     state_path (j ∙ ap (λ x. s.position + x) (sym h)) i
 
-and_assoc : (a b c : Bool) → (a && (b && c)) ≡ ((a && b) && c)
+pub and_assoc : (a b c : Bool) → (a && (b && c)) ≡ ((a && b) && c)
 and_assoc true b c = refl
 and_assoc false b c = refl
 
@@ -138,14 +131,14 @@ module _ (g : Grammar) (classes : Classes) where
       optional_forth s _ (right (seq_first a) b) = with_outcome (same g classes a b) (seq_first a)
       optional_forth s _ (right (seq_second {t = t} {us = us} a k b) c) =
           with_outcome (same g classes a c)
-          (with_trees (joined-none us) (seq a (nothing t) (opt_none (from g classes (same_state (same g classes (nothing t) k)) b))))
+          (with_trees (joined_nil us) (seq a (nothing t) (opt_none (from g classes (same_state (same g classes (nothing t) k)) b))))
 
       optional_back : {l r : Expression} → Implies g classes m (Seq l (Opt r)) (Choice (Seq l r) l)
       optional_back s _ (seq a k (opt b)) = left (seq a k b)
       optional_back s _ (seq {t = t} {us = us} {vs = vs} a k (opt_none b)) =
           let h = same g classes (nothing t) k in
           let i = ap (λ x. joined us (joined x None')) (same_trees h) in
-          with_outcome (ap₂ (λ x y. Success x y) (same_state h) (sym (joined-none us) ∙ i)) (right (seq_second a k b) a)
+          with_outcome (ap₂ (λ x y. Success x y) (same_state h) (sym (joined_nil us) ∙ i)) (right (seq_second a k b) a)
       optional_back s _ (seq_first a) = right (seq_first a) a
       optional_back s _ (seq_second a k b) = absurd (opt_ends b)
 

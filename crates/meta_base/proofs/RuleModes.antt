@@ -11,7 +11,7 @@ inherits_rule_mode false AtomicMode = tt
 inherits_rule_mode false CompoundAtomicMode = tt
 inherits_rule_mode false Between = tt
 
-in_rule_mode : (y : RuleType) (blank : Bool) (m : Mode) → IsRuleMode (mode_in y blank m)
+pub in_rule_mode : (y : RuleType) (blank : Bool) (m : Mode) → IsRuleMode (mode_in y blank m)
 in_rule_mode Atomic blank m = tt
 in_rule_mode CompoundAtomic blank m = tt
 in_rule_mode NonAtomic true m = tt

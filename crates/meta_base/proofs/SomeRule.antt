@@ -7,7 +7,7 @@ use Rattle.meta_base.specs.Language.Expression.{Grammar, Rule, rule_of, or_else,
 use Rattle.meta_base.specs.Language.Text.{Text}
 use Rattle.meta_base.specs.Language.Grammar.{HasDistinctNames}
 use Rattle.meta_base.specs.Language.WellFormed.{HasReadableCounts, InRules, InSomeRule, NamesHaveReadableCounts}
-use Rattle.meta_base.proofs.OneOutcome.{same_rule}
+use Rattle.meta_base.proofs.Basics.{same_some}
 
 -- what holds of each rule holds of the rule that a name means
 module _ (P : Rule → Type 0) where
@@ -16,8 +16,8 @@ module _ (P : Rule → Type 0) where
   holds_of_named (q ∷ g) n r a e = go (rule_of g n) (bytes_eq q.name n) (λ s i. holds_of_named g n s (All-tail P q g a) i) refl e
     where
       go : (o : Option Rule) (b : Bool) → ((s : Rule) → rule_of g n ≡ Some s → P s) → rule_of g n ≡ o → or_else o (if b then Some q else None) ≡ Some r → P r
-      go (Some s) b f i e = subst P (same_rule e) (f s i)
-      go None true f i e = subst P (same_rule e) (All-head P q g a)
+      go (Some s) b f i e = subst P (same_some e) (f s i)
+      go None true f i e = subst P (same_some e) (All-head P q g a)
       go None false f i e = cc
 
 -- what holds of all rules that the list contains holds of each

@@ -29,11 +29,11 @@ pub after_none : (o : Outcome) → after_trees None' o ≡ o
 after_none Failure = refl
 after_none (Success t us) = refl
 
-nowhere : (s : State) (o : Outcome) → place_of false s o ≡ 0
+pub nowhere : (s : State) (o : Outcome) → place_of false s o ≡ 0
 nowhere s Failure = refl
 nowhere s (Success t us) = refl
 
-same_mode_in : (y : RuleType) (b : Bool) → mode_in y b Between ≡ mode_in y b NonAtomicMode
+pub same_mode_in : (y : RuleType) (b : Bool) → mode_in y b Between ≡ mode_in y b NonAtomicMode
 same_mode_in Normal true = refl
 same_mode_in Normal false = refl
 same_mode_in Silent true = refl
@@ -42,17 +42,17 @@ same_mode_in Atomic b = refl
 same_mode_in CompoundAtomic b = refl
 same_mode_in NonAtomic b = refl
 
-same_body_mode : (r : Rule) → body_mode r Between ≡ body_mode r NonAtomicMode
+pub same_body_mode : (r : Rule) → body_mode r Between ≡ body_mode r NonAtomicMode
 same_body_mode r = same_mode_in r.type_of _
 
-same_gives : (y : RuleType) → gives_token y Between ≡ gives_token y NonAtomicMode
+pub same_gives : (y : RuleType) → gives_token y Between ≡ gives_token y NonAtomicMode
 same_gives Normal = refl
 same_gives Silent = refl
 same_gives Atomic = refl
 same_gives CompoundAtomic = refl
 same_gives NonAtomic = refl
 
-same_with_token : (r : Rule) (s : State) (o : Outcome) → with_token r Between s o ≡ with_token r NonAtomicMode s o
+pub same_with_token : (r : Rule) (s : State) (o : Outcome) → with_token r Between s o ≡ with_token r NonAtomicMode s o
 same_with_token r s Failure = refl
 same_with_token r s (Success t us) = ap (λ b. Success t (if b then Tree r.name s.position t.position us None' else us)) (same_gives r.type_of)
 

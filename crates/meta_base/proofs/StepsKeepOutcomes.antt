@@ -5,12 +5,12 @@ use Rattle.meta_base.specs.Language.State.{Classes, Mode, State, Outcome, Succes
 use Rattle.meta_base.specs.Language.Text.{Text}
 use Rattle.meta_base.specs.Language.Meaning.{Does, Task, Run, str, insens, range, slice, skip, call, other, pos_pred, neg_pred, push, restore, seq, seq_first, seq_second, left, right, opt, opt_none, rep_none, turn, turn_none, rep_exact, rep_max, rep_min_max, skips, atomic, compound_atomic, between, body_mode, with_token, rep, rep_once, rep_min, push_literal, tag}
 use Rattle.meta_base.specs.Rewritings.Rewriting.{by_joining, by_skipping, by_unrolling, by_rotating, by_factoring, Strings, one, named, more, rotate_choice, factor_prefix, factor_optional, factor_optional_compound, factor_absorbed, Within, here, in_choice_left, in_choice_right, Changed, this, later, Step, Chain, done, step, KeepsAny, SameOutcomes, Rewrites, EachBody, no_rules, also_rule, Many, Rotates, Unrolls, Joins, Factors}
-use Rattle.meta_base.proofs.OneOutcome.{same_rule}
 use Rattle.meta_base.proofs.Congruence as same
 use Rattle.meta_base.proofs.Congruence.{Implies}
 use Rattle.meta_base.proofs.Anywhere as anywhere
 use Rattle.meta_base.proofs.Anywhere.{Alike}
 use Rattle.meta_base.proofs.RewritingsKeepOutcomes.{RunsIn, runs_in, forth, back, rotates_forth, rotates_back, unrolls_forth, unrolls_back, joins_forth, joins_back, factors_forth, factors_back}
+use Rattle.meta_base.proofs.Basics.{same_some}
 
 -- 1. any place of a body, over any grammar f in which names stand for the same strings
 module _ (g f : Grammar) (classes : Classes) (free : KeepsAny f) (known : (c : Expression) (ts : List Text) → Strings g c ts → Strings f c ts) where
@@ -64,9 +64,9 @@ module _ (g h : Grammar) (classes : Classes) where
     called : {n : Text} {m : Mode} {s : State} {o : Outcome} {r : Rule} {p q : Option Rule} → Matched Over p q → p ≡ Some r → rule_of h n ≡ q → Does h classes (Run (body_mode r m) r.body) s o → Does h classes (Run m (Ident n)) s (with_token r m s o)
     called neither e k d = cc
     called {n = n} {m = m} {s = s} {o = o} (two {r = q} {b = b} x) e k d =
-        let i = subst (λ r. Does h classes (Run (body_mode r m) r.body) s o) (sym (same_rule e)) d in
+        let i = subst (λ r. Does h classes (Run (body_mode r m) r.body) s o) (sym (same_some e)) d in
         let j = call k (x _ (runs_in q.type_of _ m) s o i) in
-        subst (λ p. Does h classes (Run m (Ident n)) s p) (token_of q b m s o ∙ ap (λ r. with_token r m s o) (same_rule e)) j
+        subst (λ p. Does h classes (Run m (Ident n)) s p) (token_of q b m s o ∙ ap (λ r. with_token r m s o) (same_some e)) j
 
     carried : {k : Task} {s : State} {o : Outcome} → Does g classes k s o → Does h classes k s o
     carried str = str
@@ -132,8 +132,8 @@ Differs g y a b = (a ≡ b) ⊎ Within (Rewrites g y) a b
 module _ (g h : Grammar) where
   named_by : {n : Text} {r : Rule} {p q : Option Rule} {ts : List Text} → Matched (Differs g) p q → p ≡ Some r → rule_of h n ≡ q → Strings g r.body ts → Strings h r.body ts → Strings h (Ident n) ts
   named_by neither e k d i = cc
-  named_by {ts = ts} (two (inl j)) e k d i = named k (subst (λ x. Strings h x ts) (sym (ap (λ r. r.body) (same_rule e)) ∙ j) i)
-  named_by {ts = ts} (two (inr w)) e k d i = absurd (not_within (subst (λ r. Strings g r.body ts) (sym (same_rule e)) d) w)
+  named_by {ts = ts} (two (inl j)) e k d i = named k (subst (λ x. Strings h x ts) (sym (ap (λ r. r.body) (same_some e)) ∙ j) i)
+  named_by {ts = ts} (two (inr w)) e k d i = absurd (not_within (subst (λ r. Strings g r.body ts) (sym (same_some e)) d) w)
 
   pub still_known : {c : Expression} {ts : List Text} → ((n : Text) → Matched (Differs g) (rule_of g n) (rule_of h n)) → Strings g c ts → Strings h c ts
   still_known p one = one

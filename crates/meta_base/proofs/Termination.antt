@@ -8,8 +8,8 @@ use Rattle.meta_base.specs.Language.Matching.{other_outcome, named_outcome, buil
 use Rattle.meta_base.specs.Language.Meaning.{Does, Task, Run, Turns, Skipping, str, insens, range, slice, skip, call, other, pos_pred, neg_pred, push, restore, seq, seq_first, seq_second, left, right, opt, opt_none, rep_none, turn, turn_none, rep_exact, rep_max, rep_min_max, skips, atomic, compound_atomic, between, body_mode, mode_in, in_sequence, skipped, rep, rep_once, rep_min, push_literal, tag}
 use Rattle.meta_base.specs.Language.WellFormed.{IsNullable, LeftCalls, left_name, left_first, left_second, left_pos_pred, left_neg_pred, left_left, left_right, left_opt, left_rep, left_rep_once, left_rep_exact, left_rep_min, left_rep_max, left_rep_min_max, left_push, left_restore, NamesHaveReadableCounts, IsWellFormed, IsPlainBuiltin, HasOutcome, InRules, IsPlainName, of_rule, of_builtin, IsSkipped, is_whitespace, is_comment, Reaches, itself, onward, nullable_seq, IsPlain, left_tag}
 use Rattle.meta_base.proofs.Grounding.{Grounded, grounded, all_grounded}
-use Rattle.meta_base.proofs.Moving.{Goes, goes, goes_down, left_of, moves, Calm, CalmHere, Each', no_more, also, calm_seq, calm_opt, calm_rep, calm_empty, calm_skipped, each_copy, each_of_both, in_all, some_builtin}
-use Rattle.meta_base.proofs.OneOutcome.{same_rule}
+use Rattle.meta_base.proofs.Moving.{Goes, goes, goes_down, left_of, moves, Calm, CalmHere, Each', no_more, also, calm_seq, calm_opt, calm_rep, calm_empty, calm_skipped, each_copy, each_of_both, in_all}
+use Rattle.meta_base.proofs.Basics.{same_some}
 
 module _ (g : Grammar) (classes : Classes) (calm : (n : Text) (r : Rule) → rule_of g n ≡ Some r → Calm g classes r.body) where
   abbrev Has : Task → State → Type 0
@@ -238,19 +238,19 @@ quiet_skipped Atomic true m e = tt
 quiet_skipped CompoundAtomic true m e = tt
 quiet_skipped NonAtomic true m e = tt
 
-rule_name : (g : Grammar) (n : Text) (r : Rule) → rule_of g n ≡ Some r → bytes_eq r.name n ≡ true
+pub rule_name : (g : Grammar) (n : Text) (r : Rule) → rule_of g n ≡ Some r → bytes_eq r.name n ≡ true
 rule_name [] n r h = cc
 rule_name (q ∷ g) n r h = go (rule_of g n) refl h (λ h. rule_name g n r h)
   where
     here : (b : Bool) → bytes_eq q.name n ≡ b → (if b then Some q else None) ≡ Some r → bytes_eq r.name n ≡ true
-    here true e h = subst (λ r. bytes_eq r.name n ≡ true) (same_rule h) e
+    here true e h = subst (λ r. bytes_eq r.name n ≡ true) (same_some h) e
     here false e h = cc
 
     go : (o : Option Rule) → rule_of g n ≡ o → or_else o (if bytes_eq q.name n then Some q else None) ≡ Some r → (rule_of g n ≡ Some r → bytes_eq r.name n ≡ true) → bytes_eq r.name n ≡ true
     go (Some p) e h f = f (e ∙ h)
     go None e h f = here (bytes_eq q.name n) refl h
 
-or_true : (b : Bool) → (b || true) ≡ true
+pub or_true : (b : Bool) → (b || true) ≡ true
 or_true true = refl
 or_true false = refl
 
@@ -261,7 +261,7 @@ is_skipped g _ r is_comment h = ap (λ b. bytes_eq r.name whitespace || b) (rule
 module _ (g : Grammar) (classes : Classes) (counted : NamesHaveReadableCounts g) (w : IsWellFormed g) (p : IsPlain g) where
   plain_builtin : {n : Text} {b : Builtin} → IsPlainName g n → rule_of g n ≡ None → builtin_of n ≡ Some b → IsPlainBuiltin b
   plain_builtin (of_rule h) e f = cc
-  plain_builtin (of_builtin h i) e f = subst IsPlainBuiltin (some_builtin (sym h ∙ f)) i
+  plain_builtin (of_builtin h i) e f = subst IsPlainBuiltin (same_some (sym h ∙ f)) i
 
   calm_here : (q : Expression) → InRules g q → CalmHere g classes q
   calm_here (Ident n) i = λ e b f. plain_builtin (p.names n i) e f

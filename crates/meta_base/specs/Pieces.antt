@@ -1,5 +1,6 @@
 -- Pieces of a text, trees over them, and errors that tell of them.
 pub mod Comparing
+pub mod Faults
 pub mod LineColumn
 pub mod Landmarks
 pub mod MetaRules

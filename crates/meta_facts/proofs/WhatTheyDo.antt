@@ -5,9 +5,10 @@ use Rattle.meta_base.specs.Language.Expression.{Str, Ident, Seq, Opt, Rep, Rule,
 use Rattle.meta_base.specs.Language.Text.{Text}
 use Rattle.meta_base.specs.Language.Meaning.{slice, push, skip, range, Does, Task, Run, Skipping, str, call, other, seq, seq_first, seq_second, opt_none, rep_none, turn_none, skips, compound_atomic, between, skipped, body_mode, rep, rep_once, Matches, atomic, insens, pos_pred, neg_pred, left, right, turn, rep_min_max}
 use Rattle.meta_facts.specs.SmallGrammars.{Alternatives, CommentsAreSkipped, EmptiesTheStack, LoudBlanks, NegativePredicates, ReadsTheTop, SlicesPastTheLength, TokensOfTheEnd, UndefinedNames, endless, at_start, ListingDiffers, BlankIsTaken, HasNone, BlankGivesToken, LastRuleIsMeant, NegativeSlices, Newlines, NonAtomicInside, OrdersOfTheStack, OtherReadings, PredicateRestores, PushPushes, RangesThatFail, ReadsEmptyStack, Skips, TokensOfAtomicRules}
-use Rattle.meta_base.proofs.OneOutcome.{same, same_state, same_rule, from}
+use Rattle.meta_base.proofs.OneOutcome.{same, same_state, from}
 use Rattle.meta_base.specs.Language.Builtins.{builtins, property_names, general_categories, binary_properties, scripts}
 use Rattle.meta_base.specs.Language.Matching.{other_outcome}
+use Rattle.meta_base.proofs.Basics.{same_some}
 
 pub differs : ListingDiffers
 differs classes m = (
@@ -34,8 +35,8 @@ module _ (classes : Classes) where
 
   body_of : {m : Mode} {n : Text} {r : Rule} → Endless (Run m (Ident n)) → rule_of endless n ≡ Some r → Endless (Run (body_mode r m) r.body)
   unfolding whitespace comment
-  body_of {m} of_rule h = subst (λ r. Endless (Run (body_mode r m) r.body)) (same_rule h) of_body
-  body_of {m} of_blank h = subst (λ r. Endless (Run (body_mode r m) r.body)) (same_rule h) of_rule
+  body_of {m} of_rule h = subst (λ r. Endless (Run (body_mode r m) r.body)) (same_some h) of_body
+  body_of {m} of_blank h = subst (λ r. Endless (Run (body_mode r m) r.body)) (same_some h) of_rule
 
   has_rule : {m : Mode} {n : Text} → Endless (Run m (Ident n)) → rule_of endless n ≡ None → ⊥
   unfolding whitespace comment

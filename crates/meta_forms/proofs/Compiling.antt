@@ -1,19 +1,14 @@
 -- Names that are looked up.
 use Prim.Native.Nat.{zero}
 use Rattle.std.proofs.Common.{◌≡◌, refl, sym, ◌∙◌, ap, ap₂, subst, ℕ, suc, ◌+◌, ◌<◌, List, [], ◌∷◌, Bool, true, false, Option, Some, None, if◌then◌else◌, length, drop, get_or, bytes_eq, arith, map, codes, ◌++◌, ◌==◌, ◌||◌, ◌&&◌, ◌≤◌, take, eqb-true}
-use Rattle.std.specs.Prelude.{IsUtf8, chars, encode_utf8, encode_utf8_all}
-use Rattle.std.specs.Bool.{Decides}
-use Rattle.std.specs.Cmp.{unsigned_Decides}
-use Rattle.std.proofs.lemmas.Slice.Eq.{slice_eq-Decides}
-use Rattle.std.proofs.lemmas.Bool.Decides.{same_from_decides}
-use Rattle.std.proofs.lemmas.Str.{encodes-chars}
+use Rattle.std.specs.Prelude.{IsUtf8, chars, encode_utf8}
 use Rattle.std.proofs.lemmas.List.{get_or-map, length-map}
 use Rattle.meta_ast.specs.Ast.{text_of}
 use Rattle.meta_ast.specs.declared.optimized.OptimizedRule.{OptimizedRule}
 use Rattle.meta_ast.specs.Optimized.{optimized_rule_of, optimized_rules_of}
 use Rattle.meta_base.specs.Language.Text.{Text}
 use Rattle.meta_base.specs.Rewritings.Equality.{text_eq-Decides}
-use Rattle.meta_base.specs.Language.Expression.{Grammar, Rule, rule_of, or_else}
+use Rattle.meta_base.specs.Language.Expression.{Grammar, Rule, rule_of}
 use Rattle.std.proofs.lemmas.Str.{chars_past_char}
 use Rattle.std.proofs.lemmas.List.{length-append}
 use Rattle.meta_base.specs.Language.Expression as spec
@@ -24,18 +19,13 @@ use Rattle.meta_syntax.specs.Forms.{decoded}
 use Rattle.meta_syntax.proofs.LeafLemmas.{chars_empty, decoded_chars}
 use Rattle.std.specs.declared.string.String.{String}
 use Rattle.std.specs.declared.alloc.Global.{Global}
+use Rattle.std.proofs.lemmas.Bool.{and_parts}
 use Rattle.meta_base.specs.Language.Builtins.{Named, Property as PropertyOf, builtin_of, builtins, looked_up, is_one_of, property_names, general_categories, binary_properties, scripts}
 use Rattle.meta_forms.specs.declared.form.Property.{Property}
 use Rattle.meta_forms.specs.declared.form.Row.{Row}
 use Rattle.meta_forms.specs.declared.form.Form.TheVariants as form
 use Rattle.meta_forms.specs.Compiled.{Compiles, names_in}
 use Rattle.meta_forms.specs.Programs.{IsNumberOf, IsPropertyOf, IsRow, IsRuleOf, IsSkippedRule, IsSound, grammar_of, name_at, names_of, rule_of_row}
-
-pub same_chars : (a b : List ℕ) → IsUtf8 a → IsUtf8 b → bytes_eq a b ≡ bytes_eq (chars a) (chars b)
-same_chars a b u v =
-    let d = slice_eq-Decides unsigned_Decides a b _ refl in
-    let e : Decides (bytes_eq a b) (chars a ≡ chars b) = ((λ h. ap chars (d.0 h)), (λ h. d.1 (sym (encodes-chars a u) ∙ ap encode_utf8_all h ∙ encodes-chars b v))) in
-    same_from_decides _ _ e (text_eq-Decides (chars a) (chars b))
 
 -- the last rule of a name, with none of that name behind it
 pub last_rule : (g : Grammar) (i : ℕ) (d : Rule) (n : Text) → i < length g → rule_of (drop (suc i) g) n ≡ None → bytes_eq (get_or g i d).name n ≡ true → rule_of g n ≡ Some (get_or g i d)
@@ -145,17 +135,12 @@ abbrev each : (Text → Bool) → List Text → Bool
 each f [] = true
 each f (t ∷ ts) = f t && each f ts
 
-both : (a b : Bool) → (a && b) ≡ true → (a ≡ true) × (b ≡ true)
-both true true h = (refl, refl)
-both true false h = cc
-both false b h = cc
-
 each_of : (f : Text → Bool) (ts : List Text) (n : Text) → each f ts ≡ true → is_one_of ts n ≡ true → f n ≡ true
 each_of f [] n h e = cc
-each_of f (t ∷ ts) n h e = go (bytes_eq t n) refl e (λ k. each_of f ts n (both (f t) (each f ts) h).1 k)
+each_of f (t ∷ ts) n h e = go (bytes_eq t n) refl e (λ k. each_of f ts n (and_parts (f t) (each f ts) h).1 k)
   where
     go : (b : Bool) → bytes_eq t n ≡ b → (b || is_one_of ts n) ≡ true → (is_one_of ts n ≡ true → f n ≡ true) → f n ≡ true
-    go true x y ih = subst (λ m. f m ≡ true) ((text_eq-Decides t n).0 x) (both (f t) (each f ts) h).0
+    go true x y ih = subst (λ m. f m ≡ true) ((text_eq-Decides t n).0 x) (and_parts (f t) (each f ts) h).0
     go false x y ih = ih y
 
 property_of : (bs : List Named) (n : Text) → no_builtin bs n ≡ true → is_one_of property_names n ≡ true → looked_up bs n ≡ Some (PropertyOf n)
@@ -178,7 +163,7 @@ plain_names = refl
 all_plain : (ts : List Text) → each (λ n. bytes_eq (decoded n) n) ts ≡ true → map chars ts ≡ ts
 all_plain [] h = refl
 all_plain (t ∷ ts) h =
-    let b = both (bytes_eq (decoded t) t) (each (λ n. bytes_eq (decoded n) n) ts) h in
+    let b = and_parts (bytes_eq (decoded t) t) (each (λ n. bytes_eq (decoded n) n) ts) h in
     ap₂ (λ x xs. x ∷ xs) (sym (decoded_chars t) ∙ (text_eq-Decides (decoded t) t).0 b.0) (all_plain ts b.1)
 
 written_names : (names : List (Bor (List ℕ))) → map (λ p. chars p.now) names ≡ map chars (map (λ p. p.now) names)

@@ -8,6 +8,7 @@ use Rattle.std.proofs.lemmas.List.Sums.{sum_by-cons}
 use Rattle.meta_base.specs.Language.Text.{Text, size_of}
 use Rattle.meta_base.specs.Language.State.{State, Outcome, Success, Failure, None', moved}
 use Rattle.meta_base.specs.Language.Matching.{any_begins, begins, character_outcome, concatenated, distance, end_place, place, slice_at, slice_outcome, text_outcome}
+use Rattle.meta_base.proofs.Basics.{first_of_both}
 use Rattle.std.specs.Prelude.{encode_utf8, IsUtf8, ℤ, reverse, ◌<◌, ◌≤◌}
 use Rattle.std.proofs.Common.{◌⊎◌, inl, inr}
 use Rattle.std.proofs.Math.Utf8.{scalar_cases, scalars}
@@ -164,16 +165,12 @@ pub not_begun : (t : Text) (c : ℕ) (u : Text) → may_start t c ≡ false → 
 not_begun [] c u h = cc
 not_begun (d ∷ t) c u h = rw h refl
 
-and_left : (a b : Bool) → (a && b) ≡ true → a ≡ true
-and_left true b h = refl
-and_left false b h = cc
-
 -- the first character is a code point
 pub is_code_point : (bs given r : List ℕ) (c : ℕ) → IsUtf8 bs → given ≡ bs → given ≡ encode_utf8 c ++ r → c < 1114112
 is_code_point bs given r c u g e =
     let k = chars_past_char bs r c u (sym g ∙ e) in
     let h : scalars (c ∷ chars r) ≡ true = subst (λ x. scalars x ≡ true) k (scalars-chars bs u) in
-    go (scalar_cases c (and_left _ _ h))
+    go (scalar_cases c (first_of_both _ _ h))
   where
     go : (c < 55296) ⊎ ((57344 ≤ c) × (c < 1114112)) → c < 1114112
     go (inl l) = omega (arith, l)

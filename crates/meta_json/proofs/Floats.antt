@@ -1,5 +1,6 @@
 -- What is written has no floats, so its text is what the library's clause says.
-use Rattle.std.proofs.Common.{◌≡◌, ℕ, ℤ, pos, negsuc, Bool, true, false, ◌||◌, true≢false, Option, Some, None, List, [], ◌∷◌, ◌++◌, Bor, String, Global, map, refl}
+use Rattle.std.proofs.Common.{◌≡◌, ℕ, ℤ, pos, negsuc, Bool, false, ◌||◌, Option, Some, None, List, [], ◌∷◌, ◌++◌, Bor, String, Global, map, refl}
+use Rattle.std.proofs.lemmas.Bool.{or_from}
 use Rattle.serde_json.specs.Data.{Data}
 use Rattle.serde_json.specs.Find.{is_float, of_integer}
 use Rattle.serde_json.specs.View.{items_of}
@@ -13,6 +14,7 @@ use Rattle.meta_base.specs.declared.runtime.errors.InputLocation.{InputLocation}
 use Rattle.meta_base.specs.declared.runtime.errors.InputLocation.TheVariants as location
 use Rattle.meta_base.specs.declared.runtime.errors.LineColLocation.{LineColLocation}
 use Rattle.meta_base.specs.declared.runtime.errors.LineColLocation.TheVariants as line_col
+use Rattle.meta_base.proofs.Basics.{first_of_neither, second_of_neither}
 use Rattle.meta_ast.specs.declared.ast.Rule as bare_rule
 use Rattle.meta_ast.specs.declared.ast.Expr as bare
 use Rattle.meta_ast.specs.declared.optimized.OptimizedExpr as optimized
@@ -28,28 +30,16 @@ use Rattle.meta_json.specs.Tokens.{entry_data, tokens_data}
 use Rattle.meta_syntax.specs.declared.entries.Entry.{Entry}
 use Rattle.meta_syntax.specs.declared.entries.Entry.TheVariants as entry
 
-pub both_false : (a b : Bool) → a ≡ false → b ≡ false → (a || b) ≡ false
-both_false true b h k = h
-both_false false b h k = k
-
 pub then_free : (a b : Bool) → a ≡ false → b ≡ false → (a || (b || false)) ≡ false
-then_free a b h k = both_false a (b || false) h (both_false b false k refl)
-
-first_false : (a b : Bool) → (a || b) ≡ false → a ≡ false
-first_false true b h = h
-first_false false b h = refl
-
-second_false : (a b : Bool) → (a || b) ≡ false → b ≡ false
-second_false true b h = absurd (true≢false h)
-second_false false b h = h
+then_free a b h k = or_from a (b || false) h (or_from b false k refl)
 
 pub append_free : (ds es : List Data) → items_have_float (items_of ds) ≡ false → items_have_float (items_of es) ≡ false → items_have_float (items_of (ds ++ es)) ≡ false
 append_free [] es h k = k
-append_free (d ∷ ds) es h k = both_false (has_float d) _ (first_false (has_float d) _ h) (append_free ds es (second_false (has_float d) _ h) k)
+append_free (d ∷ ds) es h k = or_from (has_float d) _ (first_of_neither (has_float d) _ h) (append_free ds es (second_of_neither (has_float d) _ h) k)
 
 pub map_free : {A : Type 0} (f : A → Data) → ((x : A) → has_float (f x) ≡ false) → (xs : List A) → items_have_float (items_of (map f xs)) ≡ false
 map_free f h [] = refl
-map_free f h (x ∷ xs) = both_false (has_float (f x)) _ (h x) (map_free f h xs)
+map_free f h (x ∷ xs) = or_from (has_float (f x)) _ (h x) (map_free f h xs)
 
 texts_free : (ss : List (String Global)) → items_have_float (items_of (map text_data ss)) ≡ false
 texts_free ss = map_free text_data (λ s. refl) ss
@@ -63,10 +53,10 @@ end_free None = refl
 end_free (Some z) = place_float z
 
 pub one_free : (a b : Bool) → a ≡ false → b ≡ false → ((a || (b || false)) || false) ≡ false
-one_free a b h k = both_false (a || (b || false)) false (then_free a b h k) refl
+one_free a b h k = or_from (a || (b || false)) false (then_free a b h k) refl
 
 skip_free : (a : Bool) → a ≡ false → ((a || false) || false) ≡ false
-skip_free a h = both_false (a || false) false (both_false a false h refl) refl
+skip_free a h = or_from (a || false) false (or_from a false h refl) refl
 
 pub nodes_free : (e : bare.Expr) → items_have_float (items_of (nodes_of e)) ≡ false
 nodes_free (bare.Str s) = refl
@@ -110,10 +100,10 @@ optimized_nodes_free (optimized.Choice' p x q y) = append_free (optimized_nodes_
 optimized_nodes_free (optimized.Skip ss) = skip_free (has_float (texts_data ss.items)) (texts_free ss.items)
 
 pub rules_without_floats : (rules : List bare_rule.Rule) → has_float (rules_data rules) ≡ false
-rules_without_floats rules = map_free _ (λ r. both_false _ false (nodes_free r.expr) refl) rules
+rules_without_floats rules = map_free _ (λ r. or_from _ false (nodes_free r.expr) refl) rules
 
 pub optimized_without_floats : (rules : List OptimizedRule) → has_float (optimized_rules_data rules) ≡ false
-optimized_without_floats rules = map_free _ (λ r. both_false _ false (optimized_nodes_free r.expr) refl) rules
+optimized_without_floats rules = map_free _ (λ r. or_from _ false (optimized_nodes_free r.expr) refl) rules
 
 pub names_without_floats : (names : List (Bor (List ℕ))) → has_float (names_data names) ≡ false
 names_without_floats names = map_free _ (λ name. refl) names
@@ -133,7 +123,7 @@ line_col_free (line_col.Pos p) = refl
 line_col_free (line_col.Span p q) = refl
 
 said_free : (expected : List Rule) (variant : ErrorVariant) (line : List ℕ) (l : InputLocation) (p : LineColLocation) → members_have_float (error_members expected variant (said_members line (line_col_data p) (location_data l))) ≡ false
-said_free expected ParsingError line l p = both_false (has_float (rule_names_data expected)) _ (rule_names_free expected) (then_free (has_float (line_col_data p)) (has_float (location_data l)) (line_col_free p) (location_free l))
+said_free expected ParsingError line l p = or_from (has_float (rule_names_data expected)) _ (rule_names_free expected) (then_free (has_float (line_col_data p)) (has_float (location_data l)) (line_col_free p) (location_free l))
 said_free expected (CustomError m) line l p = then_free (has_float (line_col_data p)) (has_float (location_data l)) (line_col_free p) (location_free l)
 
 pub errors_without_floats : (expected : List Rule) (errors : List (Error Rule)) → has_float (errors_data expected errors) ≡ false

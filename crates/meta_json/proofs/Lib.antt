@@ -2,5 +2,4 @@ pub mod Floats
 pub mod Lists
 pub mod PlacedFloats
 pub mod RuleNames
-pub mod Spans
 pub mod Turns

@@ -1,5 +1,6 @@
 -- Nor have rules with places floats.
-use Rattle.std.proofs.Common.{◌≡◌, Bool, false, ◌||◌, List, refl}
+use Rattle.std.proofs.Common.{◌≡◌, false, List, refl}
+use Rattle.std.proofs.lemmas.Bool.{or_from}
 use Rattle.serde_json.specs.View.{items_of}
 use Rattle.serde_json.specs.Written.{has_float, items_have_float}
 use Rattle.meta_nodes.specs.Nodes.{view}
@@ -10,7 +11,7 @@ use Rattle.meta_nodes.specs.declared.node.ParserExpr.TheVariants as is
 use Rattle.meta_nodes.specs.declared.node.ParserRule.{ParserRule}
 use Rattle.meta_json.specs.Format.{end_data, place_data}
 use Rattle.meta_json.specs.Placed.{nodes_of_placed, placed_rule_data, placed_rules_data, span_data, spans_data}
-use Rattle.meta_json.proofs.Floats.{append_free, both_false, end_free, map_free, one_free, place_float, then_free}
+use Rattle.meta_json.proofs.Floats.{append_free, end_free, map_free, one_free, place_float}
 
 nodes_free : (e : ParserExpr) → items_have_float (items_of (nodes_of_placed e)) ≡ false
 nodes_free (is.Str u) = refl
@@ -37,7 +38,7 @@ spans_free : (x : Spanned) → has_float (spans_data x) ≡ false
 spans_free x = map_free (λ y. span_data (span_of y)) (λ y. refl) (preorder x)
 
 rule_free : (r : ParserRule) → has_float (placed_rule_data r) ≡ false
-rule_free r = both_false _ _ (nodes_free r.node.expr) (both_false _ false (spans_free (view r.node)) refl)
+rule_free r = or_from _ _ (nodes_free r.node.expr) (or_from _ false (spans_free (view r.node)) refl)
 
 pub placed_without_floats : (rules : List ParserRule) → has_float (placed_rules_data rules) ≡ false
 placed_without_floats rules = map_free placed_rule_data rule_free rules

@@ -4,7 +4,6 @@ ghost use Rattle.serde_json.specs.View.{view};
 ghost use Rattle.serde_json.specs.Written.{compact_text};
 ghost use Rattle.meta_json.specs.Errors.{error_data, errors_data, line_col_data, location_data, names_data, pair_data, rule_names_data};
 
-use crate::rule_names::rule_name;
 use meta_base::grammar::Rule;
 use meta_base::runtime::{Error, ErrorVariant, InputLocation, LineColLocation};
 use serde_json::{Value, json};
@@ -62,7 +61,7 @@ fn rule_names_value(alloc: Global, rules: &[Rule]) -> Result<Value, AllocError>
 {
     let mut values = Vec::new(alloc);
     for rule in rules {
-        values.push(Value::try_from_str(alloc, rule_name(*rule))?)?;
+        values.push(Value::try_from_str(alloc, rule.name())?)?;
     }
     Ok(Value::Array(values))
 }

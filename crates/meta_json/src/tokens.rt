@@ -4,7 +4,6 @@ ghost use Rattle.serde_json.specs.View.{view};
 ghost use Rattle.serde_json.specs.Written.{compact_text};
 ghost use Rattle.meta_json.specs.Tokens.{entry_data, tokens_data};
 
-use crate::rule_names::rule_name;
 use meta_syntax::grammar::Entry;
 use serde_json::{Value, json};
 use std::alloc::{AllocError, Global};
@@ -33,7 +32,7 @@ fn entry_value(alloc: Global, entry: Entry) -> Result<Value, AllocError>
     ensures { IfOk result (λ value. view value ≡ entry_data entry) }
 {
     match entry {
-        Entry::Start { rule, pos, partner } => json!(in alloc; [rule_name(rule), pos, partner]),
+        Entry::Start { rule, pos, partner } => json!(in alloc; [rule.name(), pos, partner]),
         Entry::End { pos, partner } => json!(in alloc; [pos, partner]),
     }
 }

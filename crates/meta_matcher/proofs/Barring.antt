@@ -1,5 +1,6 @@
 -- Rules that cannot begin with a character, and calls of them that are refused.
 use Rattle.std.proofs.Common.{◌≡◌, refl, sym, ◌∙◌, ap, subst, ℕ, ◌<◌, ◌-◌, List, [], ◌∷◌, Bool, true, false, ◌&&◌, ◌||◌, bytes_eq, chars, get_or, if◌then◌else◌, length, nat_eq}
+use Rattle.std.proofs.lemmas.Bool.{or_parts}
 use Rattle.meta_ast.specs.Ast.{rule_type_of, text_of}
 use Rattle.meta_base.specs.Language.Text.{Text}
 use Rattle.meta_base.specs.Language.Expression.{Atomic, CompoundAtomic, Grammar, Ident, NonAtomic, Normal, RuleType, Silent, comment, whitespace}
@@ -24,10 +25,6 @@ use Rattle.meta_matcher.proofs.Spans.{ran_set}
 use Rattle.meta_matcher.proofs.Stacking.{ran_push}
 use Rattle.meta_matcher.proofs.Steps.{call_failed, ran_one, row_known, row_meant}
 
-neither : (a b : Bool) → (a || b) ≡ false → (a ≡ false) × (b ≡ false)
-neither true b h = cc
-neither false b h = (refl, h)
-
 misses : (set : ℕ → Bool) (c : ℕ) (s : State) (u : Text) → s.rest ≡ c ∷ u → set c ≡ false → Failure ≡ character_outcome set s
 misses set c s u e h = sym (ap (λ t. if starts_in set t then Success (moved 1 s) None' else Failure) e ∙ ap (λ b. if b then Success (moved 1 s) None' else Failure) h)
 
@@ -43,7 +40,7 @@ module _ {g : Grammar} {classes : Classes} {place : ℕ} where
   ran_barred names ps m (form.Set' flags p a) c {s} u {n} e h b = subst (λ o. Ran g classes place (Run (mode_of m) (expression_of names a)) s o n n) (sym (misses (characters_of a) c s u e h)) (ran_set names ps m a b.0.one b.1)
   ran_barred names ps m (form.PosPred' p a) c u e h b = ran_ahead (ran_barred names ps m a c u e h b)
   ran_barred names ps m (form.Seq' p a q d) c u e h b = ran_seq_fails (ran_barred names ps m a c u e h b.0)
-  ran_barred names ps m (form.Choice' p a q d) c u e h b = let k = neither (may_begin a c) (may_begin d c) h in ran_right (ran_barred names ps m a c u e k.0 b.0) (ran_barred names ps m d c u e k.1 b.1)
+  ran_barred names ps m (form.Choice' p a q d) c u e h b = let k = or_parts (may_begin a c) (may_begin d c) h in ran_right (ran_barred names ps m a c u e k.0 b.0) (ran_barred names ps m d c u e k.1 b.1)
   ran_barred names ps m (form.RepOnce' p a) c u e h b = ran_rep_once (ran_seq_fails (ran_barred names ps m a c u e h b))
   ran_barred names ps m (form.Push' p a) c u e h b = ran_push (ran_barred names ps m a c u e h b)
   ran_barred names ps m (form.Tag' p a t) c u e h b = ran_tag (ran_barred names ps m a c u e h b)

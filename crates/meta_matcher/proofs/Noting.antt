@@ -1,14 +1,14 @@
 -- What each step of a run makes of what was found, of the furthest failure, and of the names that are told.
 use Rattle.std.proofs.Common.{◌≡◌, refl, sym, ◌∙◌, ap, subst, ℕ, nat_eq, max, List, [], ◌∷◌, ◌++◌, Bool, true, false, ◌&&◌, Some, None, arith, if◌then◌else◌, length, take, append_assoc, append-nil}
 use Rattle.std.proofs.Math.Seq.{take-append_seam}
-use Rattle.meta_base.specs.Language.Expression.{Grammar, Expression, Str, Range, Ident, PosPred, NegPred, Seq, Choice, Opt, Rep, RepOnce, NodeTag, RestoreOnErr, RuleType, Normal, Silent, Atomic, CompoundAtomic, NonAtomic, Rule, rule_of}
-use Rattle.meta_base.specs.Language.State.{Classes, Mode, NonAtomicMode, AtomicMode, CompoundAtomicMode, Between, State, Trees, None', Tree, Outcome, Success, Failure}
+use Rattle.meta_base.specs.Language.Expression.{Grammar, Expression, Str, Range, Ident, PosPred, NegPred, Seq, Choice, Opt, Rep, RepOnce, NodeTag, RestoreOnErr, Silent, Rule, rule_of}
+use Rattle.meta_base.specs.Language.State.{Classes, Mode, NonAtomicMode, AtomicMode, CompoundAtomicMode, Between, State, Trees, None', Outcome, Success, Failure}
 use Rattle.meta_base.specs.Language.Text.{Text}
 use Rattle.meta_base.specs.Language.Matching.{text_outcome, character_outcome, range_set, other_outcome}
-use Rattle.meta_base.specs.Language.Meaning.{Does, Run, Turns, Skipping, Task, str, range, call, other, pos_pred, neg_pred, seq, seq_first, seq_second, left, right, opt, opt_none, rep, rep_none, turn, turn_none, rep_once, skips, atomic, compound_atomic, between, ahead, not_ahead, restore, tag, with_token, body_mode, mode_in, gives_token, seen_from, skipped}
+use Rattle.meta_base.specs.Language.Meaning.{Does, Run, Turns, Skipping, Task, str, range, call, other, pos_pred, neg_pred, seq, seq_first, seq_second, left, right, opt, opt_none, rep, rep_none, turn, turn_none, rep_once, skips, atomic, compound_atomic, between, ahead, not_ahead, restore, tag, with_token, body_mode, gives_token, seen_from, skipped}
 use Rattle.meta_base.specs.Language.FurthestFailure.{furthest, place_of, is_eoi}
 use Rattle.meta_base.specs.Language.Expected.{expected_at, told}
-use Rattle.meta_base.proofs.Steps.{after_trees}
+use Rattle.meta_base.proofs.Steps.{after_trees, nowhere, same_body_mode, same_gives, same_with_token}
 use Rattle.meta_matcher.specs.Runs.{Notes, Ran}
 use Rattle.meta_matcher.specs.Told.{is_among, with_name, with_names}
 
@@ -36,37 +36,9 @@ behind names (n ∷ ns) =
 pub first_names : (names ns : List Text) → take (length names) (with_names names ns) ≡ names
 first_names names ns = let b = behind names ns in ap (take (length names)) b.1 ∙ take-append_seam names b.0
 
-nowhere : (s : State) (o : Outcome) → place_of false s o ≡ 0
-nowhere s Failure = refl
-nowhere s (Success t us) = refl
-
 quiet : (n : Text) (place : ℕ) (s : State) (o : Outcome) (within : List Text) → told false n place s o within ≡ within
 quiet n place s Failure within = refl
 quiet n place s (Success t us) within = refl
-
--- the modes of the skipping's calls are those of NonAtomic
-same_mode_in : (y : RuleType) (b : Bool) → mode_in y b Between ≡ mode_in y b NonAtomicMode
-same_mode_in Normal true = refl
-same_mode_in Normal false = refl
-same_mode_in Silent true = refl
-same_mode_in Silent false = refl
-same_mode_in Atomic b = refl
-same_mode_in CompoundAtomic b = refl
-same_mode_in NonAtomic b = refl
-
-pub same_body_mode : (r : Rule) → body_mode r Between ≡ body_mode r NonAtomicMode
-same_body_mode r = same_mode_in r.type_of _
-
-same_gives : (y : RuleType) → gives_token y Between ≡ gives_token y NonAtomicMode
-same_gives Normal = refl
-same_gives Silent = refl
-same_gives Atomic = refl
-same_gives CompoundAtomic = refl
-same_gives NonAtomic = refl
-
-pub same_with_token : (r : Rule) (s : State) (o : Outcome) → with_token r Between s o ≡ with_token r NonAtomicMode s o
-same_with_token r s Failure = refl
-same_with_token r s (Success t us) = ap (λ b. Success t (if b then Tree r.name s.position t.position us None' else us)) (same_gives r.type_of)
 
 without_token : (r : Rule) (s : State) (o : Outcome) → r.type_of ≡ Silent → with_token r Between s o ≡ o
 without_token r s Failure e = refl

@@ -4,8 +4,9 @@ use Rattle.meta_base.specs.Language.State.{Classes, Mode, NonAtomicMode, Between
 use Rattle.meta_base.specs.Language.Expression.{Choice, Expression, Grammar, Ident, NegPred, NodeTag, Opt, PosPred, Push, Rep, RepOnce, RestoreOnErr, Rule, Seq, rule_of}
 use Rattle.meta_base.specs.Language.Text.{Text}
 use Rattle.meta_base.specs.Language.Meaning.{Does, Run, Skipping, Task, Turns, atomic, between, body_mode, call, compound_atomic, insens, left, neg_pred, opt, opt_none, other, pos_pred, push, push_literal, range, rep, rep_exact, rep_max, rep_min, rep_min_max, rep_none, rep_once, restore, right, seq, seq_first, seq_second, skip, skips, slice, str, tag, turn, turn_none}
-use Rattle.meta_base.proofs.OneOutcome.{same, same_rule, same_state}
-use Rattle.meta_matcher.proofs.Noting.{same_body_mode, same_with_token}
+use Rattle.meta_base.proofs.OneOutcome.{same, same_state}
+use Rattle.meta_base.proofs.Basics.{same_some}
+use Rattle.meta_base.proofs.Steps.{same_body_mode, same_with_token}
 use Rattle.meta_matcher.specs.Frames.{blanks, comments}
 use Rattle.meta_matcher.specs.Sizes.{size}
 
@@ -176,7 +177,7 @@ module _ {g : Grammar} {classes : Classes} where
   in_its_rule m h d = rw h (d, refl)
 
   pub body_of_call : {m : Mode} {n : Text} {s : State} {o : Outcome} {r : Rule} → rule_of g n ≡ Some r → (d : Does g classes (Run m (Ident n)) s o) → HasOne g classes (Run (body_mode r m) r.body) s (size d)
-  body_of_call {m} h (call i d) = let e = in_its_rule m (same_rule (sym h ∙ i)) d in one e.0 (omega (arith, e.1))
+  body_of_call {m} h (call i d) = let e = in_its_rule m (same_some (sym h ∙ i)) d in one e.0 (omega (arith, e.1))
   body_of_call h (other i b) = absurd (cc)
 
   -- all derivations from a state are of one size
@@ -186,7 +187,7 @@ module _ {g : Grammar} {classes : Classes} where
   same_size range range = refl
   same_size slice slice = refl
   same_size skip skip = refl
-  same_size (call {m = m} h d) (call i e) = let q = in_its_rule m (same_rule (sym h ∙ i)) e in omega (arith, same_size d q.0, q.1)
+  same_size (call {m = m} h d) (call i e) = let q = in_its_rule m (same_some (sym h ∙ i)) e in omega (arith, same_size d q.0, q.1)
   same_size (call h d) (other i c) = absurd (cc)
   same_size (other h b) (call i d) = absurd (cc)
   same_size (other h b) (other i c) = refl

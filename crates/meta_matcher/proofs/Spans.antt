@@ -1,5 +1,7 @@
 -- Forms that match one character of a set, and as many as there are.
-use Rattle.std.proofs.Common.{◌≡◌, refl, sym, ap, subst, ℕ, suc, ◌+◌, List, [], ◌∷◌, Bool, true, false, ◌&&◌, ◌||◌, ◌==◌, if◌then◌else◌, nat_eq, length, arith, eqb-true}
+use Rattle.std.proofs.Common.{◌≡◌, refl, sym, ap, subst, ℕ, suc, ◌+◌, List, [], ◌∷◌, Bool, true, false, ◌||◌, ◌==◌, if◌then◌else◌, nat_eq, length, arith, eqb-true}
+use Rattle.std.proofs.lemmas.Bool.{and_parts}
+use Rattle.std.proofs.Math.Bool.{and-true}
 use Rattle.meta_ast.specs.Ast.{text_of}
 use Rattle.meta_base.specs.Language.Text.{Text, size_of}
 use Rattle.meta_base.specs.Language.Expression.{Choice, Expression, Grammar, Rep}
@@ -22,18 +24,9 @@ both_sets : (f h : ℕ → Bool) (t : Text) → starts_in (λ c. f c || h c) t �
 both_sets f h [] = refl
 both_sets f h (c ∷ t) = refl
 
-both : (a b : Bool) → (a && b) ≡ true → (a ≡ true) × (b ≡ true)
-both true true h = (refl, refl)
-both true false h = cc
-both false b h = cc
-
 one_is_set : (f : Form) → is_one f ≡ true → is_set f ≡ true
 one_is_set (form.Choice' p a q b) h = cc
 one_is_set f h = h
-
-one_is_enough : (b : Bool) → (b && true) ≡ b
-one_is_enough true = refl
-one_is_enough false = refl
 
 of_one_character : (t : Text) (s : State) → (length t == 1) ≡ true → text_outcome nat_eq t s ≡ character_outcome (λ c. starts_in (λ d. nat_eq d c) t) s
 of_one_character [] s h = cc
@@ -42,7 +35,7 @@ of_one_character (x ∷ []) s h = ap (λ b. if b then Success (moved 1 s) None' 
   where
     go : (rest : Text) → begins nat_eq (x ∷ []) rest ≡ starts_in (λ c. nat_eq x c) rest
     go [] = refl
-    go (d ∷ u) = one_is_enough (nat_eq x d)
+    go (d ∷ u) = and-true (nat_eq x d)
 
 module _ {g : Grammar} {classes : Classes} {place : ℕ} where
   either_ran : {m : Mode} {a b : Expression} {s : State} {n : Notes} (t : State) (x y : Bool) → Ran g classes place (Run m a) s (if x then Success t None' else Failure) n n → Ran g classes place (Run m b) s (if y then Success t None' else Failure) n n → Ran g classes place (Run m (Choice a b)) s (if x || y then Success t None' else Failure) n n
@@ -55,7 +48,7 @@ module _ {g : Grammar} {classes : Classes} {place : ℕ} where
   ran_set names ps m (form.Range a c) h b = ran_range refl
   ran_set names ps m (form.One k) h b = ran_one m k b refl
   ran_set names ps m (form.Choice' p a q c) {s} h b =
-      let k = both (is_one a) (is_set c) h in
+      let k = and_parts (is_one a) (is_set c) h in
       rw (both_sets (characters_of a) (characters_of c) s.rest) (either_ran (moved 1 s) (starts_in (characters_of a) s.rest) (starts_in (characters_of c) s.rest) (ran_set names ps m a (one_is_set a k.0) b.0) (ran_set names ps m c k.1 b.1))
   ran_set names ps m (form.Insens t) h b = cc
   ran_set names ps m (form.Set' fs p a) h b = cc

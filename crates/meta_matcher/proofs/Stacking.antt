@@ -10,6 +10,7 @@ use Rattle.std.specs.Borrow.{Bor}
 use Rattle.std.proofs.lemmas.Str.{chars-append}
 use Rattle.std.proofs.lemmas.List.{length-append, take-append-drop, drop-drop, length-drop}
 use Rattle.std.proofs.Math.Seq.{take-append_seam}
+use Rattle.std.proofs.Math.Bool.{and-false}
 use Rattle.meta_base.specs.Language.State.{Classes, Mode, State, None', Outcome, Success, moved}
 use Rattle.meta_base.specs.Language.Expression.{Expression, Grammar, Ident, Insens, PeekSlice, Push, PushLiteral, Skip, rule_of}
 use Rattle.meta_base.specs.Language.Text.{Text}
@@ -22,7 +23,7 @@ use Rattle.meta_matcher.specs.declared.modes.Mode as mode
 use Rattle.meta_forms.specs.Rests.{GoesOn, IsLeft, leaving, standing}
 use Rattle.meta_matcher.specs.Runs.{Fails, Finds, Gives, Notes, Now, Ran, Setting, mode_of}
 use Rattle.meta_matcher.proofs.Noting.{ran_quietly, ran_silently}
-use Rattle.meta_matcher.proofs.Steps.{by_builtin, eoi_builtin, never, gives_leaving}
+use Rattle.meta_matcher.proofs.Steps.{by_builtin, eoi_builtin, gives_leaving}
 
 pub peek_builtin : builtin_of (codes "PEEK") ≡ Some Peek
 unfolding builtins
@@ -37,7 +38,7 @@ unfolding builtins
 drop_builtin = refl
 
 ran_builtin : {g : Grammar} (m : mode.Mode) {classes : Classes} {place : ℕ} (n : Text) (b : Builtin) {s : State} {o : Outcome} {p : Notes} → builtin_of n ≡ Some b → is_eoi n ≡ false → rule_of g n ≡ None → builtin_outcome classes (mode_of m) b s ≡ Some o → Ran g classes place (Run (mode_of m) (Ident n)) s o p p
-ran_builtin m {classes} n b {s} h e u x = ran_quietly u (by_builtin classes m n b s h ∙ x) (rw e (never (seen_from (mode_of m))))
+ran_builtin m {classes} n b {s} h e u x = ran_quietly u (by_builtin classes m n b s h ∙ x) (rw e (and-false (seen_from (mode_of m))))
 
 ran_slice : {g : Grammar} {classes : Classes} {place : ℕ} {m : Mode} {i : ℤ} {j : Option ℤ} {s : State} {o : Outcome} {p : Notes} → o ≡ slice_outcome i j s → Ran g classes place (Run m (PeekSlice i j)) s o p p
 ran_slice e = rw e (ran_silently slice refl refl)

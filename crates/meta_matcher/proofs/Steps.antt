@@ -3,6 +3,7 @@ use Rattle.std.proofs.Common.{◌≡◌, refl, sym, ◌∙◌, ap, subst, ℕ, �
 use Rattle.std.specs.Prelude.{chars, IsUtf8}
 use Rattle.std.proofs.lemmas.List.{length-drop, length-map, get_or-map}
 use Rattle.std.specs.Borrow.{Bor}
+use Rattle.std.proofs.Math.Bool.{and-false, and-true}
 use Rattle.meta_base.specs.Language.State.{Classes, Mode, NonAtomicMode, Between, State, Trees, None', joined, Outcome, Success, Failure}
 use Rattle.meta_base.specs.Language.Expression.{Grammar, Expression, Ident, NegPred, PosPred, Opt, Seq, Choice, Rep, RepOnce, NodeTag, RestoreOnErr, Rule, rule_of, whitespace, comment}
 use Rattle.meta_base.specs.Language.Text.{Text}
@@ -35,14 +36,6 @@ pub by_builtin : (classes : Classes) (m : mode.Mode) (n : Text) (b : Builtin) (s
 by_builtin classes in_mode.NonAtomic n b s h = rw h refl
 by_builtin classes in_mode.Atomic n b s h = rw h refl
 by_builtin classes in_mode.CompoundAtomic n b s h = rw h refl
-
-pub never : (b : Bool) → (b && false) ≡ false
-never true = refl
-never false = refl
-
-always : (b : Bool) → (b && true) ≡ b
-always true = refl
-always false = refl
 
 class_builtin : (k : Class) → builtin_of (class_name k) ≡ Some (One (set_of k))
 unfolding builtins
@@ -89,13 +82,13 @@ module _ {g : Grammar} {classes : Classes} where
 
 module _ {g : Grammar} {classes : Classes} {place : ℕ} where
   pub ran_one : (m : mode.Mode) (k : Class) {s : State} {o : Outcome} {p : Notes} → rule_of g (class_name k) ≡ None → o ≡ character_outcome (set_of k) s → Ran g classes place (Run (mode_of m) (Ident (class_name k))) s o p p
-  ran_one m k {s} u e = ran_quietly u (rw (by_builtin classes m _ _ s (class_builtin k), e) refl) (rw (class_is_no_end k) (never (seen_from (mode_of m))))
+  ran_one m k {s} u e = ran_quietly u (rw (by_builtin classes m _ _ s (class_builtin k), e) refl) (rw (class_is_no_end k) (and-false (seen_from (mode_of m))))
 
   pub ran_soi : (m : mode.Mode) {s : State} {o : Outcome} {p : Notes} → rule_of g (codes "SOI") ≡ None → o ≡ (if nat_eq s.position 0 then Success s None' else Failure) → Ran g classes place (Run (mode_of m) (Ident (codes "SOI"))) s o p p
-  ran_soi m {s} u e = ran_quietly u (rw (by_builtin classes m _ _ s soi_builtin, e) refl) (never (seen_from (mode_of m)))
+  ran_soi m {s} u e = ran_quietly u (rw (by_builtin classes m _ _ s soi_builtin, e) refl) (and-false (seen_from (mode_of m)))
 
   ran_eoi : (m : mode.Mode) {s : State} {o : Outcome} {p q : Notes} → rule_of g (codes "EOI") ≡ None → o ≡ end_outcome (mode_of m) s.rest s → q.furthest ≡ max p.furthest (place_of (seen_from (mode_of m)) s o) → q.told ≡ with_names p.told (told (seen_from (mode_of m)) (codes "EOI") place s o []) → Ran g classes place (Run (mode_of m) (Ident (codes "EOI"))) s o p q
-  ran_eoi m {s} u e h f = ran_other u (rw (by_builtin classes m _ _ s eoi_builtin, e) refl) (rw (always (seen_from (mode_of m))) h) (rw (always (seen_from (mode_of m))) f)
+  ran_eoi m {s} u e h f = ran_other u (rw (by_builtin classes m _ _ s eoi_builtin, e) refl) (rw (and-true (seen_from (mode_of m))) h) (rw (and-true (seen_from (mode_of m))) f)
 
   pub ran_end : (m : mode.Mode) {s t : State} {us : Trees} {p : Notes} → rule_of g (codes "EOI") ≡ None → Success t us ≡ end_outcome (mode_of m) s.rest s → Ran g classes place (Run (mode_of m) (Ident (codes "EOI"))) s (Success t us) p p
   ran_end m u e = ran_eoi m u e (omega arith) refl
@@ -207,7 +200,7 @@ module _ {g : Setting} {m : Mode} {x y : Expression} {text rest : List ℕ} wher
     ran = λ classes fits. ran_right (f.ran classes fits) (same_start text rest f.same (h.ran classes fits));
   }
 
-  -- the skipping never fails
+  -- the skipping and-false fails
   pub fails_gap : {a b c d : Now} {n : ℕ} {ts : List Text} {s : List ℕ} → Finds g (Run m x) text rest a b s → Fails g (Skipping m) text s b c → IsReset n ts c d → n ≡ length a.entries → ts ≡ a.stack → Fails g (Run m (Seq x y)) text rest a d
   fails_gap {a} {b} {c} {d} {n} f k r l i = record {
     kept = cut_to a.entries b.entries d.entries n _ f.added (r.entries ∙ ap (take n) k.kept) l;
@@ -287,7 +280,7 @@ module _ {g : Setting} {m : Mode} {x : Expression} {text rest : List ℕ} {a b :
     ran = λ classes fits. same_noted r.notes (subst (λ ts. Ran g.grammar classes g.asked (Turns m x) (standing text rest a.stack) (Success (standing text rest ts) None') a.notes c.notes) (sym (r.stack ∙ i)) (ran_turns_end (k.ran classes fits) (f.ran classes fits)));
   }
 
-  -- the skipping never fails
+  -- the skipping and-false fails
   pub finds_no_turn : {c : Now} {n : ℕ} {ts : List Text} → Fails g (Skipping m) text rest a b → IsReset n ts b c → n ≡ length a.entries → ts ≡ a.stack → Finds g (Turns m x) text rest a c rest
   finds_no_turn {c} {n} k r l i = record {
     trees = None';

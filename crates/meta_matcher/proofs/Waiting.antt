@@ -421,10 +421,6 @@ module _ {scene : Scene} (m : mode.Mode) (right : Form) {x : Expression} {rest :
 pub answers_at_once : {scene : Scene} {m : Machine} (n : ℕ) {k : Task} {rest : List ℕ} {a : Now} {whole : Start} {answer : Option (Bor (List ℕ))} → IsWithin scene 0 (starting k rest a n) whole → GivesFrom scene whole (now_of m) answer → IsAnswered scene m (n + 1) answer whole
 answers_at_once n w g = record { gives = g; in_time = in_time_same ((n + 1) + 1) w (in_time_soon n) }
 
--- the start, and the end
-pub all_left : (text : List ℕ) → IsLeft text text
-all_left text = let z : length text - length text ≡ 0 = omega arith in rw z refl
-
 pub starts_at_top : (scene : Scene) (m : Machine) → m.frames.items ≡ [] → now_of m ≡ (top_of scene).now → steps_of m ≡ 0 → IsStarting scene m (top_of scene).task (top_of scene).rest
 starts_at_top scene m e now steps = record {
   whole = top_of scene;

@@ -4,6 +4,7 @@ use Rattle.std.specs.Prelude.{◌==◌, bytes_eq, ◌||◌, filter}
 use Rattle.std.specs.HashSet as bag
 use Rattle.std.proofs.lemmas.Bool.Decides.{nat_tests}
 use Rattle.std.proofs.lemmas.List.{map-append, drop_all}
+use Rattle.std.proofs.Math.Bool.{or-false}
 use Rattle.meta_base.specs.Language.Text.{Text}
 use Rattle.meta_base.specs.Language.Builtins.{is_one_of}
 use Rattle.meta_base.specs.Pieces.Saying.{Span, Complaint, SaysAt, Tell, piece_of, written}
@@ -86,12 +87,8 @@ name_taken all old new key name x rest others e k u a =
     ∙ moved_over had (bytes_eq (written x) name.now) (is_one_of (map written others) name.now)
     ∙ ap (λ b. b || is_one_of (map written others) name.now) (sym (u.0 name ∙ ap (λ m. cond (bytes_eq m name.now) true had) k))
 
-or_false : (b : Bool) → (b || false) ≡ b
-or_false true = refl
-or_false false = refl
-
 pub all_taken : (all b : Bool) (name : List ℕ) (rest : List Span) → rest ≡ [] → all ≡ (b || is_one_of (map written rest) name) → b ≡ all
-all_taken all b name rest e a = sym (a ∙ ap (λ l. b || is_one_of (map written l) name) e ∙ or_false b)
+all_taken all b name rest e a = sym (a ∙ ap (λ l. b || is_one_of (map written l) name) e ∙ or-false b)
 
 -- pieces that pass a test
 cond_pieces : (b : Bool) (x : code.Span) (xs : List code.Span) → map piece_of (cond b (x ∷ xs) xs) ≡ cond b (piece_of x ∷ map piece_of xs) (map piece_of xs)

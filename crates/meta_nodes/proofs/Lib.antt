@@ -2,3 +2,4 @@ pub mod NodeTests
 pub mod Walks
 pub mod Sameness
 pub mod Unplaced
+pub mod Places

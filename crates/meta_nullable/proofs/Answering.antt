@@ -1,16 +1,18 @@
 -- Answers that are right and closed answer the question.
-use Rattle.std.proofs.Common.{◌≡◌, ℕ, ◌⊎◌, inl, inr, List, [], ◌∷◌, Option, Some, None, Bool, true, false, ◌&&◌, ◌||◌, if◌then◌else◌, bytes_eq, codes, nat_eq, slice_get, refl, sym, ◌∙◌, ap, subst}
+use Rattle.std.proofs.Common.{◌≡◌, ℕ, ◌⊎◌, inl, inr, List, [], ◌∷◌, Option, Some, None, Bool, true, false, ◌||◌, if◌then◌else◌, bytes_eq, codes, nat_eq, slice_get, refl, sym, ◌∙◌, ap, subst}
 use Rattle.std.specs.Cmp.{unsigned_Decides}
 use Rattle.std.proofs.lemmas.Slice.Eq.{bytes_eq-Decides}
 use Rattle.meta_base.specs.Language.Text.{Text}
-use Rattle.meta_base.specs.Language.Expression.{Expression, Str, Insens, Range, Ident, PeekSlice, PosPred, NegPred, Seq, Choice, Opt, Rep, RepOnce, RepExact, RepMin, RepMax, RepMinMax, Skip, Push, RestoreOnErr, Rule, Grammar, rule_of, PushLiteral, NodeTag}
+use Rattle.meta_base.specs.Language.Expression.{Expression, Str, Insens, Range, Ident, PeekSlice, PosPred, NegPred, Seq, Choice, Opt, Rep, RepOnce, RepExact, RepMin, RepMax, RepMinMax, Skip, Push, RestoreOnErr, Rule, Grammar, rule_of, PushLiteral, NodeTag, last_place}
 use Rattle.std.specs.Bool.{Decides}
+use Rattle.std.proofs.lemmas.Bool.{and_from, and_parts, or_cases, or_left, or_right}
 use Rattle.meta_base.specs.Language.WellFormed.{IsNullable, nullable_str, nullable_insens, nullable_soi, nullable_eoi, nullable_call, nullable_pos_pred, nullable_neg_pred, nullable_opt, nullable_rep, nullable_rep_max, nullable_seq, nullable_left, nullable_right, nullable_rep_once, nullable_push, nullable_exact_zero, nullable_exact, nullable_min_zero, nullable_min, nullable_min_max_zero, nullable_min_max, nullable_skip, nullable_restore, CannotFail, cannot_fail_str, cannot_fail_insens, cannot_fail_call, cannot_fail_opt, cannot_fail_rep, cannot_fail_rep_max, cannot_fail_seq, cannot_fail_left, cannot_fail_right, cannot_fail_rep_once, cannot_fail_push, cannot_fail_pos_pred, cannot_fail_exact_zero, cannot_fail_exact, cannot_fail_min_zero, cannot_fail_min, cannot_fail_min_max_zero, cannot_fail_min_max, cannot_fail_skip, cannot_fail_restore, nullable_push_literal, nullable_tag, cannot_fail_push_literal, cannot_fail_tag}
+use Rattle.meta_base.proofs.Basics.{got_alike}
 use Rattle.meta_nodes.specs.Nodes.{view}
 use Rattle.meta_nodes.specs.declared.node.ParserRule.{ParserRule}
 use Rattle.meta_flags.specs.Least.{is_set_at}
-use Rattle.meta_table.proofs.Resolved.{Named, absent, named, got_like, resolved}
-use Rattle.meta_table.specs.Names.{grammar_of, rule_said, last_place, is_end}
+use Rattle.meta_table.proofs.Resolved.{Named, absent, named, resolved}
+use Rattle.meta_table.specs.Names.{grammar_of, rule_said, is_end}
 use Rattle.meta_nullable.specs.Names.{kind_in, name_kind}
 use Rattle.meta_nullable.specs.Kinds.{Says, counted, repeated, wrap_kind}
 use Rattle.meta_nullable.specs.Table.{is_of_taking, at_root, fires}
@@ -25,19 +27,12 @@ use Rattle.meta_nullable.specs.declared.kinds.Wrap.TheVariants as wraps
 use Rattle.meta_nullable.proofs.Tying.{says}
 
 -- 1. names and roots
-either : (a b : Bool) → (a || b) ≡ true → (a ≡ true) ⊎ (b ≡ true)
-either true b h = inl refl
-either false b h = inr h
 
 pub end_null : (g : Grammar) (n : Text) → is_end n ≡ true → IsNullable g (Ident n)
-end_null g n h = elim (either (bytes_eq n (codes "SOI")) (bytes_eq n (codes "EOI")) h) [
+end_null g n h = elim (or_cases (bytes_eq n (codes "SOI")) (bytes_eq n (codes "EOI")) h) [
   | inl e ↦ subst (λ t. IsNullable g (Ident t)) (sym ((bytes_eq-Decides n (codes "SOI")).0 e)) nullable_soi
   | inr e ↦ subst (λ t. IsNullable g (Ident t)) (sym ((bytes_eq-Decides n (codes "EOI")).0 e)) nullable_eoi
 ]
-
-both : (a b : Bool) → (a && b) ≡ true → (a ≡ true) × (b ≡ true)
-both true b h = (refl, h)
-both false b h = cc
 
 -- 2. what a question asks of an expression follows from its operands
 module _ (g : Grammar) where
@@ -161,7 +156,7 @@ module _ (q : Question) (G : Grammar) (place_of : Text → Option ℕ) (t : Kind
     name_asked : (n : Text) (o : Option ℕ) → Sense G (kinds_by place_of) t n o → (b : Bool) → is_end n ≡ b → fires q t.roots.items p (name_kind b o) ≡ true → Asked q G (Ident n)
     name_asked n o (absent_from e) true h f = end_asked G q n h f
     name_asked n o (absent_from e) false h f = cc
-    name_asked n o (lies_at {k = k} {j = j} r e at s) true h f = elim (either (is_of_taking q) (at_root p (slice_get t.roots.items k)) f) [
+    name_asked n o (lies_at {k = k} {j = j} r e at s) true h f = elim (or_cases (is_of_taking q) (at_root p (slice_get t.roots.items k)) f) [
       | inl z ↦ end_asked G q n h z
       | inr z ↦ call_asked G q n r e (below j r.body (sym (ap (at_root p) at) ∙ z) s)
     ]
@@ -187,8 +182,8 @@ module _ (q : Question) (G : Grammar) (place_of : Text → Option ℕ) (t : Kind
     step i k (RepExact e n) at s f = exact_asked G q e n (elim (counted_fires q t.roots.items p n s.0 (subst (λ z. fires q t.roots.items p z ≡ true) (same_kind _ at s.2) f)) [ inl h ↦ inl h | inr h ↦ inr (below s.0 e h s.3) ])
     step i k (RepMin e n) at s f = min_asked G q e n (elim (repeated_fires q t.roots.items p n s.0 (subst (λ z. fires q t.roots.items p z ≡ true) (same_kind _ at s.2) f)) [ inl h ↦ inl h | inr h ↦ inr (below s.0 e h s.3) ])
     step i k (RepMinMax e m n) at s f = min_max_asked G q e m n (elim (counted_fires q t.roots.items p m s.0 (subst (λ z. fires q t.roots.items p z ≡ true) (same_kind _ at s.2) f)) [ inl h ↦ inl h | inr h ↦ inr (below s.0 e h s.3) ])
-    step i k (Seq a b) at s f = let h = both (p s.0) (p s.1) (subst (λ z. fires q t.roots.items p z ≡ true) (same_kind _ at s.4) f) in seq_asked G q a b (below s.0 a h.0 s.5) (below s.1 b h.1 s.6)
-    step i k (Choice a b) at s f = choice_asked G q a b (elim (either (p s.0) (p s.1) (subst (λ z. fires q t.roots.items p z ≡ true) (same_kind _ at s.4) f)) [ inl h ↦ inl (below s.0 a h s.5) | inr h ↦ inr (below s.1 b h s.6) ])
+    step i k (Seq a b) at s f = let h = and_parts (p s.0) (p s.1) (subst (λ z. fires q t.roots.items p z ≡ true) (same_kind _ at s.4) f) in seq_asked G q a b (below s.0 a h.0 s.5) (below s.1 b h.1 s.6)
+    step i k (Choice a b) at s f = choice_asked G q a b (elim (or_cases (p s.0) (p s.1) (subst (λ z. fires q t.roots.items p z ≡ true) (same_kind _ at s.4) f)) [ inl h ↦ inl (below s.0 a h s.5) | inr h ↦ inr (below s.1 b h s.6) ])
     step i k (Skip ts) at s f = absurd s
     step i k (RestoreOnErr e) at s f = absurd s
 
@@ -215,18 +210,6 @@ repeated_holds q roots p n j h = go (nat_eq n 0)
     go true = refl
     go false = h
 
-or_true : (a b : Bool) → b ≡ true → (a || b) ≡ true
-or_true true b h = refl
-or_true false b h = h
-
-and_true : (a b : Bool) → a ≡ true → b ≡ true → (a && b) ≡ true
-and_true true b g h = h
-and_true false b g h = cc
-
-or_first : (a b : Bool) → a ≡ true → (a || b) ≡ true
-or_first true b h = refl
-or_first false b h = cc
-
 module _ (G : Grammar) (place_of : Text → Option ℕ) (t : KindTable) (sense : (n : Text) → Sense G (kinds_by place_of) t n (place_of n)) where
   abbrev Lies : ℕ → Expression → Type 0
   Lies i e = Says (kinds_by place_of) t.kinds.items i e
@@ -237,7 +220,7 @@ module _ (G : Grammar) (place_of : Text → Option ℕ) (t : KindTable) (sense :
 
     call_fires : (o : Option ℕ) → Sense G (kinds_by place_of) t n o → (b : Bool) → fires q t.roots.items p (name_kind b o) ≡ true
     call_fires o (absent_from e) b = absurd (no_rule (sym e ∙ at))
-    call_fires o (lies_at {k = k} {j = j} m e h s) true = or_true (is_of_taking q) (at_root p (slice_get t.roots.items k)) (root_fires k j m e h s)
+    call_fires o (lies_at {k = k} {j = j} m e h s) true = or_right (is_of_taking q) (at_root p (slice_get t.roots.items k)) (root_fires k j m e h s)
     call_fires o (lies_at {k = k} {j = j} m e h s) false = root_fires k j m e h s
 
   module _ (answers : List Bool) (closed : AreClosed asks.TakesNothing t answers) where
@@ -252,9 +235,9 @@ module _ (G : Grammar) (place_of : Text → Option ℕ) (t : KindTable) (sense :
     null_marked nullable_opt i s = closed i _ s.2 refl
     null_marked nullable_rep i s = closed i _ s.2 refl
     null_marked nullable_rep_max i s = closed i _ s.2 refl
-    null_marked (nullable_seq d f) i s = closed i _ s.4 (and_true (is_set_at answers s.0) (is_set_at answers s.1) (null_marked d s.0 s.5) (null_marked f s.1 s.6))
-    null_marked (nullable_left d) i s = closed i _ s.4 (or_first (is_set_at answers s.0) (is_set_at answers s.1) (null_marked d s.0 s.5))
-    null_marked (nullable_right d) i s = closed i _ s.4 (or_true (is_set_at answers s.0) (is_set_at answers s.1) (null_marked d s.1 s.6))
+    null_marked (nullable_seq d f) i s = closed i _ s.4 (and_from (is_set_at answers s.0) (is_set_at answers s.1) (null_marked d s.0 s.5) (null_marked f s.1 s.6))
+    null_marked (nullable_left d) i s = closed i _ s.4 (or_left (is_set_at answers s.0) (is_set_at answers s.1) (null_marked d s.0 s.5))
+    null_marked (nullable_right d) i s = closed i _ s.4 (or_right (is_set_at answers s.0) (is_set_at answers s.1) (null_marked d s.1 s.6))
     null_marked (nullable_rep_once d) i s = closed i _ s.2 (null_marked d s.0 s.3)
     null_marked (nullable_push d) i s = closed i _ s.2 (null_marked d s.0 s.3)
     null_marked nullable_push_literal i s = closed i _ s refl
@@ -276,9 +259,9 @@ module _ (G : Grammar) (place_of : Text → Option ℕ) (t : KindTable) (sense :
     sure_marked cannot_fail_opt i s = closed i _ s.2 refl
     sure_marked cannot_fail_rep i s = closed i _ s.2 refl
     sure_marked cannot_fail_rep_max i s = closed i _ s.2 refl
-    sure_marked (cannot_fail_seq d f) i s = closed i _ s.4 (and_true (is_set_at answers s.0) (is_set_at answers s.1) (sure_marked d s.0 s.5) (sure_marked f s.1 s.6))
-    sure_marked (cannot_fail_left d) i s = closed i _ s.4 (or_first (is_set_at answers s.0) (is_set_at answers s.1) (sure_marked d s.0 s.5))
-    sure_marked (cannot_fail_right d) i s = closed i _ s.4 (or_true (is_set_at answers s.0) (is_set_at answers s.1) (sure_marked d s.1 s.6))
+    sure_marked (cannot_fail_seq d f) i s = closed i _ s.4 (and_from (is_set_at answers s.0) (is_set_at answers s.1) (sure_marked d s.0 s.5) (sure_marked f s.1 s.6))
+    sure_marked (cannot_fail_left d) i s = closed i _ s.4 (or_left (is_set_at answers s.0) (is_set_at answers s.1) (sure_marked d s.0 s.5))
+    sure_marked (cannot_fail_right d) i s = closed i _ s.4 (or_right (is_set_at answers s.0) (is_set_at answers s.1) (sure_marked d s.1 s.6))
     sure_marked (cannot_fail_rep_once d) i s = closed i _ s.2 (sure_marked d s.0 s.3)
     sure_marked (cannot_fail_push d) i s = closed i _ s.2 (sure_marked d s.0 s.3)
     sure_marked cannot_fail_push_literal i s = closed i _ s refl
@@ -303,7 +286,7 @@ sense_of rules t table n = go (last_place (grammar_of rules) n) (resolved rules 
   where
     go : (o : Option ℕ) → Named rules n o → Sense (grammar_of rules) (kind_in (grammar_of rules)) t n o
     go o (absent e) = absent_from e
-    go o (named {r = k} rule at e) = let (j, h) = got_like rules t.roots.items k rule at (sym table.alike) in
+    go o (named {r = k} rule at e) = let (j, h) = got_alike rules t.roots.items k rule at (sym table.alike) in
         lies_at (rule_said rule) e h (says (kind_in (grammar_of rules)) t.kinds.items j (view rule.node) (table.stand k j rule at h))
 
 pub answers : (rules : List ParserRule) (t : KindTable) → IsTableOf rules t → (q : Question) (flags : List Bool) → AreSound q t flags → AreClosed q t flags → AreAnswers rules t q flags

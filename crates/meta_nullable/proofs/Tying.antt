@@ -71,8 +71,8 @@ leaf_done kind_of (code.Push' p e s) d t at h = cc
 leaf_done kind_of (code.PushLiteral s) d t at h = let e : bare.PushLiteral (text_of s) ≡ d = cc in ap (leaf_kind kind_of) e
 leaf_done kind_of (code.NodeTag' p e s u) d t at h = cc
 
-fits_node : (kind_of : Text → Kind) (all : List Spanned) (i : ℕ) (n : Node) (x : Spanned) → view_at (piece_of n.span) n.expr.now ≡ x → shapes.IsShape all i n.shape x → Fits kind_of all i (node_kind kind_of n.expr.now n.shape) x
-fits_node kind_of all i n (Leaf s e) said (simple, shape) = (simple, ap (node_kind kind_of n.expr.now) shape ∙ leaf_done kind_of n.expr.now e (piece_of n.span) s said)
+fits_node : (kind_of : Text → Kind) (all : List Spanned) (i : ℕ) (n : Node) (x : Spanned) → view_at (piece_of n.span.now) n.expr.now ≡ x → shapes.IsShape all i n.shape x → Fits kind_of all i (node_kind kind_of n.expr.now n.shape) x
+fits_node kind_of all i n (Leaf s e) said (simple, shape) = (simple, ap (node_kind kind_of n.expr.now) shape ∙ leaf_done kind_of n.expr.now e (piece_of n.span.now) s said)
 fits_node kind_of all i n (One s f x) said (j, next, at, shape) = (j, omega arith, at, ap (node_kind kind_of n.expr.now) shape, next)
 fits_node kind_of all i n (Two s f x y) said (j, l, between, next, at, at_2, shape) = (j, l, omega arith, omega arith, at, at_2, ap (node_kind kind_of n.expr.now) shape, next, between)
 

@@ -1,8 +1,8 @@
 -- What names do.
 use Rattle.std.specs.Prelude.{ℕ, Option, Some, None, Bool, if◌then◌else◌}
 use Rattle.meta_base.specs.Language.Text.{Text}
-use Rattle.meta_base.specs.Language.Expression.{Grammar}
-use Rattle.meta_table.specs.Names.{is_end, last_place}
+use Rattle.meta_base.specs.Language.Expression.{Grammar, last_place}
+use Rattle.meta_table.specs.Names.{is_end}
 use Rattle.meta_nullable.specs.declared.table.Kind.{Kind}
 use Rattle.meta_nullable.specs.declared.table.Kind.TheVariants as is
 

@@ -1,5 +1,5 @@
 -- Which nodes of a table answer a question with yes, by what their kinds say.
-use Rattle.std.specs.Prelude.{ℕ, List, Option, Some, None, Bool, true, false, ◌&&◌, ◌||◌, slice_get}
+use Rattle.std.specs.Prelude.{◌≡◌, ℕ, List, Option, Some, None, Bool, true, false, ◌&&◌, ◌||◌, slice_get, ⊤}
 use Rattle.meta_nullable.specs.declared.table.Kind.{Kind}
 use Rattle.meta_nullable.specs.declared.table.Kind.TheVariants as is
 use Rattle.meta_nullable.specs.declared.table.Question.{Question}
@@ -28,3 +28,8 @@ fires q roots p (is.Again j) = true
 fires q roots p (is.OnceAgain j) = p j
 fires q roots p (is.Seq j k) = p j && p k
 fires q roots p (is.Choice j k) = p j || p k
+
+-- two answers are the same at this node, if there is one
+abbrev pub AgreeAt : (ℕ → Bool) → (ℕ → Bool) → Option ℕ → Type 0
+AgreeAt p r None = ⊤
+AgreeAt p r (Some j) = p j ≡ r j

@@ -1,13 +1,18 @@
 //! Which nodes answer a question with yes: the least flags that follow from one another.
-ghost use Rattle.std.specs.Prelude.{IfOk};
+ghost use Rattle.std.specs.Prelude.{◌≡◌, ℕ, Bool, IfOk};
 ghost use Rattle.meta_nullable.specs.RightAnswers.{AreSound, AreClosed};
+ghost use Rattle.meta_nullable.specs.Table.{AgreeAt, fires};
+ghost use Rattle.meta_nullable.specs.declared.table.Question.{Question};
 
 use crate::table::{Kind, KindTable, Question};
 use meta_flags::{Inference, Listeners, Listening, Told, least_flags};
 use std::alloc::{AllocError, Global};
 
-/// The nodes on which the answer for a node depends, two at most. It saves time alone: no answer rests on it.
-pub fn listened_to(table: &KindTable, kind: Kind) -> (Option<usize>, Option<usize>) {
+/// The nodes on which the answers for a node depend, two at most: for any other the answers may change.
+pub fn listened_to(table: &KindTable, kind: Kind) -> (Option<usize>, Option<usize>)
+    ensures { (q : Question) (p r : ℕ → Bool) → AgreeAt p r result.0 → AgreeAt p r result.1
+        → fires q table.now.roots.items p kind ≡ fires q table.now.roots.items r kind }
+{
     match kind {
         Kind::Taking | Kind::Still | Kind::End => (None, None),
         Kind::Call(rule) | Kind::EndCall(rule) => (table.roots.get(rule).copied(), None),

@@ -12,7 +12,7 @@ use crate::table::{KindTable, Question};
 use meta_base::runtime::Span;
 use meta_flags::{is_set, who_listens};
 use meta_nodes::{ParserExpr, ParserRule};
-use meta_table::{names_of, number, tabulated};
+use meta_table::{Unnumbered, names_of, number, tabulated};
 use std::alloc::{AllocError, Global};
 
 /// The answer for an expression, where its names mean these rules (the last of a name): its nodes are put
@@ -26,13 +26,14 @@ pub fn answer_for<'i>(
     ensures { IfOk result (λ yes. Decides yes
         (Asked question (grammar_of rules.now) (without_spans (unplaced expr.now)))) }
 {
+    let nowhere = Span::of("", 0, 0);
     let names = names_of(alloc, rules)?;
     let mut nodes = tabulated(alloc, rules)?;
     let own = number(
-        alloc,
+        &mut Unnumbered::new(alloc),
         rules.len(),
         expr,
-        Span::of("", 0, 0),
+        &nowhere,
         &mut nodes.nodes,
     )?;
     let table = KindTable {

@@ -147,7 +147,7 @@ pub(crate) fn kinds_of<'i>(
     ensures { IfOk result (λ kinds. (all : List Spanned) → shapes.AreNodes all nodes.now
         → AreNodes (kind_in (grammar_of rules.now)) all kinds.items) }
 {
-    let mut kinds = Vec::new(alloc);
+    let mut kinds = Vec::with_capacity(alloc, nodes.len())?;
     for place in 0..nodes.len() {
         let node = nodes[place];
         kinds.push(kind_of_shape(rules, names, node.expr, node.shape))?;

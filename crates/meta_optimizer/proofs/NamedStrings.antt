@@ -7,7 +7,7 @@ use Rattle.std.specs.declared.string.String.{String}
 use Rattle.meta_base.specs.Language.Text.{Text}
 use Rattle.meta_base.specs.Language.Expression.{Expression, Ident, Choice, Rule, Grammar, rule_of}
 use Rattle.meta_base.specs.Rewritings.Rewriting.{IsLeaf, Strings, one, named, more}
-use Rattle.meta_base.proofs.OneOutcome.{same_rule}
+use Rattle.meta_base.proofs.Basics.{same_some}
 use Rattle.meta_ast.specs.Ast.{expression_of, text_of}
 use Rattle.meta_ast.specs.declared.ast.Expr.{Expr}
 use Rattle.meta_optimizer.specs.Bodies as within
@@ -37,7 +37,7 @@ module _ (g : Grammar) where
   onward (by_way h w p) i v = by_way h w (onward p i v)
 
   body_needs : {r q : Rule} {k : Text} → Some q ≡ Some r → Needs q.body k → Needs r.body k
-  body_needs {k = k} h w = subst (λ (x : Rule). Needs x.body k) (same_rule h) w
+  body_needs {k = k} h w = subst (λ (x : Rule). Needs x.body k) (same_some h) w
 
   -- what has strings needs no name that needs itself
   pub no_cycle : {e : Expression} {ts : List Text} {n : Text} → Strings g e ts → Needs e n → Path g n n → ⊥
@@ -54,7 +54,7 @@ module _ (g : Grammar) where
   needed_strings one w = elim w [ ]
 
   pub of_body : {n : Text} {r : Rule} {ts : List Text} → rule_of g n ≡ Some r → Strings g (Ident n) ts → Strings g r.body ts
-  of_body {ts = ts} h (named i d) = subst (λ (x : Rule). Strings g x.body ts) (same_rule (sym i ∙ h)) d
+  of_body {ts = ts} h (named i d) = subst (λ (x : Rule). Strings g x.body ts) (same_some (sym i ∙ h)) d
 
   pub of_first : {x e : Expression} {ts : List Text} → Strings g (Choice x e) ts → (us : List Text) × Strings g x us
   of_first (more l d f) = (_, d)

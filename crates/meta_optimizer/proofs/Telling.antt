@@ -8,7 +8,7 @@ use Rattle.std.specs.declared.string.String.{String}
 use Rattle.meta_base.specs.Language.Text.{Text}
 use Rattle.meta_base.specs.Language.Expression.{Expression, Str, Ident, Choice, Rule, Grammar, rule_of}
 use Rattle.meta_base.specs.Rewritings.Rewriting.{IsLeaf, Strings, one, named, more}
-use Rattle.meta_base.proofs.OneOutcome.{same_rule}
+use Rattle.meta_base.proofs.Basics.{same_some}
 use Rattle.meta_ast.specs.Ast.{expression_of, text_of}
 use Rattle.meta_ast.specs.declared.ast.Expr as code
 use Rattle.meta_ast.specs.declared.ast.Expr.TheVariants as is
@@ -83,7 +83,7 @@ module _ (g : Grammar) where
   body_has {k = k} {n = n} {r = r} h s = from s.within
     where
       from : {ts : List Text} → StringsWithin g k (Ident n) ts → (0 < k) × HasStrings g (k - 1) r.body
-      from (within.StringsWithin.named l i d) = (omega arith, subst (λ (x : Rule). HasStrings g (k - 1) x.body) (same_rule (sym i ∙ h)) (higher g (omega arith) (record { strings = _; within = d })))
+      from (within.StringsWithin.named l i d) = (omega arith, subst (λ (x : Rule). HasStrings g (k - 1) x.body) (same_some (sym i ∙ h)) (higher g (omega arith) (record { strings = _; within = d })))
 
   module _ {root : Expression} {told : List Text} (ps : List Part) (p : Part) where
     pub a_text : (t : Text) → Telling root told (ps ++ (p ∷ [])) → expression_of p.expr.now ≡ Str t → Telling root (told ++ (t ∷ [])) ps

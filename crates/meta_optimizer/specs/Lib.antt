@@ -6,7 +6,6 @@ pub mod Counts
 pub mod Passes
 pub mod Bodies
 pub mod Skipped
-pub mod Faults
 pub mod Converting
 pub mod Listed
 pub mod Joined

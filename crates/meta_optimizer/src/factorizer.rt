@@ -5,7 +5,7 @@ ghost use Rattle.meta_base.specs.Language.Expression.{Choice, Seq};
 ghost use Rattle.meta_base.specs.Rewritings.Replacing.{KeepsOutcomes, IsChained};
 ghost use Rattle.meta_base.specs.Rewritings.Rewriting.{Many, Factors};
 ghost use Rattle.meta_ast.specs.Ast.{text_of, expression_of, rule_of_code, rule_type_of};
-ghost use Rattle.meta_optimizer.specs.Faults.{IsMemory};
+ghost use Rattle.meta_base.specs.Pieces.Faults.{IsMemory};
 ghost use Rattle.meta_optimizer.specs.Here.{factored_here, factored_choice, with_optional};
 ghost use Rattle.meta_ast.specs.Operands.{count_of_nodes};
 ghost use Rattle.meta_optimizer.specs.Traversals.{TopDown};

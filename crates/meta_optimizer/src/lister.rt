@@ -4,7 +4,7 @@ ghost use Rattle.std.specs.Bool.{OnTrue};
 ghost use Rattle.meta_base.specs.Language.Expression.{Rep, Seq};
 ghost use Rattle.meta_base.specs.Rewritings.Listing.{listed, listed_sequence};
 ghost use Rattle.meta_ast.specs.Ast.{text_of, expression_of, rule_type_of};
-ghost use Rattle.meta_optimizer.specs.Faults.{IsMemory};
+ghost use Rattle.meta_base.specs.Pieces.Faults.{IsMemory};
 ghost use Rattle.meta_optimizer.specs.Here.{listed_here};
 ghost use Rattle.meta_optimizer.specs.Listed.{KeepsMatches};
 

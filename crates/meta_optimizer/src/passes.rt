@@ -6,7 +6,7 @@ ghost use Rattle.meta_base.specs.Language.Expression.{Grammar};
 ghost use Rattle.meta_base.specs.Rewritings.Rewriting.{EachBody};
 ghost use Rattle.meta_restorer.specs.Agreeing.{AgreesLoosely, WrappersSuffice};
 ghost use Rattle.meta_optimizer.specs.Bodies.{AreTold, SufficeFor};
-ghost use Rattle.meta_optimizer.specs.Faults.{IsMemory};
+ghost use Rattle.meta_base.specs.Pieces.Faults.{IsMemory};
 ghost use Rattle.meta_optimizer.specs.Passes.{AddsOptimized, IsOptimized, IsOptimizedBody};
 
 use crate::bodies::bodies_for_skip;

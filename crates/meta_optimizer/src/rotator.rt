@@ -4,7 +4,7 @@ ghost use Rattle.meta_base.specs.Language.Expression.{Seq, Choice};
 ghost use Rattle.meta_base.specs.Rewritings.Replacing.{KeepsOutcomes, IsChained};
 ghost use Rattle.meta_base.specs.Rewritings.Rewriting.{IsDone, Rotates};
 ghost use Rattle.meta_ast.specs.Ast.{text_of, expression_of, rule_of_code};
-ghost use Rattle.meta_optimizer.specs.Faults.{IsMemory};
+ghost use Rattle.meta_base.specs.Pieces.Faults.{IsMemory};
 ghost use Rattle.meta_optimizer.specs.Here.{Exhausted};
 ghost use Rattle.meta_ast.specs.Operands.{count_of_nodes};
 

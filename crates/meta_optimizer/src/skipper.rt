@@ -5,7 +5,7 @@ ghost use Rattle.meta_base.specs.Language.Expression.{Grammar};
 ghost use Rattle.meta_base.specs.Rewritings.Rewriting.{IsDone, SkipsUntil};
 ghost use Rattle.meta_ast.specs.Ast.{text_of, expression_of, rule_of_code, rule_type_of};
 ghost use Rattle.meta_optimizer.specs.Bodies.{AreTold, HoldsBodies, IsTurn, Serve, SkippedHere, TextsUntil};
-ghost use Rattle.meta_optimizer.specs.Faults.{IsMemory};
+ghost use Rattle.meta_base.specs.Pieces.Faults.{IsMemory};
 ghost use Rattle.meta_optimizer.specs.Skipped.{IsSkipChained, SkipKeepsOutcomes};
 
 use crate::Fault;

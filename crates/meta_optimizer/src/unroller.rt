@@ -5,7 +5,7 @@ ghost use Rattle.meta_base.specs.Language.Meaning.{in_sequence, exactly, at_leas
 ghost use Rattle.meta_base.specs.Rewritings.Replacing.{KeepsOutcomes, IsChained};
 ghost use Rattle.meta_base.specs.Rewritings.Rewriting.{Many, Unrolls};
 ghost use Rattle.meta_ast.specs.Ast.{text_of, expression_of, rule_of_code};
-ghost use Rattle.meta_optimizer.specs.Faults.{IsMemory};
+ghost use Rattle.meta_base.specs.Pieces.Faults.{IsMemory};
 ghost use Rattle.meta_optimizer.specs.Here.{unrolled_here};
 ghost use Rattle.meta_optimizer.specs.Unrolled.{IsUnrolled};
 

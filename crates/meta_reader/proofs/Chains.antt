@@ -17,18 +17,12 @@ use Rattle.meta_nodes.specs.Nodes.{view}
 use Rattle.meta_base.specs.declared.grammar.Rule.{Rule}
 use Rattle.meta_base.specs.declared.grammar.Rule.TheVariants as rule_is
 use Rattle.meta_nodes.specs.declared.node.ParserNode.{ParserNode}
-use Rattle.meta_reader.proofs.Nodes.{span_of-view, start_of-view, end_of-view}
+use Rattle.meta_nodes.proofs.Places.{span_of-view}
+use Rattle.meta_reader.proofs.Nodes.{start_of-view, end_of-view}
 use Rattle.meta_reader.proofs.TreesStandInText.{stand_inner, stand_behind}
 use Rattle.meta_base.proofs.MetaNames.{name_of-injective}
+use Rattle.meta_base.proofs.Steps.{joined_nil, joined_assoc}
 use Rattle.meta_reader.proofs.NodesStandInTrees.{reads_within, nested_joined}
-
-pub joined_nil : (us : Trees) → joined us None' ≡ us
-joined_nil None' = refl
-joined_nil (Tree r i j inner us) = ap (λ vs. Tree r i j inner vs) (joined_nil us)
-
-pub joined_assoc : (us vs ws : Trees) → joined (joined us vs) ws ≡ joined us (joined vs ws)
-joined_assoc None' vs ws = refl
-joined_assoc (Tree r i j inner us) vs ws = ap (λ xs. Tree r i j inner xs) (joined_assoc us vs ws)
 
 -- a bar before the first alternative
 

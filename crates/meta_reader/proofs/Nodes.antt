@@ -9,18 +9,12 @@ use Rattle.meta_reader.specs.Reading.{Postfixed, more, both}
 use Rattle.meta_nodes.specs.Spanned as spanned
 use Rattle.meta_nodes.specs.Spanned.{Spanned, span_of, start_of, end_of, placed, One, Two, Binary}
 use Rattle.meta_reader.specs.Views.{StandsBefore, IsPostfixOf}
-use Rattle.meta_nodes.specs.Nodes.{view, view_at, piece_of}
+use Rattle.meta_nodes.specs.Nodes.{view, view_at}
 use Rattle.meta_nodes.specs.declared.node.ParserExpr as expr
 use Rattle.meta_nodes.specs.declared.node.ParserExpr.TheVariants as is
 use Rattle.meta_nodes.specs.declared.node.ParserNode.{ParserNode}
+use Rattle.meta_nodes.proofs.Places.{span_of-view}
 use Rattle.meta_reader.proofs.TreesStandInText.{nested_order}
-
-pub span_of-view_at : (t : spanned.Span) (e : expr.ParserExpr) → span_of (view_at t e) ≡ t
-span_of-view_at t (is.Str s) = refl
-span_of-view_at t _ = refl
-
-pub span_of-view : (n : ParserNode) → span_of (view n) ≡ piece_of n.span
-span_of-view n = span_of-view_at (piece_of n.span) n.expr
 
 pub start_of-view : (n : ParserNode) → start_of (view n) ≡ n.span.start
 start_of-view n = ap (λ (s : spanned.Span). s.start) (span_of-view n)

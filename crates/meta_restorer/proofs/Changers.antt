@@ -1,6 +1,7 @@
 -- The builtins that count as changing the stack, by their names.
-use Rattle.std.proofs.Common.{◌≡◌, List, [], ◌∷◌, Option, Some, None, Bool, true, false, ◌&&◌, ◌||◌, if◌then◌else◌, bytes_eq, codes, refl, sym, ◌∙◌, ap, ◌⊎◌, inl, inr}
+use Rattle.std.proofs.Common.{◌≡◌, List, [], ◌∷◌, Option, Some, None, Bool, true, false, ◌&&◌, ◌||◌, if◌then◌else◌, bytes_eq, codes, refl, sym, ◌∙◌, ap, inl, inr}
 use Rattle.std.proofs.lemmas.Slice.Eq.{bytes_eq-Decides}
+use Rattle.std.proofs.lemmas.Bool.{and_parts, or_cases}
 use Rattle.meta_base.specs.Language.Text.{Text}
 use Rattle.meta_base.specs.Language.Builtins.{Builtin, Property, Pop, Drop, PopAll, Named, builtins, property_names, is_one_of, looked_up, builtin_of}
 use Rattle.meta_base.specs.Language.Expression.{Ident, Grammar}
@@ -18,10 +19,6 @@ abbrev all_named_rightly : List Named → Bool
 all_named_rightly [] = true
 all_named_rightly (b ∷ bs) = named_rightly b.builtin b.name && all_named_rightly bs
 
-both : (a b : Bool) → (a && b) ≡ true → (a ≡ true) × (b ≡ true)
-both true b h = (refl, h)
-both false b h = cc
-
 abbrev Rightly : Text → Option Builtin → Type 0
 Rightly n None = Unit {0}
 Rightly n (Some b) = named_rightly b n ≡ true
@@ -32,7 +29,7 @@ rightly [] n h = go (is_one_of property_names n)
     go : (b : Bool) → Rightly n (if b then Some (Property n) else None)
     go true = refl
     go false = tt
-rightly (b ∷ bs) n h = let k = both (named_rightly b.builtin b.name) (all_named_rightly bs) h in go (bytes_eq b.name n) refl k.0 (rightly bs n k.1)
+rightly (b ∷ bs) n h = let k = and_parts (named_rightly b.builtin b.name) (all_named_rightly bs) h in go (bytes_eq b.name n) refl k.0 (rightly bs n k.1)
   where
     go : (t : Bool) → bytes_eq b.name n ≡ t → named_rightly b.builtin b.name ≡ true → Rightly n (looked_up bs n) → Rightly n (if t then Some b.builtin else looked_up bs n)
     go true e k i = sym (ap (named_rightly b.builtin) ((bytes_eq-Decides b.name n).0 e)) ∙ k
@@ -75,15 +72,11 @@ drop_found : builtin_of (codes "DROP") ≡ Some Drop
 unfolding builtins
 drop_found = refl
 
-pub either : (a b : Bool) → (a || b) ≡ true → (a ≡ true) ⊎ (b ≡ true)
-either true b h = inl refl
-either false b h = inr h
-
 -- a name that counts changes the stack, whatever the rules are
 pub changer_changes : (g : Grammar) (n : Text) → is_changer n ≡ true → ChangesStack g (Ident n)
-changer_changes g n h = elim (either (bytes_eq n (codes "POP")) (bytes_eq n (codes "POP_ALL") || bytes_eq n (codes "DROP")) h) [
+changer_changes g n h = elim (or_cases (bytes_eq n (codes "POP")) (bytes_eq n (codes "POP_ALL") || bytes_eq n (codes "DROP")) h) [
   | inl e ↦ changes_pop (ap builtin_of ((bytes_eq-Decides n (codes "POP")).0 e) ∙ pop_found)
-  | inr k ↦ elim (either (bytes_eq n (codes "POP_ALL")) (bytes_eq n (codes "DROP")) k) [
+  | inr k ↦ elim (or_cases (bytes_eq n (codes "POP_ALL")) (bytes_eq n (codes "DROP")) k) [
     | inl e ↦ changes_pop_all (ap builtin_of ((bytes_eq-Decides n (codes "POP_ALL")).0 e) ∙ pop_all_found)
     | inr e ↦ changes_drop (ap builtin_of ((bytes_eq-Decides n (codes "DROP")).0 e) ∙ drop_found)
   ]

@@ -1,21 +1,13 @@
 -- What an expression does to the stack, by what its names do.
-use Rattle.std.proofs.Common.{◌≡◌, Bool, true, false, ◌||◌, inl, inr, refl, sym, ◌∙◌, ap, subst, String, Global}
+use Rattle.std.proofs.Common.{◌≡◌, Bool, true, inl, inr, refl, sym, ◌∙◌, ap, subst, String, Global}
 use Rattle.std.specs.Bool.{Decides}
+use Rattle.std.proofs.lemmas.Bool.{or_cases, or_left, or_right}
 use Rattle.meta_base.specs.Language.Text.{Text}
 use Rattle.meta_base.specs.Language.Expression.{Expression, Str, Insens, Range, Ident, PeekSlice, PosPred, NegPred, Seq, Choice, Opt, Rep, RepOnce, RepExact, RepMin, RepMax, RepMinMax, Skip, Push, RestoreOnErr, Grammar, PushLiteral, NodeTag}
 use Rattle.meta_base.specs.Rewritings.Wrapping.{ChangesStack, changes_push, changes_push_literal, changes_pos_pred, changes_neg_pred, changes_seq_left, changes_seq_right, changes_left, changes_right, changes_opt, changes_rep, changes_rep_once, changes_rep_exact, changes_rep_min, changes_rep_max, changes_rep_min_max, changes_tag}
 use Rattle.meta_ast.specs.Ast.{text_of}
 use Rattle.meta_restorer.specs.Changing.{changes_by}
-use Rattle.meta_restorer.proofs.Changers.{either}
 use Rattle.meta_restorer.proofs.Said.{IsSaid}
-
-pub or_left : (a b : Bool) → a ≡ true → (a || b) ≡ true
-or_left true b h = refl
-or_left false b h = cc
-
-pub or_right : (a b : Bool) → b ≡ true → (a || b) ≡ true
-or_right true b h = refl
-or_right false b h = h
 
 module _ (g : Grammar) (p : Text → Bool) where
   -- where the names do what is said of them
@@ -23,11 +15,11 @@ module _ (g : Grammar) (p : Text → Bool) where
   changing f (Ident n) (s, k) h = subst (λ m. ChangesStack g (Ident m)) (sym k) (f s (sym (ap p k) ∙ h))
   changing f (PosPred e) s h = changes_pos_pred (changing f e s h)
   changing f (NegPred e) s h = changes_neg_pred (changing f e s h)
-  changing f (Seq a b) s h = elim (either (changes_by p a) (changes_by p b) h) [
+  changing f (Seq a b) s h = elim (or_cases (changes_by p a) (changes_by p b) h) [
     | inl k ↦ changes_seq_left (changing f a s.0 k)
     | inr k ↦ changes_seq_right (changing f b s.1 k)
   ]
-  changing f (Choice a b) s h = elim (either (changes_by p a) (changes_by p b) h) [
+  changing f (Choice a b) s h = elim (or_cases (changes_by p a) (changes_by p b) h) [
     | inl k ↦ changes_left (changing f a s.0 k)
     | inr k ↦ changes_right (changing f b s.1 k)
   ]

@@ -8,17 +8,17 @@ use Rattle.std.specs.String.{string_eq}
 use Rattle.std.proofs.lemmas.Bool.Decides.{same_from_decides}
 use Rattle.std.proofs.lemmas.Slice.Eq.{bytes_eq-Decides}
 use Rattle.std.proofs.lemmas.Str.{IsUtf8-string_bytes}
-use Rattle.meta_base.specs.Language.Expression.{Expression, Rule, Grammar, rule_of, or_else}
+use Rattle.meta_base.specs.Language.Expression.{Expression, Rule, Grammar, rule_of, or_else, last_place}
 use Rattle.meta_base.specs.Rewritings.Wrapping.{ChangesStack, changes_push, changes_push_literal, changes_pop, changes_pop_all, changes_drop, changes_rule, changes_pos_pred, changes_neg_pred, changes_seq_left, changes_seq_right, changes_left, changes_right, changes_opt, changes_rep, changes_rep_once, changes_rep_exact, changes_rep_min, changes_rep_max, changes_rep_min_max, changes_tag}
 use Rattle.meta_ast.specs.Ast.{text_of}
 use Rattle.meta_ast.specs.Optimized.{optimized_expression_of, optimized_rule_of, optimized_rules_of}
 use Rattle.meta_ast.specs.declared.optimized.OptimizedExpr as code
 use Rattle.meta_ast.specs.declared.optimized.OptimizedRule.{OptimizedRule}
+use Rattle.meta_ast.proofs.Characters.{bytes_text_eq}
 use Rattle.meta_restorer.specs.Bodies.{NamedBody, named_body, rule_with, grammar_with, body_in, SameBodies}
-use Rattle.meta_restorer.specs.Names.{last_place}
 use Rattle.meta_restorer.specs.Telling.{Tells}
 use Rattle.meta_restorer.specs.declared.changes.Changes.{Changes}
-use Rattle.meta_restorer.proofs.Naming.{Named, absent, named, resolved, bytes_text_eq}
+use Rattle.meta_restorer.proofs.Naming.{Named, absent, named, resolved}
 use Rattle.meta_restorer.proofs.Said.{IsSaid, said}
 
 abbrev body_of : Rule → Expression

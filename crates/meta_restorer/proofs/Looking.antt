@@ -6,8 +6,10 @@ use Rattle.std.proofs.lemmas.List.{length_push, length-append, length-drop, leng
 use Rattle.std.proofs.Math.Seq.{drop-append_seam}
 use Rattle.std.proofs.lemmas.List.Folds.{list_any-append}
 use Rattle.std.proofs.lemmas.Option.{slice_get_within}
+use Rattle.std.proofs.Math.Bool.{or-false}
 use Rattle.meta_base.specs.Language.Text.{Text}
 use Rattle.meta_base.specs.Language.Expression.{Expression}
+use Rattle.meta_base.proofs.Basics.{got_more, got_alike}
 use Rattle.meta_ast.specs.Ast.{text_of}
 use Rattle.meta_ast.specs.Optimized.{optimized_expression_of}
 use Rattle.meta_ast.specs.declared.optimized.OptimizedExpr as code
@@ -20,18 +22,6 @@ use Rattle.meta_restorer.specs.Noted.{AreNotedOf, AreWithin, IsNotedAs, IsWithin
 use Rattle.meta_restorer.specs.declared.names.Names.{Names}
 use Rattle.meta_restorer.specs.declared.noted.Noted.{Noted}
 use Rattle.meta_restorer.specs.declared.noted.Share.{Share}
-
-pub or_assoc : (a b c : Bool) → ((a || b) || c) ≡ (a || (b || c))
-or_assoc true b c = refl
-or_assoc false b c = refl
-
-pub or_false : (a : Bool) → (a || false) ≡ a
-or_false true = refl
-or_false false = refl
-
-pub or_true : (a : Bool) → (a || true) ≡ true
-or_true true = refl
-or_true false = refl
 
 -- what is noted of a name, and then of others
 pub noted_first : (names : Option (Bor Names)) (n : Text) (ns : List Text) → noted_by names (n ∷ []) ++ noted_by names ns ≡ noted_by names (n ∷ ns)
@@ -59,7 +49,7 @@ module _ (names : Names) (p : ℕ → Bool) where
   split (code.Str s) = refl
   split (code.Insens s) = refl
   split (code.Range s t) = refl
-  split (code.Ident s) = ap (λ b. is_changer (text_of s) || b) (sym (or_false _))
+  split (code.Ident s) = ap (λ b. is_changer (text_of s) || b) (sym (or-false _))
   split (code.PeekSlice i j) = refl
   split (code.Skip ss) = refl
   split (code.PosPred' p x) = split x
@@ -111,22 +101,10 @@ noted_last names e qs new s h c i j = record {
   numbers = ap₂ (slice_range new) i j ∙ (ap (λ xs. slice_range xs (length qs) (length xs)) h ∙ range_last qs (numbers_of names (names_in e)));
 }
 
-got_more : {A : Type 0} (xs : List A) (y : A) (k : ℕ) (n : A) → slice_get (xs ++ y ∷ []) k ≡ Some n → (slice_get xs k ≡ Some n) ⊎ ((k ≡ length xs) × (y ≡ n))
-got_more [] y zero n e = inr (refl, cc)
-got_more [] y (suc k) n e = cc
-got_more (x ∷ xs) y zero n e = inl e
-got_more (x ∷ xs) y (suc k) n e = elim (got_more xs y k n e) [ inl h ↦ inl h | inr h ↦ inr (ap suc h.0, h.1) ]
-
 got_mapped : {A B : Type 0} (f : A → B) (xs : List A) (i : ℕ) (x : A) → slice_get xs i ≡ Some x → slice_get (map f xs) i ≡ Some (f x)
 got_mapped f [] i x e = cc
 got_mapped f (y ∷ xs) zero x e = cc
 got_mapped f (y ∷ xs) (suc i) x e = got_mapped f xs i x e
-
-pub got_alike : {A B : Type 0} (xs : List A) (ys : List B) (k : ℕ) (x : A) → slice_get xs k ≡ Some x → length xs ≡ length ys → (y : B) × (slice_get ys k ≡ Some y)
-got_alike [] ys k x e l = cc
-got_alike (x ∷ xs) [] k z e l = absurd (omega arith)
-got_alike (x ∷ xs) (y ∷ ys) zero z e l = (y, refl)
-got_alike (x ∷ xs) (y ∷ ys) (suc k) z e l = got_alike xs ys k z e (omega arith)
 
 module _ (names : Names) where
   -- one body more is noted

@@ -1,31 +1,12 @@
 -- Names and the places of rules.
-use Rattle.std.proofs.Common.{◌≡◌, ℕ, suc, ◌+◌, ◌<◌, List, [], ◌∷◌, ◌++◌, Option, Some, None, Bool, true, false, if◌then◌else◌, bytes_eq, length, map, refl, sym, ◌∙◌, ap, arith, nat_eq, get_or, take, slice_get, String, Global, string_bytes}
-use Rattle.std.specs.Bool.{Decides}
-use Rattle.std.specs.Cmp.{unsigned_Decides}
-use Rattle.std.specs.Str.{chars, IsUtf8, IsAscii}
-use Rattle.std.proofs.lemmas.Bool.Decides.{same_from_decides}
-use Rattle.std.proofs.lemmas.Str.{encodes-chars, IsUtf8-string_bytes, chars-IsAscii, IsUtf8-from_ascii}
-use Rattle.std.proofs.Math.Utf8.{encodes}
-use Rattle.std.proofs.lemmas.Slice.Eq.{slice_eq-Decides, bytes_eq-Decides}
+use Rattle.std.proofs.Common.{◌≡◌, ℕ, ◌+◌, ◌<◌, List, [], ◌∷◌, ◌++◌, Option, Some, None, Bool, true, false, if◌then◌else◌, bytes_eq, length, map, refl, sym, ◌∙◌, ap, arith, get_or, take, slice_get}
 use Rattle.std.proofs.lemmas.List.{take_more, length-take-le, map-append, length-map}
-use lib.Pointwise.{pointwise}
 use Rattle.meta_base.specs.Language.Text.{Text}
-use Rattle.meta_base.specs.Language.Expression.{Rule, Grammar, rule_of, or_else}
+use Rattle.meta_base.specs.Language.Expression.{Rule, Grammar, rule_of, or_else, last_place}
+use Rattle.meta_base.proofs.LastPlaces.{last_more, next}
 use Rattle.meta_ast.specs.Ast.{text_of}
 use Rattle.meta_restorer.specs.Bodies.{NamedBody, said_by, rule_with, grammar_with}
-use Rattle.meta_restorer.specs.Names.{last_place}
 use Rattle.meta_restorer.specs.declared.bodies.Body.{Body}
-
-abbrev next : Bool → Option ℕ → Option ℕ
-next b q = elim q [ Some k ↦ Some (suc k) | None ↦ if b then Some 0 else None ]
-
-last_more : (g : Grammar) (r : Rule) (n : Text) → last_place (g ++ r ∷ []) n ≡ (if bytes_eq r.name n then Some (length g) else last_place g n)
-last_more [] r n = refl
-last_more (q ∷ g) r n = ap (next (bytes_eq q.name n)) (last_more g r n) ∙ go (bytes_eq r.name n)
-  where
-    go : (x : Bool) → next (bytes_eq q.name n) (if x then Some (length g) else last_place g n) ≡ (if x then Some (suc (length g)) else next (bytes_eq q.name n) (last_place g n))
-    go true = refl
-    go false = refl
 
 abbrev rules : List Body → Grammar
 rules bs = grammar_with (map said_by bs)
@@ -43,26 +24,6 @@ name_step bs i n d r found after h q f g =
     ∙ (ap (λ m. if b then Some m else last_place (rules (take i bs)) n) (sym l)
     ∙ (sym (last_more (rules (take i bs)) (rule_with (said_by (get_or bs i d))) n)
     ∙ (ap (λ z. last_place z n) (sym (rules-append (take i bs) (get_or bs i d ∷ []))) ∙ ap (λ z. last_place (rules z) n) (sym (take_more bs i d h)))))))
-
--- two texts are equal where their bytes are
-utf8_eq : (bs ds : List ℕ) → IsUtf8 bs → IsUtf8 ds → pointwise nat_eq bs ds ≡ bytes_eq (chars bs) (chars ds)
-utf8_eq bs ds u v =
-    let d = slice_eq-Decides unsigned_Decides bs ds _ refl in
-    let e : Decides (pointwise nat_eq bs ds) (chars bs ≡ chars ds) = ((λ h. ap chars (d.0 h)), (λ h. d.1 (sym (encodes-chars bs u) ∙ ap encodes h ∙ encodes-chars ds v))) in
-    same_from_decides _ _ e (bytes_eq-Decides (chars bs) (chars ds))
-
-pub bytes_text_eq : (bs ds : List ℕ) → IsUtf8 bs → IsUtf8 ds → bytes_eq bs ds ≡ bytes_eq (chars bs) (chars ds)
-bytes_text_eq bs ds u v =
-    let d = bytes_eq-Decides bs ds in
-    let e : Decides (bytes_eq bs ds) (chars bs ≡ chars ds) = ((λ h. ap chars (d.0 h)), (λ h. d.1 (sym (encodes-chars bs u) ∙ ap encodes h ∙ encodes-chars ds v))) in
-    same_from_decides _ _ e (bytes_eq-Decides (chars bs) (chars ds))
-
-pub literal_eq : (s : String Global) (t : List ℕ) → IsAscii t → pointwise nat_eq (string_bytes s) t ≡ bytes_eq (text_of s) t
-literal_eq s t a = utf8_eq (string_bytes s) t (IsUtf8-string_bytes s) (IsUtf8-from_ascii t a) ∙ ap (λ u. bytes_eq (text_of s) u) (chars-IsAscii t a)
-
--- the bytes of a string's characters are its own
-pub encodes-text_of : (s : String Global) → encodes (text_of s) ≡ string_bytes s
-encodes-text_of s = encodes-chars (string_bytes s) (IsUtf8-string_bytes s)
 
 -- a name means no rule, or the last of its name
 pub data Named (bs : List NamedBody) (n : Text) : Option ℕ → Type 0 where

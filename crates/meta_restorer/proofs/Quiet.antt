@@ -1,7 +1,8 @@
 -- Rules in which no `PUSH`, `PUSH_LITERAL`, `POP`, `POP_ALL` or `DROP` is met change nothing, and are restored as they are.
-use Rattle.std.proofs.Common.{◌≡◌, List, [], ◌∷◌, Option, Some, None, Bool, true, false, ◌||◌, if◌then◌else◌, bytes_eq, refl, ◌∙◌, ap, ap₂, subst, String, Global}
+use Rattle.std.proofs.Common.{◌≡◌, List, [], ◌∷◌, Option, Some, None, Bool, true, false, if◌then◌else◌, bytes_eq, refl, ◌∙◌, ap, ap₂, subst, String, Global}
 use Rattle.std.specs.Bool.{Decides}
 use Rattle.std.proofs.lemmas.List.Elements.{All-head, All-tail}
+use Rattle.std.proofs.lemmas.Bool.{or_left, or_parts, or_right}
 use Rattle.meta_base.specs.Language.Text.{Text}
 use Rattle.meta_base.specs.Language.Expression.{Expression, Ident, PosPred, NegPred, Seq, Choice, Opt, Rep, RepOnce, Push, RestoreOnErr, Rule, Grammar, rule_of, or_else, NodeTag}
 use Rattle.meta_base.specs.Rewritings.Wrapping.{ChangesStack, changes_push, changes_push_literal, changes_pop, changes_pop_all, changes_drop, changes_rule, changes_pos_pred, changes_neg_pred, changes_seq_left, changes_seq_right, changes_left, changes_right, changes_opt, changes_rep, changes_rep_once, changes_rep_exact, changes_rep_min, changes_rep_max, changes_rep_min_max, EachRestored, changes_tag}
@@ -11,13 +12,7 @@ use Rattle.meta_ast.specs.declared.optimized.OptimizedRule.{OptimizedRule}
 use Rattle.meta_restorer.specs.Changing.{changes_by, is_changer, wrapped_by, restored_by}
 use Rattle.meta_restorer.specs.Restoring.{AreQuiet, IsQuiet, AreSameErased, HaveNoWrappers, restored_rules_by}
 use Rattle.meta_restorer.proofs.Changers.{changer_changes, pop_named, pop_all_named, drop_named}
-use Rattle.meta_restorer.proofs.Deciding.{or_left, or_right}
 use Rattle.meta_restorer.proofs.Restoring.{each_restored, rules_same}
-
-neither : (a b : Bool) → (a || b) ≡ false → (a ≡ false) × (b ≡ false)
-neither false false h = (refl, refl)
-neither true b h = cc
-neither false true h = cc
 
 -- what changes nothing is restored as it is
 module _ (p : Text → Bool) where
@@ -29,8 +24,8 @@ module _ (p : Text → Bool) where
   restored_stays (NegPred e) h = ap NegPred (restored_stays e h)
   restored_stays (Push e) h = cc
   restored_stays (NodeTag e t) h = ap (λ x. NodeTag x t) (restored_stays e h)
-  restored_stays (Seq a b) h = let k = neither (changes_by p a) (changes_by p b) h in ap₂ Seq (restored_stays a k.0) (restored_stays b k.1)
-  restored_stays (Choice a b) h = let k = neither (changes_by p a) (changes_by p b) h in ap₂ Choice (wrapped_stays (restored_by p a) a (restored_stays a k.0) k.0) (wrapped_stays (restored_by p b) b (restored_stays b k.1) k.1)
+  restored_stays (Seq a b) h = let k = or_parts (changes_by p a) (changes_by p b) h in ap₂ Seq (restored_stays a k.0) (restored_stays b k.1)
+  restored_stays (Choice a b) h = let k = or_parts (changes_by p a) (changes_by p b) h in ap₂ Choice (wrapped_stays (restored_by p a) a (restored_stays a k.0) k.0) (wrapped_stays (restored_by p b) b (restored_stays b k.1) k.1)
   restored_stays (Opt e) h = ap Opt (wrapped_stays (restored_by p e) e (restored_stays e h) h)
   restored_stays (Rep e) h = ap Rep (wrapped_stays (restored_by p e) e (restored_stays e h) h)
   restored_stays (RepOnce e) h = ap RepOnce (wrapped_stays (restored_by p e) e (restored_stays e h) h)

@@ -8,9 +8,9 @@ use Rattle.meta_base.specs.Rewritings.Rewriting.{EachBody, no_rules, also_rule}
 use Rattle.meta_base.specs.Language.WellFormed.{IsSkipped, is_whitespace, is_comment, Reaches, itself, onward}
 use Rattle.meta_base.specs.Language.LooseMeaning.{Pops, pops, pops_all, pops_rule, pops_left, pops_right, pops_push, pops_rep_exact, pops_rep_min_max, Safe, wrapped, keeps, SafeHere, IsSafe, Restored, pops_tag}
 use Rattle.meta_base.specs.Rewritings.Wrapping.{ChangesStack, changes_push, changes_push_literal, changes_pop, changes_pop_all, changes_rule, changes_pos_pred, changes_neg_pred, changes_seq_left, changes_seq_right, changes_left, changes_right, changes_opt, changes_rep, changes_rep_once, changes_rep_exact, changes_rep_min_max, Wraps, wraps, leaves, RestoresTo, restores_str, restores_insens, restores_range, restores_name, restores_slice, restores_skip, restores_pos_pred, restores_neg_pred, restores_push, restores_seq, restores_choice, restores_opt, restores_rep, restores_rep_once, EachRestored, restores_push_literal, restores_tag, changes_tag}
-use Rattle.meta_base.proofs.OneOutcome.{same_rule}
 use Rattle.meta_base.proofs.Moving.{each_copy, each_of_both, in_all}
 use Rattle.meta_base.proofs.BothMeaningsAgree.{same_endings}
+use Rattle.meta_base.proofs.Basics.{same_some}
 use Rattle.meta_restorer.specs.Agreeing.{AgreesLoosely, WrappersSuffice}
 use Rattle.meta_restorer.proofs.Changers.{is_pop, is_pop_all}
 
@@ -37,7 +37,7 @@ module _ (g : Grammar) where
 
   backward : {p q : Option Rule} {r : Rule} → Pair p q → q ≡ Some r → (a : Expression) × (p ≡ Some (record r { body = a })) × RestoresTo g a r.body
   backward neither e = cc
-  backward (two {r = s} {b = b} x) e = subst (λ r. (a : Expression) × (Some s ≡ Some (record r { body = a })) × RestoresTo g a r.body) (same_rule e) (s.body, refl, x)
+  backward (two {r = s} {b = b} x) e = subst (λ r. (a : Expression) × (Some s ≡ Some (record r { body = a })) × RestoresTo g a r.body) (same_some e) (s.body, refl, x)
 
   -- what changes the stack behind the restorer did before it
   unwrapped : {b c : Expression} → Wraps g b c → ChangesStack g c → ChangesStack g b

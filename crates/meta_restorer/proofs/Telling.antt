@@ -1,21 +1,23 @@
 -- Flags that are right and closed tell which names change the stack.
 use Rattle.std.proofs.Common.{◌≡◌, ℕ, List, Option, Some, Bool, true, inl, inr, slice_get, refl, sym, ◌∙◌, ap, subst, String, Global}
+use Rattle.std.proofs.lemmas.Bool.{or_cases, or_left, or_right}
 use Rattle.meta_base.specs.Language.Text.{Text}
-use Rattle.meta_base.specs.Language.Expression.{Expression, Ident, Rule, rule_of}
+use Rattle.meta_base.specs.Language.Expression.{Expression, Ident, Rule, rule_of, last_place}
 use Rattle.meta_base.specs.Rewritings.Wrapping.{ChangesStack, changes_push, changes_push_literal, changes_pop, changes_pop_all, changes_drop, changes_rule, changes_pos_pred, changes_neg_pred, changes_seq_left, changes_seq_right, changes_left, changes_right, changes_opt, changes_rep, changes_rep_once, changes_rep_exact, changes_rep_min, changes_rep_max, changes_rep_min_max, changes_tag}
+use Rattle.meta_base.proofs.Basics.{got_alike}
 use Rattle.meta_ast.specs.Ast.{text_of}
 use Rattle.meta_ast.specs.Optimized.{optimized_expression_of}
 use Rattle.meta_flags.specs.Least.{follows, is_set_at}
 use Rattle.meta_restorer.specs.Bodies.{NamedBody, rule_with, grammar_with}
 use Rattle.meta_restorer.specs.Calls.{number_changes, name_changes}
 use Rattle.meta_restorer.specs.Changing.{is_changer, changes_by}
-use Rattle.meta_restorer.specs.Names.{last_place, number_of, KnowsNames}
+use Rattle.meta_restorer.specs.Names.{number_of, KnowsNames}
 use Rattle.meta_restorer.specs.Noted.{AreClosed, AreNotedOf, AreSound, Holds}
 use Rattle.meta_restorer.specs.declared.names.Names.{Names}
 use Rattle.meta_restorer.specs.declared.noted.Noted.{Noted}
-use Rattle.meta_restorer.proofs.Changers.{changer_changes, drop_named, either, pop_all_named, pop_named}
-use Rattle.meta_restorer.proofs.Deciding.{changing, or_left, or_right}
-use Rattle.meta_restorer.proofs.Looking.{got_alike, shown_at}
+use Rattle.meta_restorer.proofs.Changers.{changer_changes, drop_named, pop_all_named, pop_named}
+use Rattle.meta_restorer.proofs.Deciding.{changing}
+use Rattle.meta_restorer.proofs.Looking.{shown_at}
 use Rattle.meta_restorer.proofs.Naming.{Named, absent, named, resolved}
 use Rattle.meta_restorer.proofs.Said.{IsSaid, said}
 
@@ -23,7 +25,7 @@ module _ (bs : List NamedBody) (names : Names) (noted : Noted) (known : KnowsNam
   -- a name changes the stack where its rule does
   by_number : (p : ℕ → Bool) → ((i : ℕ) (b : NamedBody) → slice_get bs i ≡ Some b → p i ≡ true → ChangesStack (grammar_with bs) (optimized_expression_of b.1))
       → (s : String Global) → name_changes names p (text_of s) ≡ true → ChangesStack (grammar_with bs) (Ident (text_of s))
-  by_number p f s h = elim (either (is_changer (text_of s)) (number_changes p (number_of names (text_of s))) h) [
+  by_number p f s h = elim (or_cases (is_changer (text_of s)) (number_changes p (number_of names (text_of s))) h) [
     | inl k ↦ changer_changes (grammar_with bs) (text_of s) k
     | inr k ↦ go (last_place (grammar_with bs) (text_of s)) (resolved bs (text_of s)) (sym (ap (number_changes p) (known s)) ∙ k)
   ]

@@ -2,6 +2,7 @@
 use Rattle.std.proofs.Common.{◌≡◌, ◌+◌, ◌<◌, List, [], ◌∷◌, ◌++◌, ◌||◌, sym, ◌∙◌, ap, arith, append_assoc}
 use Rattle.std.proofs.lemmas.List.{append-nil}
 use Rattle.std.specs.Borrow.{Bor}
+use Rattle.std.proofs.Math.Bool.{or_assoc, or-false}
 use Rattle.meta_base.specs.Language.Expression.{Expression, PosPred, NegPred, Seq, Choice, Opt, Rep, RepOnce, Push, RestoreOnErr, NodeTag}
 use Rattle.meta_ast.specs.Optimized.{optimized_expression_of}
 use Rattle.meta_ast.specs.declared.optimized.OptimizedExpr.{OptimizedExpr}
@@ -9,7 +10,6 @@ use Rattle.meta_restorer.specs.Calls.{names_in}
 use Rattle.meta_restorer.specs.Changing.{changes_by, is_changer}
 use Rattle.meta_restorer.specs.Size.{size}
 use Rattle.meta_restorer.specs.Turns.{names_in_turn, changes_in_turn, work_in_turn}
-use Rattle.meta_restorer.proofs.Looking.{or_assoc, or_false}
 
 pub names_in_turn_last : (xs : List (Bor OptimizedExpr)) (x : Bor OptimizedExpr)
     → names_in_turn (xs ++ x ∷ []) ≡ names_in (optimized_expression_of x.now) ++ names_in_turn xs
@@ -20,7 +20,7 @@ names_in_turn_last (y ∷ xs) x =
 
 pub changes_in_turn_last : (xs : List (Bor OptimizedExpr)) (x : Bor OptimizedExpr)
     → changes_in_turn (xs ++ x ∷ []) ≡ (changes_by is_changer (optimized_expression_of x.now) || changes_in_turn xs)
-changes_in_turn_last [] x = sym (or_false (changes_by is_changer (optimized_expression_of x.now)))
+changes_in_turn_last [] x = sym (or-false (changes_by is_changer (optimized_expression_of x.now)))
 changes_in_turn_last (y ∷ xs) x =
     ap (λ b. b || changes_by is_changer (optimized_expression_of y.now)) (changes_in_turn_last xs x)
     ∙ or_assoc (changes_by is_changer (optimized_expression_of x.now)) (changes_in_turn xs) (changes_by is_changer (optimized_expression_of y.now))

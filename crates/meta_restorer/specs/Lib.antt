@@ -3,7 +3,6 @@ pub mod Around
 pub mod Bodies
 pub mod Calls
 pub mod Changing
-pub mod Faults
 pub mod Names
 pub mod Noted
 pub mod Restoring

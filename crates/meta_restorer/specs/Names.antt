@@ -1,20 +1,12 @@
 -- Names, and the numbers of rules.
-use Rattle.std.specs.Prelude.{◌≡◌, ℕ, suc, List, [], ◌∷◌, map, Option, Some, None, if◌then◌else◌, bytes_eq, encode_utf8_all}
+use Rattle.std.specs.Prelude.{◌≡◌, ℕ, List, map, Option, encode_utf8_all}
 use Rattle.std.specs.HashMap.{get_by_text}
 use Rattle.std.specs.declared.alloc.Global.{Global}
 use Rattle.std.specs.declared.string.String.{String}
 use Rattle.meta_base.specs.Language.Text.{Text}
-use Rattle.meta_base.specs.Language.Expression.{Grammar}
+use Rattle.meta_base.specs.Language.Expression.{Grammar, last_place}
 use Rattle.meta_ast.specs.Ast.{text_of}
 use Rattle.meta_restorer.specs.declared.names.Names.{Names}
-
--- the place of the last rule of a name
-abbrev pub last_place : Grammar → Text → Option ℕ
-last_place [] n = None
-last_place (r ∷ g) n = elim (last_place g n) [
-  | Some k ↦ Some (suc k)
-  | None ↦ if bytes_eq r.name n then Some 0 else None
-]
 
 -- the number that is known for a name
 abbrev pub number_of : Names → Text → Option ℕ

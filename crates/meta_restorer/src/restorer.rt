@@ -8,7 +8,7 @@ ghost use Rattle.meta_ast.specs.Ast.{text_of};
 ghost use Rattle.meta_ast.specs.Optimized.{optimized_expression_of, optimized_rule_of, optimized_rules_of};
 ghost use Rattle.meta_restorer.specs.Bodies.{HoldsOptimizedBodies, named_body};
 ghost use Rattle.meta_restorer.specs.Changing.{HasNoWrappers, KeepsWrappers, changes_by};
-ghost use Rattle.meta_restorer.specs.Faults.{IsMemory};
+ghost use Rattle.meta_base.specs.Pieces.Faults.{IsMemory};
 ghost use Rattle.meta_restorer.specs.Noted.{AreNotedOf, IsNotedAs};
 ghost use Rattle.meta_restorer.specs.Restoring.{AreQuiet, AreSameErased, HaveNoWrappers, restored_rule_by, restored_rules_by};
 ghost use Rattle.meta_restorer.specs.Telling.{Tells, told};

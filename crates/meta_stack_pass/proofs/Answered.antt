@@ -1,12 +1,13 @@
 -- Every question has flags that are its answers, and so it is settled which rules reach themselves.
 use Rattle.std.proofs.Common.{◌≡◌, ◌↔◌, ℕ, List, Bool, true, slice_get, ◌∙◌, ap}
 use Rattle.meta_base.specs.Language.Text.{Text}
+use Rattle.meta_base.specs.Language.Expression.{last_place}
 use Rattle.meta_flags.proofs.Found as least
 use Rattle.meta_flags.specs.Least.{is_set_at}
 use Rattle.meta_nodes.specs.declared.node.ParserRule.{ParserRule}
 use Rattle.meta_abstract_stacks.specs.Recursion.{ReachesByCalls}
 use Rattle.meta_stack_pass.specs.Answers.{answer, at_place}
-use Rattle.meta_table.specs.Names.{grammar_of, last_place}
+use Rattle.meta_table.specs.Names.{grammar_of}
 use Rattle.meta_stack_pass.specs.Names.{kind_in}
 use Rattle.meta_stack_pass.specs.Kinds.{AreTabled}
 use Rattle.meta_stack_pass.specs.declared.facts.Question.{Question}

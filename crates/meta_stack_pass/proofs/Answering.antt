@@ -4,7 +4,8 @@ use Rattle.std.proofs.lemmas.Bool.{both_ways, or_left, or_right}
 use Rattle.meta_base.specs.Language.Text.{Text}
 use Rattle.meta_base.specs.Language.Builtins.{Builtin, Pop, Drop, PopAll, builtin_of}
 use Rattle.meta_base.specs.Language.Expression as bare
-use Rattle.meta_base.specs.Language.Expression.{Expression, Ident, Rule, Grammar, rule_of, whitespace, comment}
+use Rattle.meta_base.specs.Language.Expression.{Expression, Ident, Rule, Grammar, rule_of, whitespace, comment, last_place}
+use Rattle.meta_base.proofs.Basics.{got_alike}
 use Rattle.meta_flags.specs.Least.{is_set_at}
 use Rattle.meta_nodes.specs.Erasure.{without_spans, round, between}
 use Rattle.meta_nodes.specs.Nodes.{view}
@@ -15,7 +16,7 @@ use Rattle.meta_abstract_stacks.specs.Reports.{TakesEntries, AltersStack, by_pus
 use Rattle.meta_table.specs.Shapes.{sign_of, joint_of}
 use Rattle.meta_stack_pass.specs.Answers.{AreAnswers, at_place, changing_kind}
 use Rattle.meta_stack_pass.specs.Expressions.{body_flag, name_flag, may_change}
-use Rattle.meta_table.specs.Names.{grammar_of, rule_said, last_place}
+use Rattle.meta_table.specs.Names.{grammar_of, rule_said}
 use Rattle.meta_stack_pass.specs.Names.{kind_in, name_kind, builtin_kind}
 use Rattle.meta_table.specs.Nodes.{IsSimple, all_nodes}
 use Rattle.meta_stack_pass.specs.Kinds.{AreTabled, leaf_kind, text_kind, slice_kind, wrap_kind, both_kind}
@@ -23,7 +24,7 @@ use Rattle.meta_stack_pass.specs.declared.table.Kind.TheVariants as is
 use Rattle.meta_stack_pass.specs.declared.table.Node.{Node}
 use Rattle.meta_stack_pass.specs.declared.facts.Question.TheVariants as asks
 use Rattle.meta_stack_pass.proofs.Builtins.{builtin_does, kind_by}
-use Rattle.meta_table.proofs.Resolved.{Named, absent, named, resolved, got_like, same_item}
+use Rattle.meta_table.proofs.Resolved.{Named, absent, named, resolved, same_item}
 
 module _ (rules : List ParserRule) (ns : List Node) (roots : List ℕ) (tabled : AreTabled rules (kind_in (grammar_of rules)) ns roots) (flags : List Bool) where
   abbrev G : Grammar
@@ -100,7 +101,7 @@ module _ (rules : List ParserRule) (ns : List Node) (roots : List ℕ) (tabled :
         go : (o : Option ℕ) → last_place G n ≡ o → Named rules n o → flag n ≡ may_change changes q.body
         go o l (absent f) = let z = sym e ∙ f in cc
         go o l (named {r = r} rule at f) =
-            let (j, root) = got_like rules roots r rule at (sym tabled.roots.alike) in
+            let (j, root) = got_alike rules roots r rule at (sym tabled.roots.alike) in
             let same : rule_said rule ≡ q = same_item (rule_of G n) (rule_said rule) q f e in
             ap (body_flag roots flags) l ∙ (ap (at_place P) root ∙ (changing_at (view rule.node) j (tabled.roots.lie r j rule at root) ∙ ap (λ z. may_change changes z.body) same))
 

@@ -7,7 +7,6 @@ use Rattle.meta_stack_pass.specs.Table.{IsMeaning}
 use Rattle.meta_abstract_stacks.specs.Walks.{stepped, turned}
 use Rattle.meta_stack_pass.proofs.Counts.{times_more, times_left}
 use Rattle.std.proofs.lemmas.Option.{slice_get_within, slice_get_cases}
-use Rattle.std.proofs.lemmas.Bool.{cases_lt}
 use Rattle.std.proofs.lemmas.List.{length_push, map_push, reverse-append}
 use Rattle.meta_stack_pass.specs.Memory.{Meaning, IsRight}
 use Rattle.meta_stack_pass.specs.Following.{times, copy_step, seen_stacks, IsForeseen, IsRun, IsTrace, Comes}
@@ -17,6 +16,7 @@ use Rattle.meta_abstract_stacks.specs.declared.stack.Stack.{Stack}
 use Rattle.meta_abstract_stacks.specs.declared.reading.Walk.{Walk}
 use Rattle.meta_stack_pass.specs.declared.table.Table.{Table}
 use Rattle.meta_stack_pass.specs.declared.memory.Memory.{Memory}
+use Rattle.meta_stack_pass.proofs.RankLemmas.{less_or_not}
 
 -- some copies were followed, and none of them came back
 pub record FollowedSoFar (t : Table) (old now : Memory) (body : ℕ) (required : Bool) (done : ℕ) (w : says.Walk) (items : List Walk) (v : Walk) : Type 0 where
@@ -39,9 +39,6 @@ got_last [] y zero u e = inr (refl, cc)
 got_last [] y (suc j) u e = cc
 got_last (x ∷ xs) y zero u e = inl e
 got_last (x ∷ xs) y (suc j) u e = elim (got_last xs y j u e) [ inl i ↦ inl i | inr p ↦ inr (ap suc p.0, p.1) ]
-
-split : (k i : ℕ) → (k < i) ⊎ (i ≤ k)
-split k i = cases_lt k i
 
 module _ (f : says.Walk → says.Walk) (w : says.Walk) where
   -- where a walk comes again, later ones are those of the period
@@ -84,7 +81,7 @@ module _ (f : says.Walk → says.Walk) (w : says.Walk) where
           (place, record { walk = found.walk; at = found.at; same = found.same ∙ place_back i j k h x e })
 
       all : (k : ℕ) → k < n → (j : ℕ) × Comes items (times k f w) j
-      all k x = elim (split k i) [ inl y ↦ (k, comes_at items k (omega arith) each) | inr y ↦ far k y ]
+      all k x = elim (less_or_not k i) [ inl y ↦ (k, comes_at items k (omega arith) each) | inr y ↦ far k y ]
 
 -- one walk more
 pub run_more : (f : says.Walk → says.Walk) (start : says.Walk) (items : List Walk) (v : Walk) (w : says.Walk) → IsRun f start items (walk_of v) → w ≡ f (walk_of v) → IsRun f start (items ++ v ∷ []) w

@@ -10,13 +10,13 @@ use Rattle.meta_nodes.specs.declared.node.ParserRule.{ParserRule}
 use Rattle.meta_ast.specs.Ast.{text_of}
 use Rattle.meta_base.specs.Language.Text.{Text}
 use Rattle.meta_nodes.specs.Spanned.{Span, span_of, Spanned, Leaf, One, Two}
+use Rattle.meta_nodes.proofs.Places.{span_at}
 use Rattle.meta_base.specs.Language.Expression as bare
 use Rattle.meta_base.specs.Language.Expression.{Expression}
 use Rattle.meta_table.specs.Shapes as shapes
 use Rattle.meta_table.specs.Roots.{IsTabled}
 use Rattle.meta_table.specs.declared.table.Node as plain_node
 use Rattle.meta_table.specs.declared.table.Table as plain_table
-use Rattle.meta_table.proofs.Numbered.{span_at}
 use Rattle.meta_stack_pass.specs.Kinds.{AreTabled, IsNode, Fits, leaf_kind, kind_of_code, node_kind}
 use Rattle.meta_stack_pass.specs.declared.table.Node.{Node}
 use Rattle.meta_stack_pass.specs.declared.table.Kind.{Kind}
@@ -51,15 +51,15 @@ node_of kind_of n = record {
   span = n.span;
 }
 
-fits_node : (kind_of : Text → Kind) (all : List Spanned) (i : ℕ) (n : plain_node.Node) (x : Spanned) → view_at (piece_of n.span) n.expr.now ≡ x → shapes.IsShape all i n.shape x → Fits kind_of all i (node_kind kind_of n.expr.now n.shape) x
-fits_node kind_of all i n (Leaf s e) said (simple, shape) = (simple, ap (node_kind kind_of n.expr.now) shape ∙ leaf_done kind_of n.expr.now e (piece_of n.span) s said)
+fits_node : (kind_of : Text → Kind) (all : List Spanned) (i : ℕ) (n : plain_node.Node) (x : Spanned) → view_at (piece_of n.span.now) n.expr.now ≡ x → shapes.IsShape all i n.shape x → Fits kind_of all i (node_kind kind_of n.expr.now n.shape) x
+fits_node kind_of all i n (Leaf s e) said (simple, shape) = (simple, ap (node_kind kind_of n.expr.now) shape ∙ leaf_done kind_of n.expr.now e (piece_of n.span.now) s said)
 fits_node kind_of all i n (One s f x) said (j, next, at, shape) = (j, omega arith, at, ap (node_kind kind_of n.expr.now) shape)
 fits_node kind_of all i n (Two s f x y) said (j, l, between, next, at, at_2, shape) = (j, l, omega arith, omega arith, at, at_2, ap (node_kind kind_of n.expr.now) shape)
 
 is_node : (kind_of : Text → Kind) (all : List Spanned) (i : ℕ) (n : plain_node.Node) (x : Spanned) → shapes.IsNode all i n x → IsNode kind_of all i (node_of kind_of n) x
 is_node kind_of all i n x h = record {
   fits = fits_node kind_of all i n x h.said h.shape;
-  place = sym (span_at (piece_of n.span) n.expr.now) ∙ ap span_of h.said;
+  place = sym (span_at (piece_of n.span.now) n.expr.now) ∙ ap span_of h.said;
 }
 
 -- the table of rules, with what its nodes do

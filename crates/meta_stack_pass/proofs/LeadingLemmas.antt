@@ -1,6 +1,7 @@
 -- Flags that tell which nodes lead to a call of a rule.
-use Rattle.std.proofs.Common.{◌≡◌, ◌↔◌, ℕ, ◌⊎◌, inl, inr, List, Option, Some, None, Bool, true, false, ◌||◌, nat_eq, slice_get, refl, sym, ◌∙◌, ap}
+use Rattle.std.proofs.Common.{◌≡◌, ◌↔◌, ℕ, inl, inr, List, Option, Some, None, Bool, true, nat_eq, slice_get, refl, sym, ◌∙◌, ap}
 use Rattle.std.specs.Cmp.{unsigned_Decides}
+use Rattle.std.proofs.lemmas.Bool.{or_cases, or_left, or_right}
 use Rattle.meta_nodes.specs.Spanned.{Unary, PosPred, NegPred, Opt, Rep, RepOnce, RepExact, RepMin, RepMax, RepMinMax, Push, Tag, Binary, Seq, Choice}
 use Rattle.meta_flags.specs.Least.{follows, is_set_at}
 use Rattle.meta_table.specs.Shapes.{sign_of, joint_of}
@@ -14,18 +15,6 @@ use Rattle.meta_stack_pass.specs.declared.table.Kind.TheVariants as is
 use Rattle.meta_stack_pass.specs.declared.table.Node.{Node}
 use Rattle.meta_stack_pass.specs.declared.table.Parts.{Parts}
 use Rattle.meta_stack_pass.specs.declared.table.Parts.TheVariants as parts
-
-pub either : (a b : Bool) → (a || b) ≡ true → (a ≡ true) ⊎ (b ≡ true)
-either true b h = inl refl
-either false b h = inr h
-
-first_on : (a b : Bool) → a ≡ true → (a || b) ≡ true
-first_on true b h = refl
-first_on false b h = cc
-
-second_on : (a b : Bool) → b ≡ true → (a || b) ≡ true
-second_on true b h = refl
-second_on false b h = h
 
 pub call_kind : (k : Kind) (r : ℕ) → called_by k ≡ Some r → k ≡ is.Call r
 call_kind (is.Call s) r h = cc
@@ -73,13 +62,13 @@ set_place p (Some j) h = (j, refl, h)
 set_part : (p : ℕ → Bool) (ps : Parts) → some_part p ps ≡ true → (j : ℕ) × IsOperandOf j ps × (p j ≡ true)
 set_part p parts.Nothing h = cc
 set_part p (parts.Inside j required optional endless) h = (j, refl, h)
-set_part p (parts.Both j k choice) h = elim (either (p j) (p k) h) [ inl a ↦ (j, inl refl, a) | inr b ↦ (k, inr refl, b) ]
+set_part p (parts.Both j k choice) h = elim (or_cases (p j) (p k) h) [ inl a ↦ (j, inl refl, a) | inr b ↦ (k, inr refl, b) ]
 
 part_set : (p : ℕ → Bool) (ps : Parts) (j : ℕ) → IsOperandOf j ps → p j ≡ true → some_part p ps ≡ true
 part_set p parts.Nothing j h e = absurd h
 part_set p (parts.Inside k required optional endless) j h e = ap p (sym h) ∙ e
-part_set p (parts.Both k l choice) j (inl h) e = first_on (p k) (p l) (ap p (sym h) ∙ e)
-part_set p (parts.Both k l choice) j (inr h) e = second_on (p k) (p l) (ap p (sym h) ∙ e)
+part_set p (parts.Both k l choice) j (inl h) e = or_left (p k) (p l) (ap p (sym h) ∙ e)
+part_set p (parts.Both k l choice) j (inr h) e = or_right (p k) (p l) (ap p (sym h) ∙ e)
 
 -- the operands of nodes
 pub wrap_operand : (j : ℕ) (f : Unary) → IsOperandOf j (parts_of (wrap_kind (sign_of f) j))
@@ -103,7 +92,7 @@ module _ (ns : List Node) (roots : List ℕ) (r : ℕ) where
   lead_on : (p : ℕ → Bool) (i : ℕ) (n : Node) → slice_get ns i ≡ Some n → ((j : ℕ) → p j ≡ true → LeadsToCall ns roots j r) → (o : Option ℕ) → called_by n.kind ≡ o
       → leading roots p r o (parts_of n.kind) ≡ true → LeadsToCall ns roots i r
   lead_on p i n at g None e h = let (j, o, f) = set_part p (parts_of n.kind) h in by_operand at o (g j f)
-  lead_on p i n at g (Some s) e h = elim (either (nat_eq s r) (at_place p (slice_get roots s)) h) [
+  lead_on p i n at g (Some s) e h = elim (or_cases (nat_eq s r) (at_place p (slice_get roots s)) h) [
     | inl f ↦ to_call at (call_kind n.kind s e ∙ ap is.Call ((unsigned_Decides s r).0 f))
     | inr f ↦ let (j, root, on) = set_place p (slice_get roots s) f in by_body at (call_kind n.kind s e) root (g j on)
   ]
@@ -119,9 +108,9 @@ module _ (ns : List Node) (roots : List ℕ) (r : ℕ) where
     -- all that lead there are told, where the flags are closed
     pub leads_set : {i s : ℕ} → LeadsToCall ns roots i s → s ≡ r → is_set_at flags i ≡ true
     leads_set (to_call {i = i} {r = s} {n = n} at k) e =
-        closed i n at (by_calling n (Some s) (ap called_by k) (first_on (nat_eq s r) (at_place (is_set_at flags) (slice_get roots s)) ((unsigned_Decides s r).1 e)))
+        closed i n at (by_calling n (Some s) (ap called_by k) (or_left (nat_eq s r) (at_place (is_set_at flags) (slice_get roots s)) ((unsigned_Decides s r).1 e)))
     leads_set (by_body {i = i} {j = j} {r = q} {n = n} at k root l) e =
-        closed i n at (by_calling n (Some q) (ap called_by k) (second_on (nat_eq q r) (at_place (is_set_at flags) (slice_get roots q)) (ap (at_place (is_set_at flags)) root ∙ leads_set l e)))
+        closed i n at (by_calling n (Some q) (ap called_by k) (or_right (nat_eq q r) (at_place (is_set_at flags) (slice_get roots q)) (ap (at_place (is_set_at flags)) root ∙ leads_set l e)))
     leads_set (by_operand {i = i} {j = j} {n = n} at o l) e =
         closed i n at (by_calling n None (no_call n.kind j o) (part_set (is_set_at flags) (parts_of n.kind) j o (leads_set l e)))
 

@@ -4,7 +4,8 @@ use Rattle.std.proofs.lemmas.Bool.{both_ways, or_cases}
 use Rattle.meta_base.specs.Language.Text.{Text}
 use Rattle.meta_base.specs.Language.Builtins.{Builtin, One, Property, Newline, Soi, Eoi, Peek, Pop, Drop, PeekAll, PopAll, builtin_of}
 use Rattle.meta_base.specs.Language.Expression as bare
-use Rattle.meta_base.specs.Language.Expression.{Expression, Ident, Rule, Grammar, rule_of}
+use Rattle.meta_base.specs.Language.Expression.{Expression, Ident, Grammar, rule_of, last_place}
+use Rattle.meta_base.proofs.Basics.{got_alike}
 use Rattle.meta_flags.specs.Least.{follows, is_set_at}
 use Rattle.meta_nodes.specs.Erasure.{without_spans, round, between}
 use Rattle.meta_nodes.specs.Nodes.{view}
@@ -15,14 +16,14 @@ use Rattle.meta_abstract_stacks.specs.Reports.{AltersStack, by_push, by_push_lit
 use Rattle.meta_table.specs.Shapes.{sign_of, joint_of}
 use Rattle.meta_stack_pass.specs.Answers.{at_place, changing_kind, Holds, AreSound}
 use Rattle.meta_stack_pass.specs.Expressions.{body_flag, name_flag}
-use Rattle.meta_table.specs.Names.{grammar_of, rule_said, last_place}
+use Rattle.meta_table.specs.Names.{grammar_of, rule_said}
 use Rattle.meta_stack_pass.specs.Names.{kind_in, name_kind}
 use Rattle.meta_table.specs.Nodes.{IsSimple, all_nodes}
 use Rattle.meta_stack_pass.specs.Kinds.{AreTabled, IsNode, leaf_kind, text_kind, slice_kind, wrap_kind, both_kind}
 use Rattle.meta_stack_pass.specs.declared.table.Node.{Node}
 use Rattle.meta_stack_pass.specs.declared.facts.Question.TheVariants as asks
 use Rattle.meta_stack_pass.proofs.Builtins.{builtin_does, kind_by}
-use Rattle.meta_table.proofs.Resolved.{Named, absent, named, resolved, got_like, same_item}
+use Rattle.meta_table.proofs.Resolved.{Named, absent, named, resolved, same_item}
 
 module _ (rules : List ParserRule) (ns : List Node) (roots : List ℕ) (tabled : AreTabled rules (kind_in (grammar_of rules)) ns roots) where
   abbrev G : Grammar
@@ -38,7 +39,7 @@ module _ (rules : List ParserRule) (ns : List Node) (roots : List ℕ) (tabled :
   -- a rule's body changes the stack, where p is true of it
   body_changes : (p : ℕ → Bool) → Right p → (r : ℕ) (rule : ParserRule) → slice_get rules r ≡ Some rule → at_place p (slice_get roots r) ≡ true → AltersStack G (rule_said rule).body
   body_changes p k r rule at h =
-      let (j, root) = got_like rules roots r rule at (sym tabled.roots.alike) in
+      let (j, root) = got_alike rules roots r rule at (sym tabled.roots.alike) in
       k j (ap (at_place p) (sym root) ∙ h) (view rule.node) (tabled.roots.lie r j rule at root)
 
   builtin_changes : (p : ℕ → Bool) (n : Text) (o : Option Builtin) → rule_of G n ≡ None → builtin_of n ≡ o → changing_kind roots p (kind_by o) ≡ true → AltersStack G (Ident n)

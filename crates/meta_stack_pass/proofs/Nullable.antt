@@ -5,8 +5,9 @@ use Rattle.std.specs.Cmp.{unsigned_Decides}
 use Rattle.std.proofs.lemmas.Bool.{and_from, and_parts, both_ways, or_cases, or_left, or_right}
 use Rattle.meta_base.specs.Language.Text.{Text}
 use Rattle.meta_base.specs.Language.Expression as bare
-use Rattle.meta_base.specs.Language.Expression.{Expression, Ident, Rule, Grammar, rule_of}
+use Rattle.meta_base.specs.Language.Expression.{Expression, Ident, Rule, Grammar, rule_of, last_place}
 use Rattle.meta_base.specs.Language.WellFormed.{IsNullable, nullable_str, nullable_insens, nullable_soi, nullable_eoi, nullable_call, nullable_pos_pred, nullable_neg_pred, nullable_opt, nullable_rep, nullable_rep_max, nullable_seq, nullable_left, nullable_right, nullable_rep_once, nullable_push, nullable_exact_zero, nullable_exact, nullable_min_zero, nullable_min, nullable_min_max_zero, nullable_min_max, nullable_skip, nullable_restore, nullable_push_literal, nullable_tag}
+use Rattle.meta_base.proofs.Basics.{got_alike}
 use Rattle.meta_flags.proofs.Found.{AreFound, found}
 use Rattle.meta_flags.specs.Least.{Follows, follows, is_set_at}
 use Rattle.meta_nodes.specs.Erasure.{without_spans}
@@ -16,10 +17,10 @@ use Rattle.meta_nodes.specs.declared.node.ParserRule.{ParserRule}
 use Rattle.meta_nullable.specs.Facts.{AreNullable}
 use Rattle.meta_nullable.proofs.Answering.{end_null}
 use Rattle.meta_abstract_stacks.specs.Reported.{KnowsNullable}
-use Rattle.meta_table.specs.Names.{grammar_of, rule_said, last_place, is_end}
+use Rattle.meta_table.specs.Names.{grammar_of, rule_said, is_end}
 use Rattle.meta_table.specs.Nodes.{all_nodes}
 use Rattle.meta_table.specs.Roots.{AreRoots}
-use Rattle.meta_table.proofs.Resolved.{Named, absent, named, resolved, got_like, same_item}
+use Rattle.meta_table.proofs.Resolved.{Named, absent, named, resolved, same_item}
 use Rattle.meta_stack_pass.specs.Answers.{at_place}
 use Rattle.meta_stack_pass.specs.Expressions.{body_flag, name_flag, may_stay}
 
@@ -104,7 +105,7 @@ module _ (rules : List ParserRule) (roots : List ℕ) (lie : AreRoots rules (all
       go : (o : Option ℕ) → last_place G n ≡ o → Named rules n o → Decides (flag n) (IsNullable G q.body)
       go o l (absent f) = let z = sym e ∙ f in cc
       go o l (named {r = r} rule at f) =
-          let (j, root) = got_like rules roots r rule at (sym lie.alike) in
+          let (j, root) = got_alike rules roots r rule at (sym lie.alike) in
           let same : rule_said rule ≡ q = same_item (rule_of G n) (rule_said rule) q f e in
           let said : flag n ≡ is_set_at flags j = ap (body_flag roots flags) l ∙ ap (at_place (is_set_at flags)) root in
           subst (λ b. Decides b (IsNullable G q.body)) (sym said)

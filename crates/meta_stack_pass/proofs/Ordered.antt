@@ -4,7 +4,8 @@ use Rattle.std.proofs.lemmas.Option.{slice_get_within}
 use Rattle.meta_base.specs.Language.Text.{Text}
 use Rattle.meta_base.specs.Language.Builtins.{Builtin, One, Property, Newline, Soi, Eoi, Peek, Pop, Drop, PeekAll, PopAll, builtin_of}
 use Rattle.meta_base.specs.Language.Expression as bare
-use Rattle.meta_base.specs.Language.Expression.{Expression}
+use Rattle.meta_base.specs.Language.Expression.{Expression, last_place}
+use Rattle.meta_base.proofs.Basics.{got_alike}
 use Rattle.meta_flags.specs.Least.{is_set_at}
 use Rattle.meta_nodes.specs.Nodes.{view}
 use Rattle.meta_nodes.specs.Spanned as spanned
@@ -12,7 +13,7 @@ use Rattle.meta_nodes.specs.Spanned.{Spanned, Leaf, Unary, PosPred, NegPred, Opt
 use Rattle.meta_nodes.specs.declared.node.ParserRule.{ParserRule}
 use Rattle.meta_table.specs.Shapes.{sign_of, joint_of}
 use Rattle.meta_stack_pass.specs.Leading.{AreRanked, IsOperandOf}
-use Rattle.meta_table.specs.Names.{grammar_of, last_place}
+use Rattle.meta_table.specs.Names.{grammar_of}
 use Rattle.meta_stack_pass.specs.Names.{kind_in, name_kind}
 use Rattle.meta_table.specs.Nodes.{IsSimple, all_nodes}
 use Rattle.meta_stack_pass.specs.Kinds.{AreTabled, Fits, leaf_kind, text_kind, slice_kind, wrap_kind, both_kind}
@@ -24,12 +25,12 @@ use Rattle.meta_stack_pass.specs.declared.table.Table.{Table}
 use Rattle.meta_stack_pass.proofs.Builtins.{builtin_does, kind_by}
 use Rattle.meta_stack_pass.proofs.LeadingLemmas.{both_operands, wrap_operand}
 use Rattle.meta_stack_pass.proofs.RankLemmas.{body_falls, operand_falls}
-use Rattle.meta_table.proofs.Resolved.{got_like, same_item}
+use Rattle.meta_table.proofs.Resolved.{same_item}
 
 -- the bodies of rules are nodes
 pub bodies_inside : (rules : List ParserRule) (kind_of : Text → Kind) (t : Table) → AreTabled rules kind_of (nodes_of t) t.roots.items → AreInside t
 bodies_inside rules kind_of t h r i e =
-    let (rule, at) = got_like t.roots.items rules r i e h.roots.alike in
+    let (rule, at) = got_alike t.roots.items rules r i e h.roots.alike in
     let w = slice_get_within (all_nodes rules) i (view rule.node) (h.roots.lie r i rule at e) in
     let l = h.nodes.alike in omega arith
 
@@ -124,7 +125,7 @@ module _ (rules : List ParserRule) (t : Table) (tabled : AreTabled rules (kind_i
 
   pub in_order : IsOrdered t
   in_order i n at =
-      let (x, here) = got_like (nodes_of t) (all_nodes rules) i n at tabled.nodes.alike in
+      let (x, here) = got_alike (nodes_of t) (all_nodes rules) i n at tabled.nodes.alike in
       let (m, is, fit) = tabled.nodes.fit i x here in
       let e : m ≡ n = same_item (slice_get (nodes_of t) i) m n is at in
       fit_lies i n x at (subst (λ z. Fits (kind_in (grammar_of rules)) (all_nodes rules) i z.kind x) e fit.fits)

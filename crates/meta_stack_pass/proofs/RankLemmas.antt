@@ -2,6 +2,7 @@
 use Rattle.std.proofs.Common.{◌≡◌, ◌↔◌, ℕ, zero, suc, ◌+◌, ◌<◌, ◌≤◌, ◌⊎◌, inl, inr, List, [], ◌∷◌, ◌++◌, Option, Some, None, Bool, true, false, slice_get, length, unwrap_or, replicate, refl, sym, ◌∙◌, ap, subst, arith}
 use Rattle.std.proofs.lemmas.Option.{slice_get_within, slice_get_past}
 use Rattle.meta_flags.specs.Least.{is_set_at}
+use Rattle.meta_flags.proofs.FlagLists.{set_before, set_last}
 use Rattle.meta_stack_pass.specs.Leading.{IsOperandOf, LeadsToCall, to_call, by_body, by_operand, LeadsBack, rank_in, PartsFall, BodyFalls, CallFalls, AreRanked, AreCalls, AreRaised, bit}
 use Rattle.meta_stack_pass.specs.Table.{called_by, parts_of}
 use Rattle.meta_stack_pass.specs.declared.table.Node.{Node}
@@ -48,7 +49,7 @@ module _ (ns : List Node) (roots : List ℕ) (recursive : List Bool) (ranks : Li
       no_back : (r : ℕ) → is_set_at recursive r ≡ false → LeadsBack ns roots r → ⊥
       no_back r off (j, root, l) = let a = falls l off j root in omega arith
 
-less_or_not : (m n : ℕ) → (m < n) ⊎ (n ≤ m)
+pub less_or_not : (m n : ℕ) → (m < n) ⊎ (n ≤ m)
 less_or_not m zero = inr (omega arith)
 less_or_not zero (suc n) = inl (omega arith)
 less_or_not (suc m) (suc n) = elim (less_or_not m n) [ inl a ↦ inl (omega arith) | inr b ↦ inr (omega arith) ]
@@ -100,15 +101,6 @@ pub last_or_before : (r n : ℕ) → r < n + 1 → (r < n) ⊎ (r ≡ n)
 last_or_before r zero h = inr (omega arith)
 last_or_before zero (suc n) h = inl (omega arith)
 last_or_before (suc r) (suc n) h = elim (last_or_before r n (omega arith)) [ inl a ↦ inl (omega arith) | inr b ↦ inr (ap suc b) ]
-
-set_before : (bs : List Bool) (b : Bool) (r : ℕ) → r < length bs → is_set_at (bs ++ b ∷ []) r ≡ is_set_at bs r
-set_before [] b r h = absurd (omega arith)
-set_before (c ∷ bs) b zero h = refl
-set_before (c ∷ bs) b (suc r) h = set_before bs b r (omega arith)
-
-set_last : (bs : List Bool) (b : Bool) → is_set_at (bs ++ b ∷ []) (length bs) ≡ b
-set_last [] b = refl
-set_last (c ∷ bs) b = set_last bs b
 
 -- one rule more was sought
 pub one_sought : (ns : List Node) (roots : List ℕ) (count : ℕ) (recursive more : List Bool) (ranks raised : List ℕ) (flags : List Bool) (b : Bool) → AreSought ns roots count recursive ranks

@@ -4,7 +4,8 @@ use Rattle.std.proofs.lemmas.Slice.Eq.{bytes_eq-Decides}
 use Rattle.meta_base.specs.Language.Text.{Text}
 use Rattle.meta_base.specs.Language.Builtins.{Builtin, One, Property, Newline, Soi, Eoi, Peek, Pop, Drop, PeekAll, PopAll, builtin_of}
 use Rattle.meta_base.specs.Language.Expression as bare
-use Rattle.meta_base.specs.Language.Expression.{Expression, Ident, Rule, Grammar, rule_of, Part, whole, of_pos_pred, of_neg_pred, of_seq_left, of_seq_right, of_choice_left, of_choice_right, of_opt, of_rep, of_rep_once, of_rep_exact, of_rep_min, of_rep_max, of_rep_min_max, of_push, of_tag}
+use Rattle.meta_base.specs.Language.Expression.{Expression, Ident, Rule, Grammar, rule_of, Part, whole, of_pos_pred, of_neg_pred, of_seq_left, of_seq_right, of_choice_left, of_choice_right, of_opt, of_rep, of_rep_once, of_rep_exact, of_rep_min, of_rep_max, of_rep_min_max, of_push, of_tag, last_place}
+use Rattle.meta_base.proofs.Basics.{got_alike}
 use Rattle.meta_flags.specs.Least.{is_set_at}
 use Rattle.meta_nodes.specs.Erasure.{without_spans, round, between}
 use Rattle.meta_nodes.specs.Nodes.{view}
@@ -16,7 +17,7 @@ use Rattle.meta_table.specs.Shapes.{sign_of, joint_of}
 use Rattle.meta_stack_pass.specs.Answers.{at_place}
 use Rattle.meta_stack_pass.specs.Certain.{IsTableOf}
 use Rattle.meta_stack_pass.specs.Leading.{IsOperandOf, LeadsToCall, to_call, by_body, by_operand, LeadsBack}
-use Rattle.meta_table.specs.Names.{grammar_of, rule_said, last_place}
+use Rattle.meta_table.specs.Names.{grammar_of, rule_said}
 use Rattle.meta_stack_pass.specs.Names.{kind_in, name_kind}
 use Rattle.meta_table.specs.Nodes.{IsSimple, all_nodes}
 use Rattle.meta_stack_pass.specs.Kinds.{AreTabled, Fits, leaf_kind, text_kind, slice_kind, wrap_kind, both_kind}
@@ -27,7 +28,7 @@ use Rattle.meta_stack_pass.specs.declared.table.Node.{Node}
 use Rattle.meta_stack_pass.specs.declared.table.Table.{Table}
 use Rattle.meta_stack_pass.proofs.Builtins.{builtin_does, kind_by}
 use Rattle.meta_stack_pass.proofs.LeadingLemmas.{both_operands, set_place, wrap_operand}
-use Rattle.meta_table.proofs.Resolved.{Named, absent, named, resolved, got_like, same_item}
+use Rattle.meta_table.proofs.Resolved.{Named, absent, named, resolved, same_item}
 use Rattle.meta_stack_pass.proofs.Tied.{inner_part, leaf_parts, side_part, simple_part}
 
 -- 1. a place has one name
@@ -256,7 +257,7 @@ module _ (rules : List ParserRule) (ns : List Node) (roots : List ℕ) (tabled :
     where
       go : Named rules n (Some r) → LeadsFrom r s
       go (named rule at d) =
-          let (j, root) = got_like rules roots r rule at (sym tabled.roots.alike) in
+          let (j, root) = got_alike rules roots r rule at (sym tabled.roots.alike) in
           let same : q ≡ rule_said rule = same_item (rule_of G n) q (rule_said rule) e d in
           (j, root, reach (view rule.node) j (tabled.roots.lie r j rule at root) c (subst (λ z. Part z.body (Ident c)) same p) s f)
 

@@ -2,6 +2,7 @@
 use Rattle.std.proofs.Common.{◌≡◌, ◌∙◌, sym, ap, subst, refl, arith, ℕ, suc, ◌+◌, ◌*◌, ◌-◌, ◌<◌, ◌≤◌, List, [], ◌∷◌, ◌++◌, replicate, reverse, Bool, true, false, not, Option, Some, None, if◌then◌else◌}
 use Rattle.std.proofs.Math.Nat.{mul-le-mul_right}
 use Rattle.std.proofs.lemmas.Option.{slice_get_within}
+use Rattle.std.proofs.lemmas.Bool.{not-false, not-true}
 use Rattle.meta_abstract_stacks.specs.Stack.{AbstractStack, is_among, unknown}
 use Rattle.meta_abstract_stacks.specs.Reading as says
 use Rattle.meta_abstract_stacks.specs.Reading.{Copy, Required, Optional, Endless, onward, turns, walk}
@@ -174,23 +175,15 @@ module _ (t : Table) (m : Memory) (node : ℕ) (s : Stack) (c : Copies) (from : 
             traced = traced_on meaning (record c { optional = c.optional - 1; trace = e.trace }) false _ refl items (k.optional none) (λ f. none) step;
           }
 
-is_off : (b : Bool) → not b ≡ true → b ≡ false
-is_off true e = cc
-is_off false e = refl
-
-is_on : (b : Bool) → not b ≡ false → b ≡ true
-is_on true e = refl
-is_on false e = cc
-
 -- a repetition whose copies are not reached, or are done
 pub copies_nowhere : (t : Table) (meaning : Meaning) (c : Copies) (a : AbstractStack) (whole : says.Reading) → c.walk.here ≡ None → CopiesLead t meaning c a whole → ended a c.alone (walk_of c.walk) ≡ whole
 copies_nowhere t meaning c a whole none k = sym (ap (ended a c.alone) (walk_nowhere t.limit (meaning c.body) (copies c.required c.optional c.endless) (walk_of c.walk) (ap possible none))) ∙ k.made
 
 pub copies_done : (t : Table) (meaning : Meaning) (c : Copies) (a : AbstractStack) (whole : says.Reading) → c.required ≡ 0 → c.optional ≡ 0 → not c.endless ≡ true → CopiesLead t meaning c a whole → ended a c.alone (walk_of c.walk) ≡ whole
-copies_done t meaning c a whole r o e k = sym (ap (ended a c.alone) (none_left t.limit (meaning c.body) c.required c.optional c.endless (walk_of c.walk) r o (is_off c.endless e))) ∙ k.made
+copies_done t meaning c a whole r o e k = sym (ap (ended a c.alone) (none_left t.limit (meaning c.body) c.required c.optional c.endless (walk_of c.walk) r o (not-true c.endless e))) ∙ k.made
 
 pub limit_left : (t : Table) (c : Copies) → not c.endless ≡ false → t.limit ≤ copies_left t c
-limit_left t c h = let e : (if c.endless then t.limit else 0) ≡ t.limit = ap (λ b. if b then t.limit else 0) (is_on c.endless h) in omega arith
+limit_left t c h = let e : (if c.endless then t.limit else 0) ≡ t.limit = ap (λ b. if b then t.limit else 0) (not-false c.endless h) in omega arith
 
 -- turns without end come next
 pub turns_begin : (t : Table) (meaning : Meaning) (c : Copies) (u : Turns) (from : Stack) (a : AbstractStack) (whole : says.Reading) → c.required ≡ 0 → c.optional ≡ 0 → not c.endless ≡ false → c.walk.here ≡ Some from
@@ -203,7 +196,7 @@ turns_begin t meaning c u from a whole r o e here body alone left seen same k =
     ∙ (ap (λ n. ended a c.alone (turns t.limit (meaning c.body) n (reverse (seen_stacks u.seen.items)) (Some (stack_of from)) (walk_of u.walk))) left
     ∙ (ap (λ l. ended a c.alone (turns t.limit (meaning c.body) t.limit (reverse (seen_stacks l)) (Some (stack_of from)) (walk_of u.walk))) seen
     ∙ (ap (λ w. ended a c.alone (turns t.limit (meaning c.body) t.limit [] (Some (stack_of from)) w)) same
-    ∙ (sym (ap (ended a c.alone) (turns_left t.limit (meaning c.body) c.required c.optional c.endless (walk_of c.walk) (stack_of from) r o (is_on c.endless e) (ap possible here))) ∙ k.made)))))
+    ∙ (sym (ap (ended a c.alone) (turns_left t.limit (meaning c.body) c.required c.optional c.endless (walk_of c.walk) (stack_of from) r o (not-false c.endless e) (ap possible here))) ∙ k.made)))))
 
 pub turns_over : (t : Table) (meaning : Meaning) (u : Turns) (a s : AbstractStack) (q : Option AbstractStack) (whole : says.Reading) → u.left ≡ 0 → s ≡ unknown → TurnsLead t meaning u a q whole
     → (let v : says.Walk = record { here = Some s; failing = u.walk.failing; still = false } in ended a u.alone v) ≡ whole

@@ -113,7 +113,7 @@ module _ (t : Table) (node : ℕ) (ss : List Stack) (meaning : Meaning) (read : 
           | inl w ↦ (
             s ∷ us,
             (us, inner us v, inl (ee ∙ w.0, sym null ∙ w.1, loop_there w.2, refl)),
-            sym (ap (λ z. map piece_of z ++ us) w.3 ∙ (ap (λ z. z ++ us) (map_push piece_of before m.span ∙ ap (λ z. map piece_of before ++ z ∷ []) es) ∙ append_assoc (map piece_of before) (s ∷ []) us)),
+            sym (ap (λ z. map piece_of z ++ us) w.3 ∙ (ap (λ z. z ++ us) (map_push piece_of before m.span.now ∙ ap (λ z. map piece_of before ++ z ∷ []) es) ∙ append_assoc (map piece_of before) (s ∷ []) us)),
           )
           | inr w ↦ (us, (us, inner us v, inr (λ e z k. w.0 (sym ee ∙ e) (null ∙ z) (loop_here k), refl)), sym (ap (λ z. map piece_of z ++ us) w.1))
         ],

@@ -86,11 +86,3 @@ module _ (step : AbstractStack → says.Reading) (k n : ℕ) (starts : List (Lis
       go true false (inr p) = ap (λ l. rest (b.marks ∷ l) (made_intact b)) (sym p.2)
       go false y (inl p) = ap (λ l. rest (b.marks ∷ l) (made_intact b)) (sym p.1)
       go false y (inr p) = cc
-
-pub was_true : (b : Bool) → not b ≡ false → b ≡ true
-was_true true h = refl
-was_true false h = cc
-
-pub was_false : (b : Bool) → not b ≡ true → b ≡ false
-was_false true h = cc
-was_false false h = refl

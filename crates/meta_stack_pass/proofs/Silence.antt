@@ -1,15 +1,17 @@
 -- Nothing is reported in a body in which no repetition without end repeats what may be read as taking nothing.
 use Rattle.std.proofs.Common.{◌≡◌, ℕ, zero, suc, min, ◌+◌, ◌<◌, ◌≤◌, List, [], ◌∷◌, ◌++◌, Option, Some, None, Bool, true, false, ◌&&◌, ◌||◌, nat_eq, slice_get, length, inl, inr, refl, sym, ◌∙◌, ap, ap₂, subst, ℤ, pos, negsuc, arith}
-use Rattle.std.proofs.lemmas.Bool.{cases_lt}
+use Rattle.std.proofs.lemmas.Bool.{cases_lt, or_parts}
 use Rattle.meta_base.specs.Language.Text.{Text}
 use Rattle.meta_base.specs.Language.Builtins.{Builtin, One, Property, Newline, Soi, Eoi, Peek, Pop, Drop, PeekAll, PopAll, builtin_of}
 use Rattle.meta_base.specs.Language.Expression as bare
-use Rattle.meta_base.specs.Language.Expression.{Expression, Rule, Grammar, rule_of}
+use Rattle.meta_base.specs.Language.Expression.{Expression, Rule, Grammar, rule_of, last_place}
+use Rattle.meta_base.proofs.Basics.{got_alike}
 use Rattle.meta_flags.specs.Least.{is_set_at}
+use Rattle.meta_flags.proofs.FlagLists.{set_before}
 use Rattle.meta_nodes.specs.Erasure.{without_spans, round, between}
 use Rattle.meta_nodes.specs.Nodes.{view}
 use Rattle.meta_nodes.specs.Spanned as spanned
-use Rattle.meta_nodes.specs.Spanned.{Span, Spanned, Leaf, Unary, PosPred, NegPred, Opt, Rep, RepOnce, RepExact, RepMin, RepMax, RepMinMax, Push, Tag, Binary, Seq, Choice}
+use Rattle.meta_nodes.specs.Spanned.{Spanned, Leaf, Unary, PosPred, NegPred, Opt, Rep, RepOnce, RepExact, RepMin, RepMax, RepMinMax, Push, Tag, Binary, Seq, Choice}
 use Rattle.meta_nodes.specs.declared.node.ParserRule.{ParserRule}
 use Rattle.meta_abstract_stacks.specs.Stack.{AbstractStack, entry, made_intact}
 use Rattle.meta_abstract_stacks.specs.Reading as says
@@ -19,7 +21,7 @@ use Rattle.meta_abstract_stacks.specs.Reports.{reading_in, skips_in}
 use Rattle.meta_table.specs.Shapes.{sign_of, joint_of}
 use Rattle.meta_stack_pass.specs.Answers.{AreAnswers, at_place, some_part, still_kind}
 use Rattle.meta_stack_pass.specs.Leading.{IsOperandOf}
-use Rattle.meta_table.specs.Names.{grammar_of, rule_said, last_place}
+use Rattle.meta_table.specs.Names.{grammar_of, rule_said}
 use Rattle.meta_stack_pass.specs.Names.{kind_in, name_kind}
 use Rattle.meta_table.specs.Nodes.{IsSimple, all_nodes}
 use Rattle.meta_stack_pass.specs.Kinds.{AreTabled, Fits, is_empty_text, leaf_kind, text_kind, slice_kind, wrap_kind, both_kind}
@@ -31,13 +33,9 @@ use Rattle.meta_stack_pass.specs.declared.table.Parts.{Parts}
 use Rattle.meta_stack_pass.specs.declared.table.Parts.TheVariants as parts
 use Rattle.meta_stack_pass.proofs.Builtins.{builtin_does, kind_by}
 use Rattle.meta_stack_pass.proofs.Reached.{either_operand, only_operand}
-use Rattle.meta_table.proofs.Resolved.{Named, absent, named, resolved, got_like, same_item}
+use Rattle.meta_table.proofs.Resolved.{Named, absent, named, resolved, same_item}
 use Rattle.meta_stack_pass.proofs.Still.{first_turn, names_still, reads_still}
 use Rattle.meta_stack_pass.proofs.Tied.{binary_parts, leaf_parts, optional_of, required_of, unary_parts}
-
-both_off : (a b : Bool) → (a || b) ≡ false → (a ≡ false) × (b ≡ false)
-both_off true b h = cc
-both_off false b h = (refl, h)
 
 not_both : (a b : Bool) → (a && b) ≡ false → a ≡ true → b ≡ true → ⊥
 not_both true b h e f = let z = sym h ∙ f in cc
@@ -49,11 +47,6 @@ rest_told still flags ps = may_loop (is_set_at still) ps || some_part (is_set_at
 
 abbrev pub AreToldTo : List Node → List Bool → List Bool → ℕ → Type 0
 AreToldTo ns still flags k = (i : ℕ) (n : Node) → i < k → slice_get ns i ≡ Some n → is_set_at flags i ≡ rest_told still flags (parts_of n.kind)
-
-set_before : (flags : List Bool) (b : Bool) (j : ℕ) → j < length flags → is_set_at (flags ++ b ∷ []) j ≡ is_set_at flags j
-set_before [] b j h = absurd (omega arith)
-set_before (a ∷ flags) b zero h = refl
-set_before (a ∷ flags) b (suc j) h = set_before flags b j (omega arith)
 
 set_last : (flags : List Bool) (b : Bool) (j : ℕ) → j ≡ length flags → is_set_at (flags ++ b ∷ []) j ≡ b
 set_last [] b zero h = refl
@@ -108,7 +101,7 @@ module _ (rules : List ParserRule) (ns : List Node) (roots : List ℕ) (tabled :
 
   -- operands stand before what they are operands of
   pub behind : AreBehind ns
-  behind i n at j o = let (x, here) = got_like ns all i n at tabled.nodes.alike in below i n x at here j o
+  behind i n at j o = let (x, here) = got_alike ns all i n at tabled.nodes.alike in below i n x at here j o
 
   module _ (still : List Bool) (right : AreAnswers asks.MayBeStill ns roots still) where
     abbrev P : ℕ → Bool
@@ -174,7 +167,7 @@ module _ (rules : List ParserRule) (ns : List Node) (roots : List ℕ) (tabled :
         go : (o : Option ℕ) → last_place G n ≡ o → Named rules n o → near n ≡ true
         go o l (absent f) = let z = sym e ∙ f in cc
         go o l (named {r = r} rule at f) =
-            let (j, root) = got_like rules roots r rule at (sym tabled.roots.alike) in
+            let (j, root) = got_alike rules roots r rule at (sym tabled.roots.alike) in
             let same : rule_said rule ≡ q = same_item (rule_of G n) (rule_said rule) q f e in
             ap (λ o. still_kind roots P (name_kind n o)) l ∙ (ap (at_place P) root ∙ (still_at (view rule.node) j (tabled.roots.lie r j rule at root) ∙ (ap (λ z. may_be_still near z.body) same ∙ h)))
 
@@ -215,14 +208,14 @@ module _ (rules : List ParserRule) (ns : List Node) (roots : List ℕ) (tabled :
           let (n, at, fit) = tabled.nodes.fit i (spanned.One s f x) here in
           let j = fit.fits.0 in
           let ps : parts_of n.kind ≡ parts.Inside j (required_of f) (optional_of f) (is_endless f) = ap parts_of fit.fits.3 ∙ unary_parts f j in
-          let (a, b) = both_off (is_endless f && P j) (is_set_at flags j) (ap (λ z. may_loop P z || some_part (is_set_at flags) z) (sym ps) ∙ (sym (told i n at) ∙ off)) in
+          let (a, b) = or_parts (is_endless f && P j) (is_set_at flags j) (ap (λ z. may_loop P z || some_part (is_set_at flags) z) (sym ps) ∙ (sym (told i n at) ∙ off)) in
           ([], silent_at x j fit.fits.2 b _, inr (λ e _ l. not_both (is_endless f) (P j) a e (loop_still x j fit.fits.2 l.0 l.2), refl))
       silent_at (spanned.Two s f x y) i here off S =
           let (n, at, fit) = tabled.nodes.fit i (spanned.Two s f x y) here in
           let j = fit.fits.0 in
           let k = fit.fits.1 in
           let ps : parts_of n.kind ≡ parts.Both j k (is_choice f) = ap parts_of fit.fits.6 ∙ binary_parts f j k in
-          let (a, b) = both_off (is_set_at flags j) (is_set_at flags k) (ap (λ z. may_loop P z || some_part (is_set_at flags) z) (sym ps) ∙ (sym (told i n at) ∙ off)) in
+          let (a, b) = or_parts (is_set_at flags j) (is_set_at flags k) (ap (λ z. may_loop P z || some_part (is_set_at flags) z) (sym ps) ∙ (sym (told i n at) ∙ off)) in
           ([], [], silent_at x j fit.fits.4 a S, silent_at y k fit.fits.5 b _, refl)
 
   pub silent : (flags : List Bool) → AreReportable ns roots flags → AreSilent rules roots flags

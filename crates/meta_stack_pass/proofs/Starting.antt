@@ -2,7 +2,7 @@
 use Rattle.std.proofs.Common.{◌≡◌, ℕ, zero, suc, ◌<◌, List, [], ◌∷◌, ◌++◌, replicate, Option, Some, None, Bool, true, false, if◌then◌else◌, ◌⊎◌, inl, inr, slice_get, refl, sym, ◌∙◌, ap, subst, arith, Result, Ok, Err, OnOk}
 use Rattle.meta_abstract_stacks.specs.Stack.{AbstractStack, In}
 use Rattle.meta_abstract_stacks.specs.Reading as says
-use Rattle.meta_abstract_stacks.specs.Reading.{Copy, Required, Optional, Endless, onward, tried}
+use Rattle.meta_abstract_stacks.specs.Reading.{Copy, Required, Optional, Endless, onward}
 use Rattle.meta_abstract_stacks.specs.Reported.{turn_starts, starts}
 use Rattle.meta_stack_pass.specs.Table.{IsMeaning, copies}
 use Rattle.meta_stack_pass.specs.Memory.{Meaning, IsRight}
@@ -11,10 +11,11 @@ use Rattle.meta_stack_pass.specs.Visiting.{AddsAll, AddsEach, AddsWhere, IsStart
 use Rattle.meta_abstract_stacks.specs.Views.{stack_of, walk_of, possible}
 use Rattle.meta_abstract_stacks.specs.declared.stack.Stack.{Stack}
 use Rattle.meta_abstract_stacks.specs.declared.reading.Walk.{Walk}
+use Rattle.meta_abstract_stacks.proofs.Routes.{in_split}
 use Rattle.meta_stack_pass.specs.declared.table.Table.{Table}
 use Rattle.meta_stack_pass.specs.declared.memory.Memory.{Memory}
 use Rattle.meta_stack_pass.proofs.Counts.{one_on, stuck}
-use Rattle.meta_stack_pass.proofs.Visited.{in_left, in_right, in_either}
+use Rattle.meta_stack_pass.proofs.Visited.{in_left, in_right}
 
 abbrev listed : Option AbstractStack → List AbstractStack
 listed None = []
@@ -36,7 +37,7 @@ listed_in (Some a) b e = inl (let h : b ≡ a = cc in h)
 
 in_heres : (n : ℕ) (f : says.Walk → says.Walk) (w : says.Walk) (b : AbstractStack) → In b (heres n f w) → (i : ℕ) × (i < n) × ((times i f w).here ≡ Some b)
 in_heres zero f w b h = absurd h
-in_heres (suc n) f w b h = elim (in_either b (listed w.here) (heres n f (f w)) h) [
+in_heres (suc n) f w b h = elim (in_split b (listed w.here) (heres n f (f w)) h) [
   | inl i ↦ (0, omega arith, in_listed w.here b i)
   | inr i ↦ let r = in_heres n f (f w) b i in (suc r.0, (let l : r.0 < n = r.1 in omega arith), r.2)
 ]
@@ -159,9 +160,9 @@ module _ (t : Table) (body r o : ℕ) (a b c : Memory) (start first second : Wal
       put meaning x (inr p) = in_right x (heres r (copy_step t meaning body true) (walk_of start)) _ (in_left x _ [] p)
 
       take : (meaning : Meaning) (x : AbstractStack) → In x (heres r (copy_step t meaning body true) (walk_of start) ++ (heres o (copy_step t meaning body false) (walk_of first) ++ [])) → Copied meaning x
-      take meaning x p = elim (in_either x (heres r (copy_step t meaning body true) (walk_of start)) _ p) [
+      take meaning x p = elim (in_split x (heres r (copy_step t meaning body true) (walk_of start)) _ p) [
         | inl q ↦ inl q
-        | inr q ↦ elim (in_either x (heres o (copy_step t meaning body false) (walk_of first)) [] q) [ inl y ↦ inr y | inr y ↦ absurd y ]
+        | inr q ↦ elim (in_split x (heres o (copy_step t meaning body false) (walk_of first)) [] q) [ inl y ↦ inr y | inr y ↦ absurd y ]
       ]
 
   pub copies_and_turns : (e : Bool) (s : Stack) (d : Memory) (seen : List Stack) (third : Walk) (most : List Stack) → start.here ≡ Some s → e ≡ true → Turned t c d body (walk_of second) seen third → AddsEach more most seen
@@ -189,9 +190,9 @@ module _ (t : Table) (body r o : ℕ) (a b c : Memory) (start first second : Wal
 
       take : (meaning : Meaning) (x : AbstractStack) → In x (heres r (copy_step t meaning body true) (walk_of start) ++ (heres o (copy_step t meaning body false) (walk_of first) ++ turn_starts (meaning body) t.limit [] (possible second.here)))
           → Copied meaning x ⊎ In x (turn_starts (meaning body) t.limit [] (possible second.here))
-      take meaning x p = elim (in_either x (heres r (copy_step t meaning body true) (walk_of start)) _ p) [
+      take meaning x p = elim (in_split x (heres r (copy_step t meaning body true) (walk_of start)) _ p) [
         | inl q ↦ inl (inl q)
-        | inr q ↦ elim (in_either x (heres o (copy_step t meaning body false) (walk_of first)) _ q) [ inl y ↦ inl (inr y) | inr y ↦ inr y ]
+        | inr q ↦ elim (in_split x (heres o (copy_step t meaning body false) (walk_of first)) _ q) [ inl y ↦ inl (inr y) | inr y ↦ inr y ]
       ]
 
 pub on_ok : {X E P Q : Type 0} (r : Result X E) → (P → Q) → OnOk r P → OnOk r Q

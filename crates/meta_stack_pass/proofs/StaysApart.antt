@@ -3,10 +3,11 @@ use Rattle.std.proofs.Common.{◌≡◌, ◌∙◌, sym, ap, refl, arith, ℕ, z
 use Rattle.std.proofs.lemmas.Bool.Decides.{nat_tests}
 use Rattle.std.proofs.lemmas.Bool.{and_parts}
 use Rattle.meta_flags.specs.Least.{is_set_at}
-use Rattle.meta_abstract_stacks.specs.Stack.{Base, Empty, Blank, Any, AbstractStack, common, both_marks, join, join_any, failed}
+use Rattle.meta_abstract_stacks.specs.Stack.{AbstractStack, both_marks, join, join_any, failed}
 use Rattle.meta_abstract_stacks.specs.Reading.{Reading, Walk, Copy, Required, Optional, Endless, from, only_if, tried, stays, ahead_reading, not_ahead_reading, opt_reading, seq_reading, choice_reading, turns, onward, walk, walked, is_single}
 use Rattle.meta_abstract_stacks.specs.Walks.{turned}
 use Rattle.meta_abstract_stacks.proofs.Turning.{is_in}
+use Rattle.meta_abstract_stacks.proofs.Bases.{common_same}
 use Rattle.meta_stack_pass.specs.Apart.{moved, AreMovable, AreApart, apart_kind, apart_call}
 use Rattle.meta_stack_pass.specs.Memory.{Meaning}
 use Rattle.meta_stack_pass.specs.Table.{IsMeaning, IsOrdered, Inside, Lies, LeadsTo, call_reading, copies, followed_at, level, node_reading, nodes_of}
@@ -16,11 +17,6 @@ use Rattle.meta_stack_pass.specs.declared.table.Node.{Node}
 use Rattle.meta_stack_pass.specs.declared.table.Table.{Table}
 use Rattle.meta_stack_pass.proofs.Awaiting.{level_inside, level_called}
 use Rattle.meta_stack_pass.proofs.Follow.{turns_again, turns_none, turns_on}
-
-common_same : (b : Base) → common b b ≡ b
-common_same Empty = refl
-common_same Blank = refl
-common_same Any = refl
 
 and_same : (b : Bool) → (b && b) ≡ b
 and_same true = refl

@@ -1,5 +1,6 @@
 -- Readings that have an ok and take nothing: what they are readings of may be read as taking nothing.
 use Rattle.std.proofs.Common.{◌≡◌, ℕ, zero, suc, List, [], ◌∷◌, ◌++◌, replicate, min, ◌-◌, Option, Some, None, is_some, Bool, true, false, not, ◌&&◌, ◌||◌, if◌then◌else◌, nat_eq, refl, ap, ℤ, pos, negsuc}
+use Rattle.std.proofs.lemmas.Bool.{and_from, and_parts, or_left, or_right}
 use Rattle.meta_base.specs.Language.Text.{Text}
 use Rattle.meta_base.specs.Language.Builtins.{builtin_of}
 use Rattle.meta_base.specs.Language.Expression.{Expression, Str, Insens, Range, Ident, PeekSlice, PosPred, NegPred, Seq, Choice, Opt, Rep, RepOnce, RepExact, RepMin, RepMax, RepMinMax, Skip, Push, RestoreOnErr, Rule, Grammar, rule_of, PushLiteral, NodeTag}
@@ -7,22 +8,6 @@ use Rattle.meta_abstract_stacks.specs.Stack.{AbstractStack, join_any, failed, is
 use Rattle.meta_abstract_stacks.specs.Reading.{Reading, anything, from, builtin_reading, slice_reading, text_reading, pushed_reading, stays, Copy, Required, Optional, Endless, is_single, Walk, turns, onward, walk, walked, reading, rule_reading, name_reading, lands, loops_within, loops}
 use Rattle.meta_stack_pass.specs.Kinds.{is_empty_text}
 use Rattle.meta_stack_pass.specs.Reportable.{may_be_still, slice_may_be_still}
-
-pub both : (a b : Bool) → (a && b) ≡ true → (a ≡ true) × (b ≡ true)
-both true b h = (refl, h)
-both false b h = cc
-
-and_both : (a b : Bool) → a ≡ true → b ≡ true → (a && b) ≡ true
-and_both true b h k = k
-and_both false b h k = cc
-
-or_first : (a b : Bool) → a ≡ true → (a || b) ≡ true
-or_first true b h = refl
-or_first false b h = cc
-
-or_second : (a b : Bool) → b ≡ true → (a || b) ≡ true
-or_second true b h = refl
-or_second false b h = h
 
 past : (a b : Bool) → a ≡ true → (not a || b) ≡ true → b ≡ true
 past true b e h = h
@@ -39,7 +24,7 @@ module _ (limit : ℕ) (step : AbstractStack → Reading) where
   turns_still (suc k) seen None w h = h
   turns_still (suc k) seen (Some a) w h =
       let v : Walk = record { here = join_any w.here (failed (step a).err a); failing = w.failing; still = w.still && stays (step a) } in
-      go (turns limit step k (a ∷ seen) (step a).ok v) (λ g. (both w.still (stays (step a)) (turns_still k (a ∷ seen) (step a).ok v g)).0) (is_among seen a) h
+      go (turns limit step k (a ∷ seen) (step a).ok v) (λ g. (and_parts w.still (stays (step a)) (turns_still k (a ∷ seen) (step a).ok v g)).0) (is_among seen a) h
     where
       go : (u : Walk) → (u.still ≡ true → w.still ≡ true) → (b : Bool) → (if b then w else u).still ≡ true → w.still ≡ true
       go u f true h = h
@@ -47,8 +32,8 @@ module _ (limit : ℕ) (step : AbstractStack → Reading) where
 
   onward_still : (c : Copy) (q : Option AbstractStack) (w : Walk) → (onward limit step c q w).still ≡ true → w.still ≡ true
   onward_still c None w h = h
-  onward_still Required (Some a) w h = (both w.still (stays (step a)) h).0
-  onward_still Optional (Some a) w h = (both w.still (stays (step a)) h).0
+  onward_still Required (Some a) w h = (and_parts w.still (stays (step a)) h).0
+  onward_still Optional (Some a) w h = (and_parts w.still (stays (step a)) h).0
   onward_still Endless (Some a) w h = turns_still limit [] (Some a) (record { here = None; failing = w.failing; still = w.still }) h
 
   walk_still : (cs : List Copy) (w : Walk) → (walk limit step cs w).still ≡ true → w.still ≡ true
@@ -68,7 +53,7 @@ module _ (limit : ℕ) (step : AbstractStack → Reading) where
     first_still cs a o h =
         let w : Walk = record { here = (step a).ok; failing = false || is_some (step a).err; still = true && stays (step a) } in
         let v = walk limit step cs w in
-        let s : v.still ≡ true = (both v.still (not skips || is_single (Required ∷ cs)) (past (is_some v.here) (v.still && (not skips || is_single (Required ∷ cs))) o h)).0 in
+        let s : v.still ≡ true = (and_parts v.still (not skips || is_single (Required ∷ cs)) (past (is_some v.here) (v.still && (not skips || is_single (Required ∷ cs))) o h)).0 in
         let there : is_some (step a).ok ≡ true = go v.here (step a).ok (λ e. walk_gone cs w e) o in
         k a there (stays_still (step a) there (walk_still cs w s))
       where
@@ -78,11 +63,11 @@ module _ (limit : ℕ) (step : AbstractStack → Reading) where
 
     counted_still : (n : ℕ) (cs : List Copy) (a : AbstractStack) → is_some (walked limit step skips a (replicate n Required ++ cs)).ok ≡ true → (walked limit step skips a (replicate n Required ++ cs)).still ≡ true → (nat_eq n 0 || p) ≡ true
     counted_still zero cs a o h = refl
-    counted_still (suc n) cs a o h = or_second (nat_eq (suc n) 0) p (first_still (replicate n Required ++ cs) a o h)
+    counted_still (suc n) cs a o h = or_right (nat_eq (suc n) 0) p (first_still (replicate n Required ++ cs) a o h)
 
     exact_still : (n : ℕ) (a : AbstractStack) → is_some (walked limit step skips a (replicate n Required)).ok ≡ true → (walked limit step skips a (replicate n Required)).still ≡ true → (nat_eq n 0 || p) ≡ true
     exact_still zero a o h = refl
-    exact_still (suc n) a o h = or_second (nat_eq (suc n) 0) p (first_still (replicate n Required) a o h)
+    exact_still (suc n) a o h = or_right (nat_eq (suc n) 0) p (first_still (replicate n Required) a o h)
 
 -- 2. sequences, choices and `PUSH`
 module _ (p q : Bool) (r : Reading) (f : AbstractStack → Reading) (k : is_some r.ok ≡ true → r.still ≡ true → p ≡ true)
@@ -93,19 +78,19 @@ module _ (p q : Bool) (r : Reading) (f : AbstractStack → Reading) (k : is_some
       go : (z : Option AbstractStack) → (is_some z ≡ true → r.still ≡ true → p ≡ true) → is_some (from z f).ok ≡ true → (r.still && ((from z f).still && not skips)) ≡ true → (p && q) ≡ true
       go None k o h = cc
       go (Some b) k o h =
-          let (s, t) = both r.still ((f b).still && not skips) h in
-          and_both p q (k refl s) (l b o (both (f b).still (not skips) t).0)
+          let (s, t) = and_parts r.still ((f b).still && not skips) h in
+          and_from p q (k refl s) (l b o (and_parts (f b).still (not skips) t).0)
 
   second_still : (z : Option AbstractStack) → is_some (from z f).ok ≡ true → stays (from z f) ≡ true → q ≡ true
   second_still None o h = cc
   second_still (Some b) o h = l b o (stays_still (f b) o h)
 
   choice_still : (z : Option AbstractStack) → is_some (join_any r.ok (from z f).ok) ≡ true → (stays r && stays (from z f)) ≡ true → (p || q) ≡ true
-  choice_still z o h = let (s, t) = both (stays r) (stays (from z f)) h in go r.ok refl o s t
+  choice_still z o h = let (s, t) = and_parts (stays r) (stays (from z f)) h in go r.ok refl o s t
     where
       go : (x : Option AbstractStack) → r.ok ≡ x → is_some (join_any x (from z f).ok) ≡ true → stays r ≡ true → stays (from z f) ≡ true → (p || q) ≡ true
-      go None e o s t = or_second p q (second_still z o t)
-      go (Some b) e o s t = or_first p q (k (ap is_some e) (stays_still r (ap is_some e) s))
+      go None e o s t = or_right p q (second_still z o t)
+      go (Some b) e o s t = or_left p q (k (ap is_some e) (stays_still r (ap is_some e) s))
 
 pushed_some : (r : Reading) → is_some (pushed_reading r).ok ≡ true → is_some r.ok ≡ true
 pushed_some r h = go r.ok h

@@ -1,5 +1,5 @@
 -- The table of rules is as it should be.
-use Rattle.std.proofs.Common.{◌≡◌, ℕ, List, Bool, true, false, ◌&&◌, not, ◌⊎◌, inl, inr, refl}
+use Rattle.std.proofs.Common.{◌≡◌, ℕ, suc, List, Bool, true, false, ◌&&◌, not, ◌⊎◌, inl, inr, refl}
 use Rattle.meta_base.specs.Language.Expression.{whitespace, comment}
 use Rattle.meta_nodes.specs.declared.node.ParserRule.{ParserRule}
 use Rattle.meta_nullable.specs.Facts.{AreNullable}
@@ -17,6 +17,7 @@ use Rattle.meta_stack_pass.specs.declared.table.Node.{Node}
 use Rattle.meta_stack_pass.specs.declared.table.Table.{Table}
 use Rattle.meta_stack_pass.proofs.Answering as answering
 use Rattle.meta_stack_pass.proofs.FlagLemmas.{sound_answers}
+use Rattle.meta_abstract_stacks.specs.Turns.{most_stacks}
 use Rattle.meta_stack_pass.proofs.Least as least
 use Rattle.meta_stack_pass.proofs.Ordered.{bodies_inside, in_order}
 
@@ -27,7 +28,7 @@ pub record IsFound (rules : List ParserRule) (t : Table) : Type 0 where
   pub nullable : AreNullable rules t.nullable.items
   pub calls : AreCalls (nodes_of t) t.roots.items t.recursive.items t.ranks.items
   pub calm : SkippingAltersStack (grammar_of rules) → ⊥
-  pub limit : t.limit ≡ 3067
+  pub limit : t.limit ≡ suc most_stacks
   pub turns : t.turns ≡ 64
 
 pub as_it_should : (rules : List ParserRule) (t : Table) → IsFound rules t → IsTableOf rules t

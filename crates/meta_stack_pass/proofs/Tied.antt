@@ -5,7 +5,8 @@ use mathlib.Core.Path.{fun_ext}
 use Rattle.meta_base.specs.Language.Text.{Text}
 use Rattle.meta_base.specs.Language.Builtins.{Builtin, One, Property, Newline, Soi, Eoi, Peek, Pop, Drop, PeekAll, PopAll, builtin_of}
 use Rattle.meta_base.specs.Language.Expression as bare
-use Rattle.meta_base.specs.Language.Expression.{Expression, Ident, Rule, Grammar, rule_of, Part, whole, of_pos_pred, of_neg_pred, of_seq_left, of_seq_right, of_choice_left, of_choice_right, of_opt, of_rep, of_rep_once, of_rep_exact, of_rep_min, of_rep_max, of_rep_min_max, of_push, of_tag}
+use Rattle.meta_base.specs.Language.Expression.{Expression, Ident, Rule, Grammar, rule_of, Part, whole, of_pos_pred, of_neg_pred, of_seq_left, of_seq_right, of_choice_left, of_choice_right, of_opt, of_rep, of_rep_once, of_rep_exact, of_rep_min, of_rep_max, of_rep_min_max, of_push, of_tag, last_place}
+use Rattle.meta_base.proofs.Basics.{got_alike}
 use Rattle.meta_flags.specs.Least.{is_set_at}
 use Rattle.meta_nodes.specs.Erasure.{without_spans, round, between}
 use Rattle.meta_nodes.specs.Nodes.{view, rule_views}
@@ -14,13 +15,13 @@ use Rattle.meta_nodes.specs.Spanned as spanned
 use Rattle.meta_nodes.specs.declared.node.ParserRule.{ParserRule}
 use Rattle.meta_abstract_stacks.specs.Stack.{AbstractStack, failed, push_mark}
 use Rattle.meta_abstract_stacks.specs.Reading as says
-use Rattle.meta_abstract_stacks.specs.Reading.{reading, name_reading, rule_reading, builtin_reading, anything, impossible, Copy, Required, Optional, Endless, walked, from}
+use Rattle.meta_abstract_stacks.specs.Reading.{reading, name_reading, rule_reading, builtin_reading, anything, impossible, Required, Optional, Endless, walked, from}
 use Rattle.meta_abstract_stacks.specs.Reported.{copies_of, is_endless, is_choice}
 use Rattle.meta_abstract_stacks.proofs.Fuel.{reading_same}
 use Rattle.meta_table.specs.Shapes.{sign_of, joint_of}
 use Rattle.meta_stack_pass.specs.Answers.{at_place}
 use Rattle.meta_stack_pass.specs.Memory.{Meaning}
-use Rattle.meta_table.specs.Names.{grammar_of, rule_said, last_place}
+use Rattle.meta_table.specs.Names.{grammar_of, rule_said}
 use Rattle.meta_stack_pass.specs.Names.{kind_in, name_kind}
 use Rattle.meta_table.specs.Nodes.{IsSimple, all_nodes}
 use Rattle.meta_stack_pass.specs.Kinds.{AreTabled, IsNode, is_empty_text, Fits, leaf_kind, text_kind, slice_kind, wrap_kind, both_kind}
@@ -33,7 +34,7 @@ use Rattle.meta_stack_pass.specs.declared.table.Node.{Node}
 use Rattle.meta_stack_pass.specs.declared.table.Parts.TheVariants as parts
 use Rattle.meta_stack_pass.specs.declared.table.Table.{Table}
 use Rattle.meta_stack_pass.proofs.Builtins.{builtin_does, kind_by}
-use Rattle.meta_table.proofs.Resolved.{Named, absent, named, resolved, got_like, same_item}
+use Rattle.meta_table.proofs.Resolved.{Named, absent, named, resolved, same_item}
 
 -- 1. parts of expressions that are names
 pub simple_part : (e : Expression) (c : Text) → IsSimple e → Part e (Ident c) → e ≡ Ident c
@@ -236,7 +237,7 @@ module _ (rules : List ParserRule) (t : Table) (tabled : AreTabled rules (kind_i
   -- the node of a number
   pub at_node : (i : ℕ) (n : Node) → slice_get (nodes_of t) i ≡ Some n → (x : Spanned) × (slice_get all i ≡ Some x) × IsNode (kind_in G) all i n x
   at_node i n e =
-      let (x, here) = got_like (nodes_of t) all i n e tabled.nodes.alike in
+      let (x, here) = got_alike (nodes_of t) all i n e tabled.nodes.alike in
       let (q, at, fit) = tabled.nodes.fit i x here in
       (x, here, subst (λ m. IsNode (kind_in G) all i m x) (same_item (slice_get (nodes_of t) i) q n at e) fit)
 
@@ -281,7 +282,7 @@ module _ (rules : List ParserRule) (t : Table) (tabled : AreTabled rules (kind_i
 
   reads_rule : (n : Text) (r : ℕ) (rule : ParserRule) → last_place G n ≡ Some r → slice_get rules r ≡ Some rule → rule_of G n ≡ Some (rule_said rule) → ReadsNode n
   reads_rule n r rule l at e =
-      let (j, root) = got_like rules t.roots.items r rule at (sym tabled.roots.alike) in
+      let (j, root) = got_alike rules t.roots.items r rule at (sym tabled.roots.alike) in
       go (is_set_at t.recursive.items r) refl j root
     where
       flag : flagged n ≡ is_set_at t.recursive.items r

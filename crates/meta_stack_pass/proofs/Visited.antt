@@ -1,6 +1,5 @@
 -- Stacks that are collected.
 use Rattle.std.proofs.Common.{◌≡◌, ℕ, zero, suc, ◌+◌, ◌<◌, ◌≤◌, List, [], ◌∷◌, ◌++◌, Option, Some, None, Bool, true, false, ◌⊎◌, inl, inr, slice_get, length, refl, sym, ◌∙◌, ap, subst, arith}
-use Rattle.std.proofs.lemmas.Bool.{cases_lt}
 use Rattle.std.proofs.lemmas.List.{map_push}
 use Rattle.std.proofs.lemmas.Option.{slice_get_within}
 use Rattle.meta_abstract_stacks.specs.Stack.{AbstractStack, In, is_among}
@@ -15,7 +14,9 @@ use Rattle.meta_abstract_stacks.specs.declared.stack.Stack.{Stack}
 use Rattle.meta_abstract_stacks.specs.declared.reading.Walk.{Walk}
 use Rattle.meta_stack_pass.specs.declared.table.Table.{Table}
 use Rattle.meta_stack_pass.specs.declared.memory.Memory.{Memory}
+use Rattle.meta_stack_pass.proofs.RankLemmas.{last_or_before}
 use Rattle.meta_abstract_stacks.proofs.Stacks.{among}
+use Rattle.meta_abstract_stacks.proofs.Routes.{in_split}
 
 pub in_left : {A : Type 0} (x : A) (ys zs : List A) → In x ys → In x (ys ++ zs)
 in_left x [] zs h = absurd h
@@ -26,11 +27,6 @@ pub in_right : {A : Type 0} (x : A) (ys zs : List A) → In x zs → In x (ys ++
 in_right x [] zs h = h
 in_right x (y ∷ ys) zs h = inr (in_right x ys zs h)
 
-pub in_either : {A : Type 0} (x : A) (ys zs : List A) → In x (ys ++ zs) → In x ys ⊎ In x zs
-in_either x [] zs h = inr h
-in_either x (y ∷ ys) zs (inl e) = inl (inl e)
-in_either x (y ∷ ys) zs (inr i) = elim (in_either x ys zs i) [ inl j ↦ inl (inr j) | inr j ↦ inr j ]
-
 only_one : {A : Type 0} (x y : A) → In x (y ∷ []) → x ≡ y
 only_one x y (inl e) = e
 only_one x y (inr i) = absurd i
@@ -40,7 +36,7 @@ adds_new old new s e =
     let m : seen_stacks new ≡ seen_stacks old ++ stack_of s ∷ [] = ap seen_stacks e ∙ map_push stack_of old s in record {
       kept = λ b i. subst (λ l. In b l) (sym m) (in_left b (seen_stacks old) (stack_of s ∷ []) i);
       added = subst (λ l. In (stack_of s) l) (sym m) (in_right (stack_of s) (seen_stacks old) (stack_of s ∷ []) (inl refl));
-      others = λ b i. elim (in_either b (seen_stacks old) (stack_of s ∷ []) (subst (λ l. In b l) m i)) [ inl j ↦ inl j | inr j ↦ inr (only_one b (stack_of s) j) ];
+      others = λ b i. elim (in_split b (seen_stacks old) (stack_of s ∷ []) (subst (λ l. In b l) m i)) [ inl j ↦ inl j | inr j ↦ inr (only_one b (stack_of s) j) ];
     }
 
 pub adds_none : (ss : List Stack) (s : Stack) → is_among (seen_stacks ss) (stack_of s) ≡ true → AddsStack ss ss (stack_of s)
@@ -59,9 +55,6 @@ at_in (t ∷ ss) a (inr i) = let r = at_in ss a i in (suc r.0, r.1, r.2, r.3)
 same_item : {A : Type 0} (o : Option A) (x y : A) → o ≡ Some x → o ≡ Some y → x ≡ y
 same_item o x y e f = let h : Some x ≡ Some y = sym e ∙ f in cc
 
-below_or_at : (j n : ℕ) → j < n + 1 → (j < n) ⊎ (j ≡ n)
-below_or_at j n h = elim (cases_lt j n) [ inl l ↦ inl l | inr l ↦ inr (omega arith) ]
-
 -- the walks of a trace, so far
 pub record AddsTo (n : ℕ) (old new : List Stack) (trace : List Walk) : Type 0 where
   pub kept : (b : AbstractStack) → In b (seen_stacks old) → In b (seen_stacks new)
@@ -71,7 +64,7 @@ pub record AddsTo (n : ℕ) (old new : List Stack) (trace : List Walk) : Type 0 
 pub walk_added : (n : ℕ) (old mid new : List Stack) (trace : List Walk) (w : Walk) (s : Stack) → AddsTo n old mid trace → slice_get trace n ≡ Some w → w.here ≡ Some s → AddsStack mid new (stack_of s) → AddsTo (n + 1) old new trace
 walk_added n old mid new trace w s h g e a = record {
   kept = λ b i. a.kept b (h.kept b i);
-  added = λ j v b l i k. elim (below_or_at j n l) [
+  added = λ j v b l i k. elim (last_or_before j n l) [
     | inl m ↦ a.kept b (h.added j v b m i k)
     | inr m ↦ let v' : v ≡ w = same_item (slice_get trace n) v w (ap (slice_get trace) (sym m) ∙ i) g in
         let x : Some b ≡ Some (stack_of s) = sym k ∙ (ap (λ v. possible v.here) v' ∙ ap possible e) in
@@ -83,7 +76,7 @@ walk_added n old mid new trace w s h g e a = record {
 pub walk_passed : (n : ℕ) (old mid : List Stack) (trace : List Walk) (w : Walk) → AddsTo n old mid trace → slice_get trace n ≡ Some w → w.here ≡ None → AddsTo (n + 1) old mid trace
 walk_passed n old mid trace w h g e = record {
   kept = h.kept;
-  added = λ j v b l i k. elim (below_or_at j n l) [
+  added = λ j v b l i k. elim (last_or_before j n l) [
     | inl m ↦ h.added j v b m i k
     | inr m ↦ let v' : v ≡ w = same_item (slice_get trace n) v w (ap (slice_get trace) (sym m) ∙ i) g in
         let x : Some b ≡ None = sym k ∙ (ap (λ v. possible v.here) v' ∙ ap possible e) in cc
@@ -103,7 +96,7 @@ pub record AddsUpTo (n : ℕ) (old new more : List Stack) : Type 0 where
 pub stack_added : (n : ℕ) (old mid new more : List Stack) (s : Stack) → AddsUpTo n old mid more → slice_get more n ≡ Some s → AddsStack mid new (stack_of s) → AddsUpTo (n + 1) old new more
 stack_added n old mid new more s h g a = record {
   kept = λ b i. a.kept b (h.kept b i);
-  added = λ j v l i. elim (below_or_at j n l) [
+  added = λ j v l i. elim (last_or_before j n l) [
     | inl m ↦ a.kept (stack_of v) (h.added j v m i)
     | inr m ↦ let v' : v ≡ s = same_item (slice_get more n) v s (ap (slice_get more) (sym m) ∙ i) g in subst (λ c. In (stack_of c) (seen_stacks new)) (sym v') a.added
   ];
@@ -135,7 +128,7 @@ pub collects_more : (n : ℕ) (t : Table) (old mid new : Memory) (P : Meaning �
 collects_more n t old mid new P ss found more s c g a = record {
   kept = λ meaning h i. a.kept meaning h (c.kept meaning h i);
   sound = λ meaning h i b j. elim (a.sound meaning h (c.kept meaning h i) b j) [ inl k ↦ c.sound meaning h i b k | inr k ↦ (stack_of s, in_at ss n s g, k) ];
-  complete = λ meaning h i j u b l k p. elim (below_or_at j n l) [
+  complete = λ meaning h i j u b l k p. elim (last_or_before j n l) [
     | inl m ↦ a.front b (c.complete meaning h i j u b m k p)
     | inr m ↦ let u' : u ≡ s = same_item (slice_get ss n) u s (ap (slice_get ss) (sym m) ∙ k) g in a.complete meaning h (c.kept meaning h i) b (subst (λ v. P meaning (stack_of v) b) u' p)
   ];
@@ -185,7 +178,7 @@ module _ (n : ℕ) (t : Table) (old mid new : Memory) (body : ℕ) (ss : List St
   pub no_loop_more : (b : Bool) → AnswersRightly itself (λ meaning. loops t.turns (meaning body) (stack_of s)) t mid new b → b ≡ false → NoLoopTo (n + 1) t old new body ss
   no_loop_more b v e = record {
     kept = λ meaning k i. v.kept meaning k (h.kept meaning k i);
-    none = λ meaning k i j u l x. elim (below_or_at j n l) [
+    none = λ meaning k i j u l x. elim (last_or_before j n l) [
       | inl m ↦ h.none meaning k i j u m x
       | inr m ↦ let u' : u ≡ s = same_item (slice_get ss n) u s (ap (slice_get ss) (sym m) ∙ x) g in
           ap (λ u. loops t.turns (meaning body) (stack_of u)) u' ∙ (sym (v.value meaning k (h.kept meaning k i)) ∙ e)

@@ -7,6 +7,7 @@ use Rattle.std.proofs.lemmas.List.{length-map}
 use Rattle.meta_base.specs.Language.Expression.{Grammar}
 use Rattle.meta_base.specs.Language.Text.{Text}
 use Rattle.meta_base.specs.declared.runtime.places.Span as code_span
+use Rattle.meta_base.proofs.Basics.{got_alike}
 use Rattle.meta_flags.specs.Least.{is_set_at}
 use Rattle.meta_nodes.specs.Erasure.{rules_without_spans, without_spans}
 use Rattle.meta_nodes.specs.Nodes.{piece_of, view, rule_views}
@@ -39,7 +40,6 @@ use Rattle.meta_stack_pass.proofs.Answered.{recursive, recursive_reaches}
 use Rattle.meta_stack_pass.proofs.Nullable.{decided, is_null, knows_nullable, null_at, settled_null}
 use Rattle.meta_stack_pass.proofs.Reached.{flagged_reaches}
 use Rattle.meta_stack_pass.proofs.Reporting.{told_otherwise}
-use Rattle.meta_table.proofs.Resolved.{got_like}
 use Rattle.meta_stack_pass.proofs.Silence.{silent}
 use Rattle.meta_stack_pass.proofs.Tied as tied
 
@@ -48,7 +48,7 @@ all_mapped R S f [] ts h = h
 all_mapped R S f (x ∷ xs) ts (us, vs, p, q, e) = (us, vs, f x us p, all_mapped R S f xs vs q, e)
 
 -- what is reported with the limit of the code is reported with any other that is never met
-with_limit : (m : ℕ) → m ≡ 3067 → (n : ℕ) → most_stacks < n → (turns : ℕ) (recursive : Text → Bool) (g : Grammar) (nullable : Spanned → Bool) (xs : List Spanned) (ts : List Span)
+with_limit : (m : ℕ) → m ≡ suc most_stacks → (n : ℕ) → most_stacks < n → (turns : ℕ) (recursive : Text → Bool) (g : Grammar) (nullable : Spanned → Bool) (xs : List Spanned) (ts : List Span)
     → AllReported (ReportedFrom m turns recursive g nullable) xs ts → AllReported (ReportedFrom n turns recursive g nullable) xs ts
 with_limit m e n h turns recursive g nullable =
     all_mapped (ReportedFrom m turns recursive g nullable) (ReportedFrom n turns recursive g nullable) (reported_same m n (omega (arith, e)) h turns recursive g nullable)
@@ -254,13 +254,13 @@ module _ (rules : List ParserRule) (ns : List Node) (roots : List ℕ) (tabled :
   takes_nothing x = may_stay (is_null rules) (without_spans x)
 
   abbrev none_in : Spanned → List Span → Type 0
-  none_in = ReportedFrom 3067 64 (recursive rules ns roots tabled) (grammar_of rules) takes_nothing
+  none_in = ReportedFrom (suc most_stacks) 64 (recursive rules ns roots tabled) (grammar_of rules) takes_nothing
 
   body_silent : (r : ℕ) (x : Spanned) → slice_get (bodies rules) r ≡ Some x → none_in x []
   body_silent r x e =
       let (rule, at, same) = body_at rules r x e in
-      let (i, root) = got_like rules roots r rule at (sym tabled.roots.alike) in
-      subst (λ z. none_in z []) same (silent rules ns roots tabled flags may r i rule at root (off r i root) 3067 64 (recursive rules ns roots tabled) takes_nothing)
+      let (i, root) = got_alike rules roots r rule at (sym tabled.roots.alike) in
+      subst (λ z. none_in z []) same (silent rules ns roots tabled flags may r i rule at root (off r i root) (suc most_stacks) 64 (recursive rules ns roots tabled) takes_nothing)
 
   pub plain_none : AreFound (rule_views rules) []
   plain_none = record {
@@ -273,7 +273,7 @@ module _ (rules : List ParserRule) (ns : List Node) (roots : List ℕ) (tabled :
       turns = 64;
       most_searched = refl;
       certain = λ limit k s i. absurd i;
-      read = λ limit k. with_limit 3067 refl limit k 64 (recursive rules ns roots tabled) (grammar_of rules) takes_nothing _ _
+      read = λ limit k. with_limit (suc most_stacks) refl limit k 64 (recursive rules ns roots tabled) (grammar_of rules) takes_nothing _ _
           (subst (λ z. AllReported none_in z []) (same_bodies rules) (all_silent none_in (bodies rules) body_silent));
     };
   }

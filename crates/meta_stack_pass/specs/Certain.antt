@@ -1,5 +1,5 @@
 -- What is promised of the reports.
-use Rattle.std.specs.Prelude.{◌≡◌, ◌↔◌, ℕ, ◌+◌, ◌<◌, List, [], Some, Bool, true, false, slice_get, map, codes, IsPermutation}
+use Rattle.std.specs.Prelude.{◌≡◌, ◌↔◌, ℕ, suc, ◌+◌, ◌<◌, List, [], Some, Bool, true, false, slice_get, map, codes, IsPermutation}
 use Rattle.std.specs.Ordering.{is_lt, ordering_then, nat_cmp}
 use Rattle.meta_base.specs.Pieces.Saying.{Complaint, Tell}
 use Rattle.meta_base.specs.declared.grammar.Rule.{Rule}
@@ -92,5 +92,5 @@ pub record IsTableOf (rules : List ParserRule) (t : Table) : Type 0 where
   pub skips : t.skips ≡ skips_in (grammar_of rules)
   pub nullable : AreNullable rules t.nullable.items
   pub calm : SkippingAltersStack (grammar_of rules) → ⊥
-  pub limit : t.limit ≡ 3067
+  pub limit : t.limit ≡ suc most_stacks
   pub turns : t.turns ≡ 64

@@ -1,10 +1,10 @@
 -- What flags of rules say of expressions.
 use Rattle.std.specs.Prelude.{ℕ, List, Option, Some, None, Bool, true, false, ◌&&◌, ◌||◌, slice_get, nat_eq}
 use Rattle.meta_base.specs.Language.Text.{Text}
-use Rattle.meta_base.specs.Language.Expression.{Expression, Str, Insens, Range, Ident, PeekSlice, PosPred, NegPred, Seq, Choice, Opt, Rep, RepOnce, RepExact, RepMin, RepMax, RepMinMax, Skip, Push, RestoreOnErr, Grammar, PushLiteral, NodeTag}
+use Rattle.meta_base.specs.Language.Expression.{Expression, Str, Insens, Range, Ident, PeekSlice, PosPred, NegPred, Seq, Choice, Opt, Rep, RepOnce, RepExact, RepMin, RepMax, RepMinMax, Skip, Push, RestoreOnErr, Grammar, PushLiteral, NodeTag, last_place}
 use Rattle.meta_flags.specs.Least.{is_set_at}
 use Rattle.meta_stack_pass.specs.Answers.{at_place}
-use Rattle.meta_table.specs.Names.{is_end, last_place}
+use Rattle.meta_table.specs.Names.{is_end}
 use Rattle.meta_stack_pass.specs.Kinds.{is_empty_text}
 
 -- the flag of the body of the rule at a place

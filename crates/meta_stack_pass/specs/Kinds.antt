@@ -89,7 +89,7 @@ Fits kind_of nodes i k (Two s f x y) =
 pub record IsNode (kind_of : Text → Kind) (nodes : List Spanned) (i : ℕ) (n : Node)
     (x : Spanned) : Type 0 where
   pub fits : Fits kind_of nodes i n.kind x
-  pub place : piece_of n.span ≡ span_of x
+  pub place : piece_of n.span.now ≡ span_of x
 
 -- the list says of each of these nodes what it does
 pub record AreNodes (kind_of : Text → Kind) (nodes : List Spanned) (ns : List Node) : Type 0 where

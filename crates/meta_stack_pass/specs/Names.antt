@@ -1,8 +1,7 @@
 -- What names do.
 use Rattle.std.specs.Prelude.{ℕ, Option, Some, None, if◌then◌else◌, bytes_eq, codes}
 use Rattle.meta_base.specs.Language.Text.{Text}
-use Rattle.meta_base.specs.Language.Expression.{Grammar}
-use Rattle.meta_table.specs.Names.{last_place}
+use Rattle.meta_base.specs.Language.Expression.{Grammar, last_place}
 use Rattle.meta_stack_pass.specs.declared.table.Kind.{Kind}
 use Rattle.meta_stack_pass.specs.declared.table.Kind.TheVariants as is
 

@@ -1,10 +1,9 @@
 -- Which names are taken for recursive.
 use Rattle.std.specs.Prelude.{Bool, List}
 use Rattle.meta_base.specs.Language.Text.{Text}
-use Rattle.meta_base.specs.Language.Expression.{Grammar}
+use Rattle.meta_base.specs.Language.Expression.{Grammar, last_place}
 use Rattle.meta_flags.specs.Least.{is_set_at}
 use Rattle.meta_stack_pass.specs.Answers.{at_place}
-use Rattle.meta_table.specs.Names.{last_place}
 
 -- the flag of the rule that a name means is set
 abbrev pub is_flagged : Grammar → List Bool → Text → Bool

@@ -22,7 +22,7 @@ fn is_call_set(flags: &[bool], body: Option<usize>) -> bool
 }
 
 /// Whether a node stays apart from the stack where those in it and the body that it calls do.
-fn is_apart<'i>(table: &Table<'i>, flags: &[bool], kind: Kind) -> bool
+fn is_apart<'n, 'i>(table: &Table<'n, 'i>, flags: &[bool], kind: Kind) -> bool
     ensures { result ≡ apart_kind table.now (is_set_at flags.now) kind }
 {
     match kind {
@@ -47,7 +47,7 @@ fn is_apart<'i>(table: &Table<'i>, flags: &[bool], kind: Kind) -> bool
 }
 
 /// Whether that is so of each node with a flag, and each flag is that of a node.
-fn all_apart<'i>(table: &Table<'i>, flags: &[bool]) -> bool
+fn all_apart<'n, 'i>(table: &Table<'n, 'i>, flags: &[bool]) -> bool
     ensures apart { result ≡ true → AreApart table.now flags.now }
     ensures within { result ≡ true → (i : ℕ) → is_set_at flags.now i ≡ true
         → i < length (nodes_of table.now) }
@@ -81,7 +81,7 @@ fn tell(
 }
 
 /// All nodes but those that look at the stack or change it, and those that lead to them.
-fn found_apart<'i>(alloc: Global, table: &Table<'i>) -> Result<Vec<bool>, AllocError> {
+fn found_apart<'n, 'i>(alloc: Global, table: &Table<'n, 'i>) -> Result<Vec<bool>, AllocError> {
     let nodes = Nodes {
         roots: table.roots.as_slice(),
         nodes: table.nodes.as_slice(),
@@ -104,7 +104,10 @@ fn found_apart<'i>(alloc: Global, table: &Table<'i>) -> Result<Vec<bool>, AllocE
 
 /// Flags of nodes that stay apart from the stack. They are found by a search that is looked over node by
 /// node; only what is looked over counts.
-pub(crate) fn apart_of<'i>(alloc: Global, table: &Table<'i>) -> Result<Vec<bool>, AllocError>
+pub(crate) fn apart_of<'n, 'i>(
+    alloc: Global,
+    table: &Table<'n, 'i>,
+) -> Result<Vec<bool>, AllocError>
     ensures apart { IfOk result (λ flags. AreApart table.now flags.items) }
     ensures within { IfOk result (λ flags. (i : ℕ) → is_set_at flags.items i ≡ true
         → i < length (nodes_of table.now)) }

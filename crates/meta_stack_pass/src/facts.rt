@@ -86,7 +86,7 @@ fn leads_to(roots: &[usize], flags: &[bool], rule: usize, kind: Kind) -> bool
 }
 
 /// The answer for a node, by those for its operands.
-fn answer<'i>(question: Question, roots: &[usize], flags: &[bool], node: Node<'i>) -> bool
+fn answer<'n, 'i>(question: Question, roots: &[usize], flags: &[bool], node: Node<'n, 'i>) -> bool
     ensures { result ≡ spec.answer question roots.now (is_set_at flags.now) node.entry }
 {
     match question {
@@ -113,12 +113,12 @@ pub(crate) fn nodes_of_rule(roots: &[usize], rule: usize) -> (usize, usize) {
 
 /// The nodes of all rules, and the bodies of rules among them.
 #[derive(Drop)]
-pub(crate) struct Nodes<'a, 'i> {
+pub(crate) struct Nodes<'a, 'n, 'i> {
     pub roots: &'a [usize],
-    pub nodes: &'a [Node<'i>],
+    pub nodes: &'a [Node<'n, 'i>],
 }
 
-impl<'a, 'i> Listening for Nodes<'a, 'i> {
+impl<'a, 'n, 'i> Listening for Nodes<'a, 'n, 'i> {
     fn count(&self) -> usize {
         self.nodes.len()
     }
@@ -146,14 +146,14 @@ impl<'a, 'i> Listening for Nodes<'a, 'i> {
 
 /// A question about nodes.
 #[derive(Drop)]
-struct Asked<'a, 'i> {
+struct Asked<'a, 'n, 'i> {
     question: Question,
     roots: &'a [usize],
-    nodes: &'a [Node<'i>],
+    nodes: &'a [Node<'n, 'i>],
 }
 
-impl<'a, 'i> Inference for Asked<'a, 'i> {
-    type Item = Node<'i>;
+impl<'a, 'n, 'i> Inference for Asked<'a, 'n, 'i> {
+    type Item = Node<'n, 'i>;
 
     ghost items = { λ asked. asked.nodes.now };
 
@@ -169,11 +169,11 @@ impl<'a, 'i> Inference for Asked<'a, 'i> {
 }
 
 /// The answers for all nodes: the least flags that follow from one another.
-pub(crate) fn answers<'i>(
+pub(crate) fn answers<'n, 'i>(
     alloc: Global,
     question: Question,
     roots: &[usize],
-    nodes: &[Node<'i>],
+    nodes: &[Node<'n, 'i>],
 ) -> Result<Vec<bool>, AllocError>
     ensures sound { IfOk result (λ flags. AreSound question nodes.now roots.now flags.items) }
     ensures closed { IfOk result (λ flags. AreClosed question nodes.now roots.now flags.items) }

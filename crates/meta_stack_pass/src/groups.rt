@@ -36,9 +36,9 @@ struct Ways<'l> {
 
 /// Sets the flag of the rule at the end of a link, if the one at its beginning is the leader of both or has
 /// its flag set. Where flags tell which rules lead up to their leaders, the link is taken from its target.
-fn go_on<'i>(
+fn go_on<'n, 'i>(
     roots: &[usize],
-    nodes: &[Node<'i>],
+    nodes: &[Node<'n, 'i>],
     ways: Ways<'_>,
     flags: &mut Vec<bool>,
     place: usize,
@@ -62,10 +62,10 @@ fn go_on<'i>(
 }
 
 /// Which rules are reached from their leaders, or else from which rules these are, by links in this order.
-fn led_by<'i>(
+fn led_by<'n, 'i>(
     alloc: Global,
     roots: &[usize],
-    nodes: &[Node<'i>],
+    nodes: &[Node<'n, 'i>],
     ways: Ways<'_>,
     steps: &[usize],
 ) -> Result<Vec<bool>, AllocError>
@@ -81,10 +81,10 @@ fn led_by<'i>(
 }
 
 /// Which rules are reached from their leaders, these themselves too.
-fn reached_by<'i>(
+fn reached_by<'n, 'i>(
     alloc: Global,
     roots: &[usize],
-    nodes: &[Node<'i>],
+    nodes: &[Node<'n, 'i>],
     links: &[Link],
     leaders: &[usize],
     steps: &[usize],
@@ -106,9 +106,9 @@ fn reached_by<'i>(
 
 /// Whether a rule is reached from its leader, which is that rule or is reached from it.
 #[tactic(auto, using(crate::proofs::GroupLemmas::back_by_leader))]
-fn is_recursive<'i>(
+fn is_recursive<'n, 'i>(
     roots: &[usize],
-    nodes: &[Node<'i>],
+    nodes: &[Node<'n, 'i>],
     leaders: &[usize],
     reached: &[bool],
     returning: &[bool],
@@ -122,10 +122,10 @@ fn is_recursive<'i>(
 }
 
 /// For each rule whether it certainly reaches itself.
-pub(crate) fn recursive_by<'i>(
+pub(crate) fn recursive_by<'n, 'i>(
     alloc: Global,
     roots: &[usize],
-    nodes: &[Node<'i>],
+    nodes: &[Node<'n, 'i>],
     links: &[Link],
     groups: &Groups,
 ) -> Result<Vec<bool>, AllocError>

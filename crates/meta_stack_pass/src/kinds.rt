@@ -116,18 +116,18 @@ fn kind_of_node<'i>(
 }
 
 /// The nodes of the table of rules, with what they do.
-pub(crate) fn nodes_with_kinds<'i>(
+pub(crate) fn nodes_with_kinds<'n, 'i>(
     alloc: Global,
     rules: &[ParserRule<'i>],
     names: &Names,
-    table: &Table<'_, 'i>,
-) -> Result<Vec<Node<'i>>, AllocError>
+    table: &Table<'n, 'i>,
+) -> Result<Vec<Node<'n, 'i>>, AllocError>
     requires known { KnowsRules rules.now names.now }
     requires tabled { IsTabled rules.now table.now }
     ensures { IfOk result (λ nodes. AreTabled rules.now (kind_in (grammar_of rules.now))
         nodes.items table.now.roots.items) }
 {
-    let mut nodes = Vec::new(alloc);
+    let mut nodes = Vec::with_capacity(alloc, table.nodes.len())?;
     for place in 0..table.nodes.len() {
         let node = table.nodes[place];
         nodes.push(Node {

@@ -17,9 +17,9 @@ fn owner_of(owners: &[Option<usize>], node: usize) -> Option<usize>
 }
 
 /// Notes in which rule's body a node stands.
-fn own<'i>(
+fn own<'n, 'i>(
     roots: &[usize],
-    nodes: &[Node<'i>],
+    nodes: &[Node<'n, 'i>],
     owners: &mut Vec<Option<usize>>,
     node: usize,
     rule: usize,
@@ -34,7 +34,12 @@ fn own<'i>(
 }
 
 /// Notes it of the operands of a node.
-fn own_parts<'i>(roots: &[usize], nodes: &[Node<'i>], owners: &mut Vec<Option<usize>>, place: usize)
+fn own_parts<'n, 'i>(
+    roots: &[usize],
+    nodes: &[Node<'n, 'i>],
+    owners: &mut Vec<Option<usize>>,
+    place: usize,
+)
     requires { AreOwned nodes.now roots.now owners.old.items }
     ensures { AreOwned nodes.now roots.now owners.new.items }
 {
@@ -56,7 +61,7 @@ fn own_parts<'i>(roots: &[usize], nodes: &[Node<'i>], owners: &mut Vec<Option<us
 
 /// Notes it of all bodies.
 #[tactic(auto, using(crate::proofs::GroupLemmas::root_owned))]
-fn own_roots<'i>(roots: &[usize], nodes: &[Node<'i>], owners: &mut Vec<Option<usize>>)
+fn own_roots<'n, 'i>(roots: &[usize], nodes: &[Node<'n, 'i>], owners: &mut Vec<Option<usize>>)
     requires { AreOwned nodes.now roots.now owners.old.items }
     ensures { AreOwned nodes.now roots.now owners.new.items }
 {
@@ -66,7 +71,7 @@ fn own_roots<'i>(roots: &[usize], nodes: &[Node<'i>], owners: &mut Vec<Option<us
 }
 
 /// Notes it of all that stands in nodes, the last of these first.
-fn own_all<'i>(roots: &[usize], nodes: &[Node<'i>], owners: &mut Vec<Option<usize>>)
+fn own_all<'n, 'i>(roots: &[usize], nodes: &[Node<'n, 'i>], owners: &mut Vec<Option<usize>>)
     requires { AreOwned nodes.now roots.now owners.old.items }
     ensures { AreOwned nodes.now roots.now owners.new.items }
 {
@@ -77,10 +82,10 @@ fn own_all<'i>(roots: &[usize], nodes: &[Node<'i>], owners: &mut Vec<Option<usiz
 }
 
 /// In which rule's body each node stands.
-fn owners_of<'i>(
+fn owners_of<'n, 'i>(
     alloc: Global,
     roots: &[usize],
-    nodes: &[Node<'i>],
+    nodes: &[Node<'n, 'i>],
 ) -> Result<Vec<Option<usize>>, AllocError>
     ensures { IfOk result (λ owners. AreOwned nodes.now roots.now owners.items) }
 {
@@ -91,9 +96,9 @@ fn owners_of<'i>(
 }
 
 /// Adds the link that a node is: from the rule in whose body it stands to the one that it calls.
-fn add_link<'i>(
+fn add_link<'n, 'i>(
     roots: &[usize],
-    nodes: &[Node<'i>],
+    nodes: &[Node<'n, 'i>],
     owners: &[Option<usize>],
     place: usize,
     links: &mut Vec<Link>,
@@ -116,10 +121,10 @@ fn add_link<'i>(
 }
 
 /// The calls in all bodies.
-pub(crate) fn links_of<'i>(
+pub(crate) fn links_of<'n, 'i>(
     alloc: Global,
     roots: &[usize],
-    nodes: &[Node<'i>],
+    nodes: &[Node<'n, 'i>],
 ) -> Result<Vec<Link>, AllocError>
     ensures { IfOk result (λ links. AreLinks nodes.now roots.now links.items) }
 {

@@ -68,12 +68,12 @@ fn call_falls(
 }
 
 /// Whether a node has its place in the order of ranks.
-fn is_ranked<'i>(
+fn is_ranked<'n, 'i>(
     roots: &[usize],
     recursive: &[bool],
     ranks: &[usize],
     place: usize,
-    node: Node<'i>,
+    node: Node<'n, 'i>,
 ) -> bool
     ensures { result ≡ true → IsRanked roots.now recursive.now ranks.now place node.entry }
 {
@@ -83,7 +83,12 @@ fn is_ranked<'i>(
 }
 
 /// Whether all nodes have.
-fn are_ranked<'i>(roots: &[usize], nodes: &[Node<'i>], recursive: &[bool], ranks: &[usize]) -> bool
+fn are_ranked<'n, 'i>(
+    roots: &[usize],
+    nodes: &[Node<'n, 'i>],
+    recursive: &[bool],
+    ranks: &[usize],
+) -> bool
     ensures { result ≡ true → AreRanked nodes.now roots.now recursive.now ranks.now }
 {
     for place in 0..nodes.len() {
@@ -124,7 +129,11 @@ fn raised(
 
 /// The calls of all rules, each rule sought from everywhere: the rank of a node is how many rules it leads
 /// to.
-fn sought<'i>(alloc: Global, roots: &[usize], nodes: &[Node<'i>]) -> Result<Calls, AllocError>
+fn sought<'n, 'i>(
+    alloc: Global,
+    roots: &[usize],
+    nodes: &[Node<'n, 'i>],
+) -> Result<Calls, AllocError>
     ensures { IfOk result (λ calls. AreCalls nodes.now roots.now calls.recursive.items calls.ranks.items) }
 {
     let mut recursive = Vec::new(alloc);
@@ -138,9 +147,9 @@ fn sought<'i>(alloc: Global, roots: &[usize], nodes: &[Node<'i>]) -> Result<Call
 }
 
 /// For each node the rank of its rule.
-fn of_nodes<'i>(
+fn of_nodes<'n, 'i>(
     alloc: Global,
-    nodes: &[Node<'i>],
+    nodes: &[Node<'n, 'i>],
     ranks: &[Option<usize>],
 ) -> Result<Vec<usize>, AllocError> {
     let mut found = Vec::with_capacity(alloc, nodes.len())?;
@@ -157,10 +166,10 @@ fn of_nodes<'i>(
 /// Which rules reach themselves, and the ranks of nodes. Those that certainly do are looked for by a guess;
 /// that no other does is seen by the ranks. Were that not seen, each rule would be sought by itself, which
 /// takes far longer.
-pub(crate) fn calls_of<'i>(
+pub(crate) fn calls_of<'n, 'i>(
     alloc: Global,
     roots: &[usize],
-    nodes: &[Node<'i>],
+    nodes: &[Node<'n, 'i>],
 ) -> Result<Calls, AllocError>
     ensures { IfOk result (λ calls. AreCalls nodes.now roots.now calls.recursive.items calls.ranks.items) }
 {

@@ -2,7 +2,7 @@
 ghost use Rattle.std.specs.Prelude.{◌≡◌, ◌<◌, ◌&&◌, not, IfOk, IfErr, IfSome, OnOk, MatchOption, alloc_error, map, is_some, [], ◌∷◌};
 ghost use Rattle.std.specs.List.{filter};
 ghost use Rattle.std.specs.Str.{IsAscii};
-ghost use Rattle.meta_base.specs.Language.Expression.{whitespace, comment};
+ghost use Rattle.meta_base.specs.Language.Expression.{whitespace, comment, last_place};
 ghost use Rattle.meta_base.specs.Pieces.Saying.{Tell};
 ghost use Rattle.meta_flags.specs.Least.{is_set_at};
 ghost use Rattle.meta_nodes.specs.Nodes.{rule_views, piece_of};
@@ -12,7 +12,7 @@ ghost use Rattle.meta_abstract_stacks.specs.Reports.{skips_in};
 ghost use Rattle.meta_stack_pass.specs.Certain.{AreFound, AreReports, IsSorted, TellReports, complaint_at};
 ghost use Rattle.meta_stack_pass.specs.Expressions.{body_flag, name_flag};
 ghost use Rattle.meta_table.specs.NameMaps.{KnowsRules};
-ghost use Rattle.meta_table.specs.Names.{grammar_of, last_place};
+ghost use Rattle.meta_table.specs.Names.{grammar_of};
 ghost use Rattle.meta_table.specs.Roots.{IsTabled};
 ghost use Rattle.meta_stack_pass.specs.Table.{AreInside, IsOrdered};
 ghost use Rattle.meta_stack_pass.specs.Reportable.{FindsMore, IsToVisit};
@@ -120,22 +120,22 @@ fn nullable_flags<'i>(
 
 /// What is visited.
 #[derive(Drop)]
-pub struct ToVisit<'i> {
+pub struct ToVisit<'n, 'i> {
     /// The table of rules.
-    pub table: Table<'i>,
+    pub table: Table<'n, 'i>,
     /// In which of its nodes something may be reported.
     pub reportable: Vec<bool>,
 }
 
 /// What is visited; none where nothing is reported, which is mostly seen before it is asked which calls are
 /// followed.
-fn to_visit_in<'i>(
+fn to_visit_in<'n, 'i>(
     alloc: Global,
     rules: &[ParserRule<'i>],
     names: &Names,
-    table: &meta_table::Table<'_, 'i>,
+    table: &meta_table::Table<'n, 'i>,
     lent: Option<&Facts>,
-) -> Result<Option<ToVisit<'i>>, AllocError>
+) -> Result<Option<ToVisit<'n, 'i>>, AllocError>
     requires known { KnowsRules rules.now names.now }
     requires tabled { IsTabled rules.now table.now }
     requires facts { IfSome lent (λ facts. AreFacts rules.now facts.now) }
@@ -173,16 +173,16 @@ fn to_visit_in<'i>(
 }
 
 /// The rules by their ranks, the lowest first.
-fn by_rank<'i>(alloc: Global, table: &Table<'i>) -> Result<Vec<usize>, AllocError> {
+fn by_rank<'n, 'i>(alloc: Global, table: &Table<'n, 'i>) -> Result<Vec<usize>, AllocError> {
     let mut order = numbers(alloc, table.roots.len())?;
     order.sort_by_key(|rule| table.rank_of_rule(*rule))?;
     Ok(order)
 }
 
 /// Reads the body of a rule from where each rule begins, where the rule is noted.
-fn read_body<'i>(
+fn read_body<'n, 'i>(
     alloc: Global,
-    table: &Table<'i>,
+    table: &Table<'n, 'i>,
     wanted: &[bool],
     memory: &mut Memory,
     rule: usize,
@@ -213,8 +213,8 @@ fn want(wanted: &mut Vec<bool>, rule: usize) {
 
 /// Notes a rule in whose body something may be reported; and where a rule is noted, the rules that it calls,
 /// where these calls are followed.
-fn want_with_calls<'i>(
-    table: &Table<'i>,
+fn want_with_calls<'n, 'i>(
+    table: &Table<'n, 'i>,
     reportable: &[bool],
     wanted: &mut Vec<bool>,
     rule: usize,
@@ -233,7 +233,7 @@ fn want_with_calls<'i>(
 }
 
 /// Notes the rule that a node calls, where the call is followed.
-fn want_call<'i>(table: &Table<'i>, wanted: &mut Vec<bool>, place: usize) {
+fn want_call<'n, 'i>(table: &Table<'n, 'i>, wanted: &mut Vec<bool>, place: usize) {
     let Some(node) = table.nodes.get(place) else {
         return;
     };
@@ -247,9 +247,9 @@ fn want_call<'i>(table: &Table<'i>, wanted: &mut Vec<bool>, place: usize) {
 
 /// The rules in whose bodies something may be reported, and those that they lead to by calls that are
 /// followed; `order`: all rules, those of lower ranks first.
-fn wanted_of<'i>(
+fn wanted_of<'n, 'i>(
     alloc: Global,
-    table: &Table<'i>,
+    table: &Table<'n, 'i>,
     reportable: &[bool],
     order: &[usize],
 ) -> Result<Vec<bool>, AllocError> {
@@ -267,9 +267,9 @@ fn wanted_of<'i>(
 
 /// Reads the bodies that are visited, and those that they lead to, those of lower ranks first: so that no
 /// reading goes deep along calls.
-fn read_wanted<'i>(
+fn read_wanted<'n, 'i>(
     alloc: Global,
-    table: &Table<'i>,
+    table: &Table<'n, 'i>,
     reportable: &[bool],
     memory: &mut Memory,
 ) -> Result<(), AllocError>
@@ -285,9 +285,9 @@ fn read_wanted<'i>(
 }
 
 /// Appends the repetitions that are reported in a body, where something may be.
-fn visit_body<'i>(
+fn visit_body<'n, 'i>(
     alloc: Global,
-    table: &Table<'i>,
+    table: &Table<'n, 'i>,
     reportable: &[bool],
     memory: &mut Memory,
     body: usize,
@@ -312,9 +312,9 @@ fn visit_body<'i>(
 
 /// The repetitions that are reported in each rule's body, one body after another; bodies in which nothing can
 /// be reported are left out.
-fn visit_all<'i>(
+fn visit_all<'n, 'i>(
     alloc: Global,
-    table: &Table<'i>,
+    table: &Table<'n, 'i>,
     reportable: &[bool],
 ) -> Result<Vec<Span<'i>>, AllocError>
     requires ordered { IsOrdered table.now }

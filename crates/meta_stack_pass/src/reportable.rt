@@ -30,9 +30,9 @@ fn has_loop(still: &[bool], flags: &[bool], parts: Parts) -> bool
 }
 
 /// Which nodes are such repetitions, or have one inside.
-fn with_loops<'i>(
+fn with_loops<'n, 'i>(
     alloc: Global,
-    nodes: &[Node<'i>],
+    nodes: &[Node<'n, 'i>],
     still: &[bool],
 ) -> Result<Vec<bool>, AllocError>
     requires { AreBehind nodes.now }
@@ -48,10 +48,10 @@ fn with_loops<'i>(
 }
 
 /// In which nodes something may be reported.
-pub(crate) fn reportable_nodes<'i>(
+pub(crate) fn reportable_nodes<'n, 'i>(
     alloc: Global,
     roots: &[usize],
-    nodes: &[Node<'i>],
+    nodes: &[Node<'n, 'i>],
 ) -> Result<Vec<bool>, AllocError>
     requires { AreBehind nodes.now }
     ensures { IfOk result (λ flags. AreReportable nodes.now roots.now flags.items) }

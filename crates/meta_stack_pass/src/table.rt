@@ -104,17 +104,17 @@ impl Kind {
 
 /// A node.
 #[derive(Clone, Copy)]
-pub struct Node<'i> {
+pub struct Node<'n, 'i> {
     pub kind: Kind,
     /// The number of the rule that it stands in.
     pub rule: usize,
-    pub span: Span<'i>,
+    pub span: &'n Span<'i>,
 }
 
 /// The nodes of all rules, each behind those inside it.
 #[derive(Drop)]
-pub struct Table<'i> {
-    pub nodes: Vec<Node<'i>>,
+pub struct Table<'n, 'i> {
+    pub nodes: Vec<Node<'n, 'i>>,
     /// The number of each rule's body.
     pub roots: Vec<usize>,
     /// Which rules reach themselves: calls of them are not followed.
@@ -132,7 +132,7 @@ pub struct Table<'i> {
     pub turns: usize,
 }
 
-impl<'i> Table<'i> {
+impl<'n, 'i> Table<'n, 'i> {
     ghost use Rattle.meta_stack_pass.specs.Table.{IsMeaning, IsOrdered, Lies, HasParts, PartsLie, node_reading, nodes_of, followed_at, rank_at};
 
     /// The rank of a node.
@@ -156,7 +156,7 @@ impl<'i> Table<'i> {
     }
 
     /// The node of a number.
-    pub fn node_at(&self, node: usize) -> Node<'i>
+    pub fn node_at(&self, node: usize) -> Node<'n, 'i>
         requires inside { node < self.now.nodes.len }
         ensures { slice_get (nodes_of self.now) node ≡ Some result }
     {

@@ -193,9 +193,9 @@ pub struct Pending {
 
 /// Appends a repetition, where it is endless and what is repeated has a loop from one of the stacks and
 /// takes something if its parts do.
-fn report<'i>(
+fn report<'n, 'i>(
     alloc: Global,
-    table: &Table<'i>,
+    table: &Table<'n, 'i>,
     memory: &mut Memory,
     visited: &Pending,
     repeated: Repeated,
@@ -216,16 +216,16 @@ fn report<'i>(
         return Ok(());
     }
     if some_loops(alloc, table, memory, body, &visited.stacks)? {
-        found.push(table.node_at(visited.node).span)?;
+        found.push(*table.node_at(visited.node).span)?;
     }
     Ok(())
 }
 
 /// Visits a node: what is reported there is appended, and its operands are still to be visited, the first one
 /// next.
-fn visit_one<'i>(
+fn visit_one<'n, 'i>(
     alloc: Global,
-    table: &Table<'i>,
+    table: &Table<'n, 'i>,
     memory: &mut Memory,
     next: Pending,
     left: &mut Vec<Pending>,
@@ -270,9 +270,9 @@ fn visit_one<'i>(
 }
 
 /// Visits a node from some stacks, and all that is inside it, and appends what is reported.
-pub fn visit<'i>(
+pub fn visit<'n, 'i>(
     alloc: Global,
-    table: &Table<'i>,
+    table: &Table<'n, 'i>,
     memory: &mut Memory,
     start: Pending,
     found: &mut Vec<Span<'i>>,

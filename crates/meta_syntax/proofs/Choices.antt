@@ -5,10 +5,10 @@ use Rattle.meta_base.specs.Language.State.{Mode}
 use Rattle.meta_base.specs.Language.Meaning.{Run}
 use Rattle.meta_base.specs.Pieces.MetaRules.{name_of}
 use Rattle.meta_base.specs.declared.grammar.Rule.{Rule}
+use Rattle.meta_base.proofs.Basics.{first_of_both, second_of_both}
 use Rattle.meta_syntax.specs.declared.entries.Entry.{Entry}
 use Rattle.meta_syntax.specs.Forms.{all_take, choice_among, greatest_rank, nullable, rank_of}
 use Rattle.meta_syntax.specs.Runs.{Fails, Finds, GoesOn}
-use Rattle.meta_syntax.proofs.Quiet.{and_first, and_second}
 use Rattle.meta_syntax.proofs.Steps.{fails_right, finds_left, finds_right}
 
 -- with one rule more
@@ -25,12 +25,12 @@ among_parts e (r ∷ rs) (suc i) = among_parts (Choice e (Ident (name_of r))) rs
 
 pub takes_at : (rs : List Rule) (i : ℕ) (d : Rule) → i < length rs → all_take rs ≡ true → nullable (get_or rs i d) ≡ false
 takes_at [] i d h k = absurd (omega arith)
-takes_at (r ∷ rs) zero d h k = not_nullable (nullable r) (and_first _ _ k)
+takes_at (r ∷ rs) zero d h k = not_nullable (nullable r) (first_of_both _ _ k)
   where
     not_nullable : (b : Bool) → not b ≡ true → b ≡ false
     not_nullable true e = cc
     not_nullable false e = refl
-takes_at (r ∷ rs) (suc i) d h k = takes_at rs i d (omega arith) (and_second (not (nullable r)) _ k)
+takes_at (r ∷ rs) (suc i) d h k = takes_at rs i d (omega arith) (second_of_both (not (nullable r)) _ k)
 
 pub goes_on_at : (text rest after : List ℕ) (rs : List Rule) (i : ℕ) (d : Rule) → i < length rs → all_take rs ≡ true → GoesOn text rest (nullable (get_or rs i d)) after → GoesOn text rest false after
 goes_on_at text rest after rs i d h k g = let e = takes_at rs i d h k in rw e at g

@@ -1,5 +1,5 @@
 -- From what a second reading tells to what is expected.
-use Rattle.std.proofs.Common.{◌≡◌, refl, sym, ◌∙◌, ap, subst, ℕ, List, [], ◌∷◌, ◌++◌, Bool, true, false, Option, Some, None, Result, Ok, Err, IfOk, Vec, Global, bytes_eq, map, IsTrue, ◌↔◌}
+use Rattle.std.proofs.Common.{◌≡◌, refl, sym, ◌∙◌, ap, subst, ℕ, List, [], ◌∷◌, ◌++◌, Bool, true, false, Option, Some, None, Result, Ok, Err, IfOk, Vec, Global, bytes_eq, map}
 use Rattle.std.specs.List.{list_any}
 use Rattle.std.specs.declared.alloc.AllocError.{AllocError}
 use Rattle.std.proofs.lemmas.Slice.Eq.{bytes_eq-Decides}
@@ -12,22 +12,17 @@ use Rattle.meta_base.specs.Language.State.{Classes, NonAtomicMode, State, Trees,
 use Rattle.meta_base.specs.Pieces.MetaRules.{name_of}
 use Rattle.meta_base.specs.declared.grammar.Rule.{Rule}
 use Rattle.meta_base.specs.contracts.grammar.RulePartialEq.TheImpl as equality
-use Rattle.meta_base.specs.contracts.grammar.Rule.{the_type}
 use Rattle.meta_base.proofs.MetaNames.{name_of-injective}
-use denote.Enum.Bare.{same_true, true_same}
 use Rattle.meta_base.proofs.ExpectedOnce.{one_list}
 use Rattle.meta_base.proofs.FailurePlaces.{one_place}
 use Rattle.meta_base.proofs.OneOutcome.{same}
+use Rattle.meta_base.proofs.Comparisons.{one_rule}
 use Rattle.meta_syntax.specs.ExpectedRules.{AreExpected, AreToldAt, ExpectsNothing, is_named, rules_named}
 use Rattle.meta_syntax.specs.Expecting.{FailsOrFindsNoting, Noted, Sought}
 use Rattle.meta_syntax.specs.MetaGrammar.{meta_grammar}
 use Rattle.meta_syntax.specs.Parses.{FailsAt, Recognizes, start_of}
 use Rattle.meta_syntax.specs.Runs.{at}
 use Rattle.meta_syntax.proofs.Parsing.{at_start}
-
--- two rules are equal where their names are
-one_rule : (a b : Rule) → IsTrue (equality.ghosts.eq a b) ↔ (a ≡ b)
-one_rule a b = (λ h. same_true the_type tt a b h, λ e. true_same the_type a b e)
 
 tests_agree : (x y : Bool) → (x ≡ true → y ≡ true) → (y ≡ true → x ≡ true) → x ≡ y
 tests_agree true y f g = sym (f refl)

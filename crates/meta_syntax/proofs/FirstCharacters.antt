@@ -14,13 +14,13 @@ use Rattle.meta_base.proofs.Steps.{ran_atomic, ran_not_ahead, ran_str, ran_seq_f
 use Rattle.meta_syntax.specs.declared.modes.Mode as mode
 use Rattle.meta_syntax.specs.declared.modes.Mode.TheVariants as in_mode
 use Rattle.meta_base.specs.Language.Builtins.{is_lower, is_upper}
+use Rattle.meta_base.proofs.Basics.{first_of_both, second_of_both}
 use Rattle.meta_syntax.specs.Firsts.{begins_name, firsts, is_among, is_among_any, is_noted_at_once, may_begin}
 use Rattle.meta_syntax.specs.MetaGrammar.{meta_grammar, rule_at, type_of_rule, body_of}
 use Rattle.meta_syntax.specs.Rows.{is_defined}
 use Rattle.meta_syntax.specs.Runs.{at, mode_of}
 use Rattle.meta_syntax.proofs.Lookup.{defined_rule}
 use Rattle.meta_syntax.proofs.Naming.{rule_named, name_of_named}
-use Rattle.meta_syntax.proofs.Quiet.{and_first, and_second}
 use Rattle.meta_syntax.proofs.SingleCharacters as single
 use Rattle.meta_syntax.proofs.SingleCharacters.{fails_within}
 use Rattle.meta_syntax.proofs.Steps.{ran_whitespace, ran_comment}
@@ -96,8 +96,8 @@ module _ (classes : Classes) (xs : List ℕ) (c : ℕ) (elsewhere : is_among xs 
     all_fail (Ident n) h = calls_fail n h
     all_fail (Seq a b) h = λ m s u p q e k. ran_seq_fails (all_fail a h m s u p q e k)
     all_fail (Choice a b) h = λ m s u p q e k.
-        ran_right (all_fail a (and_first _ _ h) m s u p _ e refl)
-        (all_fail b (and_second _ _ h) m s u _ q e (noted_twice (notes_by noted m a) (notes_by noted m b) p q s.position k))
+        ran_right (all_fail a (first_of_both _ _ h) m s u p _ e refl)
+        (all_fail b (second_of_both _ _ h) m s u _ q e (noted_twice (notes_by noted m a) (notes_by noted m b) p q s.position k))
     all_fail _ h = cc
 
   call_fails : (k : ℕ) (n : Text) → begins_within k xs n ≡ true → FailsBefore (λ m. notes_within k m n) (Ident n)
@@ -108,9 +108,9 @@ module _ (classes : Classes) (xs : List ℕ) (c : ℕ) (elsewhere : is_among xs 
       go before None e i = cc
       go before (Some r) e i = λ m s u p q j l.
           let P : Text → Type 0 = λ t. rule_of meta_grammar t ≡ Some (rule_at r) in
-          let found : rule_of meta_grammar n ≡ Some (rule_at r) = subst P (name_of_named n r e) (defined_rule r (and_first _ _ i)) in
+          let found : rule_of meta_grammar n ≡ Some (rule_at r) = subst P (name_of_named n r e) (defined_rule r (first_of_both _ _ i)) in
           ran_call found
-          (all_fail (begins_within k xs) (notes_within k) before (body_of r) (and_second _ _ i) (body_mode (rule_at r) m) s u p _ j refl)
+          (all_fail (begins_within k xs) (notes_within k) before (body_of r) (second_of_both _ _ i) (body_mode (rule_at r) m) s u p _ j refl)
           (noted_twice (notes_by (notes_within k) (body_mode (rule_at r) m) (body_of r)) (seen_from m && gives_token (type_of_rule r) m) p q s.position l)
 
 -- each list of first characters is right, and so is what is noted
@@ -175,8 +175,8 @@ fails_at_once r m c classes s u p q h e k = either (name_or_listed r c h)
     go : (o : Option (List ℕ)) → is_among_any o c ≡ false → is_right o r m ≡ true → Ran meta_grammar classes (Run (mode_of m) (Ident (name_of r))) s Failure p q
     go None a b = cc
     go (Some xs) a b =
-        let same = same_true (notes_within 3 (mode_of m) (name_of r)) (is_noted_at_once r m) (and_second _ _ b) in
-        call_fails classes xs c a 3 (name_of r) (and_first _ _ b) (mode_of m) s u p q e (rw same k)
+        let same = same_true (notes_within 3 (mode_of m) (name_of r)) (is_noted_at_once r m) (second_of_both _ _ b) in
+        call_fails classes xs c a 3 (name_of r) (first_of_both _ _ b) (mode_of m) s u p q e (rw same k)
 
     either : ((r ≡ is.identifier) × (begins_name c ≡ false)) ⊎ (is_among_any (firsts r) c ≡ false) → Ran meta_grammar classes (Run (mode_of m) (Ident (name_of r))) s Failure p q
     either (inl (i, b)) = rw i (name_fails m c classes s u p q b e (rw i at k))

@@ -1,6 +1,6 @@
 -- What each kind of frame makes of the answer that it waits for.
 use Rattle.std.proofs.Common.{◌≡◌, refl, sym, ◌∙◌, ap, subst, ℕ, ◌+◌, ◌-◌, ◌<◌, ◌≤◌, max, List, [], ◌∷◌, ◌++◌, Bool, true, false, ◌&&◌, ◌||◌, Option, Some, None, ◌⊎◌, inl, inr, if◌then◌else◌, length, take, drop, get_or, not, nat_lt, zero, suc, arith, append-nil, length-append, take_all}
-use Rattle.std.proofs.lemmas.Bool.{ltb-true}
+use Rattle.std.proofs.lemmas.Bool.{ltb-true, or_left, or_right}
 use Rattle.std.proofs.lemmas.List.{length-drop, length-map}
 use Rattle.std.specs.Borrow.{Bor}
 use Rattle.meta_base.specs.Language.Text.{Text}
@@ -10,6 +10,7 @@ use Rattle.meta_base.specs.Language.Meaning.{Run, Skipping, body_mode, gives_tok
 use Rattle.meta_base.specs.Pieces.MetaRules.{name_of}
 use Rattle.meta_base.specs.declared.grammar.Rule.{Rule}
 use Rattle.meta_base.proofs.Steps.{joined_assoc, joined_nil, ran_rep, ran_turns_end, ran_turns_more}
+use Rattle.meta_base.proofs.Basics.{first_of_both, second_of_both}
 use Rattle.meta_syntax.specs.declared.entries.Entry.{Entry}
 use Rattle.meta_syntax.specs.declared.modes.Mode as mode
 use Rattle.meta_syntax.specs.declared.nesting.Frame.{Frame}
@@ -27,7 +28,6 @@ use Rattle.meta_syntax.proofs.Waiting.{asked_on, one_step}
 use Rattle.meta_syntax.proofs.EntryLists.{adds_more, adds_tree, cut_back}
 use Rattle.meta_syntax.proofs.Memory.{failed_within}
 use Rattle.meta_syntax.proofs.Choices.{among_parts, failed_at, found_among, found_at, goes_on_at, rank_at}
-use Rattle.meta_syntax.proofs.Quiet.{and_first, and_second}
 use Rattle.meta_syntax.proofs.Sequences.{fails_part, found_further, found_whole}
 use Rattle.meta_syntax.proofs.Steps.{call_failed, call_found, cut_opened, cut_past, fails_right, finds_left, finds_no_rep, finds_right}
 
@@ -72,20 +72,12 @@ pub took : {A : Type 0} (b : Bool) → b ≡ false → A ⊎ (b ≡ true) → A
 took b f (inl a) = a
 took b f (inr t) = absurd (let e = sym f ∙ t in cc)
 
--- the first alternative is run
-pub or_first : (a b : Bool) → a ≡ true → (a || b) ≡ true
-or_first a b e = rw e refl
-
-pub or_second : (a b : Bool) → b ≡ true → (a || b) ≡ true
-or_second true b e = refl
-or_second false b e = e
-
 module _ {text rest : List ℕ} {a b : Expression} {m : Mode} {es fs gs : List Entry} {p z y : ℕ} (one two : Bool) (x : Fails (Run m a) text rest es fs p z) where
   second_answers : (o : Option (Bor (List ℕ))) → IsAnswered text (record { task = Run m b; rest = rest; empty = two; entries = fs; furthest = z }) gs y o → IsAnswered text (record { task = Run m (Choice a b); rest = rest; empty = one || two; entries = es; furthest = p }) gs y o
   second_answers None w = record { means = fails_right x w.means; goes_on = tt }
   second_answers (Some after) w = record {
     means = finds_right x w.means;
-    goes_on = record { left = w.goes_on.left; shorter = w.goes_on.shorter; consumed = elim w.goes_on.consumed [ inl l ↦ inl l | inr e ↦ inr (or_second one two e) ] };
+    goes_on = record { left = w.goes_on.left; shorter = w.goes_on.shorter; consumed = elim w.goes_on.consumed [ inl l ↦ inl l | inr e ↦ inr (or_right one two e) ] };
   }
 
 pub choice_follows : (text : List ℕ) (first second : Bor Form) (m : mode.Mode) (saved : ℕ) (rest : Bor (List ℕ)) (es : List Entry) (p : ℕ) (q : Question) → IsLeft text rest.now → IsRunnable second.now → Serves text (record { task = Run (mode_of m) (Choice (expression_of first.now) (expression_of second.now)); rest = rest.now; empty = null first.now || null second.now; entries = es; furthest = p }) q → Follows text (wait.Choice second) m saved rest (record { task = Run (mode_of m) (expression_of first.now); rest = rest.now; empty = null first.now; entries = es; furthest = p }) q
@@ -94,7 +86,7 @@ choice_follows text first second m saved rest es p q l runnable h = record {
   runnable = runnable;
   found = λ fs z after x. h fs z (Some after) (record {
     means = finds_left x.means;
-    goes_on = record { left = x.goes_on.left; shorter = x.goes_on.shorter; consumed = elim x.goes_on.consumed [ inl l ↦ inl l | inr e ↦ inr (or_first (null first.now) (null second.now) e) ] };
+    goes_on = record { left = x.goes_on.left; shorter = x.goes_on.shorter; consumed = elim x.goes_on.consumed [ inl l ↦ inl l | inr e ↦ inr (or_left (null first.now) (null second.now) e) ] };
   });
   failed = λ r x gs y o w. h gs y o (second_answers (null first.now) (null second.now) x.means o w);
 }
@@ -181,11 +173,11 @@ module _ {text : List ℕ} {m : mode.Mode} {saved : ℕ} {es fs gs : List Entry}
   pub part_further : (others : Bor Form) (after : List ℕ) → AreParts left part (Some others) → Finds (Run (mode_of m) (expression_of part)) text next fs gs z y after → GoesOn text next (null part) after → IsPartWay text others.now m saved gs y after s
   part_further others after h x k =
       let good_parts = sym h.good ∙ w.good in
-      let good_others = and_second (good part) _ good_parts in
+      let good_others = second_of_both (good part) _ good_parts in
       record {
-        good = and_first _ _ good_others;
+        good = first_of_both _ _ good_others;
         spelled = (h.spelled w.spelled).1;
-        below = ltb-true _ _ (and_second (good others.now) _ good_others);
+        below = ltb-true _ _ (second_of_both (good others.now) _ good_others);
         here = k.left;
         whole = w.whole;
         task = w.task;
@@ -203,7 +195,7 @@ module _ {text : List ℕ} {m : mode.Mode} {saved : ℕ} {es fs gs : List Entry}
 -- a further part is nearer to the end
 part_less : (left part : Form) (others : Bor Form) (next after : List ℕ) → IsGood left → AreParts left part (Some others) → length after ≤ length next → (length after < length next) ⊎ (null part ≡ true) → effort after (cost others.now) < effort next (cost left)
 part_less left part others next after w h k (inl a) =
-    let below : cost others.now < 1000 = ltb-true _ _ (and_second (good others.now) _ (and_second (good part) _ (sym h.good ∙ w))) in
+    let below : cost others.now < 1000 = ltb-true _ _ (second_of_both (good others.now) _ (second_of_both (good part) _ (sym h.good ∙ w))) in
     omega (arith, a, below)
 part_less left part others next after w h k (inr b) =
     let j : cost left ≡ 3 + max (cost part) (cost others.now) = rw b at h.cost in
@@ -227,12 +219,12 @@ part_follows text left part others m saved rest next es fs p z s q w h sk g serv
 all_take-drop : (rs : List Rule) (i : ℕ) → all_take rs ≡ true → all_take (drop i rs) ≡ true
 all_take-drop rs zero e = e
 all_take-drop [] (suc i) e = refl
-all_take-drop (r ∷ rs) (suc i) e = all_take-drop rs i (and_second (not (nullable r)) _ e)
+all_take-drop (r ∷ rs) (suc i) e = all_take-drop rs i (second_of_both (not (nullable r)) _ e)
 
 pub all_take-take : (rs : List Rule) (i : ℕ) → all_take rs ≡ true → all_take (take i rs) ≡ true
 all_take-take rs zero e = refl
 all_take-take [] (suc i) e = refl
-all_take-take (r ∷ rs) (suc i) e = and_both (not (nullable r)) _ (and_first _ _ e) (all_take-take rs i (and_second (not (nullable r)) _ e))
+all_take-take (r ∷ rs) (suc i) e = and_both (not (nullable r)) _ (first_of_both _ _ e) (all_take-take rs i (second_of_both (not (nullable r)) _ e))
   where
     and_both : (a b : Bool) → a ≡ true → b ≡ true → (a && b) ≡ true
     and_both a b x y = rw (x, y) refl
@@ -316,11 +308,11 @@ rule_asked text first others i d left m saved rest es fs p z q top gs hs e l b k
 -- the turn of a repetition that can be run
 pub turn_of : (f : Form) → (good f && (not (null f) && nat_lt (cost f) 999)) ≡ true → IsSpelled f → IsRunnableTurn f
 turn_of f g s =
-    let h = and_second (good f) _ g in
+    let h = second_of_both (good f) _ g in
     record {
-      runnable = record { good = and_first _ _ g; spelled = s };
-      consumes = not_true (null f) (and_first _ _ h);
-      below = ltb-true _ _ (and_second (not (null f)) _ h);
+      runnable = record { good = first_of_both _ _ g; spelled = s };
+      consumes = not_true (null f) (first_of_both _ _ h);
+      below = ltb-true _ _ (second_of_both (not (null f)) _ h);
     }
   where
     not_true : (b : Bool) → not b ≡ true → b ≡ false

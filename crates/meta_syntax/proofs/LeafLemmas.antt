@@ -14,6 +14,7 @@ use Rattle.meta_base.specs.Language.Text.{Text}
 use Rattle.meta_base.specs.Language.State.{State, Mode, NonAtomicMode, AtomicMode, CompoundAtomicMode, Between, None', Outcome, Success, Failure, moved}
 use Rattle.meta_base.specs.Language.Matching.{begins, text_outcome, character_outcome, end_outcome, end_token}
 use Rattle.meta_base.specs.Language.Meaning.{seen_from}
+use Rattle.meta_base.proofs.Beginnings.{begins-append}
 use Rattle.meta_syntax.specs.Forms.{decoded}
 use Rattle.meta_syntax.specs.Entries.{token}
 use Rattle.meta_syntax.specs.Runs.{GoesOn, IsLeft, at, leaving}
@@ -27,10 +28,6 @@ decoded_chars (b ∷ bs) = refl
 sizes : (cs : Text) → sum_by len_utf8 cs ≡ length (encode_utf8_all cs)
 sizes [] = refl
 sizes (c ∷ cs) = rw (sum_by-cons len_utf8 c cs, sizes cs, length-append (encode_utf8 c) (encode_utf8_all cs), length-encode c) refl
-
-begins-append : (a b : Text) → begins nat_eq a (a ++ b) ≡ true
-begins-append [] b = refl
-begins-append (x ∷ a) b = rw (eq-eqb x x refl, begins-append a b) refl
 
 begins_step : (x y : ℕ) (a b : Text) → (begins nat_eq a b ≡ true → b ≡ a ++ drop (length a) b) → (t : Bool) → nat_eq x y ≡ t → (t && begins nat_eq a b) ≡ true → (y ∷ b) ≡ (x ∷ a) ++ drop (length a) b
 begins_step x y a b ih true e i = let j = ih i in let k = eqb-true x y e in cc

@@ -121,7 +121,7 @@ pub comment_name : name_of is.COMMENT ≡ comment
 unfolding comment
 comment_name = refl
 
-blank_name : (r : Rule) → (bytes_eq (name_of r) whitespace || bytes_eq (name_of r) comment) ≡ is_blank r
+pub blank_name : (r : Rule) → (bytes_eq (name_of r) whitespace || bytes_eq (name_of r) comment) ≡ is_blank r
 unfolding whitespace comment
 blank_name is.EOI = refl
 blank_name is.grammar_rules = refl
@@ -200,7 +200,7 @@ inherited_same in_mode.NonAtomic = refl
 inherited_same in_mode.Atomic = refl
 inherited_same in_mode.CompoundAtomic = refl
 
-undefined : (r : Rule) → is_defined r ≡ false → r ≡ is.EOI
+pub undefined : (r : Rule) → is_defined r ≡ false → r ≡ is.EOI
 undefined is.EOI h = refl
 undefined _ h = cc
 

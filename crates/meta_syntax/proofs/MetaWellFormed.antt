@@ -1,41 +1,24 @@
 -- The meta-grammar is well-formed and plain: tests that compute, and what they mean.
 use Rattle.std.proofs.Common.{◌≡◌, refl, sym, ◌∙◌, ap, ℕ, ◌<◌, List, [], ◌∷◌, Bool, true, false, not, ◌&&◌, ◌||◌, Option, Some, None, is_some, if◌then◌else◌, bytes_eq, nat_lt, map, codes, arith}
-use Rattle.std.proofs.lemmas.Bool.{ltb-true}
+use Rattle.std.proofs.lemmas.Bool.{ltb-true, and_from, or_left, or_right}
 use Rattle.std.proofs.lemmas.Slice.Eq.{bytes_eq-Decides}
 use Rattle.std.proofs.lemmas.List.Elements.{All-nil, All-cons, All-contains}
 use Rattle.std.specs.List.{All, list_all}
 use Rattle.meta_base.specs.Language.Expression as spec
 use Rattle.meta_base.specs.Language.Text.{Text}
-use Rattle.meta_base.specs.Language.Expression.{Expression, Str, Range, Ident, PeekSlice, PosPred, NegPred, Seq, Choice, Opt, Rep, RepOnce, RepMin, RepMinMax, RuleType, NonAtomic, Grammar, rule_of, whitespace, comment, Part, whole, of_pos_pred, of_neg_pred, of_seq_left, of_seq_right, of_choice_left, of_choice_right, of_opt, of_rep, of_rep_once, of_rep_exact, of_rep_min, of_rep_max, of_rep_min_max, of_push, of_restore, RepExact, RepMax, or_else, of_tag}
+use Rattle.meta_base.specs.Language.Expression.{Expression, Str, Range, Ident, PeekSlice, NegPred, Seq, Choice, Opt, Rep, RepOnce, RepMin, RepMinMax, RuleType, NonAtomic, rule_of, whitespace, comment, Part, whole, of_pos_pred, of_neg_pred, of_seq_left, of_seq_right, of_choice_left, of_choice_right, of_opt, of_rep, of_rep_once, of_rep_exact, of_rep_min, of_rep_max, of_rep_min_max, of_push, of_restore, RepExact, RepMax, or_else, of_tag}
 use Rattle.meta_base.specs.Language.Builtins.{builtin_of}
 use Rattle.meta_base.specs.Language.WellFormed.{IsNullable, nullable_str, nullable_insens, nullable_soi, nullable_eoi, nullable_call, nullable_pos_pred, nullable_neg_pred, nullable_opt, nullable_rep, nullable_rep_max, nullable_seq, nullable_left, nullable_right, nullable_rep_once, nullable_push, nullable_exact_zero, nullable_exact, nullable_min_zero, nullable_min, nullable_min_max_zero, nullable_min_max, nullable_skip, nullable_restore, LeftCalls, left_name, left_first, left_second, left_pos_pred, left_neg_pred, left_left, left_right, left_opt, left_rep, left_rep_once, left_rep_exact, left_rep_min, left_rep_max, left_rep_min_max, left_push, left_restore, Leads, at_once, by_way, InRules, InSomeRule, IsSkipped, is_whitespace, is_comment, IsWellFormed, IsPlain, IsPlainName, of_rule, of_builtin, HasReadableCounts, nullable_push_literal, nullable_tag, left_tag}
 use Rattle.meta_base.specs.Pieces.MetaRules.{name_of, meta_rules}
 use Rattle.meta_base.specs.declared.grammar.Rule.{Rule}
 use Rattle.meta_base.specs.declared.grammar.Rule.TheVariants as is
+use Rattle.meta_base.proofs.Basics.{first_of_both, second_of_both}
 use Rattle.meta_syntax.specs.Forms.{rank_of}
 use Rattle.meta_syntax.specs.MetaGrammar.{meta_grammar, rule_at, type_of_rule, body_of}
 use Rattle.meta_syntax.specs.Rows.{is_defined}
 use Rattle.meta_syntax.proofs.Lookup.{any_builtin, soi_builtin, eoi_builtin}
 
-and-first : (a b : Bool) → (a && b) ≡ true → a ≡ true
-and-first true b h = refl
-and-first false b h = h
-
-and-second : (a b : Bool) → (a && b) ≡ true → b ≡ true
-and-second true b h = h
-and-second false b h = cc
-
-both-true : (a b : Bool) → a ≡ true → b ≡ true → (a && b) ≡ true
-both-true a b h k = rw (h, k) refl
-
-or-first : (a b : Bool) → a ≡ true → (a || b) ≡ true
-or-first a b h = rw h refl
-
-or-second : (a b : Bool) → b ≡ true → (a || b) ≡ true
-or-second true b h = refl
-or-second false b h = h
-
-implied : (a b : Bool) → (not a || b) ≡ true → a ≡ true → b ≡ true
+pub implied : (a b : Bool) → (not a || b) ≡ true → a ≡ true → b ≡ true
 implied true b h k = h
 implied false b h k = cc
 
@@ -190,10 +173,10 @@ pub record Known (n : Text) (q : spec.Rule) : Type 0 where
 
 known_among : (rs : List Rule) (n : Text) (q : spec.Rule) → list_all is_defined rs ≡ true → rule_of (map rule_at rs) n ≡ Some q → Known n q
 known_among [] n q d h = cc
-known_among (r ∷ rs) n q d h = go (rule_of (map rule_at rs) n) refl h (known_among rs n q (and-second _ _ d))
+known_among (r ∷ rs) n q d h = go (rule_of (map rule_at rs) n) refl h (known_among rs n q (second_of_both _ _ d))
   where
     here : (b : Bool) → bytes_eq (name_of r) n ≡ b → (if b then Some (rule_at r) else None) ≡ Some q → Known n q
-    here true e i = record { rule = r; defined = and-first _ _ d; is_at = cc; named = (bytes_eq-Decides (name_of r) n).0 e }
+    here true e i = record { rule = r; defined = first_of_both _ _ d; is_at = cc; named = (bytes_eq-Decides (name_of r) n).0 e }
     here false e i = cc
 
     go : (o : Option spec.Rule) → rule_of (map rule_at rs) n ≡ o → or_else o (if bytes_eq (name_of r) n then Some (rule_at r) else None) ≡ Some q → (rule_of (map rule_at rs) n ≡ Some q → Known n q) → Known n q
@@ -216,9 +199,9 @@ record Fine (n : Text) (q : spec.Rule) : Type 0 where
 
 fine_at : (r : Rule) → is_fine r ≡ true → Fine (name_of r) (rule_at r)
 fine_at r f =
-    let g = and-second _ _ f in
-    let i = and-second _ _ g in
-    record { sound = and-first _ _ f; goes_down = and-first _ _ g; empty_named = and-first _ _ i; atomic = and-second _ _ i }
+    let g = second_of_both _ _ f in
+    let i = second_of_both _ _ g in
+    record { sound = first_of_both _ _ f; goes_down = first_of_both _ _ g; empty_named = first_of_both _ _ i; atomic = second_of_both _ _ i }
 
 fine_along : (n m : Text) (q r : spec.Rule) → q ≡ r → m ≡ n → Fine m r → Fine n q
 fine_along n m q r e f x = rw (e, ← f) x
@@ -237,9 +220,9 @@ empty nullable_neg_pred = refl
 empty nullable_opt = refl
 empty nullable_rep = refl
 empty nullable_rep_max = refl
-empty (nullable_seq a b) = both-true _ _ (empty a) (empty b)
-empty (nullable_left a) = or-first _ _ (empty a)
-empty (nullable_right b) = or-second _ _ (empty b)
+empty (nullable_seq a b) = and_from _ _ (empty a) (empty b)
+empty (nullable_left a) = or_left _ _ (empty a)
+empty (nullable_right b) = or_right _ _ (empty b)
 empty (nullable_rep_once d) = empty d
 empty (nullable_push d) = refl
 empty nullable_push_literal = refl
@@ -257,17 +240,17 @@ sound_part : {e p : Expression} → Part e p → is_sound e ≡ true → is_soun
 sound_part whole h = h
 sound_part (of_pos_pred d) h = cc
 sound_part (of_neg_pred d) h = sound_part d h
-sound_part (of_seq_left d) h = sound_part d (and-first _ _ h)
-sound_part (of_seq_right d) h = sound_part d (and-second _ _ h)
-sound_part (of_choice_left d) h = sound_part d (and-first _ _ h)
-sound_part (of_choice_right d) h = sound_part d (and-second _ _ h)
+sound_part (of_seq_left d) h = sound_part d (first_of_both _ _ h)
+sound_part (of_seq_right d) h = sound_part d (second_of_both _ _ h)
+sound_part (of_choice_left d) h = sound_part d (first_of_both _ _ h)
+sound_part (of_choice_right d) h = sound_part d (second_of_both _ _ h)
 sound_part (of_opt d) h = sound_part d h
-sound_part (of_rep d) h = sound_part d (and-second _ _ h)
-sound_part (of_rep_once d) h = sound_part d (and-second _ _ h)
+sound_part (of_rep d) h = sound_part d (second_of_both _ _ h)
+sound_part (of_rep_once d) h = sound_part d (second_of_both _ _ h)
 sound_part (of_rep_exact d) h = cc
 sound_part (of_rep_min d) h = cc
 sound_part (of_rep_max d) h = cc
-sound_part (of_rep_min_max d) h = sound_part d (and-second _ _ h)
+sound_part (of_rep_min_max d) h = sound_part d (second_of_both _ _ h)
 sound_part (of_push d) h = cc
 sound_part (of_tag d) h = cc
 sound_part (of_restore d) h = cc
@@ -277,12 +260,12 @@ sound_in p i = sound_part i.3 (fine i.0 i.1 i.2).sound
 
 below : {e : Expression} {k : Text} (b : ℕ) → LeftCalls meta_grammar e k → calls_below b e ≡ true → rank k < b
 below b (left_name {n = n}) h = ltb-true (rank n) b h
-below b (left_first d) h = below b d (and-first _ _ h)
-below b (left_second e d) h = below b d (implied _ _ (and-second _ _ h) (empty e))
+below b (left_first d) h = below b d (first_of_both _ _ h)
+below b (left_second e d) h = below b d (implied _ _ (second_of_both _ _ h) (empty e))
 below b (left_pos_pred d) h = cc
 below b (left_neg_pred d) h = below b d h
-below b (left_left d) h = below b d (and-first _ _ h)
-below b (left_right d) h = below b d (and-second _ _ h)
+below b (left_left d) h = below b d (first_of_both _ _ h)
+below b (left_right d) h = below b d (second_of_both _ _ h)
 below b (left_opt d) h = below b d h
 below b (left_rep d) h = below b d h
 below b (left_rep_once d) h = below b d h
@@ -305,8 +288,8 @@ skipped_takes n is_comment = refl
 
 pub well_formed : IsWellFormed meta_grammar
 well_formed = record {
-  rep = λ e i d. not-both _ (and-first _ _ (sound_in (Rep e) i)) (empty d);
-  rep_once = λ e i d. not-both _ (and-first _ _ (sound_in (RepOnce e) i)) (empty d);
+  rep = λ e i d. not-both _ (first_of_both _ _ (sound_in (Rep e) i)) (empty d);
+  rep_once = λ e i d. not-both _ (first_of_both _ _ (sound_in (RepOnce e) i)) (empty d);
   rep_min = λ e j i d. let h = sound_in (RepMin e j) i in cc;
   skipping = λ n s d. let h = empty d in let k = skipped_takes n s in cc;
   no_cycle = λ n l. let h = leads_below l in omega arith;
@@ -332,7 +315,7 @@ IsSoundRule q = is_sound q.body ≡ true
 
 all_sound : (rs : List Rule) → list_all is_defined rs ≡ true → All IsSoundRule (map rule_at rs)
 all_sound [] d = All-nil IsSoundRule
-all_sound (r ∷ rs) d = All-cons IsSoundRule (rule_at r) (map rule_at rs) (fine_at r (all_fine r (and-first _ _ d))).sound (all_sound rs (and-second _ _ d))
+all_sound (r ∷ rs) d = All-cons IsSoundRule (rule_at r) (map rule_at rs) (fine_at r (all_fine r (first_of_both _ _ d))).sound (all_sound rs (second_of_both _ _ d))
 
 sound_in_some : (p : Expression) → InSomeRule meta_grammar p → is_sound p ≡ true
 unfolding meta_grammar
@@ -341,5 +324,5 @@ sound_in_some p i = sound_part i.2 (All-contains IsSoundRule meta_grammar i.0 (a
 pub counted : HasReadableCounts meta_grammar
 counted (RepExact e i) p = let h = sound_in_some (RepExact e i) p in cc
 counted (RepMax e i) p = let h = sound_in_some (RepMax e i) p in cc
-counted (RepMinMax e i j) p = ltb-true 0 j (and-first _ _ (sound_in_some (RepMinMax e i j) p))
+counted (RepMinMax e i j) p = ltb-true 0 j (first_of_both _ _ (sound_in_some (RepMinMax e i j) p))
 counted _ p = tt

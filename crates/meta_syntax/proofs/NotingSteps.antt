@@ -1,9 +1,9 @@
 -- The steps of a second reading: what is found, and which names are added.
-use Rattle.std.proofs.Common.{◌≡◌, refl, sym, ◌∙◌, ap, subst, ℕ, ◌-◌, ◌+◌, ◌<◌, List, [], ◌∷◌, ◌++◌, Bool, true, false, ◌&&◌, Option, Some, None, arith, Result, Ok, Err, IfOk, if◌then◌else◌, eq-eqb, ne_eqb, codes, nat_eq, length, take, append_assoc, append-nil, suc, get_or, drop, add-one}
+use Rattle.std.proofs.Common.{◌≡◌, refl, sym, ◌∙◌, ap, subst, ℕ, ◌-◌, ◌+◌, ◌<◌, List, [], ◌∷◌, ◌++◌, Bool, true, false, ◌&&◌, Option, Some, None, arith, if◌then◌else◌, eq-eqb, ne_eqb, codes, nat_eq, length, take, append_assoc, append-nil, suc, get_or, drop, add-one}
 use Rattle.std.proofs.lemmas.List.{length-drop}
 use Rattle.std.proofs.Math.Seq.{take-append_seam}
 use Rattle.std.specs.Borrow.{Bor}
-use Rattle.std.specs.declared.alloc.AllocError.{AllocError}
+use Rattle.std.proofs.Math.Bool.{and-false, and-true}
 use Rattle.meta_base.specs.Language.State.{Classes, Mode, State, Trees, None', Tree, joined, Outcome, Success, Failure}
 use Rattle.meta_base.specs.Language.Expression.{Grammar, Expression, Str, Range, Ident, NegPred, Opt, Seq, Choice, Rep, RepOnce, RepMinMax, RuleType}
 use Rattle.meta_base.specs.Language.Text.{Text}
@@ -12,7 +12,7 @@ use Rattle.meta_base.specs.Language.Meaning.{Does, Task, Run, Turns, Skipping, s
 use Rattle.meta_base.specs.Language.Expected.{expected_at, told}
 use Rattle.meta_base.specs.Pieces.MetaRules.{name_of}
 use Rattle.meta_base.specs.declared.grammar.Rule.{Rule}
-use Rattle.meta_base.proofs.Steps.{after_trees, after_assoc, after_none, joined_nil}
+use Rattle.meta_base.proofs.Steps.{after_trees}
 use Rattle.meta_syntax.specs.declared.modes.Mode as mode
 use Rattle.meta_syntax.specs.declared.table.Form.{Form}
 use Rattle.meta_syntax.specs.declared.table.Form.TheVariants as form
@@ -104,14 +104,6 @@ module _ {g : Grammar} {classes : Classes} where
   pub noted_rep_min_max : {m : Mode} {e : Expression} {i j : ℕ} {s : State} {o : Outcome} {p q : Sought} → Noted g classes (Run m (from_to e i j)) s o p q → Noted g classes (Run m (RepMinMax e i j)) s o p q
   noted_rep_min_max x = record { found = rep_min_max x.found; noted = x.noted }
 
-never : (b : Bool) → (b && false) ≡ false
-never true = refl
-never false = refl
-
-always : (b : Bool) → (b && true) ≡ b
-always true = refl
-always false = refl
-
 -- a call that doesn't count tells nothing by itself
 not_told : (n : Text) (place : ℕ) (s : State) (o : Outcome) → told false n place s o [] ≡ []
 not_told n place s Failure = refl
@@ -119,10 +111,10 @@ not_told n place s (Success t us) = refl
 
 module _ {classes : Classes} where
   pub noted_any : (m : mode.Mode) {s : State} {o : Outcome} {p : Sought} → o ≡ character_outcome (λ c. true) s → Noted meta_grammar classes (Run (mode_of m) (Ident (codes "ANY"))) s o p p
-  noted_any m {s} {o} {p} e = record { found = other no_any (rw (by_builtin classes m _ _ s any_builtin, e) refl); noted = rw (never (seen_from (mode_of m)), not_told (codes "ANY") p.place s o) (unsaid p) }
+  noted_any m {s} {o} {p} e = record { found = other no_any (rw (by_builtin classes m _ _ s any_builtin, e) refl); noted = rw (and-false (seen_from (mode_of m)), not_told (codes "ANY") p.place s o) (unsaid p) }
 
   pub noted_soi : (m : mode.Mode) {s : State} {o : Outcome} {p : Sought} → o ≡ (if nat_eq s.position 0 then Success s None' else Failure) → Noted meta_grammar classes (Run (mode_of m) (Ident (codes "SOI"))) s o p p
-  noted_soi m {s} {o} {p} e = record { found = other no_soi (rw (by_builtin classes m _ _ s soi_builtin, e) refl); noted = rw (never (seen_from (mode_of m)), not_told (codes "SOI") p.place s o) (unsaid p) }
+  noted_soi m {s} {o} {p} e = record { found = other no_soi (rw (by_builtin classes m _ _ s soi_builtin, e) refl); noted = rw (and-false (seen_from (mode_of m)), not_told (codes "SOI") p.place s o) (unsaid p) }
 
   pub noted_end : (m : mode.Mode) {s t : State} {us : Trees} {p : Sought} → Success t us ≡ end_outcome (mode_of m) s.rest s → Noted meta_grammar classes (Run (mode_of m) (Ident (codes "EOI"))) s (Success t us) p p
   noted_end m {s} {p = p} e = record { found = other no_eoi (rw (by_builtin classes m _ _ s eoi_builtin, e) refl); noted = unsaid p }
@@ -130,7 +122,7 @@ module _ {classes : Classes} where
   pub noted_not_end : (m : mode.Mode) {s : State} {p z : Sought} (sees : Bool) (saved : ℕ) → Failure ≡ end_outcome (mode_of m) s.rest s → sees ≡ seen_from (mode_of m) → saved ≡ length p.names → z ≡ telling sees (codes "EOI") saved s.position p → Noted meta_grammar classes (Run (mode_of m) (Ident (codes "EOI"))) s Failure p z
   noted_not_end m {s} {p} {z} sees saved e h k n = record {
     found = other no_eoi (rw (by_builtin classes m _ _ s eoi_builtin, e) refl);
-    noted = rw (always (seen_from (mode_of m)), ← h) (told_failing sees (codes "EOI") saved s.position p p z [] (unsaid p) k n);
+    noted = rw (and-true (seen_from (mode_of m)), ← h) (told_failing sees (codes "EOI") saved s.position p p z [] (unsaid p) k n);
   }
 
   module _ (rule : Rule) (m mode : Mode) (body : Expression) (kind : RuleType) (defined : is_defined rule ≡ true) (same_mode : mode ≡ body_mode (rule_at rule) m) (same_body : body ≡ body_of rule) (same_kind : kind ≡ type_of_rule rule) where

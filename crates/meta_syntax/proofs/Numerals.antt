@@ -1,31 +1,31 @@
 -- What numbers and integers take are digits.
 use Rattle.std.proofs.Common.{◌≡◌, refl, sym, ◌∙◌, ap, ℕ, zero, suc, ◌+◌, ◌-◌, ◌<◌, ◌≤◌, List, [], ◌∷◌, ◌++◌, ◌⊎◌, inl, inr, true, false, nat_eq, nat_le, length, arith, codes, length-append, chars}
-use Rattle.std.proofs.lemmas.List.Sums.{sum_by-append}
 use Rattle.std.proofs.lemmas.Bool.{leb-true, eqb-true, ne_eqb}
-use Rattle.std.proofs.lemmas.Str.{digit_value_digit, encodes-chars, encodes-append, encodes-IsAscii, length-encode, IsAscii-append}
+use Rattle.std.proofs.lemmas.Str.{digit_value_digit, encodes-chars, encodes-append, encodes-IsAscii, IsAscii-append}
 use Rattle.std.proofs.lemmas.Str.Parse.{digit_from_value}
 use Rattle.std.proofs.lemmas.Fmt.{IsAscii-from_digits}
 use Rattle.std.proofs.Math.Seq.{drop-append_seam, take-append_seam}
-use Rattle.std.proofs.Math.Utf8.{encodes, encode}
-use Rattle.std.specs.Char.{digit_value, len_utf8}
+use Rattle.std.proofs.Math.Utf8.{encodes}
+use Rattle.std.specs.Char.{digit_value}
 use Rattle.std.specs.List.{slice_range}
 use Rattle.std.specs.Str.{IsUtf8, IsAscii}
 use Rattle.std.specs.Str.Parse.{AllDigits, IsNumeral, without_leading_sign, without_leading_plus}
-use Rattle.meta_base.specs.Language.Text.{Text, size_of}
+use Rattle.meta_base.specs.Language.Text.{Text}
 use Rattle.meta_base.specs.Language.State.{State}
 use Rattle.meta_base.specs.Language.Builtins.{is_between}
 use Rattle.meta_base.specs.Language.Places.{Stands}
 use Rattle.meta_base.specs.Language.Expression.{Str, Range}
 use Rattle.meta_base.specs.declared.grammar.Rule.TheVariants as is
+use Rattle.meta_base.proofs.InBytes.{sizes}
+use Rattle.meta_base.proofs.Basics.{first_of_both, second_of_both}
 use Rattle.meta_syntax.specs.MetaGrammar.{body_of}
 use Rattle.meta_syntax.specs.Shape.{IsNumber, IsInteger}
-use Rattle.meta_syntax.proofs.Quiet.{and_first, and_second}
 use Rattle.meta_syntax.proofs.Taken.{Took, Stretch, Steps, stay, step, Takes, took_both, took_nothing, IsOne, one_taken, begins_first}
 
 digit : (a c : ℕ) → 48 ≤ a → is_between a 57 c ≡ true → digit_value c < 10
 digit a c k h =
-    let i : a ≤ c = leb-true a c (and_first (nat_le a c) (nat_le c 57) h) in
-    let j : c ≤ 57 = leb-true c 57 (and_second (nat_le a c) (nat_le c 57) h) in
+    let i : a ≤ c = leb-true a c (first_of_both (nat_le a c) (nat_le c 57) h) in
+    let j : c ≤ 57 = leb-true c 57 (second_of_both (nat_le a c) (nat_le c 57) h) in
     omega (arith, digit_value_digit c (omega arith, j))
 
 no_digits_yet : (s : State) → Stretch (AllDigits 10) s s
@@ -133,12 +133,7 @@ integer_taken s u (inr (t, (v, (w, m, z), h), more)) =
     signed (minus_taken (IsNumeral 10) s w m)
     (numeral_after (zeros (IsNumeral 10) z) (numeral_before (one_numeral 49 v t (omega arith) (one_taken (is_between 49 57) v t h.0 h.1)) (maybe_more more)))
 
--- the bytes between two states are the characters, where these take one byte each
-size_of_encoded : (t : Text) → size_of t ≡ length (encodes t)
-size_of_encoded [] = refl
-size_of_encoded (c ∷ t) = omega (arith, sum_by-append len_utf8 (c ∷ []) t, size_of_encoded t, length-append (encode c) (encodes t), length-encode c)
-
-middle : (a b c text : List ℕ) (i j : ℕ) → text ≡ a ++ (b ++ c) → i ≡ length a → j ≡ i + length b → slice_range text i j ≡ b
+pub middle : (a b c text : List ℕ) (i j : ℕ) → text ≡ a ++ (b ++ c) → i ≡ length a → j ≡ i + length b → slice_range text i j ≡ b
 middle a b c text i j e h k =
     let d : j - i ≡ length b = omega arith in
     rw (d, e, h, drop-append_seam a (b ++ c), take-append_seam b c) refl
@@ -151,7 +146,7 @@ module _ (text : List ℕ) (utf8 : IsUtf8 text) (s u : State) (stands : Stands (
       let all : chars text ≡ front ++ (w ++ u.rest) = stands.split ∙ ap (λ l. front ++ l) took.split in
       let bytes : text ≡ encodes front ++ (encodes w ++ encodes u.rest) =
       sym (encodes-chars text utf8) ∙ (ap encodes all ∙ (encodes-append front (w ++ u.rest) ∙ ap (λ l. encodes front ++ l) (encodes-append w u.rest))) in
-      middle (encodes front) (encodes w) (encodes u.rest) text s.position u.position bytes (stands.size ∙ size_of_encoded front) (took.place ∙ ap (λ n. s.position + n) (size_of_encoded w)) ∙ e
+      middle (encodes front) (encodes w) (encodes u.rest) text s.position u.position bytes (stands.size ∙ sizes front) (took.place ∙ ap (λ n. s.position + n) (sizes w)) ∙ e
 
   pub is_number : Numeral s u → IsNumber text s.position u.position
   is_number x =

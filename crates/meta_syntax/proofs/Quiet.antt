@@ -1,5 +1,6 @@
 -- What gives no trees in Atomic.
 use Rattle.std.proofs.Common.{◌≡◌, refl, ℕ, ◌-◌, min, List, [], ◌∷◌, Bool, true, false, not, ◌&&◌, ◌||◌, Option, Some, None, if◌then◌else◌, nat_eq, ◌==◌}
+use Rattle.std.proofs.lemmas.Bool.{and_from}
 use Rattle.meta_base.specs.Language.Expression as spec
 use Rattle.meta_base.specs.Language.Text.{Text}
 use Rattle.meta_base.specs.Language.Expression.{Expression, Str, Range, Ident, PosPred, NegPred, Seq, Choice, Opt, Rep, RepOnce, RepMinMax, RuleType, Normal, Silent, Atomic, CompoundAtomic, NonAtomic, rule_of}
@@ -11,6 +12,7 @@ use Rattle.meta_base.specs.Pieces.MetaRules.{name_of}
 use Rattle.meta_base.specs.declared.grammar.Rule.{Rule}
 use Rattle.meta_base.specs.declared.grammar.Rule.TheVariants as is
 use Rattle.meta_base.proofs.Moving.{each_copy, each_of_both, in_all}
+use Rattle.meta_base.proofs.Basics.{first_of_both, second_of_both}
 use Rattle.meta_syntax.specs.MetaGrammar.{meta_grammar, rule_at, type_of_rule, body_of}
 use Rattle.meta_syntax.proofs.MetaWellFormed.{known}
 use Rattle.meta_syntax.proofs.Naming.{rule_named, named_rule}
@@ -63,18 +65,7 @@ unfolding rule_named
 rules_are_quiet is.EOI = refl
 rules_are_quiet _ = refl
 
-pub and_first : (a b : Bool) → (a && b) ≡ true → a ≡ true
-and_first true b h = refl
-and_first false b h = h
-
-pub and_second : (a b : Bool) → (a && b) ≡ true → b ≡ true
-and_second true b h = h
-and_second false b h = cc
-
-both_true : (a b : Bool) → a ≡ true → b ≡ true → (a && b) ≡ true
-both_true a b h k = rw (h, k) refl
-
-first_or : (a b : Bool) → (a || b) ≡ true → not a ≡ true → b ≡ true
+pub first_or : (a b : Bool) → (a || b) ≡ true → not a ≡ true → b ≡ true
 first_or true b h k = cc
 first_or false b h k = h
 
@@ -85,7 +76,7 @@ pub record IsQuietRule (r : spec.Rule) : Type 0 where
 pub quiet_rule : (r : Rule) → not (is_loud r) ≡ true → IsQuietRule (rule_at r)
 quiet_rule r h =
     let k = first_or _ _ (rules_are_quiet r) h in
-    record { body = and_first _ _ k; stays = and_second _ _ k }
+    record { body = first_of_both _ _ k; stays = second_of_both _ _ k }
 
 not_loud : (n : Text) (r : Rule) → name_of r ≡ n → is_quiet (Ident n) ≡ true → not (is_loud r) ≡ true
 not_loud n r e h = let k : rule_named n ≡ Some r = rw (← e) (named_rule r) in rw k at h
@@ -97,7 +88,7 @@ quiet_called n q e h = let k = known n q e in rw k.is_at (quiet_rule k.rule (not
 quiet_copies : (e : Expression) (i j : ℕ) → is_quiet e ≡ true → is_quiet (from_to e i j) ≡ true
 quiet_copies e i j h =
     let C : Expression → Type 0 = λ x. is_quiet x ≡ true in
-    in_all C refl (λ a b x y. both_true _ _ x y)
+    in_all C refl (λ a b x y. and_from _ _ x y)
     (each_of_both C (each_copy C {e = e} (min i j) h) (each_copy C {e = Opt e} (j - i) h))
 
 abbrev pub IsQuiet : Task → Type 0
@@ -223,18 +214,18 @@ module _ (classes : Classes) where
   quiet push_literal h = cc
   quiet (tag d) h = cc
   quiet (restore d) h = cc
-  quiet (seq a k b) h = none_joined (quiet a (h.0, and_first _ _ h.1)) (quiet k h.0) (quiet b (h.0, and_second _ _ h.1))
+  quiet (seq a k b) h = none_joined (quiet a (h.0, first_of_both _ _ h.1)) (quiet k h.0) (quiet b (h.0, second_of_both _ _ h.1))
   quiet (seq_first a) h = tt
   quiet (seq_second a k b) h = tt
-  quiet (left a) h = quiet a (h.0, and_first _ _ h.1)
-  quiet (right a b) h = quiet b (h.0, and_second _ _ h.1)
+  quiet (left a) h = quiet a (h.0, first_of_both _ _ h.1)
+  quiet (right a b) h = quiet b (h.0, second_of_both _ _ h.1)
   quiet (opt a) h = quiet a h
   quiet (opt_none a) h = refl
   quiet (rep a b) h = none_joined (quiet a h) refl (quiet b h)
   quiet (rep_none a) h = refl
   quiet (turn k a b) h = none_joined (quiet k h.0) (quiet a h) (quiet b h)
   quiet (turn_none k a) h = refl
-  quiet (rep_once d) h = quiet d (h.0, both_true _ _ h.1 h.1)
+  quiet (rep_once d) h = quiet d (h.0, and_from _ _ h.1 h.1)
   quiet (rep_exact d) h = cc
   quiet (rep_min d) h = cc
   quiet (rep_max d) h = cc

@@ -1,15 +1,15 @@
 -- What waits for an answer in the second reading: frames that are added and taken off, and what each kind of
 -- frame makes of an answer.
-use Rattle.std.proofs.Common.{◌≡◌, refl, sym, ◌∙◌, ap, subst, ℕ, ◌+◌, ◌-◌, ◌<◌, ◌≤◌, max, List, [], ◌∷◌, ◌++◌, Bool, true, false, ◌&&◌, ◌||◌, Option, Some, None, ◌⊎◌, inl, inr, if◌then◌else◌, length, take, not, nat_lt, arith}
-use Rattle.std.proofs.lemmas.Bool.{ltb-true}
+use Rattle.std.proofs.Common.{◌≡◌, refl, sym, ◌∙◌, ap, subst, ℕ, ◌+◌, ◌-◌, ◌<◌, ◌≤◌, max, List, [], ◌∷◌, ◌++◌, Bool, true, false, ◌&&◌, ◌||◌, Option, Some, None, ◌⊎◌, inl, inr, length, take, not, arith}
+use Rattle.std.proofs.lemmas.Bool.{ltb-true, or_left, or_right}
 use Rattle.std.specs.Borrow.{Bor}
-use Rattle.meta_base.specs.Language.Text.{Text}
 use Rattle.meta_base.specs.Language.Expression.{Expression, Choice, Ident, NegPred, Opt, Rep, RepMinMax, RepOnce}
-use Rattle.meta_base.specs.Language.State.{Mode, None', Trees, joined}
+use Rattle.meta_base.specs.Language.State.{Mode, None', joined}
 use Rattle.meta_base.specs.Language.Meaning.{Run, Skipping, Task, body_mode, from_to}
 use Rattle.meta_base.specs.Pieces.MetaRules.{name_of}
 use Rattle.meta_base.specs.declared.grammar.Rule.{Rule}
 use Rattle.meta_base.proofs.Steps.{joined_assoc, joined_nil}
+use Rattle.meta_base.proofs.Basics.{first_of_both, second_of_both}
 use Rattle.meta_syntax.specs.declared.modes.Mode as mode
 use Rattle.meta_syntax.specs.declared.expecting.Expecting.{Expecting}
 use Rattle.meta_syntax.specs.declared.expecting.Frame.{Frame}
@@ -17,16 +17,15 @@ use Rattle.meta_syntax.specs.declared.expecting.Wait.TheVariants as wait
 use Rattle.meta_syntax.specs.declared.nesting.Step.TheVariants as step
 use Rattle.meta_syntax.specs.declared.table.Form.{Form}
 use Rattle.meta_syntax.specs.declared.table.Kind.{Kind}
-use Rattle.meta_syntax.specs.Expecting.{FailsNoting, FailsOrFindsNoting, FindsNoting, IsReadyAgain, IsTruly, Sought, sought_of}
-use Rattle.meta_syntax.specs.Forms.{AreParts, IsGood, IsRunnable, IsRunnableTurn, IsSpelled, all_take, choice_among, cost, expression_of, followed, good, null, nullable}
+use Rattle.meta_syntax.specs.Expecting.{FailsNoting, FindsNoting, IsReadyAgain, IsTruly, Sought, sought_of}
+use Rattle.meta_syntax.specs.Forms.{AreParts, IsRunnable, IsRunnableTurn, all_take, choice_among, cost, expression_of, followed, good, null, nullable}
 use Rattle.meta_syntax.specs.MetaGrammar.{rule_at}
 use Rattle.meta_syntax.specs.Nesting.{effort, steps}
 use Rattle.meta_syntax.specs.Rows.{IsRow}
 use Rattle.meta_syntax.specs.Runs.{GoesOn, IsLeft, mode_of}
-use Rattle.meta_syntax.specs.SecondReading.{Follows, FrameFollows, HasBegun, HasTurned, IsAnswered, IsAsked, IsNext, IsPartWay, IsTried, IsTrying, IsWaiting, Question, Serves, parts_cost, question_of, work_aside, work_of}
-use Rattle.meta_syntax.proofs.Following.{or_first, or_second, took}
+use Rattle.meta_syntax.specs.SecondReading.{Follows, FrameFollows, HasTurned, IsAnswered, IsAsked, IsNext, IsPartWay, IsTried, IsTrying, IsWaiting, Question, Serves, parts_cost, question_of, work_aside, work_of}
+use Rattle.meta_syntax.proofs.Following.{took}
 use Rattle.meta_syntax.proofs.NotingSteps.{copies_give, failed_first, failed_followed, failed_not_cut, failed_once, failed_part, first_among, found_left, found_no_opt, found_no_rep, found_not_cut, found_once, found_opt, found_seq, gives_right, last_part, noted_call, noted_failed_call, noted_rep, noted_turns_end, noted_turns_more, one_part}
-use Rattle.meta_syntax.proofs.Quiet.{and_first, and_second}
 use Rattle.meta_syntax.proofs.Waiting.{some_steps}
 
 -- a frame more at the end
@@ -115,7 +114,7 @@ module _ {text rest : List ℕ} {a b : Expression} {m : Mode} {p now later : Sou
   second_answers None w = record { means = gives_right m a b text rest p now later None x w.means; goes_on = tt }
   second_answers (Some after) w = record {
     means = gives_right m a b text rest p now later (Some after) x w.means;
-    goes_on = record { left = w.goes_on.left; shorter = w.goes_on.shorter; consumed = elim w.goes_on.consumed [ inl l ↦ inl l | inr e ↦ inr (or_second one two e) ] };
+    goes_on = record { left = w.goes_on.left; shorter = w.goes_on.shorter; consumed = elim w.goes_on.consumed [ inl l ↦ inl l | inr e ↦ inr (or_right one two e) ] };
   }
 
 pub choice_follows : (text : List ℕ) (first second : Bor Form) (m : mode.Mode) (saved : ℕ) (rest : Bor (List ℕ)) (p : Sought) (q : Question) → IsLeft text rest.now → IsRunnable second.now → Serves text (record { task = Run (mode_of m) (Choice (expression_of first.now) (expression_of second.now)); rest = rest.now; empty = null first.now || null second.now; sought = p }) q → Follows text (wait.Choice second) (record { mode = m; saved = saved; rest = rest }) (record { task = Run (mode_of m) (expression_of first.now); rest = rest.now; empty = null first.now; sought = p }) q
@@ -123,7 +122,7 @@ choice_follows text first second m saved rest p q l runnable h = record {
   here = l;
   found = λ now after x. h now (Some after) (record {
     means = found_left x.means;
-    goes_on = record { left = x.goes_on.left; shorter = x.goes_on.shorter; consumed = elim x.goes_on.consumed [ inl l ↦ inl l | inr e ↦ inr (or_first (null first.now) (null second.now) e) ] };
+    goes_on = record { left = x.goes_on.left; shorter = x.goes_on.shorter; consumed = elim x.goes_on.consumed [ inl l ↦ inl l | inr e ↦ inr (or_left (null first.now) (null second.now) e) ] };
   });
   failed = λ now x. (runnable, λ later o w. h later o (second_answers (null first.now) (null second.now) x.means o w));
 }
@@ -284,11 +283,11 @@ module _ {text : List ℕ} {m : mode.Mode} {p z now : Sought} {rest next : List 
   part_further : (others : Bor Form) (after : List ℕ) → AreParts left part (Some others) → FindsNoting (Run (mode_of m) (expression_of part)) text next z now after → GoesOn text next (null part) after → IsPartWay text others.now m now after s
   part_further others after h x k =
       let good_parts = sym h.good ∙ w.good in
-      let good_others = and_second (good part) _ good_parts in
+      let good_others = second_of_both (good part) _ good_parts in
       record {
-        good = and_first _ _ good_others;
+        good = first_of_both _ _ good_others;
         spelled = (h.spelled w.spelled).1;
-        below = ltb-true _ _ (and_second (good others.now) _ good_others);
+        below = ltb-true _ _ (second_of_both (good others.now) _ good_others);
         here = k.left;
         whole = w.whole;
         task = w.task;
@@ -360,7 +359,7 @@ none_tried text [] m now rest q e t = record { means = subst (λ r. FailsNoting 
 none_tried text (r ∷ rules) m now rest q e t = absurd (omega (arith, e))
 
 takes_first : (first : Rule) (others : List Rule) → all_take (first ∷ others) ≡ true → nullable first ≡ false
-takes_first first others e = not_nullable (nullable first) (and_first _ _ e)
+takes_first first others e = not_nullable (nullable first) (first_of_both _ _ e)
   where
     not_nullable : (b : Bool) → not b ≡ true → b ≡ false
     not_nullable true e = cc
@@ -379,7 +378,7 @@ rule_follows text first others m saved rest p s q l t h = record {
   failed = λ now x. (
     s,
     record {
-      takes = and_second (not (nullable first)) _ t.takes;
+      takes = second_of_both (not (nullable first)) _ t.takes;
       here = t.here;
       before = t.upto;
       task = t.task;

@@ -3,6 +3,7 @@ use Rattle.std.proofs.Common.{◌≡◌, refl, sym, ◌∙◌, ℕ, List, ◌∷
 use Rattle.std.specs.Prelude.{IsUtf8, encode_utf8, ◌++◌}
 use Rattle.std.specs.Str.{chars}
 use Rattle.std.proofs.lemmas.Str.{chars_past_char}
+use Rattle.std.proofs.lemmas.Bool.{or_left}
 use Rattle.meta_base.specs.Language.Text.{Text}
 use Rattle.meta_base.specs.Language.Builtins.{is_between, is_lower, is_upper}
 use Rattle.meta_base.specs.Language.Expression.{Expression, Str, NegPred, Rep}
@@ -13,6 +14,7 @@ use Rattle.meta_base.specs.Language.Ran.{Ran}
 use Rattle.meta_base.specs.Pieces.MetaRules.{name_of}
 use Rattle.meta_base.specs.declared.grammar.Rule.TheVariants as is
 use Rattle.meta_base.proofs.Steps.{after_none, ran_atomic, ran_compound_atomic, ran_not_ahead, ran_right, ran_seq, ran_seq_fails, ran_turns_end, ran_turns_more, joined_nil}
+use Rattle.meta_base.proofs.Basics.{first_of_both, second_of_both}
 use Rattle.meta_syntax.specs.declared.modes.Mode as mode
 use Rattle.meta_syntax.specs.declared.modes.Mode.TheVariants as in_mode
 use Rattle.meta_syntax.specs.declared.sets.Set.{Set}
@@ -23,7 +25,6 @@ use Rattle.meta_syntax.specs.Sets.{IsBefore, is_in, is_of_name, is_out, spelled_
 use Rattle.meta_syntax.proofs.FirstCharacters.{fails_at_once}
 use Rattle.meta_syntax.proofs.LeafLemmas.{one_found}
 use Rattle.meta_syntax.proofs.Naming.{rule_named}
-use Rattle.meta_syntax.proofs.Quiet.{and_first, and_second}
 use Rattle.meta_syntax.proofs.SingleCharacters.{all_fail, all_take, call_fails, call_takes, fails_by, fails_within, takes_listed, takes_within}
 use Rattle.meta_syntax.proofs.EntryLists.{not_grown}
 use Rattle.meta_syntax.proofs.Steps.{SoFar, ran_any}
@@ -44,9 +45,6 @@ none_of_four true l u d h = cc
 none_of_four false true u d h = cc
 none_of_four false false true d h = cc
 none_of_four false false false d h = h
-
-at_first : (a b : Bool) → a ≡ true → (a || b) ≡ true
-at_first a b h = rw h refl
 
 is_not : (a b : ℕ) → not (nat_eq a b) ≡ true → nat_eq b a ≡ false
 is_not a b h = ne_eqb b a (λ e. let k : nat_eq a b ≡ true = eq-eqb a b (sym e) in let l = rw k at h in cc)
@@ -80,7 +78,7 @@ module _ (classes : Classes) (m : mode.Mode) (no_skipping : skips_in m ≡ 0) (c
 
   newline_taken : nat_eq 10 c ≡ true → Body (rule is.newline) (Success (moved 1 s) None')
   unfolding rule_named
-  newline_taken h = call_takes classes c 1 (name_of is.newline) (at_first (nat_eq 10 c) _ h) (mode_of m) s u p next
+  newline_taken h = call_takes classes c 1 (name_of is.newline) (or_left (nat_eq 10 c) _ h) (mode_of m) s u p next
 
   comment_fails : not (nat_eq 47 c) ≡ true → Body (rule is.block_comment) Failure
   comment_fails h = fails_at_once is.block_comment m c classes s u p p (rw (is_not 47 c h) refl) next (omega arith)
@@ -105,7 +103,7 @@ module _ (classes : Classes) (m : mode.Mode) (no_skipping : skips_in m ≡ 0) (c
   taken set.Line h = other_taken _ (newline_fails h)
   taken set.Comment h =
       let k = neither (nat_eq 47 c) (nat_eq 42 c) h in
-      ran_right (comment_fails (and_first _ _ k)) (other_taken _ (literals_fail (Str (codes "*/")) (and_second (not (nat_eq 47 c)) _ k)))
+      ran_right (comment_fails (first_of_both _ _ k)) (other_taken _ (literals_fail (Str (codes "*/")) (second_of_both (not (nat_eq 47 c)) _ k)))
 
   quote_or_backslash : (nat_eq 34 c || nat_eq 92 c) ≡ true → Body (Str double_quote or Str backslash) (Success (moved 1 s) None')
   quote_or_backslash h =

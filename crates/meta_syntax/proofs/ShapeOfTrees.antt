@@ -6,11 +6,11 @@ use Rattle.meta_base.specs.Language.State.{Trees, None', Tree, joined}
 use Rattle.meta_base.specs.Pieces.MetaRules.{name_of}
 use Rattle.meta_base.specs.declared.grammar.Rule.{Rule}
 use Rattle.meta_base.specs.declared.grammar.Rule.TheVariants as is
-use Rattle.meta_base.proofs.RewritingsKeepOutcomes.{joined-assoc}
+use Rattle.meta_base.proofs.Steps.{joined_assoc}
 use Rattle.meta_syntax.specs.MetaGrammar.{type_of_rule}
 use Rattle.meta_syntax.specs.Rows.{is_defined}
 use Rattle.meta_syntax.specs.Shape as shape
-use Rattle.meta_syntax.specs.Shape.{IsPrefix, IsInfix, IsPostfix, ArePostfixes, IsExpression, AreTerms, IsMore, IsTerm, IsNode, IsRule, AreGrammarTrees}
+use Rattle.meta_syntax.specs.Shape.{IsPrefix, IsInfix, IsPostfix, ArePostfixes, IsExpression, AreTerms, IsMore, IsTerm, IsRule, AreGrammarTrees}
 use Rattle.meta_syntax.proofs.Naming.{rule_named}
 use Rattle.meta_syntax.proofs.Yields.{IsNone, none, Both, both, Many, no_more, also, IsLone, lone, IsPlaced, placed, IsLoneOf, lone_of, IsTree, tree, IsTreeOf, tree_of, is_dark, Holds, Inside, Stretches}
 
@@ -52,7 +52,7 @@ module _ (text : List ℕ) where
   prefixed (also (lone_of k) m) t = shape.predicate k (prefixed m t)
 
   untagged : (us vs ws : Trees) → Many (IsLoneOf IsPrefix) us → Holds text is.node vs → Many (IsTreeOf (IsPostfix text)) ws → IsTerm text (joined (joined us vs) ws)
-  untagged us vs ws a b c = rw (joined-assoc us vs ws) (prefixed a (operand b c))
+  untagged us vs ws a b c = rw (joined_assoc us vs ws) (prefixed a (operand b c))
 
   docs_before : {us vs : Trees} → Many (IsTree (codes "grammar_doc") (IsLone (codes "inner_doc"))) us → AreGrammarTrees text vs → AreGrammarTrees text (joined us vs)
   docs_before no_more g = g
@@ -64,7 +64,7 @@ module _ (text : List ℕ) where
 
   grammar_of : (us vs ws xs : Trees) → IsNone us → Many (IsTree (codes "grammar_doc") (IsLone (codes "inner_doc"))) vs → Many (IsTree (codes "grammar_rule") (IsRule text)) ws
       → IsLone (codes "EOI") xs → AreGrammarTrees text (joined (joined (joined us vs) ws) xs)
-  grammar_of us vs ws xs none docs rules lone = rw (joined-assoc vs ws _) (docs_before docs (rules_before rules shape.end_of_input))
+  grammar_of us vs ws xs none docs rules lone = rw (joined_assoc vs ws _) (docs_before docs (rules_before rules shape.end_of_input))
 
   pub closed : (r : Rule) (i j : ℕ) (us : Trees) → is_defined r ≡ true → Stretches text r i j → Inside text (is_dark r) r us
       → Holds text r (if shows (type_of_rule r) then Tree (name_of r) i j us None' else us)

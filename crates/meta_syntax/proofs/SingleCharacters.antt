@@ -14,6 +14,7 @@ use Rattle.meta_base.specs.Pieces.MetaRules.{name_of}
 use Rattle.meta_base.specs.declared.grammar.Rule.{Rule}
 use Rattle.meta_base.specs.declared.grammar.Rule.TheVariants as is
 use Rattle.meta_base.proofs.Steps.{ran_str, ran_range, ran_left, ran_right, ran_call}
+use Rattle.meta_base.proofs.Basics.{first_of_both, second_of_both}
 use Rattle.meta_syntax.specs.Firsts.{is_among, takes_one}
 use Rattle.meta_syntax.specs.MetaGrammar.{meta_grammar, rule_at, type_of_rule, body_of}
 use Rattle.meta_syntax.specs.Rows.{is_defined}
@@ -21,7 +22,6 @@ use Rattle.meta_syntax.specs.Runs.{IsLeft, at}
 use Rattle.meta_syntax.proofs.LeafLemmas.{one_found}
 use Rattle.meta_syntax.proofs.Lookup.{defined_rule}
 use Rattle.meta_syntax.proofs.Naming.{rule_named, name_of_named}
-use Rattle.meta_syntax.proofs.Quiet.{and_first, and_second}
 
 abbrev all : (ℕ → Bool) → List ℕ → Bool
 all P [] = true
@@ -107,13 +107,13 @@ module _ (classes : Classes) (c : ℕ) where
     all_fail (Str (x ∷ t)) h = text_fails x t (nat_eq x c) refl h
     all_fail (Range a b) h = range_fails a b (range_set a b c) refl h
     all_fail (Ident n) h = calls_fail n h
-    all_fail (Choice a b) h = λ m s u p e. ran_right (all_fail a (and_first _ _ h) m s u p e) (all_fail b (and_second _ _ h) m s u p e)
+    all_fail (Choice a b) h = λ m s u p e. ran_right (all_fail a (first_of_both _ _ h) m s u p e) (all_fail b (second_of_both _ _ h) m s u p e)
     all_fail _ h = cc
 
     module _ (taking : Text → Bool) (calls_take : (n : Text) → taking n ≡ true → Takes (Ident n)) where
       either_takes : (a b : Expression) (v : Bool) → takes_by failing taking c a ≡ v → (v || (fails_by failing c a && takes_by failing taking c b)) ≡ true → (takes_by failing taking c a ≡ true → Takes a) → (takes_by failing taking c b ≡ true → Takes b) → Takes (Choice a b)
       either_takes a b true e h first second = λ m s u p i. ran_left (first e m s u p i)
-      either_takes a b false e h first second = λ m s u p i. ran_right (all_fail a (and_first _ _ h) m s u p i) (second (and_second _ _ h) m s u p i)
+      either_takes a b false e h first second = λ m s u p i. ran_right (all_fail a (first_of_both _ _ h) m s u p i) (second (second_of_both _ _ h) m s u p i)
 
       pub all_take : (e : Expression) → takes_by failing taking c e ≡ true → Takes e
       all_take (Str []) h = cc
@@ -129,19 +129,19 @@ module _ (classes : Classes) (c : ℕ) where
   silent_fails n None f e h k = cc
   silent_fails n (Some r) f e h k = λ m s u p i.
       let P : Text → Type 0 = λ t. rule_of meta_grammar t ≡ Some (rule_at r) in
-      let d = and_first _ _ h in
-      let found : rule_of meta_grammar n ≡ Some (rule_at r) = subst P (name_of_named n r e) (defined_rule r (and_first _ _ d)) in
-      ran_call found (k (body_of r) (and_second _ _ h) (body_mode (rule_at r) m) s u p i) (silent_place (type_of_rule r) m p s.position (and_second _ _ d))
+      let d = first_of_both _ _ h in
+      let found : rule_of meta_grammar n ≡ Some (rule_at r) = subst P (name_of_named n r e) (defined_rule r (first_of_both _ _ d)) in
+      ran_call found (k (body_of r) (second_of_both _ _ h) (body_mode (rule_at r) m) s u p i) (silent_place (type_of_rule r) m p s.position (second_of_both _ _ d))
 
   -- and takes what its body takes
   silent_takes : (n : Text) (o : Option Rule) (f : Expression → Bool) → rule_named n ≡ o → silently f o ≡ true → ((e : Expression) → f e ≡ true → Takes e) → Takes (Ident n)
   silent_takes n None f e h k = cc
   silent_takes n (Some r) f e h k = λ m s u p i.
       let P : Text → Type 0 = λ t. rule_of meta_grammar t ≡ Some (rule_at r) in
-      let d = and_first _ _ h in
-      let found : rule_of meta_grammar n ≡ Some (rule_at r) = subst P (name_of_named n r e) (defined_rule r (and_first _ _ d)) in
-      let x = ran_call {m = m} {z = p} found (k (body_of r) (and_second _ _ h) (body_mode (rule_at r) m) s u p i) (omega arith) in
-      rw (same_type (type_of_rule r) (and_second (is_defined r) (is_silent (type_of_rule r)) d)) at x
+      let d = first_of_both _ _ h in
+      let found : rule_of meta_grammar n ≡ Some (rule_at r) = subst P (name_of_named n r e) (defined_rule r (first_of_both _ _ d)) in
+      let x = ran_call {m = m} {z = p} found (k (body_of r) (second_of_both _ _ h) (body_mode (rule_at r) m) s u p i) (omega arith) in
+      rw (same_type (type_of_rule r) (second_of_both (is_defined r) (is_silent (type_of_rule r)) d)) at x
 
   pub call_fails : (k : ℕ) (n : Text) → fails_within k c n ≡ true → Fails (Ident n)
   call_fails zero n h = cc
@@ -153,10 +153,10 @@ module _ (classes : Classes) (c : ℕ) where
 
 among_all : (P : ℕ → Bool) (xs : List ℕ) (c : ℕ) → all P xs ≡ true → is_among xs c ≡ true → P c ≡ true
 among_all P [] c h k = cc
-among_all P (x ∷ xs) c h k = go (nat_eq c x) refl k (among_all P xs c (and_second (P x) _ h))
+among_all P (x ∷ xs) c h k = go (nat_eq c x) refl k (among_all P xs c (second_of_both (P x) _ h))
   where
     go : (b : Bool) → nat_eq c x ≡ b → (b || is_among xs c) ≡ true → (is_among xs c ≡ true → P c ≡ true) → P c ≡ true
-    go true e i others = let j = eqb-true c x e in rw j (and_first (P x) _ h)
+    go true e i others = let j = eqb-true c x e in rw j (first_of_both (P x) _ h)
     go false e i others = others i
 
 one_of_two : (a b : Bool) → (a || b) ≡ true → (a || (not a && b)) ≡ true

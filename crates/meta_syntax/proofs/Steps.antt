@@ -1,8 +1,9 @@
 -- The steps of a run over the meta-grammar, as the recognizer makes them: what is found, and what is written.
-use Rattle.std.proofs.Common.{◌≡◌, refl, ◌∙◌, ap, subst, ℕ, ◌-◌, max, List, ◌++◌, Bool, true, false, ◌&&◌, Option, Some, None, arith, Result, Ok, Err, IfOk, if◌then◌else◌, ◌⊎◌, inl, inr, eq-eqb, ne_eqb, codes, nat_eq, length, take}
+use Rattle.std.proofs.Common.{◌≡◌, refl, ◌∙◌, ap, subst, ℕ, ◌-◌, max, List, ◌++◌, Bool, true, ◌&&◌, Option, Some, None, arith, Result, Ok, Err, IfOk, if◌then◌else◌, ◌⊎◌, inl, inr, eq-eqb, ne_eqb, codes, nat_eq, length, take}
 use Rattle.std.proofs.lemmas.List.{length-drop}
 use Rattle.std.specs.Borrow.{Bor}
 use Rattle.std.specs.declared.alloc.AllocError.{AllocError}
+use Rattle.std.proofs.Math.Bool.{and-false, and-true}
 use Rattle.meta_base.specs.Language.State.{Classes, Mode, NonAtomicMode, Between, State, Trees, None', joined, Outcome, Success, Failure}
 use Rattle.meta_base.specs.Language.Expression.{Expression, Ident, NegPred, Opt, Seq, Choice, Rep, RepOnce, RepMinMax, RuleType, whitespace, comment}
 use Rattle.meta_base.specs.Language.Text.{Text}
@@ -44,23 +45,15 @@ by_builtin classes in_mode.NonAtomic n b s h = rw h refl
 by_builtin classes in_mode.Atomic n b s h = rw h refl
 by_builtin classes in_mode.CompoundAtomic n b s h = rw h refl
 
-never : (b : Bool) → (b && false) ≡ false
-never true = refl
-never false = refl
-
-always : (b : Bool) → (b && true) ≡ b
-always true = refl
-always false = refl
-
 module _ {classes : Classes} where
   pub ran_any : (m : mode.Mode) {s : State} {o : Outcome} {p : ℕ} → o ≡ character_outcome (λ c. true) s → Ran meta_grammar classes (Run (mode_of m) (Ident (codes "ANY"))) s o p p
-  ran_any m {s} e = ran_quietly no_any (rw (by_builtin classes m _ _ s any_builtin, e) refl) (never (seen_from (mode_of m)))
+  ran_any m {s} e = ran_quietly no_any (rw (by_builtin classes m _ _ s any_builtin, e) refl) (and-false (seen_from (mode_of m)))
 
   pub ran_soi : (m : mode.Mode) {s : State} {o : Outcome} {p : ℕ} → o ≡ (if nat_eq s.position 0 then Success s None' else Failure) → Ran meta_grammar classes (Run (mode_of m) (Ident (codes "SOI"))) s o p p
-  ran_soi m {s} e = ran_quietly no_soi (rw (by_builtin classes m _ _ s soi_builtin, e) refl) (never (seen_from (mode_of m)))
+  ran_soi m {s} e = ran_quietly no_soi (rw (by_builtin classes m _ _ s soi_builtin, e) refl) (and-false (seen_from (mode_of m)))
 
   ran_eoi : (m : mode.Mode) {s : State} {o : Outcome} {p q : ℕ} → o ≡ end_outcome (mode_of m) s.rest s → q ≡ max p (place_of (seen_from (mode_of m)) s o) → Ran meta_grammar classes (Run (mode_of m) (Ident (codes "EOI"))) s o p q
-  ran_eoi m {s} e h = ran_other no_eoi (rw (by_builtin classes m _ _ s eoi_builtin, e) refl) (rw (always (seen_from (mode_of m))) h)
+  ran_eoi m {s} e h = ran_other no_eoi (rw (by_builtin classes m _ _ s eoi_builtin, e) refl) (rw (and-true (seen_from (mode_of m))) h)
 
   pub ran_end : (m : mode.Mode) {s t : State} {us : Trees} {p : ℕ} → Success t us ≡ end_outcome (mode_of m) s.rest s → Ran meta_grammar classes (Run (mode_of m) (Ident (codes "EOI"))) s (Success t us) p p
   ran_end m e = ran_eoi m e (omega arith)

@@ -10,7 +10,7 @@ use Rattle.meta_base.specs.Language.State.{Classes, State, Mode, AtomicMode, Non
 use Rattle.meta_base.specs.Language.Matching.{begins, starts_in, range_set}
 use Rattle.meta_base.specs.Language.Meaning.{Does, Task, Run, Turns, Skipping, str, insens, range, slice, skip, call, other, pos_pred, neg_pred, push, restore, seq, seq_first, seq_second, left, right, opt, opt_none, rep, rep_none, turn, turn_none, rep_once, rep_exact, rep_min, rep_max, rep_min_max, skips, atomic, compound_atomic, between, ahead, not_ahead, pushed, with_token, body_mode, push_literal, tag}
 use Rattle.meta_base.specs.declared.grammar.Rule.TheVariants as is
-use Rattle.meta_base.proofs.OneOutcome.{same_rule}
+use Rattle.meta_base.proofs.Basics.{same_some}
 use Rattle.meta_syntax.specs.MetaGrammar.{meta_grammar, rule_at, body_of}
 use Rattle.meta_syntax.proofs.Lookup.{defined_rule}
 
@@ -79,7 +79,7 @@ module _ (classes : Classes) (P : Text → Type 0) (number_takes : (s u : State)
       → (body_mode r m ≡ AtomicMode → EndsIn (Takes P r.body s) o) → n ≡ codes "number" → EndsIn (Stretch P s) o
   takes_number n r m s o e f h =
       let k : Some r ≡ Some (rule_at is.number) = sym e ∙ ap (rule_of meta_grammar) h ∙ defined_rule is.number refl in
-      let i : r ≡ rule_at is.number = same_rule k in
+      let i : r ≡ rule_at is.number = same_some k in
       ends_along (Takes P (body_of is.number) s) (Stretch P s) (number_takes s) o
       (let g : EndsIn (Takes P r.body s) o = f (rw i refl) in rw i at g)
 

@@ -2,9 +2,11 @@
 use Rattle.std.proofs.Common.{◌≡◌, refl, sym, ◌∙◌, ap, ℕ, ◌-◌, min, List, [], ◌++◌, Bool, true, false, not, ◌&&◌, ◌||◌, Option, Some, None, codes, length}
 use Rattle.std.specs.Bool.{⊤}
 use Rattle.std.proofs.lemmas.Slice.Eq.{bytes_eq-Decides}
+use Rattle.std.proofs.lemmas.Bool.{and_from}
+use Rattle.std.proofs.Math.Bool.{and-false}
 use Rattle.meta_base.specs.Language.Expression as spec
 use Rattle.meta_base.specs.Language.Text.{Text}
-use Rattle.meta_base.specs.Language.Expression.{Expression, Str, Range, Ident, PosPred, NegPred, Seq, Choice, Opt, Rep, RepOnce, RepMinMax, RuleType, Normal, Silent, Atomic, CompoundAtomic, NonAtomic, rule_of, whitespace, comment}
+use Rattle.meta_base.specs.Language.Expression.{Expression, Str, Range, Ident, NegPred, Seq, Choice, Opt, Rep, RepOnce, RepMinMax, RuleType, Normal, Silent, Atomic, CompoundAtomic, NonAtomic, rule_of, whitespace, comment}
 use Rattle.meta_base.specs.Language.State.{Classes, State, Mode, NonAtomicMode, AtomicMode, Between, Trees, Outcome, Success, Failure}
 use Rattle.meta_base.specs.Language.Meaning.{Does, Task, Run, Turns, Skipping, str, insens, range, slice, skip, call, other, pos_pred, neg_pred, push, restore, seq, seq_first, seq_second, left, right, opt, opt_none, rep, rep_none, turn, turn_none, rep_once, rep_exact, rep_min, rep_max, rep_min_max, skips, atomic, compound_atomic, between, with_token, gives_token, seen_from, body_mode, from_to, skipped, push_literal, tag}
 use Rattle.meta_base.specs.Language.FurthestFailure.{is_eoi}
@@ -13,6 +15,7 @@ use Rattle.meta_base.specs.Pieces.MetaRules.{name_of}
 use Rattle.meta_base.specs.declared.grammar.Rule.{Rule}
 use Rattle.meta_base.specs.declared.grammar.Rule.TheVariants as is
 use Rattle.meta_base.proofs.Moving.{each_copy, each_of_both, in_all}
+use Rattle.meta_base.proofs.Basics.{first_of_both, second_of_both}
 use Rattle.meta_syntax.specs.Expecting.{Sought, telling, is_settled, Noted}
 use Rattle.meta_syntax.specs.MetaGrammar.{meta_grammar, rule_at, type_of_rule, body_of}
 use Rattle.meta_syntax.specs.Rows.{is_defined}
@@ -20,7 +23,7 @@ use Rattle.meta_syntax.proofs.Lookup.{defined_rule}
 use Rattle.meta_syntax.proofs.MetaWellFormed.{known}
 use Rattle.meta_syntax.proofs.Naming.{rule_named, named_rule}
 use Rattle.meta_syntax.proofs.NotingSteps.{told_failing, unsaid}
-use Rattle.meta_syntax.proofs.Quiet.{and_first, and_second, body_stays, is_loud, stays_atomic}
+use Rattle.meta_syntax.proofs.Quiet.{body_stays, is_loud, stays_atomic, first_or}
 
 -- the rules that are silent, and call only such rules
 abbrev is_hushed : Rule → Bool
@@ -71,24 +74,17 @@ unfolding rule_named
 silent_rules is.EOI = refl
 silent_rules _ = refl
 
-second_if : (a b : Bool) → (a || b) ≡ true → not a ≡ true → b ≡ true
-second_if true b h k = cc
-second_if false b h k = h
-
 not_not : (a : Bool) → a ≡ true → not (not a) ≡ true
 not_not true h = refl
 not_not false h = cc
-
-both : (a b : Bool) → a ≡ true → b ≡ true → (a && b) ≡ true
-both a b h k = rw (h, k) refl
 
 record IsUntoldRule (b : Bool) (r : spec.Rule) : Type 0 where
   pub body : untold b r.body ≡ true
   pub fitting : fits b r.type_of ≡ true
 
 untold_rule : (b : Bool) (r : Rule) → untold_at b (Some r) ≡ true → IsUntoldRule b (rule_at r)
-untold_rule true r h = let k = second_if _ _ (atomic_rules r) h in record { body = and_first _ _ k; fitting = and_second _ _ k }
-untold_rule false r h = let k = second_if _ _ (silent_rules r) (not_not _ h) in record { body = and_first _ _ k; fitting = and_second _ _ k }
+untold_rule true r h = let k = first_or _ _ (atomic_rules r) h in record { body = first_of_both _ _ k; fitting = second_of_both _ _ k }
+untold_rule false r h = let k = first_or _ _ (silent_rules r) (not_not _ h) in record { body = first_of_both _ _ k; fitting = second_of_both _ _ k }
 
 at_name : (b : Bool) (n : Text) (r : Rule) → name_of r ≡ n → untold b (Ident n) ≡ true → untold_at b (Some r) ≡ true
 at_name b n r e h = let k : rule_named n ≡ Some r = rw (← e) (named_rule r) in rw k at h
@@ -99,7 +95,7 @@ untold_called b n q e h = let k = known n q e in rw k.is_at (untold_rule b k.rul
 untold_copies : (b : Bool) (e : Expression) (i j : ℕ) → untold b e ≡ true → untold b (from_to e i j) ≡ true
 untold_copies b e i j h =
     let C : Expression → Type 0 = λ x. untold b x ≡ true in
-    in_all C refl (λ x y k l. both _ _ k l)
+    in_all C refl (λ x y k l. and_from _ _ k l)
     (each_of_both C (each_copy C {e = e} (min i j) h) (each_copy C {e = Opt e} (j - i) h))
 
 skipped_untold : untold false skipped ≡ true
@@ -115,10 +111,6 @@ IsUntold b (Run m e) = InMode b m × (untold b e ≡ true)
 IsUntold b (Turns m e) = InMode b m × (untold b e ≡ true)
 IsUntold b (Skipping m) = InMode b m
 
-never : (b : Bool) → (b && false) ≡ false
-never true = refl
-never false = refl
-
 silent_gives : (t : RuleType) (m : Mode) → is_silent t ≡ true → gives_token t m ≡ false
 silent_gives Silent m h = refl
 silent_gives Normal m h = cc
@@ -128,7 +120,7 @@ silent_gives NonAtomic m h = cc
 
 never_counts : (b : Bool) (t : RuleType) (m : Mode) → InMode b m → fits b t ≡ true → (seen_from m && gives_token t m) ≡ false
 never_counts true t m i f = rw i refl
-never_counts false t m i f = rw (silent_gives t m f) (never (seen_from m))
+never_counts false t m i f = rw (silent_gives t m f) (and-false (seen_from m))
 
 body_in : (b : Bool) (r : spec.Rule) (m : Mode) → InMode b m → fits b r.type_of ≡ true → InMode b (body_mode r m)
 body_in true r m i f = body_stays r m i f
@@ -143,7 +135,7 @@ no_end n true e h =
 
 other_counts : (b : Bool) (n : Text) (m : Mode) → InMode b m → untold b (Ident n) ≡ true → (seen_from m && is_eoi n) ≡ false
 other_counts true n m i h = rw i refl
-other_counts false n m i h = rw (no_end n (is_eoi n) refl h) (never (seen_from m))
+other_counts false n m i h = rw (no_end n (is_eoi n) refl h) (and-false (seen_from m))
 
 not_told : (counts : Bool) (n : Text) (place : ℕ) (s : State) (o : Outcome) (within : List Text) → counts ≡ false → within ≡ [] → told counts n place s o within ≡ []
 not_told counts n place s Failure within h k = rw h k
@@ -176,18 +168,18 @@ module _ (classes : Classes) (place : ℕ) (b : Bool) where
   nothing_told push_literal h = refl
   nothing_told (tag d) h = cc
   nothing_told (restore d) h = cc
-  nothing_told (seq x k y) h = none_of_all (nothing_told x (h.0, and_first _ _ h.1)) (nothing_told k h.0) (nothing_told y (h.0, and_second _ _ h.1))
-  nothing_told (seq_first x) h = nothing_told x (h.0, and_first _ _ h.1)
-  nothing_told (seq_second x k y) h = none_of_all (nothing_told x (h.0, and_first _ _ h.1)) (nothing_told k h.0) (nothing_told y (h.0, and_second _ _ h.1))
-  nothing_told (left x) h = nothing_told x (h.0, and_first _ _ h.1)
-  nothing_told (right x y) h = none_of_both (nothing_told x (h.0, and_first _ _ h.1)) (nothing_told y (h.0, and_second _ _ h.1))
+  nothing_told (seq x k y) h = none_of_all (nothing_told x (h.0, first_of_both _ _ h.1)) (nothing_told k h.0) (nothing_told y (h.0, second_of_both _ _ h.1))
+  nothing_told (seq_first x) h = nothing_told x (h.0, first_of_both _ _ h.1)
+  nothing_told (seq_second x k y) h = none_of_all (nothing_told x (h.0, first_of_both _ _ h.1)) (nothing_told k h.0) (nothing_told y (h.0, second_of_both _ _ h.1))
+  nothing_told (left x) h = nothing_told x (h.0, first_of_both _ _ h.1)
+  nothing_told (right x y) h = none_of_both (nothing_told x (h.0, first_of_both _ _ h.1)) (nothing_told y (h.0, second_of_both _ _ h.1))
   nothing_told (opt x) h = nothing_told x h
   nothing_told (opt_none x) h = nothing_told x h
   nothing_told (rep x y) h = none_of_both (nothing_told x h) (nothing_told y h)
   nothing_told (rep_none x) h = nothing_told x h
   nothing_told (turn k x y) h = none_of_all (nothing_told k h.0) (nothing_told x h) (nothing_told y h)
   nothing_told (turn_none k x) h = none_of_both (nothing_told k h.0) (nothing_told x h)
-  nothing_told (rep_once d) h = nothing_told d (h.0, both _ _ h.1 h.1)
+  nothing_told (rep_once d) h = nothing_told d (h.0, and_from _ _ h.1 h.1)
   nothing_told (rep_exact d) h = cc
   nothing_told (rep_min d) h = cc
   nothing_told (rep_max d) h = cc

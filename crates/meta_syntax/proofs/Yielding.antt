@@ -1,5 +1,5 @@
 -- What is matched yields its trees.
-use Rattle.std.proofs.Common.{◌≡◌, refl, ◌∙◌, ap, ℕ, List, [], ◌∷◌, inl, inr, Bool, true, false, not, ◌||◌, Option, Some, None, if◌then◌else◌, nat_eq, bytes_eq, ◌==◌, codes, chars}
+use Rattle.std.proofs.Common.{◌≡◌, refl, ◌∙◌, ap, ℕ, List, [], ◌∷◌, inl, inr, Bool, true, false, not, ◌||◌, Option, Some, None, if◌then◌else◌, nat_eq, ◌==◌, codes, chars}
 use Rattle.std.specs.Str.{IsUtf8}
 use Rattle.std.specs.Str.Parse.{IsNumeral}
 use Rattle.meta_base.specs.Language.Expression as spec
@@ -16,8 +16,8 @@ use Rattle.meta_base.proofs.TreesAreNested.{fits}
 use Rattle.meta_syntax.specs.MetaGrammar.{meta_grammar, rule_at, type_of_rule, body_of}
 use Rattle.meta_syntax.specs.Rows.{is_defined}
 use Rattle.meta_syntax.specs.Runs.{is_blank}
-use Rattle.meta_syntax.proofs.Lookup.{defined_rule, soi_builtin, eoi_builtin}
-use Rattle.meta_syntax.proofs.MetaWellFormed.{known}
+use Rattle.meta_syntax.proofs.Lookup.{defined_rule, soi_builtin, eoi_builtin, blank_name, undefined}
+use Rattle.meta_syntax.proofs.MetaWellFormed.{known, implied}
 use Rattle.meta_syntax.proofs.Naming.{rule_named, named_rule, name_of_named}
 use Rattle.meta_syntax.proofs.Numerals.{number_taken, integer_taken, is_number, is_integer}
 use Rattle.meta_syntax.proofs.Quiet.{is_loud, is_quiet, quiet_rule, quiet}
@@ -65,14 +65,9 @@ shows_token Atomic m h = h
 shows_token CompoundAtomic m h = refl
 shows_token NonAtomic m h = refl
 
-blank_test : (r : Rule) → (bytes_eq (name_of r) whitespace || bytes_eq (name_of r) comment) ≡ is_blank r
-unfolding whitespace comment
-blank_test is.EOI = refl
-blank_test _ = refl
-
 -- the body of a dark rule runs in Atomic and is quiet; that of another still has its tokens seen
 mode_of_body : (r : Rule) (m : Mode) → body_mode (rule_at r) m ≡ mode_in (type_of_rule r) (is_blank r) m
-mode_of_body r m = ap (λ b. mode_in (type_of_rule r) b m) (blank_test r)
+mode_of_body r m = ap (λ b. mode_in (type_of_rule r) b m) (blank_name r)
 
 abbrev is_atomic_mode : Mode → Bool
 is_atomic_mode AtomicMode = true
@@ -95,10 +90,6 @@ light_test CompoundAtomicMode _ h = refl
 light_test Between is.EOI h = refl
 light_test Between _ h = refl
 
-then_true : (a b : Bool) → (not a || b) ≡ true → a ≡ true → b ≡ true
-then_true true b h k = h
-then_true false b h k = cc
-
 else_true : (a b : Bool) → (a || b) ≡ true → a ≡ false → b ≡ true
 else_true true b h k = cc
 else_true false b h k = h
@@ -110,18 +101,13 @@ atomic_mode CompoundAtomicMode h = cc
 atomic_mode Between h = cc
 
 dark_mode : (r : Rule) (m : Mode) → is_dark r ≡ true → body_mode (rule_at r) m ≡ AtomicMode
-dark_mode r m h = mode_of_body r m ∙ atomic_mode _ (then_true _ _ (dark_test r m) h)
+dark_mode r m h = mode_of_body r m ∙ atomic_mode _ (implied _ _ (dark_test r m) h)
 
 dark_is_quiet : (r : Rule) → is_dark r ≡ true → is_quiet (body_of r) ≡ true
-dark_is_quiet r h = (quiet_rule r (then_true _ _ (quiet_test r) h)).body
+dark_is_quiet r h = (quiet_rule r (implied _ _ (quiet_test r) h)).body
 
 light_mode : (r : Rule) (m : Mode) → is_dark r ≡ false → seen_from m ≡ true → seen_from (body_mode (rule_at r) m) ≡ true
 light_mode r m h s = ap seen_from (mode_of_body r m) ∙ else_true _ _ (light_test m r s) h
-
--- names that are no rule's
-the_end : (r : Rule) → is_defined r ≡ false → r ≡ is.EOI
-the_end is.EOI h = refl
-the_end _ h = cc
 
 end_gives : (m : Mode) (v : Text) (s : State) → seen_from m ≡ true → IfSuccess (IsLone (codes "EOI")) (end_outcome m v s)
 end_gives NonAtomicMode [] s h = lone
@@ -197,7 +183,7 @@ module _ (text : List ℕ) (utf8 : IsUtf8 text) (classes : Classes) where
       → rule_of meta_grammar (name_of r) ≡ None → other_outcome classes m (name_of r) s ≡ Some o → IfSuccess (Holds text r) o
   undefined_gives r true m s o k h e c = let d = defined_rule r k in cc
   undefined_gives r false m s o k h e c =
-      let i = the_end r k in
+      let i = undefined r k in
       rw i (eoi_gives classes m s o h (rw i at c))
 
   others_give : (n : Text) (x : Option Rule) (m : Mode) (s : State) (o : Outcome) → rule_named n ≡ x → seen_from m ≡ true

@@ -17,10 +17,10 @@ data Split {A : Type 0} (xs ys us : List A) (z : A) (vs : List A) : Type 0 where
   in_first : (back : List A) → xs ≡ us ++ z ∷ back → Split xs ys us z vs
   in_second : (w : List A) → us ≡ xs ++ w → ys ≡ w ++ z ∷ vs → Split xs ys us z vs
 
-tails : {A : Type 0} {x y : A} {xs ys : List A} → x ∷ xs ≡ y ∷ ys → xs ≡ ys
+pub tails : {A : Type 0} {x y : A} {xs ys : List A} → x ∷ xs ≡ y ∷ ys → xs ≡ ys
 tails e = cc
 
-heads : {A : Type 0} {x y : A} {xs ys : List A} → x ∷ xs ≡ y ∷ ys → x ≡ y
+pub heads : {A : Type 0} {x y : A} {xs ys : List A} → x ∷ xs ≡ y ∷ ys → x ≡ y
 heads e = cc
 
 joined : {A : Type 0} {x y : A} {xs ys : List A} → x ≡ y → xs ≡ ys → x ∷ xs ≡ y ∷ ys
@@ -97,7 +97,7 @@ some_size (Two s f x y) = omega arith
 
 module _ (done : List Spanned) (old new : List Node) (own : ℕ) (h : AreNumbered done old) (is_own : own ≡ length old) (n : Node) (pushed : new ≡ old ++ n ∷ []) where
   abbrev pub said : Spanned
-  said = view_at (piece_of n.span) n.expr.now
+  said = view_at (piece_of n.span.now) n.expr.now
 
   put : (x : Spanned) → said ≡ x → IsBehind done x → IsShape done own n.shape x → n.start + size x ≡ own + 1 → AreNumbered (done ++ said ∷ []) new
   put x e b shape start = subst (λ z. AreNumbered (done ++ z ∷ []) new) (sym e) (record {

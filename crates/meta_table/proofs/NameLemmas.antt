@@ -1,36 +1,24 @@
 -- The last equal name; empty texts.
-use Rattle.std.proofs.Common.{◌≡◌, ℕ, suc, ◌+◌, ◌<◌, List, [], ◌∷◌, ◌++◌, Option, Some, None, Bool, true, false, if◌then◌else◌, bytes_eq, length, refl, sym, ◌∙◌, ap, arith, ◌==◌, String, Global, string_len, string_bytes, nat_eq, get_or, take}
+use Rattle.std.proofs.Common.{◌≡◌, ℕ, suc, ◌+◌, ◌<◌, List, [], ◌∷◌, ◌++◌, Option, Some, Bool, true, false, if◌then◌else◌, bytes_eq, length, refl, sym, ◌∙◌, ap, arith, ◌==◌, String, Global, string_len, string_bytes, get_or, take}
 use Rattle.std.specs.Bool.{Decides}
 use Rattle.std.specs.Cmp.{unsigned_Decides}
 use Rattle.std.specs.Str.{chars, IsUtf8, IsAscii}
 use Rattle.std.proofs.lemmas.Bool.Decides.{same_from_decides}
 use Rattle.std.proofs.lemmas.Str.{encodes-chars, IsUtf8-string_bytes, chars-nil, chars-IsAscii, IsUtf8-from_ascii}
 use Rattle.std.proofs.Math.Utf8.{encodes}
-use Rattle.std.proofs.lemmas.Slice.Eq.{slice_eq-Decides, bytes_eq-Decides}
 use Rattle.std.proofs.lemmas.List.{take_more, length-take-le}
-use lib.Pointwise.{pointwise}
 use Rattle.meta_ast.specs.Ast.{text_of}
 use Rattle.meta_base.specs.Language.Text.{Text}
-use Rattle.meta_base.specs.Language.Expression.{Rule, Grammar}
+use Rattle.meta_base.specs.Language.Expression.{last_place}
+use Rattle.meta_base.proofs.LastPlaces.{last_more}
 use Rattle.meta_nodes.specs.declared.node.ParserRule.{ParserRule}
 use Rattle.std.proofs.lemmas.List.{map-append, length-map}
 use Rattle.meta_nodes.specs.Nodes.{rule_view, rule_views}
 use Rattle.meta_nodes.specs.Erasure.{rule_without_spans, rules_without_spans}
 use Rattle.std.specs.HashMap.{get_by_text}
 use Rattle.meta_table.specs.NameMaps.{KnowsRules}
-use Rattle.meta_table.specs.Names.{last_place, grammar_of, rule_said}
+use Rattle.meta_table.specs.Names.{grammar_of, rule_said}
 use Rattle.meta_table.specs.declared.names.Names.{Names}
-
-abbrev next : Bool → Option ℕ → Option ℕ
-next b q = elim q [ Some k ↦ Some (suc k) | None ↦ if b then Some 0 else None ]
-
-pub last_more : (g : Grammar) (r : Rule) (n : Text) → last_place (g ++ r ∷ []) n ≡ (if bytes_eq r.name n then Some (length g) else last_place g n)
-last_more [] r n = refl
-last_more (q ∷ g) r n = ap (next (bytes_eq q.name n)) (last_more g r n) ∙ go (bytes_eq r.name n)
-  where
-    go : (x : Bool) → next (bytes_eq q.name n) (if x then Some (length g) else last_place g n) ≡ (if x then Some (suc (length g)) else next (bytes_eq q.name n) (last_place g n))
-    go true = refl
-    go false = refl
 
 said_append : (rs qs : List ParserRule) → grammar_of (rs ++ qs) ≡ grammar_of rs ++ grammar_of qs
 said_append rs qs = ap (λ z. rules_without_spans z) (map-append rule_view rs qs) ∙ map-append rule_without_spans (rule_views rs) (rule_views qs)
@@ -45,22 +33,6 @@ name_step rs i n d r found after h q f g =
     ∙ (ap (λ m. if b then Some m else last_place (grammar_of (take i rs)) n) (sym l)
     ∙ (sym (last_more (grammar_of (take i rs)) (rule_said (get_or rs i d)) n)
     ∙ (ap (λ z. last_place z n) (sym (said_append (take i rs) (get_or rs i d ∷ []))) ∙ ap (λ z. last_place (grammar_of z) n) (sym (take_more rs i d h)))))))
-
--- two texts are equal where their bytes are
-utf8_eq : (bs ds : List ℕ) → IsUtf8 bs → IsUtf8 ds → pointwise nat_eq bs ds ≡ bytes_eq (chars bs) (chars ds)
-utf8_eq bs ds u v =
-    let d = slice_eq-Decides unsigned_Decides bs ds _ refl in
-    let e : Decides (pointwise nat_eq bs ds) (chars bs ≡ chars ds) = ((λ h. ap chars (d.0 h)), (λ h. d.1 (sym (encodes-chars bs u) ∙ ap encodes h ∙ encodes-chars ds v))) in
-    same_from_decides _ _ e (bytes_eq-Decides (chars bs) (chars ds))
-
-pub bytes_text_eq : (bs ds : List ℕ) → IsUtf8 bs → IsUtf8 ds → bytes_eq bs ds ≡ bytes_eq (chars bs) (chars ds)
-bytes_text_eq bs ds u v =
-    let d = bytes_eq-Decides bs ds in
-    let e : Decides (bytes_eq bs ds) (chars bs ≡ chars ds) = ((λ h. ap chars (d.0 h)), (λ h. d.1 (sym (encodes-chars bs u) ∙ ap encodes h ∙ encodes-chars ds v))) in
-    same_from_decides _ _ e (bytes_eq-Decides (chars bs) (chars ds))
-
-pub literal_eq : (s : String Global) (t : List ℕ) → IsAscii t → pointwise nat_eq (string_bytes s) t ≡ bytes_eq (text_of s) t
-literal_eq s t a = utf8_eq (string_bytes s) t (IsUtf8-string_bytes s) (IsUtf8-from_ascii t a) ∙ ap (λ u. bytes_eq (text_of s) u) (chars-IsAscii t a)
 
 abbrev pub is_empty_text : Text → Bool
 is_empty_text [] = true

@@ -1,10 +1,10 @@
 -- What stands in a list stands there when more is put behind it.
 use Rattle.std.proofs.Common.{◌+◌, ◌<◌, map, take, get_or, sym, subst, ◌⊎◌, inl, inr, ◌≡◌, ℕ, List, slice_get, zero, suc, ◌∷◌, [], ◌++◌, Some, length, refl, ◌∙◌, ap, ap₂, arith}
 use Rattle.std.proofs.lemmas.List.{length_push, append_assoc, map-append, take_more}
-use Rattle.meta_nodes.specs.Nodes.{view_at, piece_of}
-use Rattle.meta_nodes.specs.declared.node.ParserExpr.{ParserExpr}
-use Rattle.meta_nodes.specs.declared.node.ParserExpr.TheVariants as code
-use Rattle.meta_nodes.specs.Spanned.{Span, span_of, Spanned, Leaf, One, Two}
+use Rattle.meta_base.proofs.Basics.{got_more}
+use Rattle.meta_nodes.specs.Nodes.{piece_of}
+use Rattle.meta_nodes.specs.Spanned.{span_of, Spanned, Leaf, One, Two}
+use Rattle.meta_nodes.proofs.Places.{span_at}
 use Rattle.meta_table.specs.Nodes.{postorder}
 use Rattle.meta_table.specs.Shapes.{AreNodes, IsNode, IsShape}
 use Rattle.meta_table.specs.declared.shapes.Shape.{Shape}
@@ -19,12 +19,6 @@ got_before (x ∷ xs) ys (suc k) n e = got_before xs ys k n e
 pub got_end : {A : Type 0} (xs : List A) (y : A) → slice_get (xs ++ y ∷ []) (length xs) ≡ Some y
 got_end [] y = refl
 got_end (x ∷ xs) y = got_end xs y
-
-pub got_more : {A : Type 0} (xs : List A) (y : A) (k : ℕ) (n : A) → slice_get (xs ++ y ∷ []) k ≡ Some n → (slice_get xs k ≡ Some n) ⊎ ((k ≡ length xs) × (y ≡ n))
-got_more [] y zero n e = inr (refl, cc)
-got_more [] y (suc k) n e = cc
-got_more (x ∷ xs) y zero n e = inl e
-got_more (x ∷ xs) y (suc k) n e = elim (got_more xs y k n e) [ inl h ↦ inl h | inr h ↦ inr (ap suc h.0, h.1) ]
 
 shape_more : (nodes more : List Spanned) (i : ℕ) (k : Shape) (x : Spanned) → IsShape nodes i k x → IsShape (nodes ++ more) i k x
 shape_more nodes more i k (Leaf s e) h = h
@@ -68,38 +62,16 @@ found_last nodes x own l =
     let n : length (nodes ++ front) ≡ own = (let a = length_push (nodes ++ front) x in let b = ap (λ z. length z) all in omega arith) in
     ap (λ z. slice_get z own) all ∙ (ap (slice_get ((nodes ++ front) ++ x ∷ [])) (sym n) ∙ got_end (nodes ++ front) x)
 
--- a node stands where it is viewed
-pub span_at : (t : Span) (e : ParserExpr) → span_of (view_at t e) ≡ t
-span_at t (code.Str s) = refl
-span_at t (code.Insens s) = refl
-span_at t (code.Range s v) = refl
-span_at t (code.Ident s) = refl
-span_at t (code.PeekSlice m n) = refl
-span_at t (code.PosPred' p e s) = refl
-span_at t (code.NegPred' p e s) = refl
-span_at t (code.Seq' p e s q f v) = refl
-span_at t (code.Choice' p e s q f v) = refl
-span_at t (code.Opt' p e s) = refl
-span_at t (code.Rep' p e s) = refl
-span_at t (code.RepOnce' p e s) = refl
-span_at t (code.RepExact' p e s n) = refl
-span_at t (code.RepMin' p e s m) = refl
-span_at t (code.RepMax' p e s n) = refl
-span_at t (code.RepMinMax' p e s m n) = refl
-span_at t (code.Push' p e s) = refl
-span_at t (code.PushLiteral s) = refl
-span_at t (code.NodeTag' p e s u) = refl
-
 -- the spans of the nodes
-pub spans_alike : (all : List Spanned) (ns : List Node) → AreNodes all ns → map (λ (n : Node). piece_of n.span) ns ≡ map span_of all
-spans_alike all ns h = go all ns h.alike (λ i x g. let (n, at, is) = h.fit i x g in (n, at, sym (span_at (piece_of n.span) n.expr.now) ∙ ap span_of is.said))
+pub spans_alike : (all : List Spanned) (ns : List Node) → AreNodes all ns → map (λ (n : Node). piece_of n.span.now) ns ≡ map span_of all
+spans_alike all ns h = go all ns h.alike (λ i x g. let (n, at, is) = h.fit i x g in (n, at, sym (span_at (piece_of n.span.now) n.expr.now) ∙ ap span_of is.said))
   where
-    go : (xs : List Spanned) (ms : List Node) → length ms ≡ length xs → ((i : ℕ) (x : Spanned) → slice_get xs i ≡ Some x → (n : Node) × (slice_get ms i ≡ Some n) × (piece_of n.span ≡ span_of x))
-        → map (λ (n : Node). piece_of n.span) ms ≡ map span_of xs
+    go : (xs : List Spanned) (ms : List Node) → length ms ≡ length xs → ((i : ℕ) (x : Spanned) → slice_get xs i ≡ Some x → (n : Node) × (slice_get ms i ≡ Some n) × (piece_of n.span.now ≡ span_of x))
+        → map (λ (n : Node). piece_of n.span.now) ms ≡ map span_of xs
     go [] [] l f = refl
     go [] (m ∷ ms) l f = absurd (omega arith)
     go (x ∷ xs) [] l f = absurd (omega arith)
     go (x ∷ xs) (m ∷ ms) l f =
         let (n, at, e) = f 0 x refl in
         let same : m ≡ n = cc in
-        ap₂ (λ y ys. y ∷ ys) (ap (λ (k : Node). piece_of k.span) same ∙ e) (go xs ms (omega arith) (λ i y g. f (suc i) y g))
+        ap₂ (λ y ys. y ∷ ys) (ap (λ (k : Node). piece_of k.span.now) same ∙ e) (go xs ms (omega arith) (λ i y g. f (suc i) y g))

@@ -2,12 +2,13 @@
 use Rattle.std.proofs.Common.{◌≡◌, ℕ, zero, suc, ◌+◌, ◌<◌, ◌≤◌, ◌⊎◌, inl, inr, List, [], ◌∷◌, ◌++◌, Some, slice_get, length, refl, sym, ◌∙◌, ap, subst, arith}
 use Rattle.std.proofs.lemmas.Option.{slice_get_within}
 use Rattle.std.proofs.lemmas.List.{length_push, length-append, append_assoc, append-nil}
+use Rattle.meta_base.proofs.Basics.{got_more}
 use Rattle.meta_nodes.specs.Nodes.{view}
 use Rattle.meta_nodes.specs.Spanned.{Spanned}
 use Rattle.meta_nodes.specs.declared.node.ParserRule.{ParserRule}
 use Rattle.meta_table.specs.Nodes.{all_nodes, size, postorder}
 use Rattle.meta_table.specs.Roots.{root_of, first_of, AreRoots}
-use Rattle.meta_table.proofs.Numbered.{got_more, got_before}
+use Rattle.meta_table.proofs.Numbered.{got_before}
 
 -- the nodes of one rule more
 pub nodes_more : (rules : List ParserRule) (rule : ParserRule) → all_nodes (rules ++ rule ∷ []) ≡ all_nodes rules ++ postorder (view rule.node)

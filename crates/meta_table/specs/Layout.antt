@@ -7,6 +7,7 @@ use Rattle.meta_nodes.specs.declared.node.ParserNode.{ParserNode}
 use Rattle.meta_table.specs.Nodes.{postorder}
 use Rattle.meta_table.specs.Shapes.{AreNodes}
 use Rattle.meta_table.specs.declared.table.Node.{Node}
+use Rattle.meta_table.specs.declared.table.Unnumbered.{Unnumbered}
 
 -- the nodes of a list, each behind all nodes inside it
 abbrev pub all_below : List (Bor ParserNode) → List Spanned
@@ -22,6 +23,11 @@ abbrev pub IsBehind : List Spanned → Spanned → Type 0
 IsBehind front (Leaf s e) = ⊤
 IsBehind front (One s f x) = (others : List Spanned) × (front ≡ others ++ postorder x)
 IsBehind front (Two s f x y) = (others : List Spanned) × (front ≡ (others ++ postorder x) ++ postorder y)
+
+-- no node waits for its number
+pub record NothingWaits (unnumbered : Unnumbered) : Type 0 where
+  pub waiting : unnumbered.waiting.items ≡ []
+  pub inside : unnumbered.inside.items ≡ []
 
 -- each node stands behind those inside it
 abbrev pub AreLaidOut : List Spanned → Type 0

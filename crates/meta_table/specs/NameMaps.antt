@@ -2,8 +2,9 @@
 use Rattle.std.specs.Prelude.{◌≡◌, ℕ, List}
 use Rattle.std.specs.HashMap.{get_by_text}
 use Rattle.std.specs.Str.{IsUtf8, chars}
+use Rattle.meta_base.specs.Language.Expression.{last_place}
 use Rattle.meta_nodes.specs.declared.node.ParserRule.{ParserRule}
-use Rattle.meta_table.specs.Names.{grammar_of, last_place}
+use Rattle.meta_table.specs.Names.{grammar_of}
 use Rattle.meta_table.specs.declared.names.Names.{Names}
 
 -- for each name the map has the place of the last rule of that name

@@ -1,5 +1,5 @@
--- What rules of code say, and which rule a name means.
-use Rattle.std.specs.Prelude.{ℕ, suc, List, [], ◌∷◌, Option, Some, None, Bool, ◌||◌, if◌then◌else◌, bytes_eq, codes}
+-- What rules of code say, and which names are builtins that take nothing.
+use Rattle.std.specs.Prelude.{List, Bool, ◌||◌, bytes_eq, codes}
 use Rattle.meta_base.specs.Language.Text.{Text}
 use Rattle.meta_base.specs.Language.Expression.{Rule, Grammar}
 use Rattle.meta_nodes.specs.Nodes.{rule_view, rule_views}
@@ -13,14 +13,6 @@ rule_said r = rule_without_spans (rule_view r)
 -- the rules of code, without their spans
 abbrev pub grammar_of : List ParserRule → Grammar
 grammar_of rs = rules_without_spans (rule_views rs)
-
--- the place of the last rule of a name
-abbrev pub last_place : Grammar → Text → Option ℕ
-last_place [] n = None
-last_place (r ∷ g) n = elim (last_place g n) [
-  | Some k ↦ Some (suc k)
-  | None ↦ if bytes_eq r.name n then Some 0 else None
-]
 
 -- the builtins that may take nothing
 abbrev pub is_end : Text → Bool

@@ -55,7 +55,7 @@ IsShape nodes i shape (Two s f x y) =
 
 -- a node of code stands for a node at a place
 pub record IsNode (nodes : List Spanned) (i : ℕ) (n : Node) (x : Spanned) : Type 0 where
-  pub said : view_at (piece_of n.span) n.expr.now ≡ x
+  pub said : view_at (piece_of n.span.now) n.expr.now ≡ x
   pub shape : IsShape nodes i n.shape x
   pub start : n.start + size x ≡ i + 1
 

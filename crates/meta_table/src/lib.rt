@@ -9,4 +9,4 @@ mod table;
 pub use names::{Names, is_end, is_literal, names_of, rule_of_name};
 pub use places::rule_number;
 pub use shapes::{Joint, Shape, Sign};
-pub use table::{Node, Table, number, tabulated};
+pub use table::{Node, Table, Unnumbered, number, tabulated};

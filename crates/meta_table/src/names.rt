@@ -1,8 +1,9 @@
 //! Names, resolved to the numbers of rules.
 ghost use Rattle.std.specs.Prelude.{◌≡◌, IfOk, bytes_eq};
 ghost use Rattle.std.specs.Str.{IsAscii};
+ghost use Rattle.meta_base.specs.Language.Expression.{last_place};
 ghost use Rattle.meta_ast.specs.Ast.{text_of};
-ghost use Rattle.meta_table.specs.Names.{last_place, grammar_of, is_end};
+ghost use Rattle.meta_table.specs.Names.{grammar_of, is_end};
 ghost use Rattle.meta_table.specs.NameMaps.{KnowsRules};
 
 use meta_nodes::ParserRule;

@@ -4,7 +4,7 @@ ghost use Rattle.std.specs.Prelude.{◌≡◌, ◌+◌, ◌-◌, ◌++◌, ◌�
 ghost use Rattle.meta_nodes.specs.Nodes.{view_at, piece_of};
 ghost use Rattle.meta_nodes.specs.Spanned as spanned;
 ghost use Rattle.meta_nodes.specs.Spanned.{Spanned};
-ghost use Rattle.meta_table.specs.Layout.{AreNumbered, AreLaidOut, IsBehind, start_at, all_below, forwards, rule_numbers};
+ghost use Rattle.meta_table.specs.Layout.{AreNumbered, AreLaidOut, IsBehind, NothingWaits, start_at, all_below, forwards, rule_numbers};
 ghost use Rattle.meta_table.specs.Nodes.{postorder, size};
 ghost use Rattle.meta_table.specs.Roots.{IsTabled};
 ghost use Rattle.meta_table.specs.declared.shapes.Shape.TheVariants as shapes;
@@ -18,7 +18,7 @@ use std::alloc::{AllocError, Global};
 #[derive(Clone, Copy)]
 pub struct Node<'n, 'i> {
     pub expr: &'n ParserExpr<'i>,
-    pub span: Span<'i>,
+    pub span: &'n Span<'i>,
     pub shape: Shape,
     /// The number of the first node inside it, or its own where there is none inside.
     pub start: usize,
@@ -106,28 +106,28 @@ fn push_operands<'n, 'i>(
     Ok(())
 }
 
-/// The nodes of a list and all nodes inside them, from behind: a node before those inside it, and a right
-/// one before the left.
-fn backwards<'n, 'i>(
-    alloc: Global,
-    waiting: Vec<&'n ParserNode<'i>>,
-) -> Result<Vec<&'n ParserNode<'i>>, AllocError>
-    ensures { IfOk result (λ nodes. forwards nodes.items ≡ all_below waiting.entry.items) }
+/// Takes the nodes of a list, and puts them and all nodes inside them on another, from behind: a node before
+/// those inside it, and a right one before the left.
+fn put_backwards<'n, 'i>(
+    waiting: &mut Vec<&'n ParserNode<'i>>,
+    inside: &mut Vec<&'n ParserNode<'i>>,
+) -> Result<(), AllocError>
+    requires { inside.old.items ≡ [] }
+    ensures none { OnOk result (waiting.new.items ≡ []) }
+    ensures nodes { OnOk result (forwards inside.new.items ≡ all_below waiting.old.items) }
 {
-    let mut waiting = waiting;
-    let mut nodes = Vec::new(alloc);
     while let Some(next) = waiting.pop() {
-        nodes.push(next)?;
-        push_operands(&next.expr, &mut waiting)?;
+        inside.push(next)?;
+        push_operands(&next.expr, waiting)?;
     }
-    Ok(nodes)
+    Ok(())
 }
 
 /// Numbers an expression whose operands have the last numbers.
 fn add_node<'n, 'i>(
     rule: usize,
     expr: &'n ParserExpr<'i>,
-    span: Span<'i>,
+    span: &'n Span<'i>,
     nodes: &mut Vec<Node<'n, 'i>>,
 ) -> Result<(), AllocError>
     ensures last { OnOk result (length nodes.new.items ≡ length nodes.old.items + 1) }
@@ -135,8 +135,8 @@ fn add_node<'n, 'i>(
         ≡ rule_numbers nodes.old.items ++ rule ∷ []) }
     ensures nodes { OnOk result ((done : List Spanned)
         → AreNumbered done nodes.old.items
-        → IsBehind done (view_at (piece_of span.entry) expr.now)
-        → AreNumbered (done ++ view_at (piece_of span.entry) expr.now ∷ []) nodes.new.items) }
+        → IsBehind done (view_at (piece_of span.now) expr.now)
+        → AreNumbered (done ++ view_at (piece_of span.now) expr.now ∷ []) nodes.new.items) }
 {
     let own = nodes.len();
     let placed = match taken_apart(expr) {
@@ -157,45 +157,68 @@ fn add_node<'n, 'i>(
     Ok(())
 }
 
-/// Numbers the nodes of a list, from its end to its start.
+/// Takes the nodes of a list, from its end to its start, and numbers them.
 fn add_nodes<'n, 'i>(
     rule: usize,
-    inside: Vec<&'n ParserNode<'i>>,
+    inside: &mut Vec<&'n ParserNode<'i>>,
     nodes: &mut Vec<Node<'n, 'i>>,
 ) -> Result<(), AllocError>
+    ensures none { OnOk result (inside.new.items ≡ []) }
     ensures nodes { OnOk result ((done : List Spanned)
         → AreNumbered done nodes.old.items
-        → AreLaidOut (done ++ forwards inside.entry.items)
-        → AreNumbered (done ++ forwards inside.entry.items) nodes.new.items) }
+        → AreLaidOut (done ++ forwards inside.old.items)
+        → AreNumbered (done ++ forwards inside.old.items) nodes.new.items) }
     ensures rules { OnOk result (rule_numbers nodes.new.items
-        ≡ rule_numbers nodes.old.items ++ replicate (length (forwards inside.entry.items)) rule) }
+        ≡ rule_numbers nodes.old.items ++ replicate (length (forwards inside.old.items)) rule) }
 {
-    let mut inside = inside;
     while let Some(next) = inside.pop() {
-        add_node(rule, &next.expr, next.span, nodes)?;
+        add_node(rule, &next.expr, &next.span, nodes)?;
     }
     Ok(())
 }
 
+/// The nodes of an expression that have no number yet. Between two expressions there are none, so that one of
+/// these serves a whole grammar.
+#[derive(Drop)]
+pub struct Unnumbered<'n, 'i> {
+    /// Those whose operands wait as well.
+    pub waiting: Vec<&'n ParserNode<'i>>,
+    /// The others, from behind.
+    pub inside: Vec<&'n ParserNode<'i>>,
+}
+
+impl<'n, 'i> Unnumbered<'n, 'i> {
+    /// None.
+    pub fn new(alloc: Global) -> Unnumbered<'n, 'i>
+        ensures { NothingWaits result }
+    {
+        Unnumbered {
+            waiting: Vec::new(alloc),
+            inside: Vec::new(alloc),
+        }
+    }
+}
+
 /// The nodes inside an expression at the end of the list, and then the expression itself: its number.
 pub fn number<'n, 'i>(
-    alloc: Global,
+    unnumbered: &mut Unnumbered<'n, 'i>,
     rule: usize,
     expr: &'n ParserExpr<'i>,
-    span: Span<'i>,
+    span: &'n Span<'i>,
     nodes: &mut Vec<Node<'n, 'i>>,
 ) -> Result<usize, AllocError>
+    requires { NothingWaits unnumbered.old }
+    ensures none { OnOk result (NothingWaits unnumbered.new) }
     ensures last { IfOk result (λ own. length nodes.new.items ≡ own + 1) }
     ensures nodes { OnOk result ((done : List Spanned)
         → AreNumbered done nodes.old.items
-        → AreNumbered (done ++ postorder (view_at (piece_of span.entry) expr.now)) nodes.new.items) }
+        → AreNumbered (done ++ postorder (view_at (piece_of span.now) expr.now)) nodes.new.items) }
     ensures rules { OnOk result (rule_numbers nodes.new.items
-        ≡ rule_numbers nodes.old.items ++ replicate (size (view_at (piece_of span.entry) expr.now)) rule) }
+        ≡ rule_numbers nodes.old.items ++ replicate (size (view_at (piece_of span.now) expr.now)) rule) }
 {
-    let mut waiting = Vec::new(alloc);
-    push_operands(expr, &mut waiting)?;
-    let inside = backwards(alloc, waiting)?;
-    add_nodes(rule, inside, nodes)?;
+    push_operands(expr, &mut unnumbered.waiting)?;
+    put_backwards(&mut unnumbered.waiting, &mut unnumbered.inside)?;
+    add_nodes(rule, &mut unnumbered.inside, nodes)?;
     let own = nodes.len();
     add_node(rule, expr, span, nodes)?;
     Ok(own)
@@ -208,13 +231,20 @@ pub fn tabulated<'n, 'i>(
 ) -> Result<Table<'n, 'i>, AllocError>
     ensures { IfOk result (λ table. IsTabled rules.now table) }
 {
+    let mut unnumbered = Unnumbered::new(alloc);
     let mut table = Table {
         nodes: Vec::new(alloc),
-        roots: Vec::new(alloc),
+        roots: Vec::with_capacity(alloc, rules.len())?,
     };
     for place in 0..rules.len() {
         let body = &rules[place].node;
-        let root = number(alloc, place, &body.expr, body.span, &mut table.nodes)?;
+        let root = number(
+            &mut unnumbered,
+            place,
+            &body.expr,
+            &body.span,
+            &mut table.nodes,
+        )?;
         table.roots.push(root)?;
     }
     Ok(table)

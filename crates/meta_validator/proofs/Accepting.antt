@@ -1,13 +1,15 @@
 -- What is accepted is well-formed.
-use Rattle.std.proofs.Common.{◌≡◌, inl, inr, ℕ, List, [], ◌∷◌, Option, Some, None, Bool, true, false, if◌then◌else◌, nat_eq, bytes_eq, slice_get, refl, sym, ◌∙◌, ap, subst}
+use Rattle.std.proofs.Common.{◌≡◌, inl, inr, ℕ, List, Option, Some, Bool, true, false, if◌then◌else◌, nat_eq, slice_get, refl, sym, ◌∙◌, ap, subst}
 use Rattle.std.proofs.lemmas.Slice.Eq.{bytes_eq-Decides}
 use Rattle.meta_base.specs.Language.Text.{Text}
-use Rattle.meta_base.specs.Language.Expression.{Expression, Rule, Grammar, rule_of, or_else, whitespace, comment, Part, whole, of_pos_pred, of_neg_pred, of_seq_left, of_seq_right, of_choice_left, of_choice_right, of_opt, of_rep, of_rep_once, of_rep_exact, of_rep_min, of_rep_max, of_rep_min_max, of_push, of_restore, of_tag}
+use Rattle.meta_base.specs.Language.Expression.{Expression, Rule, Grammar, rule_of, whitespace, comment, Part, whole, of_pos_pred, of_neg_pred, of_seq_left, of_seq_right, of_choice_left, of_choice_right, of_opt, of_rep, of_rep_once, of_rep_exact, of_rep_min, of_rep_max, of_rep_min_max, of_push, of_restore, of_tag, last_place}
 use Rattle.meta_base.specs.Language.WellFormed.{IsNullable, InRules, IsSkipped, is_whitespace, is_comment, Leads, IsWellFormed}
+use Rattle.meta_base.proofs.Termination.{rule_name}
+use Rattle.meta_base.proofs.Basics.{got_alike}
 use Rattle.meta_nodes.specs.Nodes.{view}
 use Rattle.meta_nodes.specs.declared.node.ParserRule.{ParserRule}
 use Rattle.meta_flags.specs.Least.{is_set_at}
-use Rattle.meta_table.specs.Names.{grammar_of, rule_said, last_place}
+use Rattle.meta_table.specs.Names.{grammar_of, rule_said}
 use Rattle.meta_nullable.specs.Names.{kind_in}
 use Rattle.meta_nullable.specs.Kinds.{Says, repeated, wrap_kind}
 use Rattle.meta_nullable.specs.Facts.{AreFacts}
@@ -18,7 +20,7 @@ use Rattle.meta_nullable.specs.declared.kinds.Wrap.TheVariants as wraps
 use Rattle.meta_validator.specs.Reports.{Reported, endless, bad_skipped, recursive, Repeats, repeats_any, repeats_once, repeats_min}
 use Rattle.meta_validator.proofs.Certain.{sure_null}
 use Rattle.meta_nullable.proofs.Tying.{says}
-use Rattle.meta_table.proofs.Resolved.{Named, absent, named, resolved, got_like}
+use Rattle.meta_table.proofs.Resolved.{Named, absent, named, resolved}
 use Rattle.meta_nullable.proofs.Answering.{same_rule, no_rule}
 use Rattle.meta_validator.proofs.Reports.{accepted}
 use Rattle.meta_validator.proofs.Walk.{no_walk}
@@ -34,19 +36,6 @@ comment_name = refl
 skipped_name : (n : Text) → IsSkipped n → is_skipped_name n ≡ true
 skipped_name n is_whitespace = whitespace_name
 skipped_name n is_comment = comment_name
-
-same_some : {q r : Rule} → Some q ≡ Some r → q ≡ r
-same_some h = cc
-
--- a rule has the name that means it
-named_so : (g : Grammar) (n : Text) (r : Rule) → rule_of g n ≡ Some r → bytes_eq r.name n ≡ true
-named_so [] n r e = cc
-named_so (q ∷ g) n r e = go (rule_of g n) refl (bytes_eq q.name n) refl e (named_so g n r)
-  where
-    go : (o : Option Rule) → rule_of g n ≡ o → (b : Bool) → bytes_eq q.name n ≡ b → or_else o (if b then Some q else None) ≡ Some r → (rule_of g n ≡ Some r → bytes_eq r.name n ≡ true) → bytes_eq r.name n ≡ true
-    go (Some z) h b f e k = k (h ∙ e)
-    go None h true f e k = subst (λ z. bytes_eq z.name n ≡ true) (same_some e) f
-    go None h false f e k = cc
 
 module _ (rules : List ParserRule) (facts : Facts) (right : AreFacts rules facts) (takes : AllRepeatedTake facts) (skips : SkippedTake rules facts) (fall : (n : Text) → Leads (grammar_of rules) n n → ⊥) where
   abbrev G : Grammar
@@ -83,7 +72,7 @@ module _ (rules : List ParserRule) (facts : Facts) (right : AreFacts rules facts
     where
       go : (o : Option ℕ) → Named rules n o → Rooted n r
       go o (absent h) = absurd (no_rule (sym h ∙ e))
-      go o (named {r = k} rule at h) = let (j, got) = got_like rules facts.table.roots.items k rule at (sym right.table.alike) in
+      go o (named {r = k} rule at h) = let (j, got) = got_alike rules facts.table.roots.items k rule at (sym right.table.alike) in
           let same : rule_said rule ≡ r = same_rule h e in
           rooted k j rule at got same (subst (λ z. Lies j z.body) same (says (kind_in G) facts.table.kinds.items j (view rule.node) (right.table.stand k j rule at got)))
 
@@ -111,7 +100,7 @@ module _ (rules : List ParserRule) (facts : Facts) (right : AreFacts rules facts
     where
       skipped_rule : (n : Text) (r : Rule) → IsSkipped n → rule_of G n ≡ Some r → IsNullable G r.body → Rooted n r → ⊥
       skipped_rule n r s e d (rooted k i rule at got same lies) =
-          clash _ (null_at i r.body lies d) (skips k rule i at got (ap is_skipped_name (ap (λ z. z.name) same ∙ (bytes_eq-Decides r.name n).0 (named_so G n r e)) ∙ skipped_name n s))
+          clash _ (null_at i r.body lies d) (skips k rule i at got (ap is_skipped_name (ap (λ z. z.name) same ∙ (bytes_eq-Decides r.name n).0 (rule_name G n r e)) ∙ skipped_name n s))
 
       again : (x e : Expression) → Repeats x e → InRules G x → IsNullable G e → ⊥
       again x e repeats_any h d = let (k, s) = in_lies x h in clash _ (null_at s.0 e s.3 d) (takes k _ s.2)

@@ -4,24 +4,23 @@ use Rattle.std.specs.List.{Contains}
 use Rattle.std.proofs.Math.ListN.{set}
 use Rattle.std.proofs.lemmas.Option.{slice_get_within}
 use Rattle.meta_base.specs.Language.Text.{Text}
-use Rattle.meta_base.specs.Language.Expression.{Expression, Ident, Rule, Grammar, rule_of}
+use Rattle.meta_base.specs.Language.Expression.{Expression, Ident, Rule, Grammar, rule_of, last_place}
 use Rattle.meta_base.specs.Language.WellFormed.{Leads}
+use Rattle.meta_base.proofs.Basics.{one_item}
 use Rattle.meta_nodes.specs.Erasure.{without_spans, rule_without_spans}
 use Rattle.meta_nodes.specs.Nodes.{rule_view, rule_views}
 use Rattle.meta_nodes.specs.Spanned.{Spanned, Seq, Choice, SpannedRule}
 use Rattle.meta_nodes.specs.declared.node.ParserRule.{ParserRule}
 use Rattle.meta_flags.specs.Least.{unset}
 use Rattle.meta_validator.specs.LeftRecursion.{Closed, Means, Walks, walks_over, walks_closing, walks_outside, walks_again, walks_into, walks_inside, walks_first, walks_second, walks_neither, walks_other}
-use Rattle.meta_table.specs.Names.{grammar_of, last_place}
+use Rattle.meta_table.specs.Names.{grammar_of}
 use Rattle.meta_validator.specs.Searching.{NeverComesBack}
 use Rattle.meta_validator.specs.Walk.{Walked, w_name, w_first, w_second, w_left, w_right, WalkLeads, w_at_once, w_by_way}
 use Rattle.meta_table.proofs.Resolved.{Named, absent, named, resolved}
 use Rattle.meta_validator.proofs.NoneWalks.{walked_round, in_rules, IsFine, flags_more, unset_flags, no_flags, none_walked}
 use Rattle.meta_validator.proofs.RegionLemmas.{got_rule}
 use Rattle.meta_validator.proofs.Walk.{leads, no_cycle}
-
-same_some : {A : Type 0} {o : Option A} {a b : A} → o ≡ Some a → o ≡ Some b → a ≡ b
-same_some e f = let h = sym e ∙ f in cc
+use Rattle.meta_validator.proofs.Reports.{begins_at}
 
 module _ (rules : List ParserRule) (start : ℕ) where
   abbrev V : List SpannedRule
@@ -39,7 +38,7 @@ module _ (rules : List ParserRule) (start : ℕ) where
       go o h (named {r = m} rule here f) =
           let same : m ≡ k = cc in
           let (q, got, view) = got_rule rules k r at in
-          let one : rule ≡ q = same_some (subst (λ z. slice_get rules z ≡ Some rule) same here) got in
+          let one : rule ≡ q = one_item (subst (λ z. slice_get rules z ≡ Some rule) same here) got in
           f ∙ ap (λ z. Some (rule_without_spans z)) (ap rule_view one ∙ view)
 
   -- the walk over an expression in the body of v comes to a call of the start, at once or by way of others
@@ -62,7 +61,7 @@ module _ (rules : List ParserRule) (start : ℕ) where
   reaches (walks_again m a b) z e = cc
   reaches (walks_into {v = v} {n = n} {k = k} {r = r} means apart out at w) z e =
       let (q, got, name) = in_rules V n k means in
-      through v n r (rule_meant n k r means at) (ap (λ y. y.name) (same_some at got) ∙ name) (reaches w z e)
+      through v n r (rule_meant n k r means at) (ap (λ y. y.name) (one_item at got) ∙ name) (reaches w z e)
   reaches (walks_inside {v = v} {f = f} w) z e = further (λ n d. walked_round V v f d) (reaches w z e)
   reaches (walks_first {f = Seq} w) z e = further (λ n d. w_first d) (reaches w z e)
   reaches (walks_first {f = Choice} w) z e = further (λ n d. w_left d) (reaches w z e)
@@ -72,7 +71,7 @@ module _ (rules : List ParserRule) (start : ℕ) where
 
   -- a name that means the start is its name
   its_name : (r : SpannedRule) → slice_get V start ≡ Some r → (n : Text) → Means V n start → n ≡ r.name
-  its_name r at n means = let (q, got, name) = in_rules V n start means in sym name ∙ ap (λ y. y.name) (same_some got at)
+  its_name r at n means = let (q, got, name) = in_rules V n start means in sym name ∙ ap (λ y. y.name) (one_item got at)
 
   pub closing_leads : (r : SpannedRule) (z : Closed) → slice_get V start ≡ Some r → Means V r.name start → Walks V start (start ∷ []) r.name r.body (Some z) → (n : Text) × Leads G n n
   closing_leads r z at means w = (r.name, leads G (go (reaches w z refl)))
@@ -96,7 +95,7 @@ module _ (rules : List ParserRule) (start : ℕ) where
     onward : (k : ℕ) (q : SpannedRule) → IsReached k → slice_get V k ≡ Some q → IsFine V start [] IsReached q.name (without_spans q.body)
     onward k q (n, m, l) here j (i, w, d) =
         let (p, got, name) = in_rules V n k m in
-        let same : q.name ≡ n = ap (λ y. y.name) (same_some here got) ∙ name in
+        let same : q.name ≡ n = ap (λ y. y.name) (one_item here got) ∙ name in
         let further = w_by_way l (w_at_once (rule_meant n k q m here) (subst (λ z. Walked G z (without_spans q.body) i) same w)) in
         (apart i j d further, inr (i, d, further))
 
@@ -112,10 +111,6 @@ module _ (rules : List ParserRule) (start : ℕ) where
         let f = flags_more (length V) [] (unset_flags (length V)) start (slice_get_within V start r at) (no_flags (length V)) in
         none_walked V start [] IsReached onward (unset flags) flags (start ∷ []) f (omega arith) (λ k h. absurd (nowhere k h)) r.name r.body first
 
-starts : {g : Grammar} {n k : Text} → WalkLeads g n k → (q : Rule) × (rule_of g n ≡ Some q)
-starts (w_at_once {r = q} e w) = (q, e)
-starts (w_by_way a b) = starts a
-
 -- where no walk comes back to its rule, no left calls do
 pub none_leads : (rules : List ParserRule) (roots : List ℕ) → ((k : ℕ) → k < length rules → NeverComesBack rules roots k) → (n : Text) → Leads (grammar_of rules) n n → ⊥
 none_leads rules roots f n l = no_cycle (grammar_of rules) never n l
@@ -125,4 +120,4 @@ none_leads rules roots f n l = no_cycle (grammar_of rules) never n l
     go n q e w o h (named {r = k} rule at g) = f k (slice_get_within rules k rule at) n h w
 
     never : (n : Text) → WalkLeads (grammar_of rules) n n → ⊥
-    never n w = let (q, e) = starts w in go n q e w (last_place (grammar_of rules) n) refl (resolved rules n)
+    never n w = let (q, e) = begins_at w in go n q e w (last_place (grammar_of rules) n) refl (resolved rules n)

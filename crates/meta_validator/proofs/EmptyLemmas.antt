@@ -5,11 +5,13 @@ use Rattle.std.specs.Option.{option_map}
 use Rattle.meta_base.specs.Language.Text.{Text}
 use Rattle.meta_base.specs.Language.Expression.{Expression, Rule, Grammar, rule_of}
 use Rattle.meta_base.specs.Language.WellFormed.{IsNullable, Leads, at_once, by_way, IsWellFormed}
+use Rattle.meta_base.proofs.Basics.{clash}
 use Rattle.meta_nodes.specs.Erasure.{without_spans}
 use Rattle.meta_nodes.specs.Nodes.{view, rule_view, rule_views}
 use Rattle.meta_nodes.specs.Spanned.{Span, Spanned, Leaf, One, Two, Unary, PosPred, NegPred, Opt, Rep, RepOnce, RepExact, RepMin, RepMax, RepMinMax, Push, Tag, Seq, Choice, SpannedRule}
 use Rattle.meta_nodes.specs.declared.node.ParserRule.{ParserRule}
 use Rattle.meta_flags.specs.Least.{is_set_at}
+use Rattle.meta_flags.proofs.LeastLemmas.{item_at}
 use Rattle.meta_validator.specs.Taking.{RepeatedTakes, AllRepeatedTake, SkippedTake}
 use Rattle.meta_nullable.specs.Facts.{AreFacts}
 use Rattle.meta_validator.specs.Findings.{Finding, Reports, reports_none, reports_at, OfRepeated, never_fails, takes_nothing, goes_on, OfRepetition, repetition, no_repetition, OfSkipped, skipped, not_skipped, is_endless, is_repetition, is_skipped_name}
@@ -21,11 +23,8 @@ use Rattle.meta_nullable.specs.declared.facts.Facts.{Facts}
 use Rattle.meta_nullable.specs.declared.kinds.Wrap.TheVariants as wraps
 use Rattle.meta_nullable.specs.declared.table.Kind.{Kind}
 use Rattle.meta_validator.proofs.Accepting.{well_formed}
-use Rattle.meta_validator.proofs.ReportingLemmas.{leaf_kinds, says_at, got_within}
+use Rattle.meta_validator.proofs.ReportingLemmas.{leaf_kinds, says_at}
 use Rattle.meta_nullable.proofs.Tying.{says}
-
-pub clash : (b : Bool) → b ≡ true → b ≡ false → ⊥
-clash b g h = let e = sym g ∙ h in cc
 
 pub empty_first : {A : Type 0} (xs ys : List A) → xs ++ ys ≡ [] → xs ≡ []
 empty_first [] ys h = refl
@@ -101,7 +100,7 @@ module _ (rules : List ParserRule) (facts : Facts) (right : AreFacts rules facts
   all_take h e i k at =
       let w = slice_get_within facts.table.kinds.items i k at in
       let n = right.tabled.nodes.alike in
-      let (x, here) = got_within (all_nodes rules) i (omega arith) in
+      let (x, here) = item_at (all_nodes rules) i (omega arith) in
       let (q, is_q, fit) = right.tabled.nodes.fit i x here in
       let same : q ≡ k = (let m = sym is_q ∙ at in cc) in
       subst (λ z. RepeatedTakes facts z) same (kind_takes i x q fit (reports_empty (OfRepetition G) h e i x here))

@@ -1,11 +1,12 @@
 -- Where numbers fall along left calls, no left call comes back.
 use Rattle.std.proofs.Common.{◌≡◌, ℕ, ◌+◌, ◌<◌, List, Option, Some, Bool, true, false, if◌then◌else◌, slice_get, nat_eq, sym, ◌∙◌, subst, arith}
 use Rattle.meta_base.specs.Language.Text.{Text}
-use Rattle.meta_base.specs.Language.Expression.{Expression, Rule, Grammar, rule_of}
+use Rattle.meta_base.specs.Language.Expression.{Expression, Rule, Grammar, rule_of, last_place}
 use Rattle.meta_base.specs.Language.WellFormed.{LeftCalls, left_name, left_first, left_second, left_pos_pred, left_neg_pred, left_left, left_right, left_opt, left_rep, left_rep_once, left_rep_exact, left_rep_min, left_rep_max, left_rep_min_max, left_push, left_restore, Leads, at_once, by_way, left_tag}
+use Rattle.meta_base.proofs.Basics.{got_alike}
 use Rattle.meta_nodes.specs.Nodes.{view}
 use Rattle.meta_nodes.specs.declared.node.ParserRule.{ParserRule}
-use Rattle.meta_table.specs.Names.{grammar_of, rule_said, last_place, is_end}
+use Rattle.meta_table.specs.Names.{grammar_of, rule_said, is_end}
 use Rattle.meta_nullable.specs.Names.{kind_in, name_kind}
 use Rattle.meta_nullable.specs.Kinds.{Says, counted, repeated, wrap_kind}
 use Rattle.meta_nullable.specs.Facts.{AreFacts}
@@ -14,7 +15,7 @@ use Rattle.meta_nullable.specs.declared.facts.Facts.{Facts}
 use Rattle.meta_nullable.specs.declared.table.Kind.{Kind}
 use Rattle.meta_nullable.specs.declared.kinds.Wrap.TheVariants as wraps
 use Rattle.meta_nullable.proofs.Tying.{says}
-use Rattle.meta_table.proofs.Resolved.{Named, absent, named, resolved, got_like}
+use Rattle.meta_table.proofs.Resolved.{Named, absent, named, resolved}
 use Rattle.meta_nullable.proofs.Answering.{same_rule, no_rule}
 
 pub data Root (rules : List ParserRule) (facts : Facts) (n : Text) : Option ℕ → ℕ → Type 0 where
@@ -42,7 +43,7 @@ module _ (rules : List ParserRule) (facts : Facts) (order : List ℕ) (right : A
     where
       go : (o : Option ℕ) → Named rules n o → (j : ℕ) × Root rules facts n o j
       go o (absent h) = absurd (no_rule (sym h ∙ e))
-      go o (named {r = k} rule at h) = let (j, got) = got_like rules facts.table.roots.items k rule at (sym right.table.alike) in
+      go o (named {r = k} rule at h) = let (j, got) = got_alike rules facts.table.roots.items k rule at (sym right.table.alike) in
           (j, root rule h got (says (kind_in G) facts.table.kinds.items j (view rule.node) (right.table.stand k j rule at got)))
 
   pub body_lies : (n : Text) (o : Option ℕ) (j : ℕ) (r : Rule) → rule_of G n ≡ Some r → Root rules facts n o j → Lies j r.body

@@ -5,7 +5,7 @@ use Rattle.std.specs.List.{Contains}
 use Rattle.std.proofs.Math.ListN.{set}
 use Rattle.meta_base.specs.Language.Text.{Text}
 use Rattle.meta_base.specs.Language.Expression as bare
-use Rattle.meta_base.specs.Language.Expression.{Expression, Ident, Grammar}
+use Rattle.meta_base.specs.Language.Expression.{Expression, Ident, Grammar, last_place}
 use Rattle.meta_base.specs.Language.WellFormed.{IsNullable}
 use Rattle.meta_nodes.specs.Erasure.{without_spans}
 use Rattle.meta_nodes.specs.Nodes.{rule_views}
@@ -14,7 +14,7 @@ use Rattle.meta_nodes.specs.declared.node.ParserRule.{ParserRule}
 use Rattle.meta_flags.specs.Least.{is_set_at}
 use Rattle.meta_nullable.specs.Facts.{AreFacts}
 use Rattle.meta_validator.specs.LeftRecursion.{IsNoName, said, Means, Passes}
-use Rattle.meta_table.specs.Names.{grammar_of, last_place, is_end}
+use Rattle.meta_table.specs.Names.{grammar_of, is_end}
 use Rattle.meta_nullable.specs.Names.{kind_in, name_kind}
 use Rattle.meta_table.specs.Nodes.{IsSimple, all_nodes, size}
 use Rattle.meta_nullable.specs.Kinds.{Fits, leaf_kind, wrap_kind, wrap_of, both_kind}

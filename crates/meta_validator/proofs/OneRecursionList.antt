@@ -2,14 +2,11 @@
 use Rattle.std.proofs.Common.{◌≡◌, ℕ, List, [], ◌∷◌, ◌++◌, Option, Some, None, slice_get, refl, sym, ◌∙◌, ap, subst}
 use Rattle.std.specs.List.{Contains}
 use Rattle.meta_base.specs.Language.Text.{Text}
-use Rattle.meta_base.specs.Language.Expression.{Expression, Ident}
+use Rattle.meta_base.specs.Language.Expression.{Expression, Ident, last_place}
+use Rattle.meta_base.proofs.Basics.{one_item}
 use Rattle.meta_nodes.specs.Spanned.{Span, Spanned, Leaf, One, Two, Unary, Seq, Choice, SpannedRule}
 use Rattle.meta_validator.specs.Findings.{Finding, found_at, Reports, reports_none, reports_at, OfRecursion, recursive, not_recursive, hidden}
 use Rattle.meta_validator.specs.LeftRecursion.{Closed, IsNoName, said, Means, Passes, told_trail, Walks, walks_over, walks_closing, walks_outside, walks_again, walks_into, walks_inside, walks_first, walks_second, walks_neither, walks_other}
-use Rattle.meta_table.specs.Names.{last_place}
-
-same_some : {A : Type 0} {o : Option A} {a b : A} → o ≡ Some a → o ≡ Some b → a ≡ b
-same_some e f = let h = sym e ∙ f in cc
 
 some_none : {A : Type 0} {o : Option A} {a : A} → o ≡ Some a → o ≡ None → ⊥
 some_none e f = let h = sym e ∙ f in cc
@@ -104,8 +101,8 @@ module _ (rules : List SpannedRule) (start : ℕ) where
   one_walk (walks_closing {n = n} {s = s} m) p w = elim (at_name w n s refl) [
     | at_start a e ↦ sym e
     | at_nothing a e ↦ absurd (some_none m a)
-    | at_entered k a apart d e ↦ absurd (apart (same_some a m))
-    | at_rule k r a apart out at u ↦ absurd (apart (same_some a m))
+    | at_entered k a apart d e ↦ absurd (apart (one_item a m))
+    | at_rule k r a apart out at u ↦ absurd (apart (one_item a m))
   ]
   one_walk (walks_outside {n = n} {s = s} h) p w = elim (at_name w n s refl) [
     | at_start a e ↦ absurd (some_none a h)
@@ -114,17 +111,17 @@ module _ (rules : List SpannedRule) (start : ℕ) where
     | at_rule k r a apart out at u ↦ absurd (some_none a h)
   ]
   one_walk {c} (walks_again {n = n} {s = s} {k = j} m away b) p w = elim (at_name w n s refl) [
-    | at_start a e ↦ absurd (away (same_some m a))
+    | at_start a e ↦ absurd (away (one_item m a))
     | at_nothing a e ↦ sym e
     | at_entered k a apart d e ↦ sym e
-    | at_rule k r a apart out at u ↦ absurd (out (subst (λ z. Contains c z) (same_some m a) b))
+    | at_rule k r a apart out at u ↦ absurd (out (subst (λ z. Contains c z) (one_item m a) b))
   ]
   one_walk {c} {v} {x} {o} (walks_into {n = n} {s = s} {k = j} {r = q} m away far here d) p w = elim (at_name w n s refl) [
-    | at_start a e ↦ absurd (away (same_some m a))
+    | at_start a e ↦ absurd (away (one_item m a))
     | at_nothing a e ↦ absurd (some_none m a)
-    | at_entered k a apart b e ↦ absurd (far (subst (λ z. Contains c z) (same_some a m) b))
-    | at_rule k r a apart out at u ↦ (let place : k ≡ j = same_some a m in
-        let rule : r ≡ q = same_some (subst (λ z. slice_get rules z ≡ Some r) place at) here in
+    | at_entered k a apart b e ↦ absurd (far (subst (λ z. Contains c z) (one_item a m) b))
+    | at_rule k r a apart out at u ↦ (let place : k ≡ j = one_item a m in
+        let rule : r ≡ q = one_item (subst (λ z. slice_get rules z ≡ Some r) place at) here in
         one_walk d p (subst (λ z. Walks rules start (c ++ j ∷ []) z.name z.body p) rule (subst (λ z. Walks rules start (c ++ z ∷ []) r.name r.body p) place u)))
   ]
   one_walk (walks_inside {s = s} {f = f} {x = y} d) p w = one_walk d p (at_one w s f y refl)
@@ -155,17 +152,17 @@ module _ (rules : List SpannedRule) (start : ℕ) where
 -- 3. of each rule one list is found, and of all of them
 same_found : {rules : List SpannedRule} {k : ℕ} {fs gs : List Finding} → OfRecursion rules k fs → OfRecursion rules k gs → fs ≡ gs
 same_found {rules} (recursive {k = k} {r = r} {closed = z} at m w) (recursive {r = q} {closed = y} here n u) =
-    let rule : q ≡ r = same_some here at in
-    let one : z ≡ y = same_some refl (one_walk rules k w (Some y) (subst (λ t. Walks rules k (k ∷ []) t.name t.body (Some y)) rule u)) in
+    let rule : q ≡ r = one_item here at in
+    let one : z ≡ y = one_item refl (one_walk rules k w (Some y) (subst (λ t. Walks rules k (k ∷ []) t.name t.body (Some y)) rule u)) in
     ap (λ t. found_at t.call (told_trail rules r t) ∷ []) one ∙ ap (λ t. found_at y.call (told_trail rules t y) ∷ []) (sym rule)
 same_found {rules} (recursive {k = k} {r = r} {closed = z} at m w) (not_recursive {r = q} here n u) =
-    absurd (some_none refl (one_walk rules k w None (subst (λ t. Walks rules k (k ∷ []) t.name t.body None) (same_some here at) u)))
-same_found {rules} (recursive {k = k} {r = r} at m w) (hidden {r = q} here out) = absurd (out (subst (λ t. Means rules t.name k) (same_some at here) m))
+    absurd (some_none refl (one_walk rules k w None (subst (λ t. Walks rules k (k ∷ []) t.name t.body None) (one_item here at) u)))
+same_found {rules} (recursive {k = k} {r = r} at m w) (hidden {r = q} here out) = absurd (out (subst (λ t. Means rules t.name k) (one_item at here) m))
 same_found {rules} (not_recursive {k = k} {r = r} at m w) (recursive {r = q} {closed = y} here n u) =
-    absurd (some_none refl (sym (one_walk rules k w (Some y) (subst (λ t. Walks rules k (k ∷ []) t.name t.body (Some y)) (same_some here at) u))))
+    absurd (some_none refl (sym (one_walk rules k w (Some y) (subst (λ t. Walks rules k (k ∷ []) t.name t.body (Some y)) (one_item here at) u))))
 same_found (not_recursive at m w) (not_recursive here n u) = refl
 same_found (not_recursive at m w) (hidden here out) = refl
-same_found {rules} (hidden {k = k} {r = r} at out) (recursive {r = q} here n u) = absurd (out (subst (λ t. Means rules t.name k) (same_some here at) n))
+same_found {rules} (hidden {k = k} {r = r} at out) (recursive {r = q} here n u) = absurd (out (subst (λ t. Means rules t.name k) (one_item here at) n))
 same_found (hidden at out) (not_recursive here n u) = refl
 same_found (hidden at out) (hidden here far) = refl
 

@@ -5,7 +5,7 @@ use Rattle.std.specs.Cmp.{unsigned_Decides}
 use Rattle.std.specs.Option.{option_map}
 use Rattle.std.proofs.lemmas.Option.{slice_get-map}
 use Rattle.meta_base.specs.Language.Text.{Text}
-use Rattle.meta_base.specs.Language.Expression.{Expression, Str, Insens, Range, Ident, PeekSlice, PosPred, NegPred, Seq, Choice, Opt, Rep, RepOnce, RepExact, RepMin, RepMax, RepMinMax, Skip, Push, RestoreOnErr, Rule, Grammar, rule_of, PushLiteral, NodeTag}
+use Rattle.meta_base.specs.Language.Expression.{Expression, Str, Insens, Range, Ident, PeekSlice, PosPred, NegPred, Seq, Choice, Opt, Rep, RepOnce, RepExact, RepMin, RepMax, RepMinMax, Skip, Push, RestoreOnErr, Rule, Grammar, rule_of, PushLiteral, NodeTag, last_place}
 use Rattle.meta_base.specs.Language.WellFormed.{IsNullable, nullable_str, nullable_insens, nullable_soi, nullable_eoi, nullable_call, nullable_pos_pred, nullable_neg_pred, nullable_opt, nullable_rep, nullable_rep_max, nullable_seq, nullable_left, nullable_right, nullable_rep_once, nullable_push, nullable_exact_zero, nullable_exact, nullable_min_zero, nullable_min, nullable_min_max_zero, nullable_min_max, nullable_skip, nullable_restore, nullable_push_literal, nullable_tag}
 use Rattle.meta_nodes.specs.Erasure.{without_spans, rule_without_spans}
 use Rattle.meta_nodes.specs.Nodes.{rule_view, rule_views}
@@ -15,7 +15,7 @@ use Rattle.meta_flags.specs.Least.{is_set_at}
 use Rattle.meta_nullable.specs.Facts.{AreFacts}
 use Rattle.meta_validator.specs.LeftRecursion.{Means}
 use Rattle.meta_nullable.specs.RightAnswers.{AreSound, AreClosed}
-use Rattle.meta_table.specs.Names.{grammar_of, last_place, is_end}
+use Rattle.meta_table.specs.Names.{grammar_of, is_end}
 use Rattle.meta_nullable.specs.Names.{kind_in, name_kind}
 use Rattle.meta_table.specs.Nodes.{all_nodes}
 use Rattle.meta_nullable.specs.Kinds.{Says, counted, repeated, wrap_kind, text_kind}

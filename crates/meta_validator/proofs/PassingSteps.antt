@@ -1,5 +1,5 @@
 -- Flags for one rule more.
-use Rattle.std.proofs.Common.{◌≡◌, ℕ, zero, suc, ◌+◌, ◌<◌, ◌≤◌, List, [], ◌∷◌, ◌++◌, Some, Bool, slice_get, unwrap_or, length, refl, sym, ◌∙◌, ap, subst, arith}
+use Rattle.std.proofs.Common.{◌≡◌, ℕ, zero, suc, ◌+◌, ◌<◌, ◌≤◌, List, Some, Bool, slice_get, unwrap_or, length, refl, sym, ◌∙◌, ap, subst, arith}
 use Rattle.std.specs.Bool.{Decides}
 use Rattle.std.proofs.lemmas.Option.{slice_get_within}
 use Rattle.meta_base.specs.Language.WellFormed.{IsNullable}
@@ -16,16 +16,6 @@ use Rattle.meta_table.specs.Roots.{root_of, first_of}
 use Rattle.meta_validator.specs.Walk.{without}
 use Rattle.meta_validator.proofs.RegionLemmas.{rises}
 use Rattle.meta_table.proofs.LayoutLemmas.{some_size}
-
--- one flag more
-pub flag_before : (bs : List Bool) (b : Bool) (i : ℕ) → i < length bs → is_set_at (bs ++ b ∷ []) i ≡ is_set_at bs i
-flag_before [] b i h = absurd (omega arith)
-flag_before (a ∷ bs) b zero h = refl
-flag_before (a ∷ bs) b (suc i) h = flag_before bs b i (omega arith)
-
-pub flag_at : (bs : List Bool) (b : Bool) → is_set_at (bs ++ b ∷ []) (length bs) ≡ b
-flag_at [] b = refl
-flag_at (a ∷ bs) b = flag_at bs b
 
 pub data Lower (k m : ℕ) : Type 0 where
   lower : k < m → Lower k m

@@ -5,16 +5,18 @@ use Rattle.std.specs.Option.{option_map}
 use Rattle.std.proofs.lemmas.List.{append_assoc, length-map}
 use Rattle.std.proofs.lemmas.Option.{slice_get-map, slice_get_past}
 use Rattle.std.proofs.lemmas.Str.{encodes-chars, IsUtf8-string_bytes}
+use Rattle.meta_flags.proofs.LeastLemmas.{item_at}
 use Rattle.meta_base.specs.Language.Text.{Text}
 use Rattle.meta_base.specs.Language.WellFormed.{Leads}
+use Rattle.meta_base.specs.Language.Expression.{last_place}
 use Rattle.meta_nodes.specs.Nodes.{rule_view, rule_views}
 use Rattle.meta_nodes.specs.Spanned.{Span, SpannedRule}
 use Rattle.meta_nodes.specs.declared.node.ParserRule.{ParserRule}
 use Rattle.meta_validator.specs.Findings.{Finding, found_at, Reports, reports_none, reports_at, OfRecursion, recursive, not_recursive, hidden, places}
 use Rattle.meta_validator.specs.LeftRecursion.{said, Means, Walks, name_at, told_trail}
-use Rattle.meta_table.specs.Names.{grammar_of, last_place}
+use Rattle.meta_table.specs.Names.{grammar_of}
 use Rattle.meta_validator.proofs.ClosingLemmas.{closing_leads, none_comes}
-use Rattle.meta_validator.proofs.ReportingLemmas.{reports_more, got_within}
+use Rattle.meta_validator.proofs.ReportingLemmas.{reports_more}
 use Rattle.meta_validator.proofs.SearchLemmas.{same_place, other_place, compared}
 use Rattle.meta_validator.proofs.Walk.{no_walk}
 
@@ -68,7 +70,7 @@ module _ (rules : List ParserRule) where
       ]
 
   pub view_at : (k : ℕ) → k < length rules → (r : SpannedRule) × (slice_get V k ≡ Some r)
-  view_at k h = got_within V k (let e = as_many in omega arith)
+  view_at k h = item_at V k (let e = as_many in omega arith)
 
   -- the message of code says what is to be said
   pub told_right : (k : ℕ) (r q : SpannedRule) (trail used message : List ℕ) (call here : Span) → slice_get V k ≡ Some r → Means V r.name k → Walks V k (k ∷ []) r.name r.body (Some (record { trail = trail; call = call }))
@@ -87,7 +89,7 @@ module _ (rules : List ParserRule) where
 
   -- where left calls have no cycle, nothing is found
   pub none_found : ((n : Text) → Leads (grammar_of rules) n n → ⊥) → Reports (OfRecursion V) (places V) []
-  none_found f = none_in_range (OfRecursion V) 0 (length V) (λ k h. let (r, at) = got_within V k (omega arith) in
+  none_found f = none_in_range (OfRecursion V) 0 (length V) (λ k h. let (r, at) = item_at V k (omega arith) in
       elim (means_or_not r.name k) [
         | inl means ↦ not_recursive at means (none_comes rules k r at means (no_walk (grammar_of rules) f r.name))
         | inr out ↦ hidden at out

@@ -2,6 +2,8 @@
 use Rattle.std.proofs.Common.{◌≡◌, ℕ, zero, suc, ◌+◌, ◌<◌, ◌≤◌, List, Option, Some, None, slice_get, unwrap_or, length, refl, sym, ◌∙◌, ap, arith, inl, inr, ◌⊎◌}
 use Rattle.std.specs.Option.{option_map}
 use Rattle.std.proofs.lemmas.Option.{slice_get_within, slice_get-map}
+use Rattle.meta_flags.proofs.LeastLemmas.{item_at}
+use Rattle.meta_base.proofs.Basics.{got_alike}
 use Rattle.meta_nodes.specs.Nodes.{view, rule_view, rule_views}
 use Rattle.meta_nodes.specs.Spanned.{Span, Spanned, One, Two, Unary, Binary, SpannedRule}
 use Rattle.meta_nodes.specs.declared.node.ParserRule.{ParserRule}
@@ -9,8 +11,6 @@ use Rattle.meta_table.specs.Roots.{AreRoots}
 use Rattle.meta_table.specs.Nodes.{all_nodes, size}
 use Rattle.meta_validator.specs.Regions.{IsNodeOf}
 use Rattle.meta_table.specs.Roots.{root_of, first_of}
-use Rattle.meta_table.proofs.Resolved.{got_like}
-use Rattle.meta_validator.proofs.ReportingLemmas.{got_within}
 use Rattle.meta_table.proofs.LayoutLemmas.{some_size}
 
 pub got_rule : (rules : List ParserRule) (k : ℕ) (r : SpannedRule) → slice_get (rule_views rules) k ≡ Some r → (rule : ParserRule) × (slice_get rules k ≡ Some rule) × (rule_view rule ≡ r)
@@ -34,15 +34,15 @@ module _ (rules : List ParserRule) (roots : List ℕ) (are : AreRoots rules (all
 
   -- the rule whose body has this number
   pub rule_at : (k i : ℕ) → slice_get roots k ≡ Some i → (rule : ParserRule) × (slice_get rules k ≡ Some rule)
-  rule_at k i e = let w = slice_get_within roots k i e in let a = are.alike in got_within rules k (omega arith)
+  rule_at k i e = let w = slice_get_within roots k i e in let a = are.alike in item_at rules k (omega arith)
 
   pub has_root : (k : ℕ) (r : SpannedRule) → slice_get (rule_views rules) k ≡ Some r → (i : ℕ) × (slice_get roots k ≡ Some i)
-  has_root k r e = let (rule, here, same) = got_rule rules k r e in got_like rules roots k rule here (sym are.alike)
+  has_root k r e = let (rule, here, same) = got_rule rules k r e in got_alike rules roots k rule here (sym are.alike)
 
   -- bodies follow one another
   pub rises : (k m : ℕ) → k < m → m ≤ length roots → suc (root_of roots k) ≤ first_of roots m
   rises k zero l h = absurd (omega arith)
-  rises k (suc m) l h = go (rises k m) (got_within roots m (omega arith))
+  rises k (suc m) l h = go (rises k m) (item_at roots m (omega arith))
     where
       below : (x y : ℕ) → x < suc y → (x ≡ y) ⊎ (x < y)
       below zero zero h = inl refl
@@ -55,7 +55,7 @@ module _ (rules : List ParserRule) (roots : List ℕ) (are : AreRoots rules (all
         | inl s ↦ (let t = ap (λ z. root_of roots z) s in omega arith)
         | inr s ↦ (
             let a = f s (omega arith) in
-            let (rule, at) = got_within rules m (let n = are.alike in let w = slice_get_within roots m i e in omega arith) in
+            let (rule, at) = item_at rules m (let n = are.alike in let w = slice_get_within roots m i e in omega arith) in
             let b = are.begin m i rule at e in
             let c = some_size (view rule.node) in
             let d = root_at roots m i e in

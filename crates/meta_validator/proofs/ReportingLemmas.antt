@@ -1,21 +1,24 @@
 -- What is reported by the facts is what is found.
-use Rattle.std.proofs.Common.{zero, suc, length, ◌≡◌, ℕ, ◌+◌, ◌<◌, List, [], ◌∷◌, ◌++◌, take, get_or, Option, Some, None, Bool, true, false, if◌then◌else◌, nat_eq, slice_get, refl, sym, ◌∙◌, ap, subst, codes, string_bytes, arith}
+use Rattle.std.proofs.Common.{length, ◌≡◌, ℕ, ◌+◌, ◌<◌, List, [], ◌∷◌, ◌++◌, take, get_or, Option, Some, None, Bool, true, false, if◌then◌else◌, nat_eq, slice_get, refl, sym, ◌∙◌, ap, subst, codes, string_bytes}
 use Rattle.std.specs.Option.{option_map}
 use Rattle.std.proofs.lemmas.List.{append_assoc, append-nil, take_more, map-append}
 use Rattle.std.proofs.lemmas.Option.{slice_get_within, get_or_from_slice_get, slice_get-map}
 use Rattle.std.proofs.lemmas.Str.{encodes-chars, IsUtf8-string_bytes}
 use Rattle.meta_ast.specs.Ast.{text_of}
 use Rattle.meta_base.specs.Language.Expression as bare
-use Rattle.meta_base.specs.Language.Expression.{Expression, Grammar}
+use Rattle.meta_base.specs.Language.Expression.{Expression, Grammar, last_place}
 use Rattle.meta_base.specs.declared.runtime.places.Span as code_span
+use Rattle.meta_base.proofs.Basics.{clash, got_alike}
 use Rattle.meta_nodes.specs.Erasure.{without_spans}
 use Rattle.meta_nodes.specs.Nodes.{view, piece_of, rule_view, rule_views}
 use Rattle.meta_nodes.specs.Spanned.{Span, span_of, Spanned, Leaf, One, Two, Unary, PosPred, NegPred, Opt, Rep, RepOnce, RepExact, RepMin, RepMax, RepMinMax, Push, Tag, Seq, Choice}
 use Rattle.meta_nodes.specs.declared.node.ParserRule.{ParserRule}
+use Rattle.meta_nodes.proofs.Places.{span_at}
 use Rattle.meta_flags.specs.Least.{is_set_at}
+use Rattle.meta_flags.proofs.LeastLemmas.{item_at}
 use Rattle.meta_nullable.specs.Facts.{AreFacts}
 use Rattle.meta_validator.specs.Findings.{Finding, found_at, is_skipped_name, last_alternative, Reports, reports_none, reports_at, OfRepeated, never_fails, takes_nothing, goes_on, OfRepetition, repetition, no_repetition, OfChoice, unreachable, reachable, no_choice, OfSkipped, skipped, not_skipped}
-use Rattle.meta_table.specs.Names.{grammar_of, last_place, is_end}
+use Rattle.meta_table.specs.Names.{grammar_of, is_end}
 use Rattle.meta_nullable.specs.Names.{kind_in, name_kind}
 use Rattle.meta_table.specs.Nodes.{all_nodes}
 use Rattle.meta_nullable.specs.Kinds.{Says, Fits, leaf_kind, wrap_kind, wrap_of}
@@ -25,9 +28,7 @@ use Rattle.meta_nullable.specs.declared.kinds.Wrap.{Wrap}
 use Rattle.meta_nullable.specs.declared.kinds.Wrap.TheVariants as wraps
 use Rattle.meta_nullable.specs.declared.table.Kind.{Kind}
 use Rattle.meta_nullable.specs.declared.table.Kind.TheVariants as is
-use Rattle.meta_table.proofs.Resolved.{got_like}
 use Rattle.meta_nullable.proofs.Tying.{stands_at, says}
-use Rattle.meta_table.proofs.Numbered.{span_at}
 
 -- 1. one more is looked at
 pub reports_more : {X : Type 0} (R : X → List Finding → Type 0) {xs : List X} {fs : List Finding} → Reports R xs fs → (x : X) (gs : List Finding) → R x gs → Reports R (xs ++ x ∷ []) (fs ++ gs)
@@ -39,11 +40,6 @@ report_step R xs i x fs gs e h r =
     let w = slice_get_within xs i x e in
     let g : get_or xs i x ≡ x = get_or_from_slice_get xs i x x e in
     subst (λ z. Reports R z (fs ++ gs)) (sym (take_more xs i x w ∙ ap (λ y. take i xs ++ y ∷ []) g)) (reports_more R h x gs r)
-
-pub got_within : {A : Type 0} (xs : List A) (i : ℕ) → i < length xs → (x : A) × (slice_get xs i ≡ Some x)
-got_within [] i h = absurd (omega arith)
-got_within (x ∷ xs) zero h = (x, refl)
-got_within (x ∷ xs) (suc i) h = got_within xs i (omega arith)
 
 -- 2. kinds of names and of expressions without operands
 name_kinds : (P : Kind → Type 0) → P is.Taking → P is.End → ((r : ℕ) → P (is.Call r)) → ((r : ℕ) → P (is.EndCall r)) → (b : Bool) (o : Option ℕ) → P (name_kind b o)
@@ -84,9 +80,6 @@ wrap_kinds P a b c d e f wraps.Free j = c j
 wrap_kinds P a b c d e f wraps.Inside j = d j
 wrap_kinds P a b c d e f wraps.Again j = e j
 wrap_kinds P a b c d e f wraps.OnceAgain j = f j
-
-clash : (b : Bool) → b ≡ true → b ≡ false → ⊥
-clash b g h = let e = sym g ∙ h in cc
 
 module _ (rules : List ParserRule) (facts : Facts) (right : AreFacts rules facts) where
   abbrev G : Grammar
@@ -200,12 +193,12 @@ module _ (rules : List ParserRule) (facts : Facts) (right : AreFacts rules facts
         (subst (λ o. OfRepetition G x (repetition_at facts (piece_of s) o)) (sym is_k) (subst (λ z. OfRepetition G x (repetition_at facts z (Some k))) same (kind_repetition i x k fit)))
 
     pub choice_step : (i : ℕ) (fs : List Finding) → i < length spans → Reports (OfChoice G) (take i nodes) fs → Reports (OfChoice G) (take (i + 1) nodes) (fs ++ choice_at facts spans (slice_get kinds i))
-    choice_step i fs w h = let (s, e) = got_within spans i w in let (x, at, same) = node_got i s e in let (k, is_k, fit) = right.tabled.nodes.fit i x at in
+    choice_step i fs w h = let (s, e) = item_at spans i w in let (x, at, same) = node_got i s e in let (k, is_k, fit) = right.tabled.nodes.fit i x at in
         report_step (OfChoice G) nodes i x fs _ at h (subst (λ o. OfChoice G x (choice_at facts spans o)) (sym is_k) (kind_choice i x k fit))
 
   -- 5. rules that are skipped
   skipped_right : (r : ℕ) (rule : ParserRule) → slice_get rules r ≡ Some rule → OfSkipped G (rule_view rule) (skipped_at facts rule (slice_get facts.table.roots.items r))
-  skipped_right r rule e = let (i, at) = got_like rules facts.table.roots.items r rule e (sym right.table.alike) in
+  skipped_right r rule e = let (i, at) = got_alike rules facts.table.roots.items r rule e (sym right.table.alike) in
       subst (λ o. OfSkipped G (rule_view rule) (skipped_at facts rule o)) (sym at) (go i at (is_skipped_name (text_of rule.name)) refl)
     where
       go : (i : ℕ) → slice_get facts.table.roots.items r ≡ Some i → (b : Bool) → is_skipped_name (text_of rule.name) ≡ b → OfSkipped G (rule_view rule) (if b then repeated_at facts (string_bytes rule.name) (piece_of rule.node.span) i else [])

@@ -32,7 +32,7 @@ no_end : {n : Text} → IsSkipped n → (n ≡ codes "SOI") ⊎ (n ≡ codes "EO
 no_end is_whitespace e = whitespace_no_end e
 no_end is_comment e = comment_no_end e
 
-begins_at : {g : Grammar} {n k : Text} → WalkLeads g n k → (r : Rule) × (rule_of g n ≡ Some r)
+pub begins_at : {g : Grammar} {n k : Text} → WalkLeads g n k → (r : Rule) × (rule_of g n ≡ Some r)
 begins_at (w_at_once {r = r} e w) = (r, e)
 begins_at (w_by_way a b) = begins_at a
 

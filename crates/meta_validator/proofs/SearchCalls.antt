@@ -5,14 +5,14 @@ use Rattle.std.proofs.Math.ListN.{set, length-set}
 use Rattle.std.proofs.lemmas.List.Elements.{Contains-append_left, Contains-append_cases}
 use Rattle.std.proofs.lemmas.Option.{slice_get_within}
 use Rattle.meta_base.specs.Language.Text.{Text}
-use Rattle.meta_base.specs.Language.Expression.{Expression, Ident}
+use Rattle.meta_base.specs.Language.Expression.{Expression, Ident, last_place}
 use Rattle.meta_base.specs.Language.Expression as bare
+use Rattle.meta_base.proofs.Basics.{clash, one_item}
 use Rattle.meta_nodes.specs.Erasure.{without_spans}
 use Rattle.meta_nodes.specs.Spanned.{Spanned, Leaf, SpannedRule, Span}
 use Rattle.meta_nodes.specs.declared.node.ParserRule.{ParserRule}
 use Rattle.meta_flags.specs.Least.{is_set_at, unset}
 use Rattle.meta_validator.specs.LeftRecursion.{Closed, IsNoName, said, Means, Walks, walks_over, walks_closing, walks_outside, walks_again, walks_into}
-use Rattle.meta_table.specs.Names.{last_place}
 use Rattle.meta_table.specs.Nodes.{all_nodes, IsSimple}
 use Rattle.meta_validator.specs.Regions.{IsNodeOf}
 use Rattle.meta_validator.specs.Searching.{ordered, after, views, Calls, name_of, last_name, Comes, Goes, Owes, IsKnown, AreCovered, AreSettled, IsSought, IsSearch}
@@ -20,8 +20,8 @@ use Rattle.meta_validator.specs.Walk.{Walked, w_name}
 use Rattle.meta_validator.specs.declared.recursions.Task.{Task}
 use Rattle.meta_validator.specs.declared.recursions.Task.TheVariants.{Visit, Leave}
 use Rattle.meta_flags.proofs.LeastLemmas.{set_or_one}
-use Rattle.meta_validator.proofs.NoneWalks.{Flags, flags_more, no_flags, unset_flags, none_walked, at_end, set_keeps, set_sets, in_rules, IsFine}
-use Rattle.meta_validator.proofs.SearchLemmas.{same_rule, one_in, nothing}
+use Rattle.meta_validator.proofs.NoneWalks.{Flags, flags_more, no_flags, unset_flags, none_walked, at_end, set_keeps, set_sets, in_rules, IsFine, alone}
+use Rattle.meta_validator.proofs.SearchLemmas.{nothing}
 
 name_walked : (rules : List SpannedRule) (v n k : Text) → Walked (said rules) v (Ident n) k → n ≡ k
 name_walked rules v n k w_name = refl
@@ -34,9 +34,6 @@ simple_none rules v (bare.PushLiteral t) n s h w = elim w [ ]
 simple_none rules v (bare.PeekSlice i j) n s h w = elim w [ ]
 simple_none rules v (Ident m) n s h w = absurd h
 simple_none rules v _ n s h w = absurd s
-
-clash : (b : Bool) → b ≡ true → b ≡ false → ⊥
-clash b g h = let e = sym g ∙ h in cc
 
 module _ (rules : List ParserRule) (roots : List ℕ) (start : ℕ) (entered : List Bool) where
   abbrev V : List SpannedRule
@@ -110,7 +107,7 @@ module _ (rules : List ParserRule) (roots : List ℕ) (start : ℕ) (entered : L
   pub closes : (i : ℕ) (s : Span) (n : Text) (todo : List Task) (k : ℕ) (path : List ℕ) → slice_get (all_nodes rules) i ≡ Some (Leaf s (Ident n)) → Means V n start → Search (Visit i ∷ todo) (k ∷ path)
       → IsSought rules roots start (Some (record { trail = ordered (k ∷ path); call = s }))
   closes i s n todo k path at means search = search.answers (Some (record { trail = ordered (k ∷ path); call = s }))
-      (inl (λ y h. subst (λ z. Walks V start (ordered (k ∷ path)) (last_name rules roots start (k ∷ path)) z (Some (record { trail = ordered (k ∷ path); call = s }))) (same_rule at h) (walks_closing means)))
+      (inl (λ y h. subst (λ z. Walks V start (ordered (k ∷ path)) (last_name rules roots start (k ∷ path)) z (Some (record { trail = ordered (k ∷ path); call = s }))) (one_item at h) (walks_closing means)))
 
   -- 5. a rule is entered
   module _ (t : ℕ) (apart : t ≡ start → ⊥) (small : t < length entered) where
@@ -131,7 +128,7 @@ module _ (rules : List ParserRule) (roots : List ℕ) (start : ℕ) (entered : L
       placed = ((r.body, place), search.placed.1);
       answers = λ o g. search.answers o (goes o g);
       covered = (
-        (λ q m got d. let e = same_rule here got in inr (inl (r.body, place.node, subst (λ z. Calls rules roots start q.name z.body m) (sym e) d))),
+        (λ q m got d. let e = one_item here got in inr (inl (r.body, place.node, subst (λ z. Calls rules roots start q.name z.body m) (sym e) d))),
         ((λ q m got d. covered_here q m got d (search.covered.0 q m got d)), covered_more path (after todo) search.covered.1),
       );
       settled = λ m on out q j got d. elim (set_or_one entered t m on) [
@@ -141,16 +138,16 @@ module _ (rules : List ParserRule) (roots : List ℕ) (start : ℕ) (entered : L
       begun = set_keeps entered t start search.begun;
       entered_all = λ m c. elim (Contains-append_cases (ordered (k ∷ path)) (t ∷ []) m c) [
         | inl d ↦ set_keeps entered t m (search.entered_all m d)
-        | inr d ↦ subst (λ z. is_set_at more z ≡ true) (sym (one_in t m d)) (set_sets entered t small)
+        | inr d ↦ subst (λ z. is_set_at more z ≡ true) (sym (alone t m d)) (set_sets entered t small)
       ];
       last_ones = λ m c. elim (Contains-append_cases (ordered (k ∷ path)) (t ∷ []) m c) [
         | inl d ↦ search.last_ones m d
-        | inr d ↦ subst (λ z. Means V (name_of rules roots start (slice_get V z)) z) (sym (one_in t m d)) named
+        | inr d ↦ subst (λ z. Means V (name_of rules roots start (slice_get V z)) z) (sym (alone t m d)) named
       ];
     }
       where
         is_name : r.name ≡ n
-        is_name = let (q, got, name) = in_rules V n t means in ap (λ z. z.name) (same_rule here got) ∙ name
+        is_name = let (q, got, name) = in_rules V n t means in ap (λ z. z.name) (one_item here got) ∙ name
 
         named : Means V (name_of rules roots start (slice_get V t)) t
         named = subst (λ z. Means V z t) (sym (ap (name_of rules roots start) here ∙ is_name)) means
@@ -159,7 +156,7 @@ module _ (rules : List ParserRule) (roots : List ℕ) (start : ℕ) (entered : L
         out c = clash (is_set_at entered t) (search.entered_all t c) off
 
         comes : (o : Option Closed) → Comes rules roots start (t ∷ k ∷ path) root o → Comes rules roots start (k ∷ path) i o
-        comes o c y h = subst (λ z. Walks V start (ordered (k ∷ path)) (last_name rules roots start (k ∷ path)) z o) (same_rule at h)
+        comes o c y h = subst (λ z. Walks V start (ordered (k ∷ path)) (last_name rules roots start (k ∷ path)) z o) (one_item at h)
             (walks_into means apart out here (subst (λ z. Walks V start (ordered (t ∷ k ∷ path)) z r.body o) (ap (name_of rules roots start) here) (c r.body place.node)))
 
         goes : (o : Option Closed) → Goes rules roots start (t ∷ k ∷ path) (Visit root ∷ Leave ∷ todo) o → Goes rules roots start (k ∷ path) (Visit i ∷ todo) o
@@ -171,7 +168,7 @@ module _ (rules : List ParserRule) (roots : List ℕ) (start : ℕ) (entered : L
         covered_here q m got d (inl a) = inl (known_more m a)
         covered_here q m got d (inr (inr a)) = inr a
         covered_here q m got d (inr (inl (x, is_x, call))) =
-            let e = called_once q.name n s t m means (subst (λ z. Calls rules roots start q.name z m) (same_rule is_x at) call) in
+            let e = called_once q.name n s t m means (subst (λ z. Calls rules roots start q.name z m) (one_item is_x at) call) in
             inl (subst (λ z. IsKnown rules roots start more z) (sym e) (apart, set_sets entered t small))
 
   -- 6. the end
@@ -189,15 +186,15 @@ begins rules roots start root r flags l small none here means place = record {
   alike = length-set flags start true ∙ l;
   placed = ((r.body, place), refl);
   answers = λ o g. answered o g;
-  covered = ((λ q m got d. let e = same_rule here got in inr (inl (r.body, place.node, subst (λ z. Calls rules roots start q.name z.body m) (sym e) d))), tt);
+  covered = ((λ q m got d. let e = one_item here got in inr (inl (r.body, place.node, subst (λ z. Calls rules roots start q.name z.body m) (sym e) d))), tt);
   settled = λ m on out. elim (set_or_one flags start m on) [ inl e ↦ absurd (out (subst (λ z. Contains (start ∷ []) z) (sym e) (at_end [] start))) | inr h ↦ absurd (clash (is_set_at flags m) h (none m)) ];
   begun = set_sets flags start small;
-  entered_all = λ m c. subst (λ z. is_set_at (set flags start true) z ≡ true) (sym (one_in start m c)) (set_sets flags start small);
-  last_ones = λ m c. subst (λ z. Means (views rules roots start) (name_of rules roots start (slice_get (views rules roots start) z)) z) (sym (one_in start m c)) (subst (λ z. Means (views rules roots start) z start) (sym (ap (name_of rules roots start) here)) means);
+  entered_all = λ m c. subst (λ z. is_set_at (set flags start true) z ≡ true) (sym (alone start m c)) (set_sets flags start small);
+  last_ones = λ m c. subst (λ z. Means (views rules roots start) (name_of rules roots start (slice_get (views rules roots start) z)) z) (sym (alone start m c)) (subst (λ z. Means (views rules roots start) z start) (sym (ap (name_of rules roots start) here)) means);
 }
   where
     comes : (o : Option Closed) → Comes rules roots start (start ∷ []) root o → IsSought rules roots start o
-    comes o c q got = let e = same_rule here got in
+    comes o c q got = let e = one_item here got in
         subst (λ z. Walks (views rules roots start) start (start ∷ []) z.name z.body o) e
         (subst (λ z. Walks (views rules roots start) start (start ∷ []) z r.body o) (ap (name_of rules roots start) here) (c r.body place.node))
 

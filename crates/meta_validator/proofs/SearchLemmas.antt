@@ -1,14 +1,15 @@
 -- Each step of the search keeps what is known.
-use Rattle.std.proofs.Common.{◌≡◌, ◌⊎◌, inl, inr, ℕ, zero, suc, List, [], ◌∷◌, Option, Some, None, Bool, true, false, nat_eq, slice_get, refl, sym, ◌∙◌, ap, subst, arith}
+use Rattle.std.proofs.Common.{◌≡◌, ◌⊎◌, inl, inr, ℕ, List, [], ◌∷◌, Option, Some, None, Bool, true, false, nat_eq, slice_get, refl, sym, ◌∙◌, ap, subst}
 use Rattle.std.specs.Cmp.{unsigned_Decides}
 use Rattle.std.specs.List.{Contains}
 use Rattle.std.proofs.lemmas.List.Elements.{Contains-append_left, Contains-append_cases}
 use Rattle.meta_base.specs.Language.Text.{Text}
-use Rattle.meta_base.specs.Language.Expression.{Expression, Ident}
+use Rattle.meta_base.specs.Language.Expression.{Expression}
 use Rattle.meta_base.specs.Language.Expression as bare
+use Rattle.meta_base.proofs.Basics.{one_item}
 use Rattle.meta_nodes.specs.Erasure.{without_spans, round}
 use Rattle.meta_nodes.specs.Spanned as spanned
-use Rattle.meta_nodes.specs.Spanned.{Spanned, Leaf, One, Two, Unary, Seq, Choice, SpannedRule, Span}
+use Rattle.meta_nodes.specs.Spanned.{Spanned, One, Two, Unary, Seq, Choice, SpannedRule, Span}
 use Rattle.meta_nodes.specs.declared.node.ParserRule.{ParserRule}
 use Rattle.meta_flags.specs.Least.{is_set_at}
 use Rattle.meta_validator.specs.LeftRecursion.{Closed, said, Passes, Walks, walks_inside, walks_first, walks_second, walks_neither, walks_other}
@@ -18,9 +19,7 @@ use Rattle.meta_validator.specs.Searching.{ordered, rest, after, views, Calls, n
 use Rattle.meta_validator.specs.Walk.{Walked, w_first, w_second, w_pos_pred, w_neg_pred, w_left, w_right, w_opt, w_rep, w_rep_once, w_rep_exact, w_rep_min, w_rep_max, w_rep_min_max, w_push, w_tag}
 use Rattle.meta_validator.specs.declared.recursions.Task.{Task}
 use Rattle.meta_validator.specs.declared.recursions.Task.TheVariants.{Visit, Leave}
-
-pub same_rule : {A : Type 0} {o : Option A} {a b : A} → o ≡ Some a → o ≡ Some b → a ≡ b
-same_rule e f = let h = sym e ∙ f in cc
+use Rattle.meta_validator.proofs.NoneWalks.{alone}
 
 pub data Compared (k m : ℕ) : Type 0 where
   same_place : k ≡ m → Compared k m
@@ -32,10 +31,6 @@ compared k m = go (nat_eq k m) refl
     go : (b : Bool) → nat_eq k m ≡ b → Compared k m
     go true h = same_place ((unsigned_Decides k m).0 h)
     go false h = other_place (λ e. let t = (unsigned_Decides k m).1 e in let u = sym t ∙ h in cc)
-
-pub one_in : (k m : ℕ) → Contains (k ∷ []) m → m ≡ k
-one_in k m (zero, l, e) = sym e
-one_in k m (suc i, l, e) = absurd (omega arith)
 
 -- what is walked inside is walked in the operand
 in_round : (rules : List SpannedRule) (v : Text) (f : Unary) (e : Expression) (n : Text) → Walked (said rules) v (round f e) n → Walked (said rules) v e n
@@ -74,7 +69,7 @@ module _ (rules : List ParserRule) (roots : List ℕ) (start : ℕ) (entered : L
     where
       go : (m : ℕ) → is_set_at entered m ≡ true → (Contains (ordered path) m → ⊥) → (r : SpannedRule) (n : ℕ) → slice_get V m ≡ Some r → Calls rules roots start r.name r.body n → Compared m k → IsKnown rules roots start entered n
       go m h out r n at d (same_place e) = elim (s.covered.0 r n (subst (λ z. slice_get V z ≡ Some r) e at) d) [ inl a ↦ a | inr a ↦ absurd a ]
-      go m h out r n at d (other_place f) = s.settled m h (λ i. elim (Contains-append_cases (ordered path) (k ∷ []) m i) [ inl j ↦ out j | inr j ↦ f (one_in k m j) ]) r n at d
+      go m h out r n at d (other_place f) = s.settled m h (λ i. elim (Contains-append_cases (ordered path) (k ∷ []) m i) [ inl j ↦ out j | inr j ↦ f (alone k m j) ]) r n at d
 
   covered_more : (v : Text) (old new : List Task) (k : ℕ) (path : List ℕ) → name_of rules roots start (slice_get V k) ≡ v → after old ≡ after new
       → ((m : ℕ) → Owes rules roots start v old m → IsKnown rules roots start entered m ⊎ Owes rules roots start v new m)
@@ -96,7 +91,7 @@ module _ (rules : List ParserRule) (roots : List ℕ) (start : ℕ) (entered : L
     placed = placed;
     answers = λ o g. s.answers o (goes o g);
     covered = covered_more (last_name rules roots start (k ∷ path)) (Visit i ∷ todo) new k path refl same
-        (λ m d. elim d [ inl a ↦ called m (subst (λ z. Calls rules roots start (last_name rules roots start (k ∷ path)) z m) (same_rule a.1 at) a.2) | inr a ↦ inr (kept m a) ]) s.covered;
+        (λ m d. elim d [ inl a ↦ called m (subst (λ z. Calls rules roots start (last_name rules roots start (k ∷ path)) z m) (one_item a.1 at) a.2) | inr a ↦ inr (kept m a) ]) s.covered;
     settled = s.settled;
     begun = s.begun;
     entered_all = s.entered_all;
@@ -111,7 +106,7 @@ module _ (rules : List ParserRule) (roots : List ℕ) (start : ℕ) (entered : L
   nothing i x todo k path at none known s = stepped i x todo todo k path at refl s.placed.1 goes (λ m d. inl (known m d)) (λ m d. d) s
     where
       comes : Comes rules roots start (k ∷ path) i None
-      comes y h = subst (λ z. Walks V start (ordered (k ∷ path)) (last_name rules roots start (k ∷ path)) z None) (same_rule at h) none
+      comes y h = subst (λ z. Walks V start (ordered (k ∷ path)) (last_name rules roots start (k ∷ path)) z None) (one_item at h) none
 
       goes : (o : Option Closed) → Goes rules roots start (k ∷ path) todo o → Goes rules roots start (k ∷ path) (Visit i ∷ todo) o
       goes None g = (comes, g)
@@ -124,7 +119,7 @@ module _ (rules : List ParserRule) (roots : List ℕ) (start : ℕ) (entered : L
       (λ m d. inr (inl (x, place.node, (d.0, in_round V (last_name rules roots start (k ∷ path)) f (without_spans x) d.0 d.1, d.2)))) (λ m d. inr d) search
     where
       comes : (o : Option Closed) → Comes rules roots start (k ∷ path) j o → Comes rules roots start (k ∷ path) i o
-      comes o c y h = subst (λ z. Walks V start (ordered (k ∷ path)) (last_name rules roots start (k ∷ path)) z o) (same_rule at h) (walks_inside (c x place.node))
+      comes o c y h = subst (λ z. Walks V start (ordered (k ∷ path)) (last_name rules roots start (k ∷ path)) z o) (one_item at h) (walks_inside (c x place.node))
 
       goes : (o : Option Closed) → Goes rules roots start (k ∷ path) (Visit j ∷ todo) o → Goes rules roots start (k ∷ path) (Visit i ∷ todo) o
       goes None g = (comes None g.0, g.1)
@@ -143,10 +138,10 @@ module _ (rules : List ParserRule) (roots : List ℕ) (start : ℕ) (entered : L
       left_side n (w_second p w) = absurd (stops p)
 
       some : (z : Closed) → Comes rules roots start (k ∷ path) j (Some z) → Comes rules roots start (k ∷ path) i (Some z)
-      some z c y' h = subst (λ w. Walks V start (ordered (k ∷ path)) (last_name rules roots start (k ∷ path)) w (Some z)) (same_rule at h) (walks_first (c x place.node))
+      some z c y' h = subst (λ w. Walks V start (ordered (k ∷ path)) (last_name rules roots start (k ∷ path)) w (Some z)) (one_item at h) (walks_first (c x place.node))
 
       none : Comes rules roots start (k ∷ path) j None → Comes rules roots start (k ∷ path) i None
-      none c y' h = subst (λ w. Walks V start (ordered (k ∷ path)) (last_name rules roots start (k ∷ path)) w None) (same_rule at h) (walks_neither (c x place.node) (λ p. absurd (stops p)))
+      none c y' h = subst (λ w. Walks V start (ordered (k ∷ path)) (last_name rules roots start (k ∷ path)) w None) (one_item at h) (walks_neither (c x place.node) (λ p. absurd (stops p)))
 
       goes : (o : Option Closed) → Goes rules roots start (k ∷ path) (Visit j ∷ todo) o → Goes rules roots start (k ∷ path) (Visit i ∷ todo) o
       goes None g = (none g.0, g.1)
@@ -159,10 +154,10 @@ module _ (rules : List ParserRule) (roots : List ℕ) (start : ℕ) (entered : L
       (onward : (o : Option Closed) → Walks V start (ordered (k ∷ path)) (last_name rules roots start (k ∷ path)) x None → Walks V start (ordered (k ∷ path)) (last_name rules roots start (k ∷ path)) y o → Walks V start (ordered (k ∷ path)) (last_name rules roots start (k ∷ path)) both o)
       (sides : (n : Text) → Walked (said V) (last_name rules roots start (k ∷ path)) (without_spans both) n → Walked (said V) (last_name rules roots start (k ∷ path)) (without_spans x) n ⊎ Walked (said V) (last_name rules roots start (k ∷ path)) (without_spans y) n) where
     both_comes : (o : Option Closed) → Comes rules roots start (k ∷ path) j None → Comes rules roots start (k ∷ path) l o → Comes rules roots start (k ∷ path) i o
-    both_comes o c d w h = subst (λ u. Walks V start (ordered (k ∷ path)) (last_name rules roots start (k ∷ path)) u o) (same_rule at h) (onward o (c x place.node) (d y other.node))
+    both_comes o c d w h = subst (λ u. Walks V start (ordered (k ∷ path)) (last_name rules roots start (k ∷ path)) u o) (one_item at h) (onward o (c x place.node) (d y other.node))
 
     first_comes : (z : Closed) → Comes rules roots start (k ∷ path) j (Some z) → Comes rules roots start (k ∷ path) i (Some z)
-    first_comes z c w h = subst (λ u. Walks V start (ordered (k ∷ path)) (last_name rules roots start (k ∷ path)) u (Some z)) (same_rule at h) (some_first z (c x place.node))
+    first_comes z c w h = subst (λ u. Walks V start (ordered (k ∷ path)) (last_name rules roots start (k ∷ path)) u (Some z)) (one_item at h) (some_first z (c x place.node))
 
     both_goes : (o : Option Closed) → Goes rules roots start (k ∷ path) (Visit j ∷ Visit l ∷ todo) o → Goes rules roots start (k ∷ path) (Visit i ∷ todo) o
     both_goes None g = (both_comes None g.0 g.1.0, g.1.1)

@@ -4,7 +4,7 @@ use Rattle.std.specs.Bool.{Decides}
 use Rattle.std.specs.Cmp.{unsigned_Decides}
 use Rattle.std.proofs.lemmas.List.{length_push}
 use Rattle.meta_base.specs.Language.Text.{Text}
-use Rattle.meta_base.specs.Language.Expression.{Expression, Str, Insens, Range, Ident, PeekSlice, Seq, Choice, RepOnce, RepExact, RepMin, RepMinMax, Push, Rule, Grammar, rule_of, PushLiteral, NodeTag}
+use Rattle.meta_base.specs.Language.Expression.{Expression, Str, Insens, Range, Ident, PeekSlice, Seq, Choice, RepOnce, RepExact, RepMin, RepMinMax, Push, Rule, Grammar, rule_of, PushLiteral, NodeTag, last_place}
 use Rattle.meta_base.specs.Language.WellFormed.{IsNullable, nullable_str, nullable_insens, nullable_soi, nullable_eoi, nullable_call, nullable_pos_pred, nullable_neg_pred, nullable_opt, nullable_rep, nullable_rep_max, nullable_seq, nullable_left, nullable_right, nullable_rep_once, nullable_push, nullable_exact_zero, nullable_exact, nullable_min_zero, nullable_min, nullable_min_max_zero, nullable_min_max, nullable_skip, nullable_restore, nullable_push_literal, nullable_tag}
 use Rattle.meta_nodes.specs.Erasure.{without_spans}
 use Rattle.meta_nodes.specs.Nodes.{rule_views}
@@ -12,11 +12,12 @@ use Rattle.meta_nodes.specs.Spanned as spanned
 use Rattle.meta_nodes.specs.Spanned.{Span, Spanned, Leaf, One, Two, Unary, SpannedRule}
 use Rattle.meta_nodes.specs.declared.node.ParserRule.{ParserRule}
 use Rattle.meta_flags.specs.Least.{is_set_at}
+use Rattle.meta_flags.proofs.FlagLists.{set_before, set_last}
 use Rattle.meta_validator.specs.Cycles.{rank_at}
 use Rattle.meta_nullable.specs.Facts.{AreFacts}
 use Rattle.meta_validator.specs.LeftRecursion.{Means}
 use Rattle.meta_validator.specs.Levels.{Rests, AllRest, IsSettled, AreSettled, own_answer, own_answer_at}
-use Rattle.meta_table.specs.Names.{grammar_of, last_place, is_end}
+use Rattle.meta_table.specs.Names.{grammar_of, is_end}
 use Rattle.meta_nullable.specs.Names.{kind_in, name_kind}
 use Rattle.meta_table.specs.Nodes.{IsSimple, all_nodes}
 use Rattle.meta_nullable.specs.Kinds.{Says, Fits, counted, repeated, wrap_of, wrap_kind, leaf_kind}
@@ -30,7 +31,7 @@ use Rattle.meta_nullable.specs.declared.table.Kind.{Kind}
 use Rattle.meta_nullable.proofs.Answering.{Sense, absent_from, lies_at, sense_of, end_null, no_rule, same_rule}
 use Rattle.meta_table.proofs.LayoutLemmas.{some_size}
 use Rattle.meta_validator.proofs.NoneWalks.{in_rules}
-use Rattle.meta_validator.proofs.PassingSteps.{flag_before, flag_at, Lower, lower, equal, lower_or_equal}
+use Rattle.meta_validator.proofs.PassingSteps.{Lower, lower, equal, lower_or_equal}
 use Rattle.meta_validator.proofs.RegionLemmas.{node_inside, node_first, node_second}
 use Rattle.meta_validator.proofs.Walk.{Compared, same_name, other_name, compared, rule_without, rule_gone, rule_within, null_more}
 
@@ -281,11 +282,11 @@ pub own_more : (rules : List ParserRule) (facts : Facts) → AreFacts rules fact
 own_more rules facts right levels rest v root first is_root settled flags b above within is_flag so_far i r x at means node short = go (lower_or_equal i (length flags) (let l = length_push flags b in omega arith))
   where
     go : Lower i (length flags) → Decides (is_set_at (flags ++ b ∷ []) i) (IsNullable (without r.name (grammar_of rules)) (without_spans x))
-    go (lower l) = subst (λ z. Decides z (IsNullable (without r.name (grammar_of rules)) (without_spans x))) (sym (flag_before flags b i l)) (so_far i r x at means node l)
+    go (lower l) = subst (λ z. Decides z (IsNullable (without r.name (grammar_of rules)) (without_spans x))) (sym (set_before flags b i l)) (so_far i r x at means node l)
     go (equal e) =
         let (kind, is_kind, fit) = right.tabled.nodes.fit i x node.node in
         let same : is_set_at (flags ++ b ∷ []) i ≡ own_answer facts v (is_set_at flags) kind =
-        ap (is_set_at (flags ++ b ∷ [])) e ∙ (flag_at flags b ∙ (is_flag ∙ ap (λ o. own_answer_at facts v (is_set_at flags) o) (ap (slice_get facts.table.kinds.items) (sym e) ∙ is_kind))) in
+        ap (is_set_at (flags ++ b ∷ [])) e ∙ (set_last flags b ∙ (is_flag ∙ ap (λ o. own_answer_at facts v (is_set_at flags) o) (ap (slice_get facts.table.kinds.items) (sym e) ∙ is_kind))) in
         subst (λ z. Decides z (IsNullable (without r.name (grammar_of rules)) (without_spans x))) (sym same)
         (of_node rules facts right levels rest v r at means root is_root (is_set_at flags) i kind x node fit (settled i (omega arith) (omega arith) kind is_kind)
         (λ j y place less. so_far j r y at means place (omega arith)))

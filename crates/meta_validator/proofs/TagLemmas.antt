@@ -6,9 +6,9 @@ use Rattle.std.proofs.lemmas.Option.{slice_get_past, slice_get_read}
 use Rattle.std.specs.Prelude.{string_bytes}
 use Rattle.std.proofs.lemmas.List.{map-append}
 use Rattle.meta_base.specs.Language.Text.{Text}
-use Rattle.meta_base.specs.Language.Expression.{rule_of}
+use Rattle.meta_base.specs.Language.Expression.{rule_of, last_place}
 use Rattle.meta_nodes.specs.declared.node.ParserRule.{ParserRule}
-use Rattle.meta_table.specs.Names.{grammar_of, last_place, rule_said}
+use Rattle.meta_table.specs.Names.{grammar_of, rule_said}
 use Rattle.meta_nodes.specs.Nodes.{piece_of}
 use Rattle.meta_nodes.specs.Spanned.{Span}
 use Rattle.meta_validator.specs.Reporting.{finding_of, findings_of}

@@ -1,17 +1,12 @@
 -- Lists that are taken from their ends.
 use Rattle.std.proofs.Common.{◌≡◌, ℕ, zero, suc, List, [], ◌∷◌, ◌++◌, ◌-◌, take, length, arith, refl, sym, ◌∙◌, ap}
 use Rattle.std.proofs.lemmas.List.{length_push}
+use Rattle.meta_table.proofs.LayoutLemmas.{tails, heads}
 use Rattle.meta_validator.specs.Searching.{ordered, rest}
 
 none_at_end : {A : Type 0} (xs : List A) (x : A) → xs ++ x ∷ [] ≡ [] → ⊥
 none_at_end [] x e = cc
 none_at_end (y ∷ xs) x e = cc
-
-tails : {A : Type 0} {x y : A} {xs ys : List A} → x ∷ xs ≡ y ∷ ys → xs ≡ ys
-tails e = cc
-
-heads : {A : Type 0} {x y : A} {xs ys : List A} → x ∷ xs ≡ y ∷ ys → x ≡ y
-heads e = cc
 
 -- two lists that end alike
 pub same_end : {A : Type 0} (xs ys : List A) (x y : A) → xs ++ x ∷ [] ≡ ys ++ y ∷ [] → (xs ≡ ys) × (x ≡ y)

@@ -4,15 +4,16 @@ use Rattle.std.proofs.Math.ListN.{set}
 use Rattle.std.proofs.lemmas.List.{length-map}
 use Rattle.std.proofs.lemmas.Option.{slice_get_within}
 use Rattle.meta_base.specs.Language.Text.{Text}
-use Rattle.meta_base.specs.Language.Expression.{Ident, Rule, rule_of}
+use Rattle.meta_base.specs.Language.Expression.{Ident, Rule, rule_of, last_place}
 use Rattle.meta_nodes.specs.Erasure.{without_spans, rule_without_spans}
 use Rattle.meta_nodes.specs.Nodes.{rule_view, rule_views}
 use Rattle.meta_nodes.specs.Spanned.{Span, Spanned, Leaf, SpannedRule}
 use Rattle.meta_nodes.specs.declared.node.ParserRule.{ParserRule}
 use Rattle.meta_flags.specs.Least.{is_set_at}
+use Rattle.meta_flags.proofs.LeastLemmas.{item_at}
 use Rattle.meta_nullable.specs.Facts.{AreFacts}
 use Rattle.meta_validator.specs.LeftRecursion.{Means}
-use Rattle.meta_table.specs.Names.{grammar_of, last_place}
+use Rattle.meta_table.specs.Names.{grammar_of}
 use Rattle.meta_table.specs.Nodes.{all_nodes}
 use Rattle.meta_validator.specs.Walk.{Walked, WalkLeads, w_at_once, w_by_way}
 use Rattle.meta_validator.specs.Regions.{ArePassing}
@@ -25,7 +26,6 @@ use Rattle.meta_validator.specs.declared.recursions.Task.TheVariants.{Visit, Lea
 use Rattle.meta_validator.proofs.NoneWalks.{in_rules}
 use Rattle.meta_validator.proofs.NodeSteps.{Step, calls, goes_in, stepped_at, cost-append, cost_visit, unentered_set}
 use Rattle.meta_validator.proofs.RegionLemmas.{body_node}
-use Rattle.meta_validator.proofs.ReportingLemmas.{got_within}
 use Rattle.meta_table.proofs.Resolved.{Named, absent, named as named_rule, resolved}
 use Rattle.meta_nullable.proofs.Answering.{no_rule}
 use Rattle.meta_validator.proofs.PassingLemmas.{its_rule}
@@ -162,7 +162,7 @@ module _ (rules : List ParserRule) (facts : Facts) (right : AreFacts rules facts
           subst Goes_on (sym (on h)) (record { todo = todo; path = path; are_tasks = tasks; is_trail = trail; state = next }, omega arith)
       go false h =
           let small = (in_range rules facts right passing are start old.entered.all.items node todo path state t e).0 in
-          let (root, got) = got_within facts.table.roots.items t small in
+          let (root, got) = item_at facts.table.roots.items t small in
           let (next, less) = fresh rules facts right passing are start old.entered.all.items node todo path state t root e apart h got in
           let same : new.tasks.items ≡ ordered (Visit root ∷ Leave ∷ todo) = queued h root got ∙ ap (λ z. (z ++ Leave ∷ []) ++ Visit root ∷ []) tasks in
           let a = ap (λ z. cost (all_nodes rules) z) same in

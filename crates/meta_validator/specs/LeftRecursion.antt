@@ -4,11 +4,10 @@ use Rattle.std.specs.List.{Contains}
 use Rattle.std.specs.Str.{encode_utf8_all}
 use Rattle.meta_base.specs.Pieces.Saying.{written}
 use Rattle.meta_base.specs.Language.Text.{Text}
-use Rattle.meta_base.specs.Language.Expression.{Expression, Ident, Grammar}
+use Rattle.meta_base.specs.Language.Expression.{Expression, Ident, Grammar, last_place}
 use Rattle.meta_base.specs.Language.WellFormed.{IsNullable, CannotFail}
 use Rattle.meta_nodes.specs.Erasure.{without_spans, rules_without_spans}
 use Rattle.meta_nodes.specs.Spanned.{Span, Spanned, Leaf, One, Two, Unary, Binary, Seq, Choice, SpannedRule}
-use Rattle.meta_table.specs.Names.{last_place}
 use Rattle.meta_validator.specs.Walk.{without}
 
 -- a call of the first rule of a trail: the places of the rules of the trail, and where the call stands

@@ -130,9 +130,9 @@ pub(crate) fn spans_of<'i>(
     ensures { IfOk result (λ spans. (rules : List ParserRule) → IsTabled rules table.now
         → AreSpans rules spans.items) }
 {
-    let mut spans = Vec::new(alloc);
+    let mut spans = Vec::with_capacity(alloc, table.nodes.len())?;
     for place in 0..table.nodes.len() {
-        spans.push(table.nodes[place].span)?;
+        spans.push(*table.nodes[place].span)?;
     }
     Ok(spans)
 }

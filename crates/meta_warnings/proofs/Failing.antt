@@ -1,8 +1,9 @@
 -- What fails where literals and alternatives before it fail.
-use Rattle.std.proofs.Common.{◌≡◌, ℕ, List, [], ◌∷◌, ◌++◌, Bool, true, false, ◌&&◌, ◌||◌, ◌⊎◌, inl, inr, Option, Some, None, option_to_list, if◌then◌else◌, refl, subst, map, nat_eq, eq-eqb, eqb-true, leb-true, ltb-true, ◌<◌, ◌≤◌, arith}
+use Rattle.std.proofs.Common.{◌≡◌, ℕ, List, [], ◌∷◌, ◌++◌, Bool, true, false, inl, inr, Option, Some, None, option_to_list, if◌then◌else◌, refl, subst, map, nat_eq, eq-eqb, eqb-true, leb-true, ltb-true, ◌<◌, ◌≤◌, arith}
 use Rattle.std.specs.Prelude.{◌↔◌, nat_lt, nat_le}
 use Rattle.meta_base.specs.Language.Builtins.{is_between}
 use Rattle.std.specs.List.{AllByRecursion}
+use Rattle.std.proofs.lemmas.Bool.{and_parts, false_from_ne_true, or_cases}
 use Rattle.meta_base.specs.Language.Text.{Text}
 use Rattle.meta_base.specs.Language.Expression.{Expression, Str, Range, Grammar}
 use Rattle.meta_base.specs.Language.Expression as bare
@@ -16,18 +17,6 @@ use Rattle.meta_warnings.specs.Choices.{alternatives, begins_so, beginning_of, i
 use Rattle.meta_warnings.specs.Laws.{FailsAlone}
 use Rattle.meta_warnings.specs.Ranges.{is_above, is_reversed, is_reversed_range}
 
-pub or_true : (a b : Bool) → (a || b) ≡ true → (a ≡ true) ⊎ (b ≡ true)
-or_true true b h = inl refl
-or_true false b h = inr h
-
-pub and_true : (a b : Bool) → (a && b) ≡ true → (a ≡ true) × (b ≡ true)
-and_true true b h = (refl, h)
-and_true false b h = cc
-
-pub not_true : (b : Bool) → (b ≡ true → ⊥) → b ≡ false
-not_true true h = absurd (h refl)
-not_true false h = refl
-
 pub all_append : {X : Type 0} (P : X → Type 0) (xs ys : List X) → AllByRecursion P xs → AllByRecursion P ys → AllByRecursion P (xs ++ ys)
 all_append P [] ys h k = k
 all_append P (x ∷ xs) ys h k = (h.0, all_append P xs ys h.1 k)
@@ -38,16 +27,16 @@ begins-trans [] t r h k = refl
 begins-trans (c ∷ u) [] r h k = cc
 begins-trans (c ∷ u) (d ∷ t) [] h k = cc
 begins-trans (c ∷ u) (d ∷ t) (e ∷ r) h k =
-    let a = and_true (nat_eq c d) (begins nat_eq u t) h in
-    let b = and_true (nat_eq d e) (begins nat_eq t r) k in
+    let a = and_parts (nat_eq c d) (begins nat_eq u t) h in
+    let b = and_parts (nat_eq d e) (begins nat_eq t r) k in
     let same_first : c ≡ e = (let x = eqb-true c d a.0 in let y = eqb-true d e b.0 in cc) in
     rw (eq-eqb c e same_first, begins-trans u t r a.1 b.1) refl
 
 -- a text that is not there begins no other that is
 refuted : (ts : List Text) (t r : Text) → any_begins ts t ≡ true → AllByRecursion (λ u. begins nat_eq u r ≡ false) ts → begins nat_eq t r ≡ false
 refuted [] t r h k = cc
-refuted (u ∷ ts) t r h k = elim (or_true (begins nat_eq u t) (any_begins ts t) h) [
-  | inl a ↦ not_true (begins nat_eq t r) (λ b. let x = begins-trans u t r a b in let y = k.0 in cc)
+refuted (u ∷ ts) t r h k = elim (or_cases (begins nat_eq u t) (any_begins ts t) h) [
+  | inl a ↦ false_from_ne_true (begins nat_eq t r) (λ b. let x = begins-trans u t r a b in let y = k.0 in cc)
   | inr a ↦ refuted ts t r a k.1
 ]
 
@@ -128,8 +117,8 @@ module _ (g : Grammar) (classes : Classes) (m : Mode) where
 
 -- no character is between bounds that are reversed
 above_none : (a b c : ℕ) → nat_lt b a ≡ true → is_between a b c ≡ false
-above_none a b c h = not_true (is_between a b c) (λ k.
-    let p = and_true (nat_le a c) (nat_le c b) k in
+above_none a b c h = false_from_ne_true (is_between a b c) (λ k.
+    let p = and_parts (nat_le a c) (nat_le c b) k in
     let x : a ≤ c = leb-true a c p.0 in
     let y : c ≤ b = leb-true c b p.1 in
     let z : b < a = ltb-true b a h in

@@ -1,42 +1,23 @@
 -- Texts that are known by their bytes, and which of them begin a text.
-use Rattle.std.proofs.Common.{◌≡◌, ℕ, suc, ◌<◌, List, [], ◌∷◌, ◌++◌, Bool, true, false, ◌||◌, inl, inr, Bor, cond, refl, sym, ap, ◌∙◌, subst, bytes_eq, chars, nat_eq, get_or, take, drop, length, ◌==◌, eqb-true, eq-eqb, String, Global, string_bytes, arith, Result, Ok, Err, OnOk}
-use lib.Utf8.{scalar, scalars}
-use lib.Pointwise.{pointwise}
-use Rattle.std.specs.Bool.{Decides}
-use Rattle.std.specs.Cmp.{unsigned_Decides}
+use Rattle.std.proofs.Common.{◌≡◌, ℕ, suc, ◌<◌, List, [], ◌∷◌, ◌++◌, Bool, true, false, ◌||◌, inl, inr, Bor, cond, refl, sym, ap, ◌∙◌, subst, bytes_eq, chars, nat_eq, get_or, take, drop, length, ◌==◌, eqb-true, arith, Result, Ok, Err, OnOk}
+use lib.Utf8.{scalars}
 use Rattle.std.specs.HashSet as bag
 use Rattle.std.specs.List.{list_any}
-use Rattle.std.specs.Str.{IsUtf8, IsAscii, IsCharBoundary}
+use Rattle.std.specs.Str.{IsUtf8, IsCharBoundary}
 use Rattle.std.proofs.Math.Seq.{take-append_seam}
 use Rattle.std.proofs.Math.Utf8.{encodes}
-use Rattle.std.proofs.lemmas.Bool.Decides.{same_from_decides}
 use Rattle.std.proofs.lemmas.List.{take-append-drop}
-use Rattle.std.proofs.lemmas.Slice.Eq.{bytes_eq-Decides, slice_eq-Decides}
-use Rattle.std.proofs.lemmas.Str.{encodes-chars, encodes-append, chars-encodes, chars-append, scalars-chars, chars-IsAscii, IsUtf8-from_ascii, IsUtf8-string_bytes, IsUtf8-take, IsCharBoundary-at_seam}
-use Rattle.meta_ast.specs.Ast.{text_of}
+use Rattle.std.proofs.lemmas.Slice.Eq.{bytes_eq-Decides}
+use Rattle.std.proofs.lemmas.Str.{encodes-chars, encodes-append, chars-encodes, chars-append, scalars-chars, IsUtf8-take, IsCharBoundary-at_seam}
+use Rattle.std.proofs.lemmas.Bool.{false_from_ne_true, or_cases, or_left, or_right}
+use Rattle.meta_ast.proofs.Characters.{bytes_text_eq}
 use Rattle.meta_base.specs.Language.Builtins.{is_one_of}
 use Rattle.meta_base.specs.Language.Matching.{any_begins, begins}
 use Rattle.meta_base.specs.Language.Text.{Text}
+use Rattle.meta_base.proofs.Beginnings.{begins-append, begins-gives, scalars_parts}
 use Rattle.meta_warnings.specs.Lists.{IsKnown, Knows, TextSet, has_name}
 use Rattle.meta_warnings.specs.declared.literals.Literals.{Literals}
 use Rattle.meta_warnings.proofs.Called.{is_one_of-append}
-use Rattle.meta_warnings.proofs.Failing.{or_true, and_true, not_true}
-
--- two texts are equal where their bytes are
-pub bytes_text_eq : (bs ds : List ℕ) → IsUtf8 bs → IsUtf8 ds → bytes_eq bs ds ≡ bytes_eq (chars bs) (chars ds)
-bytes_text_eq bs ds u v =
-    let d = bytes_eq-Decides bs ds in
-    let e : Decides (bytes_eq bs ds) (chars bs ≡ chars ds) = ((λ h. ap chars (d.0 h)), (λ h. d.1 (sym (encodes-chars bs u) ∙ ap encodes h ∙ encodes-chars ds v))) in
-    same_from_decides _ _ e (bytes_eq-Decides (chars bs) (chars ds))
-
-utf8_eq : (bs ds : List ℕ) → IsUtf8 bs → IsUtf8 ds → pointwise nat_eq bs ds ≡ bytes_eq (chars bs) (chars ds)
-utf8_eq bs ds u v =
-    let d = slice_eq-Decides unsigned_Decides bs ds _ refl in
-    let e : Decides (pointwise nat_eq bs ds) (chars bs ≡ chars ds) = ((λ h. ap chars (d.0 h)), (λ h. d.1 (sym (encodes-chars bs u) ∙ ap encodes h ∙ encodes-chars ds v))) in
-    same_from_decides _ _ e (bytes_eq-Decides (chars bs) (chars ds))
-
-pub literal_eq : (s : String Global) (t : List ℕ) → IsAscii t → pointwise nat_eq (string_bytes s) t ≡ bytes_eq (text_of s) t
-literal_eq s t a = utf8_eq (string_bytes s) t (IsUtf8-string_bytes s) (IsUtf8-from_ascii t a) ∙ ap (λ u. bytes_eq (text_of s) u) (chars-IsAscii t a)
 
 -- the bytes of an insertion
 abbrev pub borrowed : List ℕ → Bor (List ℕ)
@@ -66,9 +47,9 @@ knows_more texts old new key utf8 updates there kept k = record {
       ∙ (cond_or (bytes_eq (chars key.now) (chars text)) (has_name old.texts text)
       ∙ (ap (λ b. b || (bytes_eq (chars key.now) (chars text) || false)) (k.has text u)
       ∙ sym (is_one_of-append texts (chars key.now ∷ []) (chars text)))));
-  lengths = λ text u h. elim (or_true (is_one_of texts (chars text)) (bytes_eq (chars key.now) (chars text) || false) (sym (is_one_of-append texts (chars key.now ∷ []) (chars text)) ∙ h)) [
+  lengths = λ text u h. elim (or_cases (is_one_of texts (chars text)) (bytes_eq (chars key.now) (chars text) || false) (sym (is_one_of-append texts (chars key.now ∷ []) (chars text)) ∙ h)) [
     | inl a ↦ kept (length text) (k.lengths text u a)
-    | inr b ↦ elim (or_true (bytes_eq (chars key.now) (chars text)) false b) [
+    | inr b ↦ elim (or_cases (bytes_eq (chars key.now) (chars text)) false b) [
       | inl e ↦
           let same : key.now ≡ text = sym (encodes-chars key.now utf8) ∙ (ap encodes ((bytes_eq-Decides (chars key.now) (chars text)).0 e) ∙ encodes-chars text u) in
           subst (λ t. list_any (λ n. n == length t) new.lengths.items ≡ true) same there
@@ -77,21 +58,10 @@ knows_more texts old new key utf8 updates there kept k = record {
   ];
 }
 
-begins-append : (a b : Text) → begins nat_eq a (a ++ b) ≡ true
-begins-append [] b = refl
-begins-append (x ∷ a) b = rw (eq-eqb x x refl, begins-append a b) refl
-
-or_left : (a b : Bool) → a ≡ true → (a || b) ≡ true
-or_left a b h = rw h refl
-
-or_right : (a b : Bool) → b ≡ true → (a || b) ≡ true
-or_right true b h = refl
-or_right false b h = h
-
 -- one of the texts, with something behind it
 one_begins : (ts : List Text) (a b : Text) → is_one_of ts a ≡ true → any_begins ts (a ++ b) ≡ true
 one_begins [] a b h = cc
-one_begins (t ∷ ts) a b h = elim (or_true (bytes_eq t a) (is_one_of ts a) h) [
+one_begins (t ∷ ts) a b h = elim (or_cases (bytes_eq t a) (is_one_of ts a) h) [
   | inl e ↦ or_left (begins nat_eq t (a ++ b)) (any_begins ts (a ++ b)) (rw ((bytes_eq-Decides t a).0 e) (begins-append a b))
   | inr k ↦ or_right (begins nat_eq t (a ++ b)) (any_begins ts (a ++ b)) (one_begins ts a b k)
 ]
@@ -105,31 +75,15 @@ begins_found texts l text n u k b h =
 -- a text that begins another is one of those
 some_begins : (ts : List Text) (t : Text) → any_begins ts t ≡ true → (v : Text) × (is_one_of ts v ≡ true) × (begins nat_eq v t ≡ true)
 some_begins [] t h = cc
-some_begins (u ∷ ts) t h = elim (or_true (begins nat_eq u t) (any_begins ts t) h) [
+some_begins (u ∷ ts) t h = elim (or_cases (begins nat_eq u t) (any_begins ts t) h) [
   | inl e ↦ (u, or_left (bytes_eq u u) (is_one_of ts u) ((bytes_eq-Decides u u).1 refl), e)
   | inr k ↦ let s = some_begins ts t k in (s.0, or_right (bytes_eq u s.0) (is_one_of ts s.0) s.1, s.2)
 ]
 
-begins-gives : (a b : Text) → begins nat_eq a b ≡ true → (r : Text) × (b ≡ a ++ r)
-begins-gives [] b h = (b, refl)
-begins-gives (x ∷ a) [] h = cc
-begins-gives (x ∷ a) (y ∷ b) h =
-    let p = and_true (nat_eq x y) (begins nat_eq a b) h in
-    let r = begins-gives a b p.1 in
-    let e : x ≡ y = eqb-true x y p.0 in
-    (r.0, ap (λ l. y ∷ l) r.1 ∙ ap (λ z. z ∷ (a ++ r.0)) (sym e))
-
-scalars_parts : (front back : Text) → scalars (front ++ back) ≡ true → (scalars front ≡ true) × (scalars back ≡ true)
-scalars_parts [] back h = (refl, h)
-scalars_parts (c ∷ front) back h =
-    let p = and_true (scalar c) (scalars (front ++ back)) h in
-    let q = scalars_parts front back p.1 in
-    (rw (p.0, q.0) refl, q.1)
-
 -- a number that is among some
 length_at : (ns : List ℕ) (m : ℕ) → list_any (λ n. n == m) ns ≡ true → (k : ℕ) × (k < length ns) × (get_or ns k 0 ≡ m)
 length_at [] m h = cc
-length_at (n ∷ ns) m h = elim (or_true (n == m) (list_any (λ n. n == m) ns) h) [
+length_at (n ∷ ns) m h = elim (or_cases (n == m) (list_any (λ n. n == m) ns) h) [
   | inl e ↦ (0, omega arith, eqb-true n m e)
   | inr k ↦ let p = length_at ns m k in (suc p.0, omega (arith, p.1), p.2)
 ]
@@ -137,7 +91,7 @@ length_at (n ∷ ns) m h = elim (or_true (n == m) (list_any (λ n. n == m) ns) h
 pub begins_missing : (texts : List Text) (l : Literals) (text : List ℕ) → IsUtf8 text → Knows texts l
     → ((k : ℕ) → k < length l.lengths.items → IsCharBoundary text (get_or l.lengths.items k 0) → IsKnown l (take (get_or l.lengths.items k 0) text) ≡ false)
     → any_begins texts (chars text) ≡ false
-begins_missing texts l text utf8 k none = not_true (any_begins texts (chars text)) (λ h.
+begins_missing texts l text utf8 k none = false_from_ne_true (any_begins texts (chars text)) (λ h.
     let s = some_begins texts (chars text) h in
     let v : Text = s.0 in
     let r = begins-gives v (chars text) s.2 in

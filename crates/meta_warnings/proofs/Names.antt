@@ -3,6 +3,8 @@ use Rattle.std.proofs.Common.{◌≡◌, ℕ, ◌+◌, ◌<◌, List, [], ◌∷
 use Rattle.std.specs.Prelude.{flat_map, IsTrue, ◌↔◌}
 use Rattle.std.proofs.lemmas.Slice.Eq.{bytes_eq-Decides}
 use Rattle.std.proofs.lemmas.List.{map-append, take_all, take_more}
+use Rattle.std.proofs.lemmas.Bool.{false_from_ne_true}
+use Rattle.std.proofs.Math.Bool.{or_assoc, or-false}
 use Rattle.meta_base.specs.Language.Builtins.{is_one_of}
 use Rattle.meta_base.specs.Language.Text.{Text}
 use Rattle.meta_base.specs.declared.runtime.places.Span as code
@@ -12,18 +14,9 @@ use Rattle.meta_nodes.specs.Spanned.{Spanned, SpannedRule}
 use Rattle.meta_nodes.specs.declared.node.ParserRule.{ParserRule}
 use Rattle.meta_warnings.specs.Rules.{calls_another, is_called, name_called, uncalled_at, uncalled_rules}
 use Rattle.meta_warnings.proofs.Called.{is_one_of-append}
-use Rattle.meta_warnings.proofs.Failing.{not_true}
-
-or_assoc : (a b c : Bool) → ((a || b) || c) ≡ (a || (b || c))
-or_assoc true b c = refl
-or_assoc false b c = refl
-
-or_false : (a : Bool) → (a || false) ≡ a
-or_false true = refl
-or_false false = refl
 
 called_more : (rs : List SpannedRule) (r : SpannedRule) (n : Text) → is_called (rs ++ r ∷ []) n ≡ (is_called rs n || calls_another r n)
-called_more [] r n = or_false (calls_another r n)
+called_more [] r n = or-false (calls_another r n)
 called_more (q ∷ rs) r n = ap (λ b. calls_another q n || b) (called_more rs r n) ∙ sym (or_assoc (calls_another q n) (is_called rs n) (calls_another r n))
 
 pub rule_called : (rules : List ParserRule) (i : ℕ) (x : ParserRule) (n : Text) (old new : Bool) → i < length rules → x ≡ get_or rules i x
@@ -62,7 +55,7 @@ call_added false false false f = refl
 
 -- a name that is another one
 pub other_name : (s o n : Text) (r : Bool) → (IsTrue r ↔ (s ≡ o)) → r ≡ false → bytes_eq s n ≡ true → bytes_eq o n ≡ false
-other_name s o n r h f e = not_true (bytes_eq o n) (λ k.
+other_name s o n r h f e = false_from_ne_true (bytes_eq o n) (λ k.
     let yes : r ≡ true = h.1 ((bytes_eq-Decides s n).0 e ∙ sym ((bytes_eq-Decides o n).0 k)) in
     absurd (let z : true ≡ false = sym yes ∙ f in cc))
 

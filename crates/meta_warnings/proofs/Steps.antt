@@ -1,32 +1,23 @@
 -- Steps of the walks, and what is found on the way.
-use Rattle.std.proofs.Common.{◌≡◌, ℕ, ◌+◌, ◌<◌, ◌≤◌, List, [], ◌∷◌, ◌++◌, Bor, map, length, take, get_or, refl, sym, ap, ◌∙◌, append_assoc, append-nil, length-append, arith}
-use Rattle.std.specs.Prelude.{flat_map}
+use Rattle.std.proofs.Common.{◌≡◌, ℕ, ◌+◌, ◌<◌, List, [], ◌∷◌, ◌++◌, Bor, map, length, refl, sym, ap, ◌∙◌, append_assoc, append-nil, length-append, arith}
 use Rattle.std.proofs.lemmas.Grind.{flat_map-append}
-use Rattle.std.proofs.lemmas.List.{map-append, take_more, take_all}
-use Rattle.meta_nodes.specs.Nodes.{piece_of, rule_view, rule_views, view, view_at}
-use Rattle.meta_nodes.specs.Spanned.{Spanned, SpannedRule, Span, Leaf, One, Two, Choice, span_of}
+use Rattle.std.proofs.lemmas.List.{map-append}
+use Rattle.meta_nodes.specs.Nodes.{piece_of, view, view_at}
+use Rattle.meta_nodes.specs.Spanned.{Spanned, Span, Leaf, One, Two, Choice, span_of}
 use Rattle.meta_nodes.specs.Erasure.{without_spans}
 use Rattle.meta_nodes.specs.Walk.{preorder, waiting}
 use Rattle.meta_nodes.specs.declared.node.ParserExpr.{ParserExpr}
 use Rattle.meta_nodes.specs.declared.node.ParserExpr as expr
 use Rattle.meta_nodes.specs.declared.node.ParserExpr.TheVariants as is
 use Rattle.meta_nodes.specs.declared.node.ParserNode.{ParserNode}
-use Rattle.meta_nodes.specs.declared.node.ParserRule.{ParserRule}
-use Rattle.meta_nodes.proofs.Walks.{waiting_push, operands_wait}
+use Rattle.meta_nodes.proofs.Walks.{operands_wait}
+use Rattle.meta_nodes.proofs.Places.{span_of-view}
 use Rattle.meta_base.specs.declared.runtime.places.Span as code
 use Rattle.meta_warnings.specs.Choices.{alternatives, beginning_of, literal_of, literals, own_literal, told_behind, unreachable_behind}
 use Rattle.meta_warnings.specs.Lists.{AreOperands, IsTold, Knows, left_over}
 use Rattle.meta_warnings.specs.declared.literals.Literals.{Literals}
 use Rattle.meta_warnings.specs.declared.nodes.Operands.{Operands}
 use Rattle.meta_warnings.specs.declared.nodes.Operands.TheVariants as operands
-
--- where a node of code stands
-span_at : (t : Span) (e : ParserExpr) → span_of (view_at t e) ≡ t
-span_at t (is.Str s) = refl
-span_at t _ = refl
-
-pub span_of-view : (n : ParserNode) → span_of (view n) ≡ piece_of n.span
-span_of-view n = span_at (piece_of n.span) n.expr
 
 -- one more place
 pub push_piece : (found : List code.Span) (n : ParserNode) → map piece_of (found ++ n.span ∷ []) ≡ map piece_of found ++ span_of (view n) ∷ []

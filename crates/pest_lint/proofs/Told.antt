@@ -2,6 +2,7 @@
 use Rattle.std.proofs.Common.{◌≡◌, ℕ, ◌+◌, ◌<◌, ◌≤◌, List, [], ◌∷◌, ◌++◌, map, length, drop, get_or, refl, sym, ap, ◌∙◌, add-one, append_assoc, drop-cons, subst, Result, Ok, Err, IfOk, Vec, Global, zero, suc, take, All, arith}
 use Rattle.std.proofs.lemmas.List.{drop_all, take_all, take_more}
 use Rattle.std.proofs.lemmas.List.Elements.{All-append}
+use Rattle.meta_names.proofs.Places.{tell_both}
 use Rattle.meta_base.specs.Pieces.Saying.{Complaint, SaysAt, Span, Tell, piece_of}
 use Rattle.meta_base.specs.declared.grammar.Rule.{Rule}
 use Rattle.meta_base.specs.declared.runtime.errors.Error.{Error}
@@ -21,12 +22,6 @@ pub told_more : (all rest others : List Complaint) (x : Complaint) (errors : Lis
     → ((more : List (Error Rule)) → Tell rest more → Tell all (errors ++ more))
     → (more : List (Error Rule)) → Tell others more → Tell all ((errors ++ e ∷ []) ++ more)
 told_more all rest others x errors e left s told more t = rw append_assoc (told (e ∷ more) (rw left (s, t)))
-
-pub tell_both : (xs ys : List Complaint) (es fs : List (Error Rule)) → Tell xs es → Tell ys fs → Tell (xs ++ ys) (es ++ fs)
-tell_both [] ys [] fs h k = k
-tell_both [] ys (e ∷ es) fs h k = absurd h
-tell_both (x ∷ xs) ys [] fs h k = absurd h
-tell_both (x ∷ xs) ys (e ∷ es) fs h k = (h.0, tell_both xs ys es fs h.1 k)
 
 pub tell_joined : {E : Type 0} (xs ys : List Complaint) (es fs : List (Error Rule)) (result : Result (Vec (Error Rule) Global) E) → Tell xs es → Tell ys fs
     → IfOk result (λ all. all.items ≡ es ++ fs) → IfOk result (λ all. Tell (xs ++ ys) all.items)

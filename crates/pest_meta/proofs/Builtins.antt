@@ -5,16 +5,19 @@ use Rattle.std.proofs.lemmas.Slice.Eq.{bytes_eq-Decides}
 use Rattle.std.specs.List.{All, AllByRecursion}
 use Rattle.std.specs.Prelude.{◌&&◌, filter, not}
 use Rattle.std.specs.Str.{IsUtf8}
+use Rattle.std.proofs.lemmas.Bool.{false_from_ne_true}
+use Rattle.meta_validator.proofs.EmptyLemmas.{empty_second}
 use Rattle.meta_base.specs.Language.Builtins.{is_one_of}
 use Rattle.meta_base.specs.Language.Expression.{rule_of}
 use Rattle.meta_base.specs.Language.State.{Trees, None', Tree}
 use Rattle.meta_base.specs.Pieces.Saying.{Span, piece, written}
+use Rattle.meta_base.proofs.Basics.{first_of_neither, second_of_neither}
 use Rattle.meta_names.specs.GrammarNames.{AreWrittenAt, called_by, calls, definitions, first_calls, name_complaints, names_in, own_name}
 use Rattle.meta_names.specs.Names.{duplicate_complaints, first_places, is_builtin, pest_keyword_complaints, undefined_calls, undefined_complaints}
 use Rattle.meta_nodes.specs.Erasure.{rules_without_spans}
 use Rattle.meta_nodes.specs.Spanned.{SpannedRule}
 use Rattle.meta_reader.specs.Reading.{ReadsRules}
-use Rattle.pest_meta.proofs.WellNamed.{AreTexts, back_none, defined_texts, heads, names_read, no_rule, none_taken, nothing_said, or_left, or_right, tails, texts_append, texts_if, true_is_false, true_or_false}
+use Rattle.pest_meta.proofs.WellNamed.{AreTexts, defined_texts, heads, names_read, no_rule, none_taken, nothing_said, tails, texts_append, texts_if, true_is_false}
 use Rattle.pest_meta.proofs.WholeCharacters.{OnCharacters}
 
 -- the names that trees call are texts, if the trees stand on characters
@@ -58,7 +61,7 @@ module _ (names : List (List ℕ)) where
       let none = none_taken is_unknown place places h in
       let others =
       first_outside (written place ∷ before) places none.1 u.1
-      (λ n e. k n (or_right (bytes_eq (written place) n) (is_one_of before n) e)) in
+      (λ n e. k n (second_of_neither (bytes_eq (written place) n) (is_one_of before n) e)) in
       go none.0 others (is_one_of before (written place)) refl
     where
       go : is_unknown place ≡ false → AllByRecursion IsOutside (first_places (written place ∷ before) places) → (b : Bool) → is_one_of before (written place) ≡ b
@@ -73,17 +76,17 @@ others_there : (name : List ℕ) (places : List Span) → is_one_of (map written
     → AllByRecursion (λ place. is_one_of (name ∷ []) (written place) ≡ false) places
 others_there name [] h = tt
 others_there name (place ∷ places) h =
-    (other, others_there name places (or_right (bytes_eq (written place) name) (is_one_of (map written places) name) h))
+    (other, others_there name places (second_of_neither (bytes_eq (written place) name) (is_one_of (map written places) name) h))
   where
     differs : bytes_eq (written place) name ≡ false
-    differs = or_left (bytes_eq (written place) name) (is_one_of (map written places) name) h
+    differs = first_of_neither (bytes_eq (written place) name) (is_one_of (map written places) name) h
 
     same : bytes_eq name (written place) ≡ true → ⊥
     same k =
         true_is_false (sym ((bytes_eq-Decides (written place) name).1 (sym ((bytes_eq-Decides name (written place)).0 k))) ∙ differs)
 
     other : (bytes_eq name (written place) || false) ≡ false
-    other = rw (true_or_false (bytes_eq name (written place)) same) refl
+    other = rw (false_from_ne_true (bytes_eq name (written place)) same) refl
 
 -- what is so of what is written at places is so of texts that are that
 of_texts : (P : List ℕ → Type 0) (places : List Span) (texts : List (Bor (List ℕ))) → AreWrittenAt places texts
@@ -100,7 +103,7 @@ module _ {text : List ℕ} {us : Trees} {rs : List SpannedRule} (d : ReadsRules 
   none_unknown : undefined_calls (definitions text us) (calls text us) ≡ []
   none_unknown =
       nothing_said (codes "rule ") (codes " is undefined") _
-      (back_none (pest_keyword_complaints (definitions text us) ++ duplicate_complaints (definitions text us)) (undefined_complaints (definitions text us) (calls text us)) h)
+      (empty_second (pest_keyword_complaints (definitions text us) ++ duplicate_complaints (definitions text us)) (undefined_complaints (definitions text us) (calls text us)) h)
 
   abbrev IsBeside : List ℕ → Type 0
   IsBeside name = (is_builtin name ≡ true) × (rule_of (rules_without_spans rs) (chars name) ≡ None)

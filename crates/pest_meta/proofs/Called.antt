@@ -3,6 +3,7 @@ use Rattle.std.proofs.Common.{◌≡◌, ◌⊎◌, inl, inr, ℕ, List, [], ◌
 use Rattle.std.proofs.lemmas.List.Elements.{All-nil, All-cons, All-contains, All-contains_itself, All-head, All-weaker}
 use Rattle.std.proofs.lemmas.Slice.Eq.{bytes_eq-Decides}
 use Rattle.std.specs.List.{All, Contains}
+use Rattle.std.proofs.lemmas.Bool.{false_from_ne_true, or_cases, or_from, or_left, or_right}
 use Rattle.meta_base.specs.Language.Builtins.{is_one_of}
 use Rattle.meta_base.specs.Language.Expression as bare
 use Rattle.meta_base.specs.Language.Expression.{Expression, Grammar, Part, Rule, or_else, rule_of}
@@ -18,7 +19,7 @@ use Rattle.meta_reader.proofs.ReadParts.{IsGiven, IsHandedDown, parts_so}
 use Rattle.meta_reader.specs.Reading as reading
 use Rattle.meta_reader.specs.Reading.{Postfix, ReadsRule, ReadsRules, Terminal, defined, documented, end_of_input, grammar_doc, line_doc, modified, normal}
 use Rattle.meta_syntax.specs.Shape.{Lone}
-use Rattle.pest_meta.proofs.WellNamed.{names_of, names_read, true_is_false, true_or_false}
+use Rattle.pest_meta.proofs.WellNamed.{names_of, names_read, true_is_false}
 
 -- 1. a name is written at one of these places
 pub data Among (n : List ℕ) : List Span → Type 0 where
@@ -171,28 +172,13 @@ module _ (text : List ℕ) where
       (All-weaker (CallsOnly others) (CallsOnly (places ++ others)) (λ q f n i. behind_of places others (f n i)) (rules_without_spans rs) (rules_call d))
 
 -- 4. in bytes
-or_cases : (a b : Bool) → (a || b) ≡ true → (a ≡ true) ⊎ (b ≡ true)
-or_cases true b h = inl refl
-or_cases false b h = inr h
-
-or_second : (a b : Bool) → b ≡ true → (a || b) ≡ true
-or_second true b h = refl
-or_second false b h = h
-
-or_neither : (a b : Bool) → a ≡ false → b ≡ false → (a || b) ≡ false
-or_neither true b h k = cc
-or_neither false b h k = k
-
-or_first : (a b : Bool) → a ≡ true → (a || b) ≡ true
-or_first true b h = refl
-or_first false b h = cc
 
 at_bytes : (n : List ℕ) (places : List Span) → Among n places → (w : List ℕ) × (chars w ≡ n) × (is_one_of (map written places) w ≡ true)
 at_bytes n (place ∷ places) (at_first e) =
-    (written place, e, or_first (bytes_eq (written place) (written place)) _ ((bytes_eq-Decides (written place) (written place)).1 refl))
+    (written place, e, or_left (bytes_eq (written place) (written place)) _ ((bytes_eq-Decides (written place) (written place)).1 refl))
 at_bytes n (place ∷ places) (further a) =
     let b = at_bytes n places a in
-    (b.0, b.1, or_second (bytes_eq (written place) b.0) _ b.2)
+    (b.0, b.1, or_right (bytes_eq (written place) b.0) _ b.2)
 at_bytes n [] a = at_none a
 
 module _ {X : Type 0} (f : X → List ℕ) where
@@ -203,8 +189,8 @@ module _ {X : Type 0} (f : X → List ℕ) where
       go : (bytes_eq (f x) w ≡ true) ⊎ (is_one_of (map f xs) w ≡ true)
           → (is_one_of (map f xs) w ≡ true → is_one_of (map (λ x. chars (f x)) xs) (chars w) ≡ true)
           → (bytes_eq (chars (f x)) (chars w) || is_one_of (map (λ x. chars (f x)) xs) (chars w)) ≡ true
-      go (inl e) others = or_first _ _ ((bytes_eq-Decides (chars (f x)) (chars w)).1 (ap chars ((bytes_eq-Decides (f x) w).0 e)))
-      go (inr k) others = or_second (bytes_eq (chars (f x)) (chars w)) _ (others k)
+      go (inl e) others = or_left _ _ ((bytes_eq-Decides (chars (f x)) (chars w)).1 (ap chars ((bytes_eq-Decides (f x) w).0 e)))
+      go (inr k) others = or_right (bytes_eq (chars (f x)) (chars w)) _ (others k)
 
 abbrev IsNamed : Grammar → Rule → Type 0
 IsNamed rules r = is_one_of (names_of rules) r.name ≡ true
@@ -212,8 +198,8 @@ IsNamed rules r = is_one_of (names_of rules) r.name ≡ true
 all_named : (rules : Grammar) → All (IsNamed rules) rules
 all_named [] = All-nil (IsNamed [])
 all_named (r ∷ rules) =
-    All-cons (IsNamed (r ∷ rules)) r rules (or_first _ _ ((bytes_eq-Decides r.name r.name).1 refl))
-    (All-weaker (IsNamed rules) (IsNamed (r ∷ rules)) (λ q h. or_second (bytes_eq r.name q.name) _ h) rules (all_named rules))
+    All-cons (IsNamed (r ∷ rules)) r rules (or_left _ _ ((bytes_eq-Decides r.name r.name).1 refl))
+    (All-weaker (IsNamed rules) (IsNamed (r ∷ rules)) (λ q h. or_right (bytes_eq r.name q.name) _ h) rules (all_named rules))
 
 -- a name of a rule means a rule
 some_rule : (rules : Grammar) (n : Text) → is_one_of (names_of rules) n ≡ true → rule_of rules n ≡ None → ⊥
@@ -232,7 +218,7 @@ first_there : (before : List (List ℕ)) (places : List Span) (w : List ℕ) →
 first_there before [] w h k = cc
 first_there before (place ∷ places) w h k =
     let deeper : bytes_eq (written place) w ≡ false → is_one_of (map written places) w ≡ true → is_one_of (map written (first_places (written place ∷ before) places)) w ≡ true =
-    λ e m. first_there (written place ∷ before) places w m (or_neither (bytes_eq (written place) w) (is_one_of before w) e k) in
+    λ e m. first_there (written place ∷ before) places w m (or_from (bytes_eq (written place) w) (is_one_of before w) e k) in
     go (is_one_of before (written place)) (bytes_eq (written place) w) refl refl deeper h
   where
     known : bytes_eq (written place) w ≡ true → is_one_of before (written place) ≡ false
@@ -244,8 +230,8 @@ first_there before (place ∷ places) w h k =
         → is_one_of (map written (if met then first_places (written place ∷ before) places else place ∷ first_places (written place ∷ before) places)) w ≡ true
     go true true m e f i = absurd (true_is_false (sym m ∙ known e))
     go true false m e f i = f e i
-    go false true m e f i = or_first (bytes_eq (written place) w) _ e
-    go false false m e f i = or_second (bytes_eq (written place) w) _ (f e i)
+    go false true m e f i = or_left (bytes_eq (written place) w) _ e
+    go false false m e f i = or_right (bytes_eq (written place) w) _ (f e i)
 
 -- 5. every name that rules call and no rule has is among the first calls
 module _ {text : List ℕ} {us : Trees} {rs : List SpannedRule} (d : ReadsRules text us rs) where
@@ -274,7 +260,7 @@ module _ {text : List ℕ} {us : Trees} {rs : List SpannedRule} (d : ReadsRules 
               none
 
           undefined : is_one_of (map written (definitions text us)) b ≡ false
-          undefined = true_or_false _ names
+          undefined = false_from_ne_true _ names
 
       go : (n ≡ i.0.name) ⊎ Among n (calls text us) → is_one_of (map (λ name. chars name.now) builtins) n ≡ true
       go (inl e) = absurd (own e)

@@ -1,5 +1,5 @@
 -- What is read without a flaw fits its types: texts are texts, and numbers lie within their types.
-use Rattle.std.proofs.Common.{◌≡◌, ℕ, ℤ, pos, negsuc, ◌<◌, ◌≤◌, ◌^◌, ◌⊎◌, inl, inr, List, [], ◌∷◌, None, Bool, true, false, not, ◌&&◌, if◌then◌else◌, refl, chars, codes, arith}
+use Rattle.std.proofs.Common.{◌≡◌, ℕ, ℤ, pos, negsuc, ◌<◌, ◌≤◌, ◌^◌, ◌⊎◌, inl, inr, List, [], ◌∷◌, None, Bool, true, false, not, if◌then◌else◌, refl, chars, codes, arith}
 use Rattle.std.proofs.lemmas.Bool.{ltb-true}
 use Rattle.std.proofs.lemmas.List.Elements.{All-nil, All-cons, All-tail}
 use Rattle.std.proofs.lemmas.Str.{scalars-chars}
@@ -12,6 +12,7 @@ use Rattle.meta_base.specs.Language.Text.{Text, IsText, IsScalarValue}
 use Rattle.meta_base.specs.Language.Expression.{Expression}
 use Rattle.meta_base.specs.Language.Grammar.{FitsItsTypes, FitsSigned32, FitsUnsigned32}
 use Rattle.meta_base.specs.Language.State.{Trees, None', Tree, joined}
+use Rattle.meta_base.proofs.Basics.{first_of_both, second_of_both}
 use Rattle.meta_nodes.specs.Erasure.{round, between}
 use Rattle.meta_nodes.specs.Spanned.{Unary, Binary, Seq, Choice}
 use Rattle.meta_reader.specs.Flaws.{Cause, own_flaw, closes, flaw_if, fits_i32, past_u32, past_i32, wrong_literal, zero_times, first_flaw}
@@ -28,19 +29,11 @@ scalar_value c h = go (scalar_cases c h)
     go (inl l) = inl l
     go (inr g) = inr (omega (arith, g.0), g.1)
 
-and_left : (a b : Bool) → (a && b) ≡ true → a ≡ true
-and_left true b h = refl
-and_left false b h = cc
-
-and_right : (a b : Bool) → (a && b) ≡ true → b ≡ true
-and_right true b h = h
-and_right false b h = cc
-
 -- a list of scalar values is a text
 is_text : (t : List ℕ) → all_scalars t ≡ true → IsText t
 is_text [] h = All-nil IsScalarValue
 is_text (c ∷ t) h =
-    All-cons IsScalarValue c t (scalar_value c (and_left _ (all_scalars t) h)) (is_text t (and_right _ (all_scalars t) h))
+    All-cons IsScalarValue c t (scalar_value c (first_of_both _ (all_scalars t) h)) (is_text t (second_of_both _ (all_scalars t) h))
 
 pub characters_are_text : (b : List ℕ) → IsUtf8 b → IsText (chars b)
 characters_are_text b u = is_text (chars b) (scalars-chars b u)

@@ -4,12 +4,12 @@ use Rattle.meta_base.proofs.BodiesKeepGrammars.{naming}
 use Rattle.meta_base.proofs.Everywhere.{Everywhere, HoldsHere, at_part, everywhere, in_sequence_too, kept_along}
 use Rattle.meta_base.proofs.ListingKeepsGrammars.{Finished, Finishes, lists, wraps}
 use Rattle.meta_base.proofs.Moving.{also, each_copy, each_of_both, no_more}
-use Rattle.meta_base.proofs.OneOutcome.{same_rule}
 use Rattle.meta_base.proofs.StepsKeepOutcomes.{Matched, each_body, each_pair, neither, pairs, two}
 use Rattle.meta_base.specs.Language.Expression.{Expression, Grammar, Ident, Part, RepMin, Rule, RuleType, rule_of}
 use Rattle.meta_base.specs.Language.Text.{Text}
 use Rattle.meta_base.specs.Language.WellFormed.{Reaches, itself, onward}
 use Rattle.meta_base.specs.Rewritings.Rewriting.{Chain, Many, Rewrites, Within, by_factoring, by_joining, by_rotating, by_skipping, by_unrolling, done, factor_absorbed, factor_optional, factor_optional_compound, factor_prefix, join_insensitive, join_literals, no_step, one_step, rotate_choice, rotate_sequence, skip_until, step, unroll_exact, unroll_max, unroll_min, unroll_min_max}
+use Rattle.meta_base.proofs.Basics.{same_some}
 use Rattle.meta_restorer.specs.Agreeing.{WrappersSuffice}
 
 -- 1. at the root: what is so of every name before is so of every name behind
@@ -54,7 +54,7 @@ Follows g h = (n : Text) → Matched NamesNothingNew (rule_of g n) (rule_of h n)
 
 before : {p q : Option Rule} {r : Rule} → Matched NamesNothingNew p q → q ≡ Some r → (s : Rule) × (p ≡ Some s) × NamesNothingNew r.type_of s.body r.body
 before neither e = cc
-before (two {r = s} {b = b} x) e = (s, refl, subst (λ r. NamesNothingNew r.type_of s.body r.body) (same_rule e) x)
+before (two {r = s} {b = b} x) e = (s, refl, subst (λ r. NamesNothingNew r.type_of s.body r.body) (same_some e) x)
 
 module _ (g h : Grammar) (f : Follows g h) where
   reaches_to : {n k : Text} → Reaches h n k → Reaches g n k

@@ -1,5 +1,5 @@
 -- Of rules that are read from a text the stack pass has one list of reports, in the order of their places.
-use Rattle.std.proofs.Common.{Ordering, Less, Equal, Greater, ◌≡◌, ℕ, List, [], ◌∷◌, ◌+◌, ◌<◌, Bool, true, false, cond, not, ◌&&◌, replicate, refl, sym, ap, subst, ◌∙◌, arith, one-add, zero-add}
+use Rattle.std.proofs.Common.{Ordering, Less, Equal, Greater, ◌≡◌, ℕ, suc, List, [], ◌∷◌, ◌+◌, ◌<◌, Bool, true, false, cond, not, ◌&&◌, replicate, refl, sym, ap, subst, ◌∙◌, arith, one-add, zero-add}
 use Rattle.std.proofs.lemmas.Cmp.{nat_cmp_total, on_total, ranked, then_total}
 use Rattle.std.proofs.lemmas.List.Elements.{All-nil, All-head, All-same, All-tail, All-weaker}
 use Rattle.std.proofs.lemmas.List.Sorted.{All-permutation, ranks_by, sum_by-IsPermutation}
@@ -97,10 +97,10 @@ module _ (text : List ℕ) where
   module _ (rules : List SpannedRule) (stand : All (λ r. StandsIn text r.body) rules) where
     read_in_text : (spans : List Span) → AreRead rules spans → All (InText text) spans
     read_in_text spans a =
-        let enough : most_stacks < 3067 = omega arith in
-        all_stand text (ReportedFrom 3067 a.turns a.recursive (rules_without_spans rules) a.nullable)
-        (λ x ts h k. bodies_stand text 3067 a.turns (λ y. reading_in 3067 a.recursive (rules_without_spans rules) (without_spans y)) a.nullable (λ b. b ≡ entry) x ts h k)
-        rules spans stand (a.read 3067 enough)
+        let enough : most_stacks < suc most_stacks = omega arith in
+        all_stand text (ReportedFrom (suc most_stacks) a.turns a.recursive (rules_without_spans rules) a.nullable)
+        (λ x ts h k. bodies_stand text (suc most_stacks) a.turns (λ y. reading_in (suc most_stacks) a.recursive (rules_without_spans rules) (without_spans y)) a.nullable (λ b. b ≡ entry) x ts h k)
+        rules spans stand (a.read (suc most_stacks) enough)
 
     -- one list, and all of it in the text
     plain_once : (xs ys : List Span) → AreFound rules xs → AreFound rules ys → (xs ≡ ys) × All (InText text) xs

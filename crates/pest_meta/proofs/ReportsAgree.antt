@@ -1,5 +1,5 @@
 -- Of rules the stack pass has one list of reports.
-use Rattle.std.proofs.Common.{◌≡◌, ◌↔◌, List, [], ◌∷◌, ◌++◌, ◌<◌, ℕ, Bool, true, false, map, length, inl, inr, refl, sym, ◌∙◌, ap, subst, arith}
+use Rattle.std.proofs.Common.{◌≡◌, ◌↔◌, List, [], ◌∷◌, ◌++◌, ◌<◌, ℕ, suc, Bool, true, false, map, length, inl, inr, refl, sym, ◌∙◌, ap, subst, arith}
 use Rattle.std.proofs.Math.Path.{fun_ext}
 use Rattle.std.proofs.lemmas.List.{nil_from_length}
 use Rattle.std.proofs.lemmas.List.Sorted.{length_permutation}
@@ -58,14 +58,14 @@ from_once rules xs ys limit turns recursive nullable a b =
 -- where the same names are taken for recursive
 read_once : (rules : List SpannedRule) (xs ys : List Span) (a : AreRead rules xs) (b : AreRead rules ys) → a.recursive ≡ b.recursive → xs ≡ ys
 read_once rules xs ys a b recursive =
-    let enough : most_stacks < 3067 = omega arith in
+    let enough : most_stacks < suc most_stacks = omega arith in
     let turns : b.turns ≡ a.turns = b.most_searched ∙ sym a.most_searched in
     let nullable : b.nullable ≡ a.nullable = fun_ext (λ x. same_test (b.nullable x) (a.nullable x) _ (b.knows x) (a.knows x)) in
-    let R = λ (t : ℕ) (r : Text → Bool) (n : Spanned → Bool). AllReported (ReportedFrom 3067 t r (rules_without_spans rules) n) (map (λ r. r.body) rules) ys in
-    from_once rules xs ys 3067 a.turns a.recursive a.nullable (a.read 3067 enough)
+    let R = λ (t : ℕ) (r : Text → Bool) (n : Spanned → Bool). AllReported (ReportedFrom (suc most_stacks) t r (rules_without_spans rules) n) (map (λ r. r.body) rules) ys in
+    from_once rules xs ys (suc most_stacks) a.turns a.recursive a.nullable (a.read (suc most_stacks) enough)
     (subst (λ t. R t a.recursive a.nullable) turns
     (subst (λ r. R b.turns r a.nullable) (sym recursive)
-    (subst (λ n. R b.turns b.recursive n) nullable (b.read 3067 enough))))
+    (subst (λ n. R b.turns b.recursive n) nullable (b.read (suc most_stacks) enough))))
 
 pub read_alike : (rules : List SpannedRule) (xs ys : List Span) → AreRead rules xs → AreRead rules ys → xs ≡ ys
 read_alike rules xs ys a b =

@@ -15,7 +15,7 @@ use Rattle.meta_base.specs.declared.runtime.errors.Error.{Error}
 use Rattle.meta_base.specs.declared.runtime.faults.Fault as code
 use Rattle.meta_base.specs.declared.runtime.faults.Fault.TheVariants as fault_is
 use Rattle.meta_base.specs.declared.runtime.tokens.Pairs.{Pairs}
-use Rattle.meta_base.proofs.OneOutcome.{same}
+use Rattle.meta_base.proofs.OneOutcome.{same, same_trees}
 use Rattle.meta_nodes.specs.Erasure.{rules_without_spans}
 use Rattle.meta_nodes.specs.Spanned.{SpannedRule}
 use Rattle.meta_reader.specs.Flaws.{Flaw, first_flaw}
@@ -36,9 +36,6 @@ use Rattle.pest_meta.specs.Spelling.{AreAccepted, AreFlawed, AreRejected, Give, 
 -- no property name stands for anything
 abbrev pub empty_classes : Classes
 empty_classes n c = false
-
-same_trees : {s t : State} {us vs : Trees} → Success s us ≡ Success t vs → us ≡ vs
-same_trees h = cc
 
 failure_is_none : {t : State} {us : Trees} → Failure ≡ Success t us → ⊥
 failure_is_none h = cc
@@ -107,7 +104,7 @@ no_grammar text (fault_is.Grammar errors) h =
     inl (record { says = h; none = λ rules s. fails_so text h.place s.trees h.fails s.of_text })
 
 -- what is refused when it is read has a flaw
-flawed : (text : List ℕ) (us : Trees) (errors : List (Error Rule)) (o : Option Flaw) → first_flaw text us ≡ o → MatchOption o ⊥ (λ flaw. TellsOf flaw errors) → AreFlawed text us errors
+pub flawed : (text : List ℕ) (us : Trees) (errors : List (Error Rule)) (o : Option Flaw) → first_flaw text us ≡ o → MatchOption o ⊥ (λ flaw. TellsOf flaw errors) → AreFlawed text us errors
 flawed text us errors None e k = absurd k
 flawed text us errors (Some flaw) e k = record { flaw = flaw; first = e; tells = k }
 

@@ -1,5 +1,5 @@
 -- Rules whose names are in order: distinct names, none a keyword.
-use Rattle.std.proofs.Common.{◌≡◌, ℕ, List, [], ◌∷◌, ◌++◌, None, Bool, true, false, if◌then◌else◌, ◌||◌, map, refl, sym, ap, subst, ◌∙◌, bytes_eq, codes, chars}
+use Rattle.std.proofs.Common.{◌≡◌, ℕ, List, [], ◌∷◌, ◌++◌, None, Bool, true, false, if◌then◌else◌, map, refl, sym, ap, subst, ◌∙◌, bytes_eq, codes, chars}
 use Rattle.std.proofs.lemmas.List.Elements.{All-from_recursion, recursion_from_All}
 use Rattle.std.proofs.lemmas.Slice.Eq.{bytes_eq-Decides}
 use Rattle.std.proofs.lemmas.Str.{encodes-chars}
@@ -7,6 +7,8 @@ use Rattle.std.proofs.Math.Utf8.{encodes}
 use Rattle.std.specs.List.{All, AllByRecursion}
 use Rattle.std.specs.Prelude.{filter}
 use Rattle.std.specs.Str.{IsUtf8}
+use Rattle.std.proofs.lemmas.Bool.{false_from_ne_true}
+use Rattle.meta_validator.proofs.EmptyLemmas.{empty_first, empty_second}
 use Rattle.meta_base.specs.Language.Builtins.{is_one_of}
 use Rattle.meta_base.specs.Language.Expression.{Grammar, rule_of}
 use Rattle.meta_base.specs.Language.Grammar.{HasDistinctNames, keywords}
@@ -18,6 +20,7 @@ use Rattle.meta_names.specs.Names.{later_places, places_of, pest_keyword_complai
 use Rattle.meta_nodes.specs.Erasure.{rules_without_spans}
 use Rattle.meta_nodes.specs.Spanned.{SpannedRule}
 use Rattle.meta_base.specs.Language.Text.{IsText}
+use Rattle.meta_base.proofs.Basics.{first_of_neither, second_of_neither}
 use Rattle.pest_meta.proofs.Fitting.{characters_are_text}
 use Rattle.pest_meta.proofs.WholeCharacters.{OnCharacters}
 use Rattle.meta_reader.specs.Reading.{line_doc, normal, modified, ReadsRules, end_of_input, grammar_doc, documented, defined}
@@ -47,33 +50,21 @@ names_read (defined {r = r} (modified m b) d) = ap (λ ns. r.name ∷ ns) (names
 same_bytes : (b c : List ℕ) → IsUtf8 b → IsUtf8 c → chars b ≡ chars c → b ≡ c
 same_bytes b c u v e = sym (encodes-chars b u) ∙ ap encodes e ∙ encodes-chars c v
 
-pub true_or_false : (b : Bool) → (b ≡ true → ⊥) → b ≡ false
-true_or_false true h = absurd (h refl)
-true_or_false false h = refl
-
 pub true_is_false : true ≡ false → ⊥
 true_is_false h = cc
-
-pub or_left : (a b : Bool) → (a || b) ≡ false → a ≡ false
-or_left true b h = cc
-or_left false b h = refl
-
-pub or_right : (a b : Bool) → (a || b) ≡ false → b ≡ false
-or_right true b h = cc
-or_right false b h = h
 
 -- a text is not among words, then neither are its characters, if the words are written as they are
 not_among : (words : List (List ℕ)) (b : List ℕ) → AllByRecursion (λ w. encodes w ≡ w) words → IsUtf8 b → is_one_of words b ≡ false → is_one_of words (chars b) ≡ false
 not_among [] b a u h = refl
-not_among (w ∷ words) b a u h = rw (first, not_among words b a.1 u (or_right (bytes_eq w b) _ h)) refl
+not_among (w ∷ words) b a u h = rw (first, not_among words b a.1 u (second_of_neither (bytes_eq w b) _ h)) refl
   where
     other : bytes_eq w (chars b) ≡ true → ⊥
     other e =
         let same : w ≡ b = sym a.0 ∙ ap encodes ((bytes_eq-Decides w (chars b)).0 e) ∙ encodes-chars b u in
-        true_is_false (sym ((bytes_eq-Decides w b).1 same) ∙ or_left (bytes_eq w b) (is_one_of words b) h)
+        true_is_false (sym ((bytes_eq-Decides w b).1 same) ∙ first_of_neither (bytes_eq w b) (is_one_of words b) h)
 
     first : bytes_eq w (chars b) ≡ false
-    first = true_or_false (bytes_eq w (chars b)) other
+    first = false_from_ne_true (bytes_eq w (chars b)) other
 
 -- the keywords are written as they are
 keywords_are_ascii : AllByRecursion (λ w. encodes w ≡ w) keywords
@@ -131,7 +122,7 @@ module _ where
     where
       others : (ps : List Span) → AllByRecursion (λ p. is_one_of (written place ∷ before) (written p) ≡ false) ps → AllByRecursion (λ p. is_one_of before (written p) ≡ false) ps
       others [] a = tt
-      others (p ∷ ps) a = (or_right (bytes_eq (written place) (written p)) _ a.0, others ps a.1)
+      others (p ∷ ps) a = (second_of_neither (bytes_eq (written place) (written p)) _ a.0, others ps a.1)
 
 -- a name that stands at none of the places is no rule's
 pub no_rule : (before : List (List ℕ)) (name : List ℕ) (places : List Span) (rules : Grammar) → IsUtf8 name → names_of rules ≡ names_at places → AreTexts places
@@ -147,10 +138,10 @@ no_rule before name (place ∷ places) (r ∷ rules) v e u h = rw (no_rule befor
     same k =
         let chars_same : chars name ≡ chars (written place) = sym ((bytes_eq-Decides r.name (chars name)).0 k) ∙ heads e in
         let bytes_same = same_bytes name (written place) v u.0 chars_same in
-        true_is_false (sym ((bytes_eq-Decides name (written place)).1 bytes_same) ∙ or_left (bytes_eq name (written place)) (is_one_of before (written place)) h.0)
+        true_is_false (sym ((bytes_eq-Decides name (written place)).1 bytes_same) ∙ first_of_neither (bytes_eq name (written place)) (is_one_of before (written place)) h.0)
 
     other : bytes_eq r.name (chars name) ≡ false
-    other = true_or_false (bytes_eq r.name (chars name)) same
+    other = false_from_ne_true (bytes_eq r.name (chars name)) same
 
 -- rules whose names stand at places of which none repeats a name
 distinct : (before : List (List ℕ)) (places : List Span) (rules : Grammar) → names_of rules ≡ names_at places → AreTexts places → later_places before places ≡ []
@@ -165,15 +156,6 @@ distinct before (place ∷ places) (r ∷ rules) e u h =
     let none : rule_of rules (chars (written place)) ≡ None = no_rule before (written place) places rules u.0 (tails e) u.1 (none_met (written place ∷ before) places one.1) in
     (subst (λ n. rule_of rules n ≡ None) (sym (heads e)) none, distinct (written place ∷ before) places rules (tails e) u.1 one.1)
 
--- of two lists that make none together, each is none
-front_none : {X : Type 0} (xs ys : List X) → xs ++ ys ≡ [] → xs ≡ []
-front_none [] ys h = refl
-front_none (x ∷ xs) ys h = cc
-
-pub back_none : {X : Type 0} (xs ys : List X) → xs ++ ys ≡ [] → ys ≡ []
-back_none [] ys h = h
-back_none (x ∷ xs) ys h = cc
-
 pub nothing_said : (before after : List ℕ) (places : List Span) → said before after places ≡ [] → places ≡ []
 nothing_said before after [] h = refl
 nothing_said before after (place ∷ places) h = cc
@@ -181,15 +163,15 @@ nothing_said before after (place ∷ places) h = cc
 module _ {text : List ℕ} {us : Trees} {rs : List SpannedRule} (d : ReadsRules text us rs) (u : AreTexts (definitions text us)) (calls : List Span)
     (h : name_complaints (definitions text us) calls ≡ []) where
   first_two : pest_keyword_complaints (definitions text us) ++ duplicate_complaints (definitions text us) ≡ []
-  first_two = front_none _ (undefined_complaints (definitions text us) calls) h
+  first_two = empty_first _ (undefined_complaints (definitions text us) calls) h
 
   of_keywords : places_of keywords (definitions text us) ≡ []
   of_keywords =
-      nothing_said [] (codes " is a pest keyword") _ (front_none (pest_keyword_complaints (definitions text us)) (duplicate_complaints (definitions text us)) first_two)
+      nothing_said [] (codes " is a pest keyword") _ (empty_first (pest_keyword_complaints (definitions text us)) (duplicate_complaints (definitions text us)) first_two)
 
   of_duplicates : later_places [] (definitions text us) ≡ []
   of_duplicates =
-      nothing_said (codes "rule ") (codes " already defined") _ (back_none (pest_keyword_complaints (definitions text us)) (duplicate_complaints (definitions text us)) first_two)
+      nothing_said (codes "rule ") (codes " already defined") _ (empty_second (pest_keyword_complaints (definitions text us)) (duplicate_complaints (definitions text us)) first_two)
 
   -- rules of trees without complaints on their names: none is a keyword, and they are distinct
   pub no_keyword_read : All (λ r. is_one_of keywords r.name ≡ false) (rules_without_spans rs)
@@ -211,7 +193,7 @@ any_is_no_rule (r ∷ rules) h = rw (any_is_no_rule rules h.1, other) refl
     same k = true_is_false (sym (subst (λ n. is_one_of keywords n ≡ true) (sym ((bytes_eq-Decides r.name (codes "ANY")).0 k)) any_is_keyword) ∙ h.0)
 
     other : bytes_eq r.name (codes "ANY") ≡ false
-    other = true_or_false (bytes_eq r.name (codes "ANY")) same
+    other = false_from_ne_true (bytes_eq r.name (codes "ANY")) same
 
 -- the names that trees define are texts, if the trees stand on characters
 pub texts_if : (b : Bool) (places : List Span) → AreTexts places → AreTexts (if b then places else [])

@@ -1,5 +1,5 @@
 -- A fault of a text is told as what is wrong with it.
-use Rattle.std.proofs.Common.{◌≡◌, ◌≢◌, ◌⊎◌, ℕ, List, Option, Some, None, MatchOption, inl, inr, refl, subst, sym}
+use Rattle.std.proofs.Common.{◌≡◌, ◌⊎◌, ℕ, List, inl, inr, refl, subst, sym}
 use Rattle.meta_base.specs.Language.State.{Trees}
 use Rattle.meta_base.specs.Pieces.MetaRules.{name_of}
 use Rattle.meta_base.specs.Pieces.NamedTrees.{named}
@@ -16,10 +16,9 @@ use Rattle.meta_json.specs.declared.refusal.Place.TheVariants as place_is
 use Rattle.meta_json.specs.declared.refusal.Why.{Why}
 use Rattle.meta_json.specs.declared.refusal.Why.TheVariants as json_why
 use Rattle.meta_names.specs.GrammarNames.{IsNameRefusal, complaints_of}
-use Rattle.meta_reader.specs.Flaws.{Flaw, first_flaw}
-use Rattle.meta_reader.specs.Refusals.{first_flaw_of, IsReadRefusal, TellsOf}
+use Rattle.meta_reader.specs.Refusals.{first_flaw_of, IsReadRefusal}
 use Rattle.meta_syntax.specs.Parses.{AreOfAGrammar, ParseRefuses}
-use Rattle.pest_meta.proofs.Spelled.{fails_so}
+use Rattle.pest_meta.proofs.Spelled.{fails_so, flawed}
 use Rattle.pest_meta.specs.Spelling.{AreFlawed, AreRejected, HaveFindings, IsMisnamed, IsNoGrammar, IsRefusal, IsRefusedWith}
 use Rattle.pest_meta_c.specs.Outcomes.{IsRefusalOf, IsTold, Says}
 use Rattle.pest_meta_c.specs.Refusals.{HasNoTokens, IsNoJson, OfTrees, TellSuch}
@@ -67,11 +66,6 @@ read_wrong pairs (fault_is.Grammar errors) h k = inr (named (pairs_trees pairs),
 
 pub rejected : (text : List ℕ) (pairs : Pairs Rule) (fault : code.Fault) → pairs_text pairs ≡ text → AreOfAGrammar pairs → AreRejected (pairs_text pairs) (named (pairs_trees pairs)) fault → OfErrors (OfTrees (HaveWrongRules text) text) fault
 rejected text pairs fault same h k = subst (λ v. OfErrors (OfTrees (HaveWrongRules v) v) fault) same (read_wrong pairs fault h k)
-
--- the first flaw in its trees
-flawed : (text : List ℕ) (us : Trees) (errors : List (Error Rule)) (o : Option Flaw) → first_flaw text us ≡ o → MatchOption o ⊥ (λ flaw. TellsOf flaw errors) → AreFlawed text us errors
-flawed text us errors None e k = absurd k
-flawed text us errors (Some flaw) e k = record { flaw = flaw; first = e; tells = k }
 
 unread : (pairs : Pairs Rule) (fault : code.Fault) → AreOfAGrammar pairs → IsReadRefusal (first_flaw_of pairs) fault → OfErrors (OfTrees (AreFlawed (pairs_text pairs)) (pairs_text pairs)) fault
 unread pairs (fault_is.Memory e) h k = tt

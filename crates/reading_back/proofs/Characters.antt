@@ -7,6 +7,7 @@ use Rattle.meta_base.specs.Language.State.{moved, Mode, AtomicMode, None', Succe
 use Rattle.meta_base.specs.Language.Builtins.{is_between, is_letter, is_lower, is_upper}
 use Rattle.meta_base.specs.Language.Meaning.{Run}
 use Rattle.meta_base.specs.declared.grammar.Rule.TheVariants as is
+use Rattle.meta_base.proofs.Basics.{first_of_neither, second_of_neither}
 use Rattle.meta_syntax.specs.Firsts.{is_among}
 use Rattle.meta_syntax.specs.MetaGrammar.{rule, ◌or◌}
 use Rattle.reading_back.proofs.Deriving.{at, Gives, str, range, call, left, right, is_solid}
@@ -23,20 +24,12 @@ abbrev pub any_good : (ℕ → Bool) → List ℕ → Bool
 any_good good [] = false
 any_good good (x ∷ xs) = good x || any_good good xs
 
-or_left : (a b : Bool) → (a || b) ≡ false → a ≡ false
-or_left true b h = h
-or_left false b h = refl
-
-or_right : (a b : Bool) → (a || b) ≡ false → b ≡ false
-or_right true b h = cc
-or_right false b h = h
-
 pub excluded : (good : ℕ → Bool) (xs : List ℕ) (c : ℕ) → any_good good xs ≡ false → good c ≡ true → is_among xs c ≡ false
 excluded good [] c h k = refl
-excluded good (x ∷ xs) c h k = go (nat_eq c x) refl (excluded good xs c (or_right _ _ h) k)
+excluded good (x ∷ xs) c h k = go (nat_eq c x) refl (excluded good xs c (second_of_neither _ _ h) k)
   where
     go : (b : Bool) → nat_eq c x ≡ b → is_among xs c ≡ false → (b || is_among xs c) ≡ false
-    go true e l = let i = ap good (eqb-true c x e) in let j : good x ≡ false = or_left (good x) (any_good good xs) h in cc
+    go true e l = let i = ap good (eqb-true c x e) in let j : good x ≡ false = first_of_neither (good x) (any_good good xs) h in cc
     go false e l = l
 
 pub solid_when : (good : ℕ → Bool) (c : ℕ) → any_good good (32 ∷ 9 ∷ 10 ∷ 13 ∷ []) ≡ false → any_good good (47 ∷ []) ≡ false → good c ≡ true → is_solid c ≡ true
@@ -83,7 +76,7 @@ module _ (c : ℕ) (K : Text) (p : ℕ) where
 
   pub letter_misses : is_letter c ≡ false → Gives (Run AtomicMode (rule is.alpha)) (at p (c ∷ K)) Failure
   unfolding whitespace comment
-  letter_misses h = call is.alpha refl (right (range_misses 97 122 c K p (or_right _ _ h)) (range_misses 65 90 c K p (or_left _ _ h)))
+  letter_misses h = call is.alpha refl (right (range_misses 97 122 c K p (second_of_neither _ _ h)) (range_misses 65 90 c K p (first_of_neither _ _ h)))
 
   pub letter_or_digit_takes : (is_letter c || is_between 48 57 c) ≡ true → Gives (Run AtomicMode (rule is.alpha_num)) (at p (c ∷ K)) (Success (at (past p c) K) None')
   unfolding whitespace comment
@@ -95,7 +88,7 @@ module _ (c : ℕ) (K : Text) (p : ℕ) where
 
   pub letter_or_digit_misses : (is_letter c || is_between 48 57 c) ≡ false → Gives (Run AtomicMode (rule is.alpha_num)) (at p (c ∷ K)) Failure
   unfolding whitespace comment
-  letter_or_digit_misses h = call is.alpha_num refl (right (letter_misses (or_left _ _ h)) (range_misses 48 57 c K p (or_right _ _ h)))
+  letter_or_digit_misses h = call is.alpha_num refl (right (letter_misses (first_of_neither _ _ h)) (range_misses 48 57 c K p (second_of_neither _ _ h)))
 
   -- `_` or else
   pub word_takes : (nat_eq 95 c || (is_letter c || is_between 48 57 c)) ≡ true → Gives (Run AtomicMode (Str (codes "_") or rule is.alpha_num)) (at p (c ∷ K)) (Success (at (past p c) K) None')
@@ -106,10 +99,10 @@ module _ (c : ℕ) (K : Text) (p : ℕ) where
       go false e k = right (sign_misses 95 [] c K p e) (letter_or_digit_takes k)
 
   pub word_misses : (nat_eq 95 c || (is_letter c || is_between 48 57 c)) ≡ false → Gives (Run AtomicMode (Str (codes "_") or rule is.alpha_num)) (at p (c ∷ K)) Failure
-  word_misses h = right (sign_misses 95 [] c K p (or_left _ _ h)) (letter_or_digit_misses (or_right _ _ h))
+  word_misses h = right (sign_misses 95 [] c K p (first_of_neither _ _ h)) (letter_or_digit_misses (second_of_neither _ _ h))
 
   pub start_misses : (nat_eq 95 c || is_letter c) ≡ false → Gives (Run AtomicMode (Str (codes "_") or rule is.alpha)) (at p (c ∷ K)) Failure
-  start_misses h = right (sign_misses 95 [] c K p (or_left _ _ h)) (letter_misses (or_right _ _ h))
+  start_misses h = right (sign_misses 95 [] c K p (first_of_neither _ _ h)) (letter_misses (second_of_neither _ _ h))
 
   pub start_takes : (nat_eq 95 c || is_letter c) ≡ true → Gives (Run AtomicMode (Str (codes "_") or rule is.alpha)) (at p (c ∷ K)) (Success (at (past p c) K) None')
   start_takes h = go (nat_eq 95 c) refl h

@@ -11,11 +11,11 @@ use Rattle.meta_base.specs.Language.Builtins.{is_between}
 use Rattle.meta_ast.specs.Printing.{escaped, is_control, numbered, hex_digit}
 use Rattle.meta_base.specs.Language.Meaning.{Run, from_to}
 use Rattle.meta_base.specs.declared.grammar.Rule.TheVariants as is
+use Rattle.meta_base.proofs.Basics.{second_of_both}
 use Rattle.meta_syntax.specs.MetaGrammar.{rule}
 use Rattle.meta_reader.specs.Literal as literal
-use Rattle.meta_reader.specs.Literal.{unescaped, extended, letter, digits}
+use Rattle.meta_reader.specs.Literal.{unescaped}
 use Rattle.reading_back.proofs.Deriving.{at, Gives, str, range, call, seq, seq_first, left, right, opt, opt_none, rep_min_max, atomic}
-use Rattle.reading_back.proofs.Names.{and_right}
 use Rattle.reading_back.proofs.Characters.{past, range_takes, range_misses}
 
 -- a character as it is written between quotes: itself, or by an escape
@@ -151,7 +151,7 @@ module _ (q : ℕ) (delimiter : CharacterForm q q (92 ∷ q ∷ [])) where
     where
       go : (b : Bool) → nat_lt c 32 ≡ b → (b || is_between 127 159 c) ≡ true → c < 256
       go true e k = let i = ltb-true c 32 e in omega (arith, i)
-      go false e k = let i = leb-true c 159 (and_right (nat_le 127 c) (nat_le c 159) k) in omega (arith, i)
+      go false e k = let i = leb-true c 159 (second_of_both (nat_le 127 c) (nat_le c 159) k) in omega (arith, i)
 
   pub form : (c : ℕ) → CharacterForm q c (escaped q c)
   form c = go (c == q) (c == 0) (c == 9) (c == 10) (c == 13) (c == 92) (is_control c) (c == 0x2028) (c == 0x2029) refl refl refl refl refl refl refl refl refl

@@ -1,12 +1,15 @@
 -- Names.
-use Rattle.std.proofs.Common.{◌≡◌, refl, sym, ◌∙◌, ap, ℕ, ◌+◌, List, [], ◌∷◌, ◌++◌, Bool, true, false, not, ◌||◌, ◌&&◌, nat_eq, codes, eqb-true}
+use Rattle.std.proofs.Common.{◌≡◌, refl, ap, ℕ, ◌+◌, List, [], ◌∷◌, ◌++◌, Bool, true, false, not, ◌||◌, ◌&&◌, nat_eq, codes}
 use Rattle.std.specs.Str.{IsUtf8}
+use Rattle.std.proofs.lemmas.Bool.{not-true}
 use Rattle.meta_base.specs.Language.Text.{Text}
 use Rattle.meta_base.specs.Language.Expression.{Expression, Str, Range, Ident, Seq, Rep, whitespace, comment}
 use Rattle.meta_base.specs.Language.State.{NonAtomicMode, AtomicMode, None', Tree, Success, Failure}
 use Rattle.meta_base.specs.Language.Matching.{begins}
 use Rattle.meta_base.specs.Language.Meaning.{Run, Turns}
 use Rattle.meta_base.specs.declared.grammar.Rule.TheVariants as is
+use Rattle.meta_base.proofs.Basics.{first_of_both, second_of_both}
+use Rattle.meta_base.proofs.Beginnings.{begins-gives}
 use Rattle.meta_syntax.specs.Firsts.{is_among}
 use Rattle.meta_syntax.specs.MetaGrammar.{rule, ◌or◌}
 use Rattle.meta_reader.specs.Reading.{leaf, identifier}
@@ -17,18 +20,6 @@ use Rattle.reading_back.proofs.Parts.{MayFollowTerm, tilde, bar, brace, paren, M
 use Rattle.reading_back.proofs.Characters.{differs, excluded, solid_when, refused, past, sign_misses, text_misses, word_takes, word_misses, start_takes}
 use Rattle.reading_back.proofs.WrittenBetween.{written_is}
 use Rattle.reading_back.proofs.Nodes.{node_with, as_node}
-
-pub and_left : (a b : Bool) → (a && b) ≡ true → a ≡ true
-and_left true b h = refl
-and_left false b h = h
-
-pub and_right : (a b : Bool) → (a && b) ≡ true → b ≡ true
-and_right true b h = h
-and_right false b h = cc
-
-not_true : (b : Bool) → not b ≡ true → b ≡ false
-not_true true h = sym h
-not_true false h = refl
 
 -- what may stand behind a name: nothing, or a character that no name has
 pub data MayFollowName : Text → Type 0 where
@@ -57,8 +48,8 @@ start_is_word c h = go (nat_eq 95 c) _ _ h
 begins_not : (t n K₀ : Text) → are_name_characters t ≡ true → MayFollowName K₀ → begins nat_eq t n ≡ false → begins nat_eq t (n ++ K₀) ≡ false
 begins_not [] n K₀ h f k = cc
 begins_not (x ∷ t) [] _ h at_end k = refl
-begins_not (x ∷ t) [] _ h (following c L i) k = let e = differs (λ y. not (is_name_character y)) x c (ap not (and_left _ _ h)) (ap not i) in rw e refl
-begins_not (x ∷ t) (d ∷ n) K₀ h f k = go (nat_eq x d) (begins_not t n K₀ (and_right _ _ h) f) k
+begins_not (x ∷ t) [] _ h (following c L i) k = let e = differs (λ y. not (is_name_character y)) x c (ap not (first_of_both _ _ h)) (ap not i) in rw e refl
+begins_not (x ∷ t) (d ∷ n) K₀ h f k = go (nat_eq x d) (begins_not t n K₀ (second_of_both _ _ h) f) k
   where
     go : (b : Bool) → (begins nat_eq t n ≡ false → begins nat_eq t (n ++ K₀) ≡ false) → (b && begins nat_eq t n) ≡ false → (b && begins nat_eq t (n ++ K₀)) ≡ false
     go true f k = f k
@@ -73,17 +64,9 @@ begins_longer (x ∷ t) v (y ∷ u) h = go (nat_eq x y) (begins_longer t v u) h
     go true f k = f k
     go false f k = refl
 
-begins_split : (t n : Text) → begins nat_eq t n ≡ true → (m : Text) × (n ≡ t ++ m)
-begins_split [] n h = (n, refl)
-begins_split (x ∷ t) [] h = cc
-begins_split (x ∷ t) (y ∷ n) h =
-    let (m, e) = begins_split t n (and_right (nat_eq x y) _ h) in
-    let i : x ≡ y = eqb-true x y (and_left (nat_eq x y) (begins nat_eq t n) h) in
-    (m, ap (λ z. y ∷ z) e ∙ ap (λ z. z ∷ (t ++ m)) (sym i))
-
 words_behind : (t m : Text) → are_name_characters (t ++ m) ≡ true → are_name_characters m ≡ true
 words_behind [] m h = h
-words_behind (c ∷ t) m h = words_behind t m (and_right _ _ h)
+words_behind (c ∷ t) m h = words_behind t m (second_of_both _ _ h)
 
 abbrev word : Expression
 word = Str (codes "_") or rule is.alpha_num
@@ -98,21 +81,21 @@ no_word_at_end p = right str (call is.alpha_num refl (right (call is.alpha refl 
 words_turns : (n K₀ : Text) → are_name_characters n ≡ true → MayFollowName K₀ → (p : ℕ) → (q : ℕ) × Gives (Turns AtomicMode word) (at p (n ++ K₀)) (Success (at q K₀) None')
 words_turns [] _ h at_end p = (p, turn_none atomic (no_word_at_end p))
 words_turns [] _ h (following c L i) p = (p, turn_none atomic (word_misses c L p i))
-words_turns (c ∷ n) K₀ h f p = let (q, d) = words_turns n K₀ (and_right _ _ h) f (past p c) in (q, turn atomic (word_takes c (n ++ K₀) p (and_left _ _ h)) d)
+words_turns (c ∷ n) K₀ h f p = let (q, d) = words_turns n K₀ (second_of_both _ _ h) f (past p c) in (q, turn atomic (word_takes c (n ++ K₀) p (first_of_both _ _ h)) d)
 
 pub words_rep : (n K₀ : Text) → are_name_characters n ≡ true → MayFollowName K₀ → (p : ℕ) → (q : ℕ) × Gives (Run AtomicMode (Rep word)) (at p (n ++ K₀)) (Success (at q K₀) None')
 words_rep [] _ h at_end p = (p, rep_none (no_word_at_end p))
 words_rep [] _ h (following c L i) p = (p, rep_none (word_misses c L p i))
-words_rep (c ∷ n) K₀ h f p = let (q, d) = words_turns n K₀ (and_right _ _ h) f (past p c) in (q, rep (word_takes c (n ++ K₀) p (and_left _ _ h)) d)
+words_rep (c ∷ n) K₀ h f p = let (q, d) = words_turns n K₀ (second_of_both _ _ h) f (past p c) in (q, rep (word_takes c (n ++ K₀) p (first_of_both _ _ h)) d)
 
 -- the name at a place
 pub name_does : (c : ℕ) (n K₀ : Text) → is_name (c ∷ n) ≡ true → MayFollowName K₀ → (p : ℕ) → (q : ℕ) × Calls is.identifier (at p (c ∷ (n ++ K₀))) (Success (at q K₀) (Tree (codes "identifier") p q None' None'))
 unfolding whitespace comment
 name_does c n K₀ h f p =
-    let unpushed = begins_not (codes "PUSH") (c ∷ n) K₀ refl f (not_true _ (and_left _ _ h)) in
-    let named = and_right (not (begins nat_eq (codes "PUSH") (c ∷ n))) _ h in
-    let (q, d) = words_rep n K₀ (and_right _ _ named) f (past p c) in
-    (q, call is.identifier refl (seq (seq (neg_pred (text_misses (codes "PUSH") _ p unpushed)) atomic (start_takes c (n ++ K₀) p (and_left _ _ named))) atomic d))
+    let unpushed = begins_not (codes "PUSH") (c ∷ n) K₀ refl f (not-true _ (first_of_both _ _ h)) in
+    let named = second_of_both (not (begins nat_eq (codes "PUSH") (c ∷ n))) _ h in
+    let (q, d) = words_rep n K₀ (second_of_both _ _ named) f (past p c) in
+    (q, call is.identifier refl (seq (seq (neg_pred (text_misses (codes "PUSH") _ p unpushed)) atomic (start_takes c (n ++ K₀) p (first_of_both _ _ named))) atomic d))
 
 -- no bracket behind it
 record NoBracket (p : ℕ) (R : Text) : Type 0 where
@@ -135,7 +118,7 @@ no_bracket [] K₀ h (an_operator c K i) p =
     record { place = p; left_ = c ∷ K; skip = stays c K p (solid_when good c refl refl i); none = call is.opening_brack refl (sign_misses 91 [] c K p (differs good 91 c refl i)) }
 no_bracket [] K₀ h (no_operator b) p = no_bracket_behind b p
 no_bracket (c ∷ m) K₀ h f p =
-    let i = and_left _ _ h in
+    let i = first_of_both _ _ h in
     record { place = p; left_ = c ∷ (m ++ K₀); skip = stays c (m ++ K₀) p (solid_when is_name_character c refl refl i); none = call is.opening_brack refl (sign_misses 91 [] c (m ++ K₀) p (differs is_name_character 91 c refl i)) }
 
 no_slice : (n K₀ : Text) → are_name_characters n ≡ true → MayFollowNode K₀ → (p : ℕ) → Gives (Run NonAtomicMode (Seq (Str (codes "PEEK")) (rule is.opening_brack))) (at p (n ++ K₀)) Failure
@@ -147,7 +130,7 @@ no_slice n K₀ h f p = go (begins nat_eq (codes "PEEK") n) refl
     go : (b : Bool) → begins nat_eq (codes "PEEK") n ≡ b → Gives (Run NonAtomicMode (Seq (Str (codes "PEEK")) (rule is.opening_brack))) (at p (n ++ K₀)) Failure
     go false e = seq_first (text_misses (codes "PEEK") _ p (begins_not (codes "PEEK") n K₀ refl (first_of f) e))
     go true e =
-        let (m, i) = begins_split (codes "PEEK") n e in
+        let (m, i) = begins-gives (codes "PEEK") n e in
         rw i (after_peek m (words_behind (codes "PEEK") m (rw i at h)))
 
 module _ (text : List ℕ) (utf8 : IsUtf8 text) where
@@ -156,10 +139,10 @@ module _ (text : List ℕ) (utf8 : IsUtf8 text) where
   name_node c n h p b K₀ K here f loop =
       let t : Text = n ++ K₀ in
       let (q, d) = name_does c n K₀ h (first_of f) p in
-      let named = and_right (not (begins nat_eq (codes "PUSH") (c ∷ n))) _ h in
-      let i : is_name_start c ≡ true = and_left _ _ named in
-      let words : are_name_characters (c ∷ n) ≡ true = rw (start_is_word c i) (and_right _ _ named) in
-      let unpushed : begins nat_eq (codes "PUSH") (c ∷ t) ≡ false = begins_not (codes "PUSH") (c ∷ n) K₀ refl (first_of f) (not_true _ (and_left _ _ h)) in
+      let named = second_of_both (not (begins nat_eq (codes "PUSH") (c ∷ n))) _ h in
+      let i : is_name_start c ≡ true = first_of_both _ _ named in
+      let words : are_name_characters (c ∷ n) ≡ true = rw (start_is_word c i) (second_of_both _ _ named) in
+      let unpushed : begins nat_eq (codes "PUSH") (c ∷ t) ≡ false = begins_not (codes "PUSH") (c ∷ n) K₀ refl (first_of f) (not-true _ (first_of_both _ _ h)) in
       let no_literal : Calls is._push_literal (at p (c ∷ t)) Failure = call is._push_literal refl (seq_first (seq_first (seq_first (text_misses (codes "PUSH_LITERAL") _ p (begins_longer (codes "PUSH") (codes "_LITERAL") (c ∷ t) unpushed))))) in
       let no_push : Calls is._push (at p (c ∷ t)) Failure = call is._push refl (seq_first (seq_first (seq_first (text_misses (codes "PUSH") _ p unpushed)))) in
       let no_peek : Calls is.peek_slice (at p (c ∷ t)) Failure = call is.peek_slice refl (seq_first (seq_first (seq_first (seq_first (no_slice (c ∷ n) K₀ words f p))))) in

@@ -1,8 +1,7 @@
 -- A text is read in one way at most, up to nesting.
 use Rattle.std.proofs.Common.{◌≡◌, sym, ◌∙◌, ap, refl, subst, [], ◌∷◌, false, codes}
 use Rattle.meta_base.specs.Language.Expression.{Expression, Ident, NegPred, Opt, Grammar}
-use Rattle.meta_base.specs.Language.State.{State, Trees, Success}
-use Rattle.meta_base.proofs.OneOutcome.{same}
+use Rattle.meta_base.proofs.OneOutcome.{same, same_trees}
 use Rattle.meta_syntax.specs.MetaGrammar.{meta_grammar}
 use Rattle.meta_nodes.specs.Erasure.{rules_without_spans}
 use Rattle.meta_reader.specs.Reading.{ReadsRules}
@@ -10,9 +9,6 @@ use Rattle.meta_reader.proofs.Uniqueness.{rules_once}
 use Rattle.reading_back.specs.Nesting.{nested_rules}
 use Rattle.reading_back.specs.ReadsBack.{rule_x, ReadsAsOne, PredicateBeforeQuestionMark}
 use Rattle.reading_back.proofs.WholeGrammar.{reads_back}
-
-same_trees : {s t : State} {us vs : Trees} → Success s us ≡ Success t vs → us ≡ vs
-same_trees h = cc
 
 pub reads_as_one : ReadsAsOne
 reads_as_one text g h i j =

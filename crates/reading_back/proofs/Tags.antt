@@ -7,11 +7,12 @@ use Rattle.meta_base.specs.Language.Meaning.{Does, Run}
 use Rattle.meta_base.specs.Pieces.MetaRules.{name_of}
 use Rattle.meta_base.specs.declared.grammar.Rule.TheVariants as is
 use Rattle.meta_base.proofs.OneOutcome.{same}
+use Rattle.meta_base.proofs.Basics.{first_of_both, second_of_both}
 use Rattle.meta_syntax.specs.MetaGrammar.{meta_grammar}
 use Rattle.reading_back.specs.ReadsBack.{TakesAll, TagsAreTagIds, is_tag, is_name_start, are_name_characters}
 use Rattle.reading_back.proofs.Deriving.{at, Gives, Calls, str, call, seq, seq_first, seq_second, right, atomic}
 use Rattle.reading_back.proofs.Characters.{past, sign_takes, start_takes, start_misses}
-use Rattle.reading_back.proofs.Names.{MayFollowName, following, at_end, and_left, and_right, words_rep, range_at_end}
+use Rattle.reading_back.proofs.Names.{MayFollowName, following, at_end, words_rep, range_at_end}
 use Rattle.reading_back.proofs.Identifiers.{not_empty, no_success, split_words}
 
 hash_takes : (t : Text) (p : ℕ) → Gives (Run AtomicMode (Str (codes "#"))) (at p (35 ∷ t)) (Success (at (past p 35) t) None')
@@ -21,8 +22,8 @@ hash_takes t p = sign_takes 35 35 t p refl
 pub tag_does : (c : ℕ) (w K : Text) → is_tag (c ∷ w) ≡ true → MayFollowName K → (p : ℕ) → (q : ℕ) × Calls is.tag_id (at p (35 ∷ (c ∷ (w ++ K)))) (Success (at q K) (Tree (codes "tag_id") p q None' None'))
 unfolding whitespace comment
 tag_does c w K h f p =
-    let (q, d) = words_rep w K (and_right _ _ h) f (past (past p 35) c) in
-    (q, call is.tag_id refl (seq (seq (hash_takes (c ∷ (w ++ K)) p) atomic (start_takes c (w ++ K) (past p 35) (and_left _ _ h))) atomic d))
+    let (q, d) = words_rep w K (second_of_both _ _ h) f (past (past p 35) c) in
+    (q, call is.tag_id refl (seq (seq (hash_takes (c ∷ (w ++ K)) p) atomic (start_takes c (w ++ K) (past p 35) (first_of_both _ _ h))) atomic d))
 
 end_fails : Calls is.tag_id (at 0 (35 ∷ [])) Failure
 unfolding whitespace comment

@@ -1,5 +1,5 @@
 -- What is printed of a writable expression is a text.
-use Rattle.std.proofs.Common.{◌≡◌, refl, ◌∙◌, ap, ℕ, suc, ℤ, pos, negsuc, ◌+◌, ◌/◌, ◌%◌, ◌<◌, ◌^◌, [], ◌∷◌, ◌++◌, Bool, true, false, not, ◌||◌, ◌&&◌, nat_eq, nat_lt, nat_le, ◌==◌, if◌then◌else◌, Option, Some, None, codes, arith, eqb-true, ltb-true, leb-true, All}
+use Rattle.std.proofs.Common.{◌≡◌, refl, ◌∙◌, ap, ℕ, suc, ℤ, pos, negsuc, ◌+◌, ◌/◌, ◌%◌, ◌<◌, ◌^◌, [], ◌∷◌, ◌++◌, Bool, true, false, not, ◌||◌, nat_eq, nat_lt, nat_le, ◌==◌, if◌then◌else◌, Option, Some, None, codes, arith, eqb-true, ltb-true, leb-true, All}
 use lib.Utf8.{scalar, scalars}
 use Rattle.std.specs.Fmt.{decimal, signed_decimal}
 use Rattle.std.specs.Str.Parse.{AllDigits}
@@ -11,13 +11,14 @@ use Rattle.std.proofs.lemmas.Str.Parse.{digit_from_value}
 use Rattle.meta_base.specs.Language.Text.{Text, IsText, IsScalarValue}
 use Rattle.meta_base.specs.Language.Builtins.{is_between}
 use Rattle.meta_base.specs.Language.Expression.{Expression, Str, Insens, Range, Ident, PeekSlice, PosPred, NegPred, Seq, Choice, Opt, Rep, RepOnce, RepExact, RepMin, RepMax, RepMinMax, Skip, Push, RestoreOnErr, RuleType, Normal, Silent, Atomic, CompoundAtomic, NonAtomic, Rule, Grammar, PushLiteral, NodeTag}
+use Rattle.meta_base.proofs.Basics.{first_of_both, second_of_both}
 use Rattle.meta_ast.specs.Printing.{escaped, is_control, numbered, hex_digit}
 use Rattle.meta_reader.specs.Flaws.{fits_i32}
 use Rattle.meta_ast.specs.Printing.{Place, Alone, AfterTilde, AfterBar, BeforePostfix, slice_end}
 use Rattle.reading_back.proofs.WholeGrammar.{rule_before, lines_before, all_lines}
 use Rattle.reading_back.specs.ReadsBack.{IsWritable, IsWritableRule, FitsI32, TextsExist, GrammarTextsExist, grammar_text, modifier, rule_text, is_name, is_tag, is_name_start, is_name_character, are_name_characters}
 use Rattle.reading_back.proofs.PrintedBefore.{printed_before, append-printed_at, escapes_before, literal_before, bound_before, predicate_before}
-use Rattle.reading_back.proofs.Names.{and_left, and_right, start_is_word}
+use Rattle.reading_back.proofs.Names.{start_is_word}
 use Rattle.reading_back.proofs.Literals.{is_scalar}
 
 -- all are scalar values; a record, so that the text is found from a proof
@@ -29,7 +30,7 @@ one h k = let i = k.all in record { all = rw (h, i) refl }
 
 joined : {a b : Text} → IsTextOf a → IsTextOf b → IsTextOf (a ++ b)
 joined {a = []} h k = k
-joined {a = c ∷ a} h k = one (and_left (scalar c) (scalars a) h.all) (joined {a = a} (record { all = and_right (scalar c) (scalars a) h.all }) k)
+joined {a = c ∷ a} h k = one (first_of_both (scalar c) (scalars a) h.all) (joined {a = a} (record { all = second_of_both (scalar c) (scalars a) h.all }) k)
 
 -- digits
 are_digits : (t : Text) → AllDigits 10 t → IsTextOf t
@@ -49,7 +50,7 @@ ends (Some j) h = signed j h
 
 -- names
 below : (a z c : ℕ) → z < 55296 → is_between a z c ≡ true → scalar c ≡ true
-below a z c h k = let i = leb-true c z (and_right (nat_le a c) (nat_le c z) k) in low_scalar c (omega (arith, h, i))
+below a z c h k = let i = leb-true c z (second_of_both (nat_le a c) (nat_le c z) k) in low_scalar c (omega (arith, h, i))
 
 word_scalar : (c : ℕ) → is_name_character c ≡ true → scalar c ≡ true
 word_scalar c h = go (nat_eq 95 c) (is_between 65 90 c) (is_between 97 122 c) (is_between 48 57 c) refl refl refl refl h
@@ -63,14 +64,14 @@ word_scalar c h = go (nat_eq 95 c) (is_between 65 90 c) (is_between 97 122 c) (i
 
 words : (n : Text) → are_name_characters n ≡ true → IsTextOf n
 words [] h = record { all = refl }
-words (c ∷ n) h = one (word_scalar c (and_left (is_name_character c) (are_name_characters n) h)) (words n (and_right (is_name_character c) (are_name_characters n) h))
+words (c ∷ n) h = one (word_scalar c (first_of_both (is_name_character c) (are_name_characters n) h)) (words n (second_of_both (is_name_character c) (are_name_characters n) h))
 
 tag : (t : Text) → is_tag t ≡ true → IsTextOf t
 tag [] h = record { all = refl }
-tag (c ∷ t) h = one (word_scalar c (start_is_word c (and_left (is_name_start c) (are_name_characters t) h))) (words t (and_right (is_name_start c) (are_name_characters t) h))
+tag (c ∷ t) h = one (word_scalar c (start_is_word c (first_of_both (is_name_start c) (are_name_characters t) h))) (words t (second_of_both (is_name_start c) (are_name_characters t) h))
 
 name : (n : Text) → is_name n ≡ true → IsTextOf n
-name n h = tag n (and_right (not (Rattle.meta_base.specs.Language.Matching.begins nat_eq (codes "PUSH") n)) (is_tag n) h)
+name n h = tag n (second_of_both (not (Rattle.meta_base.specs.Language.Matching.begins nat_eq (codes "PUSH") n)) (is_tag n) h)
 
 -- literals
 hex : (d : ℕ) → d < 16 → scalar (hex_digit d) ≡ true
@@ -90,7 +91,7 @@ by_number c h =
       where
         go : (b : Bool) → nat_lt c 32 ≡ b → (b || is_between 127 159 c) ≡ true → c < 256
         go true e k = let i = ltb-true c 32 e in omega (arith, i)
-        go false e k = let i = leb-true c 159 (and_right (nat_le 127 c) (nat_le c 159) k) in omega (arith, i)
+        go false e k = let i = leb-true c 159 (second_of_both (nat_le 127 c) (nat_le c 159) k) in omega (arith, i)
 
 escape : (q c : ℕ) → scalar c ≡ true → IsTextOf (escaped q c)
 escape q c h = go (c == q) (c == 0) (c == 9) (c == 10) (c == 13) (c == 92) (is_control c) (c == 0x2028) (c == 0x2029) refl

@@ -11,6 +11,7 @@ use Rattle.meta_base.specs.Pieces.MetaRules.{name_of}
 use Rattle.meta_base.specs.declared.grammar.Rule.TheVariants as is
 use Rattle.meta_base.proofs.Steps.{joined_assoc}
 use Rattle.meta_base.specs.Pieces.Saying.{piece}
+use Rattle.meta_base.proofs.Basics.{first_of_both, second_of_both}
 use Rattle.meta_syntax.specs.declared.modes.Mode.TheVariants as in_mode
 use Rattle.meta_syntax.specs.MetaGrammar.{meta_grammar, rule}
 use Rattle.meta_syntax.specs.Shape.{Lone, Braced}
@@ -29,7 +30,7 @@ use Rattle.reading_back.proofs.Deriving.{at, Gives, Calls, Skips, str, range, ca
 use Rattle.reading_back.proofs.Parts.{by_brace, IsLeftAt, IsFlawless, flawless_none, flawless_both, flawless_tree, no_flaw, still_left}
 use Rattle.reading_back.proofs.Assembly.{blank_before}
 use Rattle.reading_back.proofs.WrittenBetween.{written_is}
-use Rattle.reading_back.proofs.Names.{and_left, and_right, name_does, following}
+use Rattle.reading_back.proofs.Names.{name_does, following}
 use Rattle.reading_back.proofs.Induction.{whole_text}
 
 -- at the end nothing is skipped, and there are no rules and no comments
@@ -159,7 +160,7 @@ record RuleAt (text : List ℕ) (p : ℕ) (n : Text) (ty : RuleType) (e : Expres
   pub flawless : IsFlawless text (Tree (codes "grammar_rule") p place inner None')
 
 starts_name : (c : ℕ) (n : Text) → is_name (c ∷ n) ≡ true → is_name_start c ≡ true
-starts_name c n h = and_left _ _ (and_right _ _ h)
+starts_name c n h = first_of_both _ _ (second_of_both _ _ h)
 
 -- behind a line feed
 before_rule : (n : Text) (ty : RuleType) (e : Expression) (K : Text) (q : ℕ) → is_name n ≡ true → Skips (at q (10 ∷ rule_before n ty e K)) (q + 1) (rule_before n ty e K)

@@ -1,30 +1,18 @@
 -- What is written between two places.
-use Rattle.std.proofs.Common.{◌≡◌, refl, sym, ap, ◌∙◌, ℕ, ◌+◌, ◌-◌, List, [], ◌∷◌, ◌++◌, length, Bool, true, false, ◌&&◌, arith}
-use lib.Utf8.{scalar, scalars}
+use Rattle.std.proofs.Common.{◌≡◌, sym, ap, ◌∙◌, ℕ, ◌+◌, ◌-◌, List, ◌++◌, true, arith}
+use lib.Utf8.{scalars}
 use Rattle.std.specs.Str.{chars, IsUtf8}
 use Rattle.std.specs.List.{slice_range}
 use Rattle.std.specs.Char.{len_utf8}
 use Rattle.std.proofs.Math.Utf8.{encodes}
-use Rattle.std.proofs.Math.Seq.{drop-append_seam, take-append_seam}
 use Rattle.std.proofs.lemmas.List.Sums.{sum_by-append}
 use Rattle.std.proofs.lemmas.Str.{encodes-append, chars-encodes, scalars-chars}
+use Rattle.meta_syntax.proofs.Numerals.{middle}
 use Rattle.meta_base.specs.Language.Text.{Text, size_of}
 use Rattle.meta_base.proofs.InBytes.{sizes, split_bytes}
+use Rattle.meta_base.proofs.Beginnings.{scalars_parts}
 use Rattle.meta_reader.specs.Reading.{characters_between}
 use Rattle.reading_back.proofs.Parts.{IsLeftAt}
-
-scalars_parts : (front back : Text) → scalars (front ++ back) ≡ true → (scalars front ≡ true) × (scalars back ≡ true)
-scalars_parts [] back h = (refl, h)
-scalars_parts (c ∷ front) back h = go (scalar c) (scalars_parts front back) h
-  where
-    go : (b : Bool) → (scalars (front ++ back) ≡ true → (scalars front ≡ true) × (scalars back ≡ true)) → (b && scalars (front ++ back)) ≡ true → ((b && scalars front) ≡ true) × (scalars back ≡ true)
-    go true f k = f k
-    go false f k = cc
-
-middle : (a b c text : List ℕ) (i j : ℕ) → text ≡ a ++ (b ++ c) → i ≡ length a → j ≡ i + length b → slice_range text i j ≡ b
-middle a b c text i j e h k =
-    let d : j - i ≡ length b = omega arith in
-    rw (d, e, h, drop-append_seam a (b ++ c), take-append_seam b c) refl
 
 module _ (text : List ℕ) (utf8 : IsUtf8 text) where
   module _ (p q : ℕ) (w K : Text) (from : IsLeftAt text p (w ++ K)) (to : IsLeftAt text q K) where

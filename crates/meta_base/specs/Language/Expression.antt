@@ -1,5 +1,5 @@
 -- Expressions, rules and grammars.
-use Rattle.std.specs.Prelude.{ℕ, List, [], ◌∷◌, Option, Some, None, ℤ, if◌then◌else◌, bytes_eq, codes}
+use Rattle.std.specs.Prelude.{ℕ, suc, List, [], ◌∷◌, Option, Some, None, ℤ, if◌then◌else◌, bytes_eq, codes}
 use Rattle.meta_base.specs.Language.Text.{Text}
 
 pub data Expression : Type 0 where
@@ -49,6 +49,14 @@ or_else None o = o
 abbrev pub rule_of : Grammar → Text → Option Rule
 rule_of [] n = None
 rule_of (r ∷ g) n = or_else (rule_of g n) (if bytes_eq r.name n then Some r else None)
+
+-- the place of that rule
+abbrev pub last_place : Grammar → Text → Option ℕ
+last_place [] n = None
+last_place (r ∷ g) n = elim (last_place g n) [
+  | Some k ↦ Some (suc k)
+  | None ↦ if bytes_eq r.name n then Some 0 else None
+]
 
 -- the names of the rules that are skipped implicitly
 unfoldable pub whitespace : Text

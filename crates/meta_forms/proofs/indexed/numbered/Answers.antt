@@ -4,7 +4,7 @@ use Rattle.std.specs.Str.{chars}
 use Rattle.std.proofs.lemmas.Map.Text.{hash_map_updates_text}
 use Rattle.std.proofs.lemmas.Str.{IsUtf8-string_bytes}
 use Rattle.meta_ast.specs.Ast.{text_of}
-use Rattle.meta_forms.proofs.Compiling.{same_chars}
+use Rattle.meta_ast.proofs.Characters.{bytes_text_eq}
 use Rattle.meta_forms.proofs.Indexing.{name_step}
 use Rattle.meta_forms.proofs.indexed.numbered.Goals as goal
 
@@ -17,6 +17,6 @@ loop-number-preserved c = λ name u.
     let own = string_bytes (get_or rs i d).name in
     let key : bs ≡ own = (let e : bs ≡ string_bytes d.name = search rules in e ∙ ap (λ r. string_bytes r.name) c.index-rules-number.is) in
     let same : bytes_eq bs name ≡ bytes_eq (text_of (get_or rs i d).name) (chars name)
-    = ap (λ z. bytes_eq z name) key ∙ same_chars own name (IsUtf8-string_bytes (get_or rs i d).name) u in
+    = ap (λ z. bytes_eq z name) key ∙ bytes_text_eq own name (IsUtf8-string_bytes (get_or rs i d).name) u in
     let sets = hash_map_updates_text bs c.loop-number.numbers c.insert.new.self _ c.in_ok-insert.ensures.updates name in
     name_step rs i (chars name) d (bytes_eq bs name) (get_by_text c.loop-number.numbers name) (get_by_text c.insert.new.self name) c.loop-number-test.true same (c.loop-number.invariant name u) sets

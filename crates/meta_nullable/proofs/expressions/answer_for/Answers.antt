@@ -27,7 +27,7 @@ pub returns : goal.returns
 returns c =
     let rs = c.args.rules.now in
     let g = grammar_of rs in
-    let x = view_at (piece_of c.of.result) c.args.expr.now in
+    let x = view_at (piece_of c.of-nowhere.result) c.args.expr.now in
     let names = kind_in g in
     let all = all_nodes rs ++ postorder x in
     let kinds = c.in_ok-kinds_of.field-0 in

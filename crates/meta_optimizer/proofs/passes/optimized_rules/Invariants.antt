@@ -5,7 +5,7 @@ use Rattle.meta_ast.specs.Ast.{rules_of}
 use Rattle.meta_ast.specs.Optimized.{optimized_rules_of}
 use Rattle.meta_base.specs.Language.Expression.{Grammar}
 use Rattle.meta_optimizer.specs.Bodies.{SufficeFor}
-use Rattle.meta_optimizer.specs.Faults.{IsMemory}
+use Rattle.meta_base.specs.Pieces.Faults.{IsMemory}
 use Rattle.meta_optimizer.specs.Passes.{IsOptimizedBody}
 use Rattle.meta_optimizer.proofs.RuleByRule.{SoFar}
 use Rattle.meta_optimizer.proofs.passes.optimized_rules.Given as goal

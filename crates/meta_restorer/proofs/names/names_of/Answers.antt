@@ -3,7 +3,8 @@ use Rattle.std.specs.HashMap.{get_by_text}
 use Rattle.std.proofs.lemmas.Map.Text.{hash_map_updates_text}
 use Rattle.std.proofs.lemmas.Str.{IsUtf8-string_bytes}
 use Rattle.meta_ast.specs.Ast.{text_of}
-use Rattle.meta_restorer.proofs.Naming.{name_step, bytes_text_eq, encodes-text_of}
+use Rattle.meta_ast.proofs.Characters.{bytes_text_eq, encodes-text_of}
+use Rattle.meta_restorer.proofs.Naming.{name_step}
 use Rattle.meta_restorer.proofs.names.names_of.Goals as goal
 
 pub loop-number-preserved : goal.loop-number-preserved

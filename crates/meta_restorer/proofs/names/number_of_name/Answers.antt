@@ -1,6 +1,6 @@
 use Rattle.std.proofs.Common.{◌≡◌, ◌∙◌, ap, sym, rules, string_bytes}
 use Rattle.std.specs.HashMap.{get_by_text}
-use Rattle.meta_restorer.proofs.Naming.{encodes-text_of}
+use Rattle.meta_ast.proofs.Characters.{encodes-text_of}
 use Rattle.meta_restorer.proofs.names.number_of_name.Goals as goal
 
 pub returns : goal.returns

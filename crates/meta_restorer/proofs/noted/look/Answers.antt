@@ -1,4 +1,5 @@
 use Rattle.std.proofs.Common.{◌≡◌, List, [], ◌∷◌, ◌++◌, Bool, ◌||◌, ◌⊎◌, inl, inr, append_assoc, ap, sym, ◌∙◌, Box, Global}
+use Rattle.std.proofs.Math.Bool.{or_assoc}
 use Rattle.meta_base.specs.Language.Text.{Text}
 use Rattle.meta_ast.specs.Ast.{text_of}
 use Rattle.meta_ast.specs.Optimized.{optimized_expression_of}
@@ -8,7 +9,7 @@ use Rattle.meta_restorer.specs.Calls.{names_in}
 use Rattle.meta_restorer.specs.Changing.{changes_by, is_changer}
 use Rattle.meta_restorer.specs.Noted.{noted_by}
 use Rattle.meta_restorer.specs.Turns.{changes_in_turn, names_in_turn}
-use Rattle.meta_restorer.proofs.Looking.{noted_first, or_assoc}
+use Rattle.meta_restorer.proofs.Looking.{noted_first}
 use Rattle.meta_restorer.proofs.Turns.{changes_in_turn_last, names_in_turn_last}
 use Rattle.meta_restorer.proofs.noted.look.Goals.{then-is_changing, else-is_changing}
 use Rattle.meta_restorer.proofs.noted.look.Goals as goal

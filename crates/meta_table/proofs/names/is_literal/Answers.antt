@@ -1,6 +1,6 @@
 use Rattle.std.proofs.Common.{◌∙◌, ap, nat_eq}
+use Rattle.meta_ast.proofs.Characters.{literal_eq}
 use lib.Pointwise.{pointwise}
-use Rattle.meta_table.proofs.NameLemmas.{literal_eq}
 use Rattle.meta_table.proofs.names.is_literal.Goals as goal
 
 pub returns : goal.returns

@@ -4,7 +4,8 @@ use Rattle.std.specs.Str.{chars}
 use Rattle.std.proofs.lemmas.Map.Text.{hash_map_updates_text}
 use Rattle.std.proofs.lemmas.Str.{IsUtf8-string_bytes}
 use Rattle.meta_ast.specs.Ast.{text_of}
-use Rattle.meta_table.proofs.NameLemmas.{name_step, bytes_text_eq}
+use Rattle.meta_ast.proofs.Characters.{bytes_text_eq}
+use Rattle.meta_table.proofs.NameLemmas.{name_step}
 use Rattle.meta_table.proofs.names.names_of.Goals as goal
 
 pub loop-place-preserved : goal.loop-place-preserved

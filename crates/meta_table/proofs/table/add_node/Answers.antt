@@ -12,7 +12,7 @@ use Rattle.meta_table.proofs.table.add_node.Goals.{in-Nothing, in-Inside, in-Bot
 pub returns-clause-nodes : goal.returns-clause-nodes
 returns-clause-nodes c = λ done h b.
     let expr = c.args.expr.now in
-    let t = piece_of c.args.span in
+    let t = piece_of c.args.span.now in
     let old = c.args.nodes.now.items in
     let new = c.push.new.self.items in
     let own = c.len-own.result in

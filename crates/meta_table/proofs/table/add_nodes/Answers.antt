@@ -16,10 +16,10 @@ loop-next-preserved c =
     let f : forwards c.loop-next.inside.items ≡ view n.now ∷ others = ap (λ z. forwards z) c.in-Some.ensures.items ∙ forwards_push c.pop.new.self.items n in (
       λ done h laid.
           let (now, e, a) = c.loop-next.invariant.0 done h laid in
-          let g : now ++ view n.now ∷ others ≡ done ++ forwards c.args.inside.items = ap (λ z. now ++ z) (sym f) ∙ e in
+          let g : now ++ view n.now ∷ others ≡ done ++ forwards c.args.inside.now.items = ap (λ z. now ++ z) (sym f) ∙ e in
           (now ++ view n.now ∷ [], append_assoc now (view n.now ∷ []) others ∙ g, c.in_ok-add_node.ensures.nodes now a (laid now (view n.now) others (sym g))),
       numbers_step (rule_numbers c.loop-next.nodes.items) (rule_numbers c.add_node.new.nodes.items)
-          (rule_numbers c.args.nodes.now.items ++ replicate (length (forwards c.args.inside.items)) c.args.rule)
+          (rule_numbers c.args.nodes.now.items ++ replicate (length (forwards c.args.inside.now.items)) c.args.rule)
           (length (forwards c.loop-next.inside.items)) (length others) c.args.rule
           c.in_ok-add_node.ensures.rules (ap (λ z. length z) f) c.loop-next.invariant.1,
     )
@@ -38,3 +38,6 @@ returns-clause-rules c =
     let empty : forwards c.loop-next.inside.items ≡ [] = ap (λ z. forwards z) (c.in_default.ensures.items ∙ (append-nil c.pop.new.self.items ∙ none_left)) in
     let now = rule_numbers c.loop-next.nodes.items in
     sym (append-nil now) ∙ (ap (λ z. now ++ replicate (length z) c.args.rule) (sym empty) ∙ c.loop-next.invariant.1)
+
+pub returns-clause-none : goal.returns-clause-none
+returns-clause-none c = c.in_default.ensures.rest ∙ rw c.in_default.ensures.cases.0 refl

@@ -1,9 +1,10 @@
 use Rattle.std.proofs.Common.{◌≡◌, ◌∙◌, ◌≤◌, ◌+◌, ◌++◌, ◌∷◌, [], ap, sym, subst, length, slice_get, arith}
 use Rattle.std.proofs.lemmas.List.{length_push}
 use Rattle.meta_flags.specs.Least.{is_set_at}
+use Rattle.meta_flags.proofs.FlagLists.{set_before}
 use Rattle.meta_validator.specs.Levels.{own_answer_at}
 use Rattle.meta_validator.specs.Regions.{ArePassingSoFar}
-use Rattle.meta_validator.proofs.PassingSteps.{passing_next, flag_before}
+use Rattle.meta_validator.proofs.PassingSteps.{passing_next}
 use Rattle.meta_validator.proofs.RegionLemmas.{rule_at}
 use Rattle.meta_validator.proofs.Settled.{own_more}
 use Rattle.meta_validator.proofs.passing.add_own_flags.Goals as goal
@@ -27,7 +28,7 @@ loop-flags-preserved c =
     record {
       grown = omega arith;
       within = λ h. omega arith;
-      kept = λ i l. ap (λ z. is_set_at z i) e ∙ (flag_before flags b i (omega arith) ∙ inv.kept i l);
+      kept = λ i l. ap (λ z. is_set_at z i) e ∙ (set_before flags b i (omega arith) ∙ inv.kept i l);
       right = λ h. subst (λ z. ArePassingSoFar rs facts.table.roots.items z c.args.rule) (sym e)
           (own_more rs facts c.requires.facts c.args.levels.now c.requires.levels c.args.rule c.args.root (length old) c.requires.root c.requires.settled flags b grown w is_flag (inv.right h));
     }

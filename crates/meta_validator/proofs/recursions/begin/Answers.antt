@@ -2,10 +2,10 @@ use Rattle.std.proofs.Common.{◌≡◌, ◌∙◌, ◌++◌, ◌∷◌, [], tru
 use Rattle.std.proofs.Math.ListN.{set}
 use Rattle.std.specs.Option.{option_map}
 use Rattle.std.proofs.lemmas.Option.{slice_get-map}
+use Rattle.meta_flags.proofs.LeastLemmas.{item_at}
 use Rattle.meta_nodes.specs.Nodes.{rule_view, rule_views}
 use Rattle.meta_validator.specs.Searching.{IsGoing}
 use Rattle.meta_validator.specs.declared.recursions.Task.TheVariants.{Visit, Leave}
-use Rattle.meta_validator.proofs.ReportingLemmas.{got_within}
 use Rattle.meta_validator.proofs.WalkSteps.{begun_going}
 use Rattle.meta_validator.proofs.recursions.begin.Goals as goal
 
@@ -20,7 +20,7 @@ returns c =
     let idle = c.requires.idle in
     let flags = old.entered.all.items in
     let long : length flags ≡ length roots = idle.alike ∙ sym c.requires.facts.table.alike in
-    let (rule, at) = got_within rs start c.requires.inside in
+    let (rule, at) = item_at rs start c.requires.inside in
     let here : slice_get (rule_views rs) start ≡ Some (rule_view rule) = slice_get-map rule_view rs start ∙ ap (option_map rule_view) at in
     let going = begun_going rs facts c.requires.facts start root (rule_view rule) flags long idle.entered here (c.requires.last (rule_view rule) here) c.root_at-root.ensures in
     let new = c.enter_rule.new.walk in

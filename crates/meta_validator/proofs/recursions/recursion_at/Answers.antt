@@ -2,6 +2,7 @@ use Rattle.std.proofs.Common.{◌≡◌, ◌∙◌, ap, sym, subst, Some, None, 
 use Rattle.std.specs.Prelude.{IfSome, IfNone}
 use Rattle.std.specs.Option.{option_map}
 use Rattle.std.proofs.lemmas.Option.{slice_get-get_or, slice_get-map, slice_get_within}
+use Rattle.meta_base.proofs.Basics.{one_item}
 use Rattle.meta_nodes.specs.Nodes.{rule_view, piece_of}
 use Rattle.meta_nodes.specs.Spanned.{span_of}
 use Rattle.meta_validator.specs.Findings.{not_recursive}
@@ -9,7 +10,6 @@ use Rattle.meta_validator.specs.Searching.{IsClosing, IsSought, NeverComesBack}
 use Rattle.meta_validator.specs.declared.recursions.ClosedTrail.{ClosedTrail}
 use Rattle.meta_validator.proofs.RecursionLemmas.{view_at, told_right}
 use Rattle.meta_validator.proofs.ReportingLemmas.{span_got}
-use Rattle.meta_validator.proofs.SearchLemmas.{same_rule}
 use Rattle.meta_validator.proofs.recursions.recursion_at.Goals as goal
 
 pub returns-in-None-clause-nothing : goal.returns-in-None-clause-nothing
@@ -39,10 +39,10 @@ returns-in_ok-message-in-Some-clause-some c =
     let closing = subst (λ o. IfSome o (λ (k : ClosedTrail). IsClosing rs roots place k.call k.trail.items)) c.in-Some.is c.in_ok-sought.ensures.some in
     let span = c.index-spans-closed.result in
     let (s, got, same) = span_got rs c.args.guide.facts.now c.requires.facts spans c.requires.spans closed.call closing.call closing.here in
-    let one : s ≡ span = same_rule got (slice_get-get_or spans closed.call span (slice_get_within spans closed.call s got) ∙ ap Some (sym c.index-spans-closed.is)) in
+    let one : s ≡ span = one_item got (slice_get-get_or spans closed.call span (slice_get_within spans closed.call s got) ∙ ap Some (sym c.index-spans-closed.is)) in
     let here : piece_of span ≡ span_of closing.call = ap piece_of (sym one) ∙ same in
     let rule = c.index-rules-place.result in
-    let first : rule_view rule ≡ r = same_rule (slice_get-map rule_view rs place ∙ ap (option_map rule_view) (slice_get-get_or rs place rule c.requires.inside ∙ ap Some (sym c.index-rules-place.is))) at in
+    let first : rule_view rule ≡ r = one_item (slice_get-map rule_view rs place ∙ ap (option_map rule_view) (slice_get-get_or rs place rule c.requires.inside ∙ ap Some (sym c.index-rules-place.is))) at in
     let message = string_bytes c.in_ok-message-in-Some.message in
     told_right rs place r (rule_view rule) closed.trail.items c.as_slice.result.now message (span_of closing.call) (piece_of span) at (c.requires.last r at) (closing.sought r at)
     c.as_slice.ensures.value first here c.in_ok-message-in-Some.ensures

@@ -2,10 +2,10 @@ use Rattle.std.proofs.Common.{Some, ◌∙◌, ap, sym}
 use Rattle.std.specs.Option.{option_map}
 use Rattle.meta_nodes.specs.Nodes.{view, piece_of}
 use Rattle.meta_nodes.specs.Spanned.{span_of}
+use Rattle.meta_nodes.proofs.Places.{span_at}
 use Rattle.meta_table.specs.Names.{grammar_of}
 use Rattle.meta_validator.specs.Reporting.{findings_of}
 use Rattle.meta_validator.specs.Tags.{message_at}
-use Rattle.meta_table.proofs.Numbered.{span_at}
 use Rattle.meta_validator.proofs.TagLemmas.{told_more}
 use Rattle.meta_validator.proofs.tags.add_of_node.Goals as goal
 

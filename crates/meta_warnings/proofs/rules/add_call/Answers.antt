@@ -1,11 +1,12 @@
 use Rattle.std.proofs.Common.{◌∙◌, ◌&&◌, ◌||◌, ap, sym, bytes_eq, chars, cond, not, string_bytes, true}
 use Rattle.std.proofs.lemmas.Str.{IsUtf8-string_bytes}
 use Rattle.meta_ast.specs.Ast.{text_of}
+use Rattle.meta_ast.proofs.Characters.{bytes_text_eq}
 use Rattle.meta_base.specs.Language.Builtins.{is_one_of}
 use Rattle.meta_nodes.specs.Nodes.{piece_of, view_at}
 use Rattle.meta_warnings.specs.Lists.{has_name}
 use Rattle.meta_warnings.specs.Rules.{name_called}
-use Rattle.meta_warnings.proofs.Known.{bytes_text_eq, inserted}
+use Rattle.meta_warnings.proofs.Known.{inserted}
 use Rattle.meta_warnings.proofs.Names.{call_added, other_name}
 use Rattle.meta_warnings.proofs.rules.add_call.Goals as goal
 

@@ -1,10 +1,9 @@
-use Rattle.std.proofs.Common.{◌≡◌, ◌++◌, sym, subst, List}
+use Rattle.std.proofs.Common.{◌++◌, sym, subst}
+use Rattle.meta_names.proofs.Places.{tell_both}
 use Rattle.meta_base.specs.Pieces.Saying.{Tell}
-use Rattle.meta_base.specs.declared.grammar.Rule.{Rule}
-use Rattle.meta_base.specs.declared.runtime.errors.Error.{Error}
 use Rattle.meta_nodes.specs.Nodes.{rule_views}
-use Rattle.pest_lint.specs.Found.{reversed_of, uncalled_of, unreachable_of, warnings_of}
-use Rattle.pest_lint.proofs.Told.{tell_both, tell_joined}
+use Rattle.pest_lint.specs.Found.{reversed_of, uncalled_of, unreachable_of}
+use Rattle.pest_lint.proofs.Told.{tell_joined}
 use Rattle.pest_lint.proofs.findings.warnings_in.Goals as goal
 
 pub returns : goal.returns

@@ -1,6 +1,7 @@
 use Rattle.std.proofs.Common.{◌≡◌, ap, sym, ◌∙◌}
+use Rattle.meta_base.proofs.PairLemmas.{on_err}
 use Rattle.meta_ast.specs.Operands.{operands}
-use Rattle.meta_ast.proofs.Waiting.{on_err, some_waits, leaf_first, one_first, two_first}
+use Rattle.meta_ast.proofs.Waiting.{some_waits, leaf_first, one_first, two_first}
 use Rattle.meta_ast.proofs.walks.preorder.take_first.Goals as goal
 use Rattle.meta_ast.proofs.walks.preorder.take_first.Goals.{in-Leaf, in-One+in_ok-push-in-One, in-Two+in_ok-push-in-Two+in_ok-push-in-Two-2}
 

@@ -1,17 +1,16 @@
-use Rattle.std.proofs.Common.{refl, ◌+◌, ◌∷◌, ◌&&◌, ◌||◌, max, if◌then◌else◌, true, false, length, nat_eq, codes, None, Some, arith}
+use Rattle.std.proofs.Common.{◌+◌, ◌∷◌, max, if◌then◌else◌, true, false, length, nat_eq, codes, None, Some, arith}
 use Rattle.std.proofs.lemmas.Bool.{ltb-true}
-use Rattle.meta_base.specs.Language.Expression.{Choice, Ident, NegPred, Opt, Range, Rep, RepOnce, Str}
+use Rattle.meta_base.specs.Language.Expression.{Ident, Range, Str}
 use Rattle.meta_base.specs.Language.Meaning.{Run}
-use Rattle.meta_base.specs.Pieces.MetaRules.{name_of}
+use Rattle.meta_base.proofs.Basics.{first_of_both, second_of_both}
 use Rattle.std.proofs.Common.{[]}
 use Rattle.meta_syntax.specs.Expecting.{sought_of}
-use Rattle.meta_syntax.specs.Forms.{all_take, calls_cost, choice_among, cost, decoded, expression_of, followed, good, null, nullable, rank_of}
+use Rattle.meta_syntax.specs.Forms.{cost, decoded, good, null}
 use Rattle.meta_syntax.specs.Nesting.{effort, steps}
 use Rattle.meta_syntax.specs.Runs.{mode_of}
 use Rattle.meta_syntax.specs.SecondReading.{parts_cost, question_of}
 use Rattle.meta_syntax.proofs.Following.{turn_of}
 use Rattle.meta_syntax.proofs.NotingSteps.{failed_start, found_start, leaving_noting, noted_any, noted_range, noted_str}
-use Rattle.meta_syntax.proofs.Quiet.{and_first, and_second}
 use Rattle.meta_syntax.proofs.SecondReading.{all_left, answer_next, choice_follows, copies_serve, empty_serves, first_trying, first_turn_follows, negation_follows, once_follows, option_follows, sequence_follows}
 use Rattle.meta_syntax.proofs.Waiting.{both_steps, one_step}
 use Rattle.meta_syntax.proofs.expecting.Expecting.begin.Goals as goal
@@ -93,12 +92,12 @@ returns-in-Seq c = record {
       let s = rw c.in-Seq.is at c.requires.form.spelled in
       let first = c.in-Seq.first in
       let others = c.in-Seq.others in
-      let o = and_second (good first.now) _ g in
+      let o = second_of_both (good first.now) _ g in
       let n = effort c.args.rest.now (3 + max (cost first.now) (if null first.now then cost others.now else 0)) in
       let less = both_steps (effort c.args.rest.now (parts_cost first.now others.now)) (effort c.args.rest.now (cost first.now)) n (omega arith) (omega arith) in
       c.begin_part.ensures.next c.args.text.now c.args.self.now k.0 top (steps n) work
-      (record { good = and_first _ _ g; spelled = s.0 }) c.requires.ready
-      (sequence_follows c.args.text.now first others c.args.mode c.count-saved.result c.args.rest (sought_of c.args.self.now) k.0 c.requires.ready.left (record { good = and_first _ _ o; spelled = s.1 }) (ltb-true _ _ (and_second (good others.now) _ o)) k.1)
+      (record { good = first_of_both _ _ g; spelled = s.0 }) c.requires.ready
+      (sequence_follows c.args.text.now first others c.args.mode c.count-saved.result c.args.rest (sought_of c.args.self.now) k.0 c.requires.ready.left (record { good = first_of_both _ _ o; spelled = s.1 }) (ltb-true _ _ (second_of_both (good others.now) _ o)) k.1)
       k.2 (omega (arith, less)) m;
 }
 
@@ -114,8 +113,8 @@ returns-in-Choice c = record {
       let n = effort c.args.rest.now (2 + max (cost first.now) (cost second.now)) in
       let less = both_steps (effort c.args.rest.now (cost second.now)) (effort c.args.rest.now (cost first.now)) n (omega arith) (omega arith) in
       c.begin_part-in-Choice.ensures.next c.args.text.now c.args.self.now k.0 top (steps n) work
-      (record { good = and_first _ _ g; spelled = s.0 }) c.requires.ready
-      (choice_follows c.args.text.now first second c.args.mode c.count-saved.result c.args.rest (sought_of c.args.self.now) k.0 c.requires.ready.left (record { good = and_second (good first.now) _ g; spelled = s.1 }) k.1)
+      (record { good = first_of_both _ _ g; spelled = s.0 }) c.requires.ready
+      (choice_follows c.args.text.now first second c.args.mode c.count-saved.result c.args.rest (sought_of c.args.self.now) k.0 c.requires.ready.left (record { good = second_of_both (good first.now) _ g; spelled = s.1 }) k.1)
       k.2 (omega (arith, less)) m;
 }
 
@@ -235,7 +234,7 @@ returns-in-Quoted c = record {
       let spelled = c.in-Quoted.spelled in
       let less = one_step (effort c.args.rest.now (cost spelled.now)) (effort c.args.rest.now (7 + max (cost c.in-Quoted.field-0.now) (cost spelled.now))) (omega arith) in
       record {
-        on_the_way = record { runnable = record { good = and_second _ _ g; spelled = s.3 }; ready = c.requires.ready; asked = (k.0, empty_serves c.args.text.now _ _ _ _ k.0 k.1, k.2) };
+        on_the_way = record { runnable = record { good = second_of_both _ _ g; spelled = s.3 }; ready = c.requires.ready; asked = (k.0, empty_serves c.args.text.now _ _ _ _ k.0 k.1, k.2) };
         less = omega (arith, less, m);
       };
 }

@@ -13,9 +13,9 @@ use Rattle.meta_syntax.proofs.EntryLists.{adds_tree, not_grown}
 use Rattle.meta_syntax.proofs.Memory.{failed_within, fails_again, remembers_truly_on}
 use Rattle.meta_syntax.proofs.Steps.{call_failed, call_found, copies_if_ok, cut_opened, fails_first, fails_not, fails_once, fails_start, finds_blanks, finds_comments, finds_left, finds_no_opt, finds_no_rep, finds_no_skipping, finds_not, finds_once, finds_opt, finds_rep, finds_seq, finds_skipped, finds_start, finds_turns, gives_leaving, ran_any, right_if_ok, so_far_nothing, so_far_blank, so_far_comment, so_far_turn}
 use Rattle.meta_syntax.proofs.Sequences.{begun_further, fails_followed, fails_part, found_further, found_whole}
-use Rattle.meta_syntax.proofs.Quiet.{and_first, and_second}
 use Rattle.meta_syntax.proofs.Choices.{failed_at, found_among, found_at, goes_on_at}
 use Rattle.meta_base.specs.declared.grammar.Rule.TheVariants as is
+use Rattle.meta_base.proofs.Basics.{first_of_both, second_of_both}
 use Rattle.meta_syntax.specs.MetaGrammar.{body_of}
 use Rattle.meta_syntax.specs.declared.sets.Set.TheVariants as set
 use Rattle.meta_syntax.proofs.CommentEnds.{comment_gives, never_begun}
@@ -139,13 +139,13 @@ sequence-loop-next-preserved t c =
     let h = rw c.in-Some-others.is at c.parts_of-parts.ensures.parts in
     let n = c.in_ok-next.ensures.goes_on in
     let good_parts = sym h.good ∙ i.good in
-    let good_others = and_second (good c.parts_of-parts.result.first.now) _ good_parts in
+    let good_others = second_of_both (good c.parts_of-parts.result.first.now) _ good_parts in
     record {
       text = search rules;
       means = found_further i.means c.in_ok-next.ensures.means c.parts_of-parts.result.first.now c.in-Some-others.others.now h.followed x;
-      good = and_first _ _ good_others;
+      good = first_of_both _ _ good_others;
       spelled = (h.spelled i.spelled).1;
-      below = ltb-true _ _ (and_second (good c.in-Some-others.others.now) _ good_others);
+      below = ltb-true _ _ (second_of_both (good c.in-Some-others.others.now) _ good_others);
       left = g.left;
       shorter = omega (arith, g.shorter, n.shorter, i.shorter);
       begun = begun_further _ _ _ _ c.args.first.now c.args.others.now _ c.parts_of-parts.result.first.now c.in-Some-others.others.now i.begun i.shorter n.shorter g.shorter g.consumed h.null h.cost;

@@ -2,12 +2,12 @@ use Rattle.std.proofs.Common.{◌+◌, max, if◌then◌else◌, arith}
 use Rattle.meta_base.specs.Language.Expression.{Ident}
 use Rattle.meta_base.specs.Language.Meaning.{Run}
 use Rattle.meta_base.specs.Pieces.MetaRules.{name_of}
+use Rattle.meta_base.proofs.Basics.{first_of_both, second_of_both}
 use Rattle.meta_syntax.specs.declared.nesting.Wait.TheVariants as wait
 use Rattle.meta_syntax.specs.Forms.{cost, expression_of, good, null, nullable, rank_of}
 use Rattle.meta_syntax.specs.Nesting.{effort, question_of, steps}
 use Rattle.meta_syntax.specs.Runs.{mode_of}
 use Rattle.meta_syntax.proofs.Following.{choice_follows, first_turn_follows, turn_of}
-use Rattle.meta_syntax.proofs.Quiet.{and_first, and_second}
 use Rattle.meta_syntax.proofs.Waiting.{answer_next, begin_next, both_steps, one_step}
 use Rattle.meta_syntax.proofs.recognize.Recognizer.begin.Goals as goal
 
@@ -56,9 +56,9 @@ returns-in_ok-push-in-Choice c = record {
       (record { wait = wait.Choice second; start = record { mode = c.args.mode; saved = c.count_of_entries-saved.result; rest = c.args.rest } })
       c.args.self.now first c.args.mode c.args.rest k.0 top (steps n) work
       c.in_ok-push-in-Choice.ensures.items
-      (record { good = and_first _ _ g; spelled = s.0 }) c.requires.ready
+      (record { good = first_of_both _ _ g; spelled = s.0 }) c.requires.ready
       (choice_follows c.args.text.now first second c.args.mode c.count_of_entries-saved.result c.args.rest c.args.self.now.entries.items c.args.self.now.furthest k.0 c.requires.ready.left
-      (record { good = and_second (good first.now) _ g; spelled = s.1 }) k.1)
+      (record { good = second_of_both (good first.now) _ g; spelled = s.1 }) k.1)
       k.2 (omega (arith, less)) m;
 }
 

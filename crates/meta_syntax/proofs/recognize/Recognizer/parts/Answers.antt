@@ -1,10 +1,10 @@
 use Rattle.std.proofs.Common.{rules, ◌∙◌, sym, None, Some, arith}
 use Rattle.std.proofs.lemmas.Bool.{ltb-true}
+use Rattle.meta_base.proofs.Basics.{first_of_both, second_of_both}
 use Rattle.meta_syntax.specs.declared.nesting.Wait.TheVariants as wait
 use Rattle.meta_syntax.specs.Forms.{cost, good}
 use Rattle.meta_syntax.specs.Nesting.{effort, steps}
 use Rattle.meta_syntax.proofs.Following.{part_ends, part_fails, part_follows, part_further, parts_less}
-use Rattle.meta_syntax.proofs.Quiet.{and_first, and_second}
 use Rattle.meta_syntax.proofs.Waiting.{answer_next, begin_next, both_steps}
 use Rattle.meta_syntax.proofs.recognize.Recognizer.parts.Goals as goal
 
@@ -59,16 +59,16 @@ loop-next-preserved c =
     let g = rw c.in-Some.is at c.in_ok-after.ensures.goes_on in
     let h = rw c.in-Some-others.is at c.parts_of-parts.ensures.parts in
     let good_parts = sym h.good ∙ i.good in
-    let good_others = and_second (good c.parts_of-parts.result.first.now) _ good_parts in
+    let good_others = second_of_both (good c.parts_of-parts.result.first.now) _ good_parts in
     let far = s.goes_on.shorter in
     let near = i.less in
     let less = parts_less c.loop-next.left.now c.parts_of-parts.result.first.now c.in-Some-others.behind c.args.text.now c.in_ok-next.next.now c.in-Some.after.now i.good h g in
     record {
       text = search rules;
       means = λ k w. part_further c.loop-next.left.now c.parts_of-parts.result.first.now (i.means k w) s.means s.goes_on c.in-Some-others.behind c.in-Some.after.now h x g;
-      good = and_first _ _ good_others;
+      good = first_of_both _ _ good_others;
       spelled = (h.spelled i.spelled).1;
-      below = ltb-true _ _ (and_second (good c.in-Some-others.behind.now) _ good_others);
+      below = ltb-true _ _ (second_of_both (good c.in-Some-others.behind.now) _ good_others);
       left = g.left;
       less = omega (arith, far, near, less);
       frames = i.frames;
