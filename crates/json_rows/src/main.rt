@@ -10,8 +10,8 @@ use meta_json::{
     Place, Refusal, Why, errors_text, nodes_text, optimized_rules_text, read_optimized_rules,
     read_rules, refusal_text, rule_named, rules_text, tokens_text,
 };
-use meta_nodes::release;
 use meta_reader::rules::{ParserRule, PestParser, Rule, consume_rules_with_spans, parse};
+use meta_spanned::release;
 use std::alloc::{AllocError, Global};
 use std::io;
 

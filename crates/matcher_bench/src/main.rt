@@ -10,8 +10,8 @@ ghost use Rattle.std.specs.Prelude.{IfOk};
 ghost use Rattle.meta_matcher.specs.Answers.{IsSoundMatcher};
 
 use anyhow::{Context, Result, bail};
-use meta_forms::compile::Unfit;
-use meta_forms::properties::NoProperties;
+use matcher_program::compile::Unfit;
+use matcher_program::properties::NoProperties;
 use meta_matcher::matcher::{Found, Matcher, Refusal};
 use pest_meta::optimizer::release;
 use pest_meta::parse_and_optimize;

@@ -7,10 +7,10 @@
 
 ghost use Rattle.meta_matcher.specs.Answers.{IsSoundMatcher};
 ghost use Rattle.std.specs.Prelude.{◌∷◌, []};
-ghost use Rattle.meta_forms.specs.Programs.{is_in_ranges};
+ghost use Rattle.matcher_program.specs.Programs.{is_in_ranges};
 
-use meta_forms::compile::Unfit;
-use meta_forms::properties::Properties;
+use matcher_program::compile::Unfit;
+use matcher_program::properties::Properties;
 use meta_matcher::entries::Entry;
 use meta_matcher::machine::Stop;
 use meta_matcher::matcher::{Found, Matcher, Refusal};

@@ -1,10 +1,10 @@
 //! Texts as literals, what expressions without parts print, and expressions piece by piece.
 pub(crate) mod pieces;
 
-ghost use Rattle.std.specs.Prelude.{◌<◌, ◌++◌, codes, encode_utf8_all};
+ghost use Rattle.std.specs.Prelude.{◌≡◌, ◌≢◌, ◌<◌, ◌∷◌, ◌++◌, IfNone, IfSome, ℕ, [], codes, cond, encode_utf8_all};
 ghost use Rattle.std.specs.Fmt.{WritesOnOk};
 ghost use Rattle.std.specs.Str.{chars};
-ghost use Rattle.meta_ast.specs.Printing.{bound_literal, escaped, literal, numbered};
+ghost use Rattle.meta_ast.specs.Printing.{bound_literal, escaped, is_control, literal, numbered};
 ghost use Rattle.meta_ast.specs.PrintedBytes.{alternatives_bytes, counts_bytes, range_bytes, skip_bytes, slice_bytes};
 
 use std::fmt;
@@ -29,20 +29,33 @@ pub fn fmt_literal<W: fmt::Write>(f: &mut fmt::Formatter<W>, text: &str, quote: 
 fn fmt_escaped<W: fmt::Write>(f: &mut fmt::Formatter<W>, c: char, quote: char) -> fmt::Result
     ensures { WritesOnOk W.write_str_gives f.old result (encode_utf8_all (escaped quote c)) f.new }
 {
+    if c == quote {
+        f.write_str("\\")?;
+        return f.write_char(c);
+    }
+    if let Some(text) = escape_of(c) {
+        return f.write_str(text);
+    }
     match c {
-        _ if c == quote => {
-            f.write_str("\\")?;
-            f.write_char(c)
-        }
-        '\0' => f.write_str("\\0"),
-        '\t' => f.write_str("\\t"),
-        '\n' => f.write_str("\\n"),
-        '\r' => f.write_str("\\r"),
-        '\\' => f.write_str("\\\\"),
         '\u{1}'..='\u{1f}' | '\u{7f}'..='\u{9f}' => fmt_numbered(f, c),
-        '\u{2028}' => f.write_str("\\u{2028}"),
-        '\u{2029}' => f.write_str("\\u{2029}"),
         _ => f.write_char(c),
+    }
+}
+
+// What stands for a character that has an escape of its own.
+fn escape_of(c: char) -> Option<&'static str>
+    ensures some { IfSome result (λ text. (quote : ℕ) → c ≢ quote → text.now ≡ encode_utf8_all (escaped quote c)) }
+    ensures none { IfNone result ((quote : ℕ) → c ≢ quote → escaped quote c ≡ cond (is_control c) (numbered c) (c ∷ [])) }
+{
+    match c {
+        '\0' => Some("\\0"),
+        '\t' => Some("\\t"),
+        '\n' => Some("\\n"),
+        '\r' => Some("\\r"),
+        '\\' => Some("\\\\"),
+        '\u{2028}' => Some("\\u{2028}"),
+        '\u{2029}' => Some("\\u{2029}"),
+        _ => None,
     }
 }
 

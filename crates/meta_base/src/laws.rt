@@ -80,12 +80,16 @@ pub fn wrappers_keep_grammars()
 {}
 
 /// A well-formed grammar stays well-formed: by every chain of steps, if no count is 0 where it should not be,
-/// by the listing of every body, and by the wrappers, put where the restorer puts them.
+/// by the listing of every body, and by the wrappers, put where the restorer puts them. And a plain grammar
+/// stays plain, by each of them.
 pub fn stays_well_formed()
     ensures steps { (g h : Grammar)
         → Chain g h → NamesHaveReadableCounts g → IsWellFormed g → IsWellFormed h }
     ensures listing { (g h : Grammar) → EachListed g h → IsWellFormed g → IsWellFormed h }
     ensures wrappers { (g h : Grammar) → EachRestored g h → IsWellFormed g → IsWellFormed h }
+    ensures steps_plain { (g h : Grammar) → Chain g h → IsPlain g → IsPlain h }
+    ensures listing_plain { (g h : Grammar) → EachListed g h → IsPlain g → IsPlain h }
+    ensures wrappers_plain { (g h : Grammar) → EachRestored g h → IsPlain g → IsPlain h }
 {}
 
 /// Whatever cannot fail is nullable: it may succeed without taking anything.

@@ -5,11 +5,11 @@ use meta_ast::optimized::{self, OptimizedExpr, OptimizedRule};
 use meta_base::grammar::Rule;
 use meta_base::runtime::Fault;
 use meta_names::validate_pairs;
-use meta_nodes::{ParserRule, erase_spans};
 use meta_optimizer::{concatenate, optimize};
 use meta_reader::rules::consume_rules_with_spans;
 use meta_restorer::restore_rules;
-use meta_stack_pass::validate_stack_repetition;
+use meta_spanned::{ParserRule, erase_spans};
+use meta_stack_loops::validate_stack_repetition;
 use meta_syntax::grammar::PestParser;
 use meta_validator::validator::validate_rules;
 use pest_meta::parse_and_optimize;
@@ -141,7 +141,7 @@ fn reader<R: CpuClock + AllocGlobal>(rt: &R, text: &str) -> Result<Duration> {
     let start = rt.thread_cpu_time();
     let nodes = consume_rules_with_spans(rt.alloc(), pairs);
     let time = since(rt, start);
-    meta_nodes::release(nodes?);
+    meta_spanned::release(nodes?);
     time
 }
 
@@ -150,7 +150,7 @@ fn rules<R: CpuClock + AllocGlobal>(rt: &R, text: &str) -> Result<Duration> {
     let start = rt.thread_cpu_time();
     let answer = validate_rules(rt.alloc(), &nodes, &[]);
     let time = since(rt, start);
-    meta_nodes::release(nodes);
+    meta_spanned::release(nodes);
     ended(answer, time)
 }
 
@@ -159,7 +159,7 @@ fn stack<R: CpuClock + AllocGlobal>(rt: &R, text: &str) -> Result<Duration> {
     let start = rt.thread_cpu_time();
     let answer = validate_stack_repetition(rt.alloc(), &nodes);
     let time = since(rt, start);
-    meta_nodes::release(nodes);
+    meta_spanned::release(nodes);
     ended(answer, time)
 }
 

@@ -6,7 +6,7 @@ use Rattle.meta_ast.specs.Ast.{text_of}
 use Rattle.meta_base.specs.Pieces.LineColumn.{line_column}
 use Rattle.meta_base.specs.Language.State.{Trees}
 use Rattle.meta_base.specs.Language.Text.{Text}
-use Rattle.meta_nodes.specs.Spanned.{SpannedRule}
+use Rattle.meta_spanned.specs.Spanned.{SpannedRule}
 use Rattle.meta_reader.specs.Reading.{ReadsRules}
 use Rattle.pest_meta.specs.Spelling.{HasTrees}
 

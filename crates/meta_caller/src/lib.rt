@@ -4,7 +4,7 @@
 
 ghost use Rattle.std.specs.Prelude.{◌≡◌, IfOk, map};
 ghost use Rattle.meta_caller.specs.NamedPlaces.{AreNamedPlaces, named_place, named_place_of};
-ghost use Rattle.meta_nodes.specs.Nodes.{rule_views};
+ghost use Rattle.meta_spanned.specs.Nodes.{rule_views};
 ghost use Rattle.pest_meta.specs.Spelling.{IsAnswer};
 
 pub mod mapped;

@@ -3,12 +3,12 @@ use Rattle.std.proofs.Common.{◌≡◌, false, List, refl}
 use Rattle.std.proofs.lemmas.Bool.{or_from}
 use Rattle.serde_json.specs.View.{items_of}
 use Rattle.serde_json.specs.Written.{has_float, items_have_float}
-use Rattle.meta_nodes.specs.Nodes.{view}
-use Rattle.meta_nodes.specs.Spanned.{Spanned, span_of}
-use Rattle.meta_nodes.specs.Walk.{preorder}
-use Rattle.meta_nodes.specs.declared.node.ParserExpr.{ParserExpr}
-use Rattle.meta_nodes.specs.declared.node.ParserExpr.TheVariants as is
-use Rattle.meta_nodes.specs.declared.node.ParserRule.{ParserRule}
+use Rattle.meta_spanned.specs.Nodes.{view}
+use Rattle.meta_spanned.specs.Spanned.{Spanned, span_of}
+use Rattle.meta_spanned.specs.Walk.{preorder}
+use Rattle.meta_spanned.specs.declared.node.ParserExpr.{ParserExpr}
+use Rattle.meta_spanned.specs.declared.node.ParserExpr.TheVariants as is
+use Rattle.meta_spanned.specs.declared.node.ParserRule.{ParserRule}
 use Rattle.meta_json.specs.Format.{end_data, place_data}
 use Rattle.meta_json.specs.Placed.{nodes_of_placed, placed_rule_data, placed_rules_data, span_data, spans_data}
 use Rattle.meta_json.proofs.Floats.{append_free, end_free, map_free, one_free, place_float}

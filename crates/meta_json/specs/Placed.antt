@@ -3,12 +3,12 @@ use Rattle.std.specs.Prelude.{List, [], ◌∷◌, ◌++◌, codes, map, string_
 use Rattle.serde_json.specs.Data.{Data, member, no_members, object, string}
 use Rattle.meta_json.specs.Errors.{list_data, size_data}
 use Rattle.meta_json.specs.Format.{count_data, end_data, form, form_with, form_with_two, place_data, text_data, type_name}
-use Rattle.meta_nodes.specs.Nodes.{piece_of, view}
-use Rattle.meta_nodes.specs.Spanned.{Span, Spanned, span_of}
-use Rattle.meta_nodes.specs.Walk.{preorder}
-use Rattle.meta_nodes.specs.declared.node.ParserExpr.{ParserExpr}
-use Rattle.meta_nodes.specs.declared.node.ParserExpr.TheVariants as is
-use Rattle.meta_nodes.specs.declared.node.ParserRule.{ParserRule}
+use Rattle.meta_spanned.specs.Nodes.{piece_of, view}
+use Rattle.meta_spanned.specs.Spanned.{Span, Spanned, span_of}
+use Rattle.meta_spanned.specs.Walk.{preorder}
+use Rattle.meta_spanned.specs.declared.node.ParserExpr.{ParserExpr}
+use Rattle.meta_spanned.specs.declared.node.ParserExpr.TheVariants as is
+use Rattle.meta_spanned.specs.declared.node.ParserRule.{ParserRule}
 
 -- an expression's nodes, each before its operands; the `p` and `q` are where its boxes lie, the `s` and `t`
 -- where its operands stand

@@ -3,15 +3,15 @@ ghost use Rattle.std.specs.Prelude.{◌≡◌, IfOk, string_bytes};
 ghost use Rattle.serde_json.specs.View.{view as value_view};
 ghost use Rattle.serde_json.specs.Written.{compact_text};
 ghost use Rattle.meta_ast.specs.Weight.{weight};
-ghost use Rattle.meta_nodes.specs.Erasure.{without_spans};
-ghost use Rattle.meta_nodes.specs.Nodes.{piece_of, view};
+ghost use Rattle.meta_spanned.specs.Erasure.{without_spans};
+ghost use Rattle.meta_spanned.specs.Nodes.{piece_of, view};
 ghost use Rattle.meta_json.specs.Placed.{nodes_of_placed, placed_rule_data, placed_rules_data, span_data, spans_data};
 
 use crate::expressions::{AsNodes, Operands, nodes_of};
 use crate::nodes::Node;
 use crate::rules::name_of_type;
 use meta_base::runtime::Span;
-use meta_nodes::{ParserExpr, ParserNode, ParserRule, push_operands};
+use meta_spanned::{ParserExpr, ParserNode, ParserRule, push_operands};
 use serde_json::{Value, json};
 use std::alloc::{AllocError, Global};
 

@@ -7,19 +7,19 @@ use Rattle.meta_base.specs.Language.Expression.{Atomic, CompoundAtomic, Grammar,
 use Rattle.meta_base.specs.Language.Meaning.{Run, gives_token, inherited, mode_in, seen_from}
 use Rattle.meta_base.specs.Language.State.{Classes, Failure, None', State, Success, moved}
 use Rattle.meta_base.specs.Language.Matching.{begins, character_outcome, starts_in, text_outcome}
-use Rattle.meta_forms.specs.declared.form.Form.{Form}
-use Rattle.meta_forms.specs.declared.form.Form.TheVariants as form
-use Rattle.meta_forms.specs.declared.form.Property.{Property}
-use Rattle.meta_forms.specs.declared.form.Row.{Row}
+use Rattle.matcher_program.specs.declared.form.Form.{Form}
+use Rattle.matcher_program.specs.declared.form.Form.TheVariants as form
+use Rattle.matcher_program.specs.declared.form.Property.{Property}
+use Rattle.matcher_program.specs.declared.form.Row.{Row}
 use Rattle.meta_matcher.specs.declared.machine.Scene.{Scene}
 use Rattle.meta_matcher.specs.declared.modes.Mode as mode
 use Rattle.meta_matcher.specs.declared.modes.Mode.TheVariants as in_mode
 use Rattle.meta_matcher.specs.Frames.{FailsFrom, starting}
 use Rattle.meta_matcher.specs.Machines.{IsBoundIn, IsSoundIn, grammar_in, names_within, said}
-use Rattle.meta_forms.specs.Programs.{IsBarred, IsBound, characters_of, expression_of, may_begin, may_start, rule_of_row}
-use Rattle.meta_forms.specs.Rests.{standing}
+use Rattle.matcher_program.specs.Programs.{IsBarred, IsBound, characters_of, expression_of, may_begin, may_start, rule_of_row}
+use Rattle.matcher_program.specs.Rests.{standing}
 use Rattle.meta_matcher.specs.Runs.{Notes, Now, Ran, mode_of, noting}
-use Rattle.meta_forms.proofs.TextLemmas.{not_begun}
+use Rattle.matcher_program.proofs.TextLemmas.{not_begun}
 use Rattle.meta_matcher.proofs.Noting.{ran_ahead, ran_range, ran_rep_once, ran_restore, ran_right, ran_seq_fails, ran_str, ran_tag}
 use Rattle.meta_matcher.proofs.Spans.{ran_set}
 use Rattle.meta_matcher.proofs.Stacking.{ran_push}

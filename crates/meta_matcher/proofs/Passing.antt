@@ -7,7 +7,7 @@ use Rattle.meta_base.specs.Language.State.{Between, Classes, Failure, NonAtomicM
 use Rattle.meta_base.specs.Language.Matching.{character_outcome}
 use Rattle.meta_base.specs.Language.Text.{Text}
 use Rattle.meta_syntax.proofs.EntryLists.{not_grown}
-use Rattle.meta_forms.specs.declared.form.Form.{Form}
+use Rattle.matcher_program.specs.declared.form.Form.{Form}
 use Rattle.meta_matcher.specs.declared.frames.AtOnce.{AtOnce}
 use Rattle.meta_matcher.specs.declared.frames.AtOnce.TheVariants as at_once
 use Rattle.meta_matcher.specs.declared.machine.Machine.{Machine}
@@ -16,8 +16,8 @@ use Rattle.meta_matcher.specs.declared.modes.Mode as mode
 use Rattle.meta_matcher.specs.declared.modes.Mode.TheVariants as in_mode
 use Rattle.meta_matcher.specs.Frames.{ComesAtOnce, FindsFrom, GivesFrom, IsNested, blanks, starting}
 use Rattle.meta_matcher.specs.Machines.{IsBlankName, IsBoundIn, grammar_in, is_comment, is_whitespace, names_within, now_of, said}
-use Rattle.meta_forms.specs.Programs.{characters_of, is_set}
-use Rattle.meta_forms.specs.Rests.{GoesOn, Progress, leaving, span, standing}
+use Rattle.matcher_program.specs.Programs.{characters_of, is_set}
+use Rattle.matcher_program.specs.Rests.{GoesOn, Progress, leaving, span, standing}
 use Rattle.meta_matcher.specs.Runs.{Notes, Now, Ran, mode_of}
 use Rattle.meta_matcher.specs.Tight.{GivesAtOnce, IsTight}
 use Rattle.meta_matcher.proofs.Noting.{ran_atomic, ran_between, ran_compound_atomic, ran_quietly, ran_rep_none, ran_seq, ran_seq_fails, ran_silent, ran_skips}

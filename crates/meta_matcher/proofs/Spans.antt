@@ -8,16 +8,16 @@ use Rattle.meta_base.specs.Language.Expression.{Choice, Expression, Grammar, Rep
 use Rattle.meta_base.specs.Language.State.{Classes, Failure, Mode, None', State, Success, moved}
 use Rattle.meta_base.specs.Language.Matching.{begins, character_outcome, starts_in, text_outcome}
 use Rattle.meta_base.specs.Language.Meaning.{Run, Skipping, Turns}
-use Rattle.meta_forms.specs.declared.form.Form.{Form}
-use Rattle.meta_forms.specs.declared.form.Form.TheVariants as form
-use Rattle.meta_forms.specs.declared.form.Property.{Property}
+use Rattle.matcher_program.specs.declared.form.Form.{Form}
+use Rattle.matcher_program.specs.declared.form.Form.TheVariants as form
+use Rattle.matcher_program.specs.declared.form.Property.{Property}
 use Rattle.meta_matcher.specs.declared.modes.Mode as mode
-use Rattle.meta_forms.specs.Programs.{IsBound, characters_of, expression_of, is_one, is_set}
-use Rattle.meta_forms.specs.Rests.{span}
+use Rattle.matcher_program.specs.Programs.{IsBound, characters_of, expression_of, is_one, is_set}
+use Rattle.matcher_program.specs.Rests.{span}
 use Rattle.meta_matcher.specs.Runs.{Notes, Ran, mode_of}
 use Rattle.meta_matcher.proofs.Noting.{ran_left, ran_range, ran_rep, ran_rep_none, ran_right, ran_str, ran_turns_end, ran_turns_more}
 use Rattle.meta_matcher.proofs.Steps.{ran_one}
-use Rattle.meta_forms.proofs.TextLemmas.{here, moved_none, moved_on}
+use Rattle.matcher_program.proofs.TextLemmas.{here, moved_none, moved_on}
 
 -- a set by its form
 both_sets : (f h : ℕ → Bool) (t : Text) → starts_in (λ c. f c || h c) t ≡ (starts_in f t || starts_in h t)

@@ -4,8 +4,8 @@ use Rattle.std.specs.Prelude.{chars, IsUtf8, ℤ}
 use Rattle.std.specs.Char.{eq_ignore_ascii_case}
 use Rattle.std.specs.Prelude.{◌<◌, Bool, true, bytes_eq, get_or}
 use Rattle.meta_base.specs.Rewritings.Equality.{text_eq-Decides}
-use Rattle.meta_forms.specs.declared.form.Property as Row
-use Rattle.meta_forms.specs.Programs.{Fits, IsNumberOf, IsPropertyOf, is_in_ranges}
+use Rattle.matcher_program.specs.declared.form.Property as Row
+use Rattle.matcher_program.specs.Programs.{Fits, IsNumberOf, IsPropertyOf, is_in_ranges}
 use Rattle.std.specs.Borrow.{Bor}
 use Rattle.std.proofs.lemmas.Str.{chars-append}
 use Rattle.std.proofs.lemmas.List.{length-append, take-append-drop, drop-drop, length-drop}
@@ -20,7 +20,7 @@ use Rattle.meta_base.specs.Language.Meaning.{Run, insens, push, push_literal, pu
 use Rattle.meta_base.specs.Language.FurthestFailure.{is_eoi}
 use Rattle.meta_syntax.proofs.EntryLists.{not_grown}
 use Rattle.meta_matcher.specs.declared.modes.Mode as mode
-use Rattle.meta_forms.specs.Rests.{GoesOn, IsLeft, leaving, standing}
+use Rattle.matcher_program.specs.Rests.{GoesOn, IsLeft, leaving, standing}
 use Rattle.meta_matcher.specs.Runs.{Fails, Finds, Gives, Notes, Now, Ran, Setting, mode_of}
 use Rattle.meta_matcher.proofs.Noting.{ran_quietly, ran_silently}
 use Rattle.meta_matcher.proofs.Steps.{by_builtin, eoi_builtin, gives_leaving}

@@ -19,15 +19,15 @@ use Rattle.meta_syntax.proofs.EntryLists.{grown, not_grown, cut_back}
 use Rattle.meta_syntax.proofs.LeafLemmas as leaf
 use Rattle.meta_matcher.specs.declared.modes.Mode as mode
 use Rattle.meta_matcher.specs.declared.modes.Mode.TheVariants as in_mode
-use Rattle.meta_forms.specs.declared.form.Class.{Class}
-use Rattle.meta_forms.specs.declared.form.Class.TheVariants as class
+use Rattle.matcher_program.specs.declared.form.Class.{Class}
+use Rattle.matcher_program.specs.declared.form.Class.TheVariants as class
 use Rattle.meta_ast.specs.Ast.{text_of, rule_type_of}
-use Rattle.meta_forms.specs.declared.form.Row.{Row}
-use Rattle.meta_forms.specs.declared.form.Property.{Property}
-use Rattle.meta_forms.specs.Programs.{Fits, class_name, expression_of, grammar_of, names_of, rule_of_row, set_of, IsRow, IsRuleOf, IsSound}
+use Rattle.matcher_program.specs.declared.form.Row.{Row}
+use Rattle.matcher_program.specs.declared.form.Property.{Property}
+use Rattle.matcher_program.specs.Programs.{Fits, class_name, expression_of, grammar_of, names_of, rule_of_row, set_of, IsRow, IsRuleOf, IsSound}
 use Rattle.meta_matcher.specs.Machines.{IsBlankName, is_whitespace, is_comment}
 use Rattle.meta_matcher.specs.Frames.{blanks, comments}
-use Rattle.meta_forms.specs.Rests.{IsLeft, leaving, standing}
+use Rattle.matcher_program.specs.Rests.{IsLeft, leaving, standing}
 use Rattle.meta_matcher.specs.Runs.{Fails, Finds, Gives, IsReset, Notes, Now, Ran, Setting, forgetting, mode_of, noting}
 use Rattle.meta_matcher.specs.Told.{with_names}
 

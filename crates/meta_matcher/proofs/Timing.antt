@@ -8,8 +8,8 @@ use Rattle.meta_base.specs.Language.Text.{Text}
 use Rattle.meta_base.specs.Language.Builtins.{Builtin, Peek, Pop, builtin_of}
 use Rattle.meta_base.specs.Language.Matching.{builtin_outcome, peek_outcome, pop_outcome}
 use Rattle.meta_base.specs.Language.Meaning.{Does, Run, Task, call, other}
-use Rattle.meta_forms.specs.declared.form.Form.{Form}
-use Rattle.meta_forms.specs.declared.form.Form.TheVariants as form
+use Rattle.matcher_program.specs.declared.form.Form.{Form}
+use Rattle.matcher_program.specs.declared.form.Form.TheVariants as form
 use Rattle.meta_matcher.specs.declared.frames.Came.{Came}
 use Rattle.meta_matcher.specs.declared.frames.Control.{Control}
 use Rattle.meta_matcher.specs.declared.frames.Frame.{Frame}
@@ -21,7 +21,7 @@ use Rattle.meta_matcher.specs.declared.machine.Stop.TheVariants as stop
 use Rattle.meta_matcher.specs.declared.modes.Mode as mode
 use Rattle.meta_matcher.specs.Frames.{Comes, FailsFrom, FindsFrom, Follows, IsInTime, IsStuck, IsStuckAtOnce, IsWaiting, IsWithin, Leads, Start, starting, top_of}
 use Rattle.meta_matcher.specs.Machines.{IsBoundIn, grammar_in, now_of, said}
-use Rattle.meta_forms.specs.Rests.{standing}
+use Rattle.matcher_program.specs.Rests.{standing}
 use Rattle.meta_matcher.specs.Runs.{Now, mode_of}
 use Rattle.meta_matcher.specs.Sizes.{size}
 use Rattle.meta_matcher.proofs.Parts.{HasOne, HasThree, HasTwo, form_of_opt, positive}

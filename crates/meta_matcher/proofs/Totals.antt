@@ -10,11 +10,11 @@ use Rattle.meta_base.specs.Language.Expression.{Grammar, Rule, rule_of}
 use Rattle.meta_base.specs.Language.Text.{Text}
 use Rattle.meta_base.specs.Language.State.{Classes, Outcome}
 use Rattle.meta_base.specs.Rewritings.Equality.{text_eq-Decides}
-use Rattle.meta_forms.specs.declared.form.Property.{Property}
+use Rattle.matcher_program.specs.declared.form.Property.{Property}
 use Rattle.meta_matcher.specs.declared.machine.Scene.{Scene}
 use Rattle.meta_matcher.specs.Answers.{Has}
 use Rattle.meta_matcher.specs.Endings.{EndsOn, HasAnOutcome, classes_in}
-use Rattle.meta_forms.specs.Programs.{Fits, is_in_ranges}
+use Rattle.matcher_program.specs.Programs.{Fits, is_in_ranges}
 use Rattle.meta_matcher.specs.Sizes.{most_steps}
 use Rattle.meta_matcher.proofs.Parts.{same_size}
 

@@ -4,7 +4,7 @@ use Rattle.std.specs.Borrow.{Bor}
 use Rattle.std.proofs.lemmas.List.{length-append, reverse-append, take-take}
 use Rattle.meta_ast.specs.Ast.{text_of}
 use Rattle.meta_syntax.specs.Entries.{Entry, open_start}
-use Rattle.meta_forms.specs.Programs.{Fits, rule_of_row}
+use Rattle.matcher_program.specs.Programs.{Fits, rule_of_row}
 use Rattle.meta_matcher.specs.Sizes.{most_steps}
 use Rattle.meta_base.specs.Language.Text.{Text}
 use Rattle.meta_base.specs.Language.Expression.{Choice, Expression, Ident, NegPred, NodeTag, Opt, PosPred, Push, Rep, RepOnce, RestoreOnErr, Seq, Rule, rule_of, whitespace, comment}
@@ -18,14 +18,14 @@ use Rattle.meta_matcher.specs.declared.frames.Saved.{Saved}
 use Rattle.meta_matcher.specs.declared.frames.Predicate.{Predicate}
 use Rattle.meta_matcher.specs.declared.frames.Repetition.{Repetition}
 use Rattle.meta_matcher.specs.declared.frames.Sequence.{Sequence}
-use Rattle.meta_forms.specs.declared.form.Form.{Form}
+use Rattle.matcher_program.specs.declared.form.Form.{Form}
 use Rattle.meta_matcher.specs.declared.machine.Machine.{Machine}
 use Rattle.meta_matcher.specs.declared.machine.Scene.{Scene}
 use Rattle.meta_matcher.specs.declared.modes.Mode as mode
 use Rattle.meta_matcher.specs.declared.modes.Mode.TheVariants as in_mode
 use Rattle.meta_matcher.specs.Frames.{Awaits, Decides, FailsFrom, FindsFrom, Finishes, Follows, GivesFrom, HasFrom, IsAhead, IsAnswered, IsBlank, IsBoundSecond, IsCall, IsComment, IsFirst, IsGap, IsInTime, IsLeftSide, IsNegated, IsOnTheWay, IsOptional, IsPushed, IsResumed, IsSecond, IsStarting, IsTurn, IsTurnGap, IsWaiting, IsWithin, Skips, Start, blanks, comments, said_second, gives_in, starting, top_of}
 use Rattle.meta_matcher.specs.Machines.{IsBoundIn, IsSaved, grammar_in, names_within, now_of, is_comment, is_whitespace, said, setting_of, steps_of}
-use Rattle.meta_forms.specs.Rests.{GoesOn, IsLeft, Progress}
+use Rattle.matcher_program.specs.Rests.{GoesOn, IsLeft, Progress}
 use Rattle.meta_matcher.specs.Runs.{Finds, Gives, IsReset, Now, Setting, forgetting, mode_of}
 use Rattle.meta_matcher.specs.Stacked.{stack_of}
 use Rattle.meta_matcher.proofs.Steps.{failed_row, fails_ahead, fails_blank, fails_first, fails_gap, fails_not, fails_rep_once, fails_reset, fails_restored, fails_right, fails_second, fails_tagged, fails_undefined, finds_ahead, finds_blank, finds_comment, finds_last_turn, finds_left, finds_more, finds_no_opt, finds_no_rep, finds_no_skipping, finds_no_turn, finds_not, finds_opt, finds_rep, finds_rep_once, finds_restored, finds_right, finds_seq, finds_skipped, finds_tagged, finds_turn, found_row}

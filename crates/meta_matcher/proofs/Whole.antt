@@ -11,9 +11,9 @@ use Rattle.meta_base.specs.Language.Expected.{expected_at}
 use Rattle.meta_base.specs.Language.FurthestFailure.{furthest}
 use Rattle.meta_syntax.specs.Entries.{entries_of}
 use Rattle.meta_matcher.specs.declared.entries.Entry as code
-use Rattle.meta_forms.specs.Programs.{Fits}
+use Rattle.matcher_program.specs.Programs.{Fits}
 use Rattle.meta_ast.specs.Ast.{text_of}
-use Rattle.meta_forms.specs.declared.form.Property.{Property}
+use Rattle.matcher_program.specs.declared.form.Property.{Property}
 use Rattle.meta_matcher.specs.declared.frames.Control.{Control}
 use Rattle.meta_matcher.specs.declared.machine.Machine.{Machine}
 use Rattle.meta_matcher.specs.declared.machine.Scene.{Scene}
@@ -23,7 +23,7 @@ use Rattle.meta_matcher.specs.Sizes.{size}
 use Rattle.meta_matcher.specs.Frames.{GivesFrom, HasFrom, IsOnTheWay, IsStuck, top_of}
 use Rattle.meta_matcher.specs.Machines.{grammar_in, setting_of}
 use Rattle.meta_matcher.specs.Written.{seen}
-use Rattle.meta_forms.specs.Rests.{standing}
+use Rattle.matcher_program.specs.Rests.{standing}
 use Rattle.meta_matcher.specs.Runs.{Fails, Finds, Gives, Notes, Now, Ran, Setting}
 use Rattle.meta_matcher.specs.Told.{each_once, told_of}
 use Rattle.meta_matcher.proofs.Waiting.{out_of_steps}

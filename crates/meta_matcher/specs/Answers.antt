@@ -8,14 +8,14 @@ use Rattle.meta_base.specs.Language.Meaning.{Matches}
 use Rattle.meta_base.specs.Language.Expected.{expected_at}
 use Rattle.meta_base.specs.Language.FurthestFailure.{furthest}
 use Rattle.meta_syntax.specs.Entries.{entries_of}
-use Rattle.meta_forms.specs.declared.form.Property.{Property}
+use Rattle.matcher_program.specs.declared.form.Property.{Property}
 use Rattle.meta_matcher.specs.declared.entries.Entry.{Entry}
 use Rattle.meta_matcher.specs.declared.matcher.Refusal.{Refusal}
 use Rattle.meta_matcher.specs.declared.matcher.Refusal.TheVariants as is
 use Rattle.meta_matcher.specs.declared.matcher.Matcher.{Matcher}
 use Rattle.meta_matcher.specs.declared.machine.Stop.{Stop}
 use Rattle.meta_matcher.specs.declared.machine.Stop.TheVariants as stop
-use Rattle.meta_forms.specs.Programs.{Fits, IsSound}
+use Rattle.matcher_program.specs.Programs.{Fits, IsSound}
 use Rattle.meta_matcher.specs.Sizes.{most_steps}
 use Rattle.meta_matcher.specs.Told.{each_once, told_of}
 use Rattle.meta_matcher.specs.Written.{seen}

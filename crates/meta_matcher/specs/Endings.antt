@@ -4,11 +4,11 @@ use Rattle.meta_ast.specs.Ast.{text_of}
 use Rattle.meta_base.specs.Language.Text.{Text}
 use Rattle.meta_base.specs.Language.Expression.{Grammar, Rule, rule_of}
 use Rattle.meta_base.specs.Language.State.{Classes, Outcome}
-use Rattle.meta_forms.specs.declared.form.Property.{Property}
+use Rattle.matcher_program.specs.declared.form.Property.{Property}
 use Rattle.meta_matcher.specs.declared.machine.Scene.{Scene}
 use Rattle.meta_matcher.specs.Answers.{Has}
 use Rattle.meta_matcher.specs.Machines.{grammar_in}
-use Rattle.meta_forms.specs.Programs.{Fits, is_in_ranges}
+use Rattle.matcher_program.specs.Programs.{Fits, is_in_ranges}
 
 -- sets that fit properties, if any do: of each name that of the first property
 abbrev pub classes_in : List Property → Classes

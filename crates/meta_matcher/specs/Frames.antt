@@ -5,8 +5,8 @@ use Rattle.meta_ast.specs.Ast.{rule_type_of, text_of}
 use Rattle.meta_base.specs.Language.Expression.{Expression, Ident, Rep, Seq, comment, whitespace}
 use Rattle.meta_base.specs.Language.Meaning.{Does, Run, Skipping, Task, Turns, gives_token, seen_from}
 use Rattle.meta_base.specs.Language.State.{Between, Classes, NonAtomicMode, Outcome}
-use Rattle.meta_forms.specs.declared.form.Form.{Form}
-use Rattle.meta_forms.specs.declared.form.Form.TheVariants as form
+use Rattle.matcher_program.specs.declared.form.Form.{Form}
+use Rattle.matcher_program.specs.declared.form.Form.TheVariants as form
 use Rattle.meta_matcher.specs.declared.modes.Mode.{Mode}
 use Rattle.meta_matcher.specs.declared.frames.Saved.{Saved}
 use Rattle.meta_matcher.specs.declared.frames.Second as second
@@ -28,8 +28,8 @@ use Rattle.meta_matcher.specs.declared.machine.Scene.{Scene}
 use Rattle.meta_matcher.specs.declared.machine.Stop.{Stop}
 use Rattle.meta_matcher.specs.declared.machine.Stop.TheVariants as stop
 use Rattle.meta_matcher.specs.Machines.{IsBoundIn, grammar_in, now_of, said, setting_of, steps_of}
-use Rattle.meta_forms.specs.Programs.{Fits}
-use Rattle.meta_forms.specs.Rests.{GoesOn, IsLeft, standing}
+use Rattle.matcher_program.specs.Programs.{Fits}
+use Rattle.matcher_program.specs.Rests.{GoesOn, IsLeft, standing}
 use Rattle.meta_matcher.specs.Runs.{Fails, Finds, IsReset, Now, forgetting, mode_of, noting}
 use Rattle.meta_matcher.specs.Sizes.{most_steps}
 use Rattle.meta_matcher.specs.Stacked.{stack_of}

@@ -5,16 +5,16 @@ use Rattle.meta_ast.specs.Ast.{text_of}
 use Rattle.meta_base.specs.Language.Text.{Text}
 use Rattle.meta_base.specs.Language.Expression.{Expression, Grammar, whitespace, comment, rule_of}
 use Rattle.meta_base.specs.Language.Meaning.{Task}
-use Rattle.meta_forms.specs.declared.form.Form.{Form}
-use Rattle.meta_forms.specs.declared.form.Program.{Program}
-use Rattle.meta_forms.specs.declared.form.Row.{Row}
+use Rattle.matcher_program.specs.declared.form.Form.{Form}
+use Rattle.matcher_program.specs.declared.form.Program.{Program}
+use Rattle.matcher_program.specs.declared.form.Row.{Row}
 use Rattle.meta_matcher.specs.declared.frames.Saved.{Saved}
 use Rattle.meta_matcher.specs.declared.machine.Machine.{Machine}
 use Rattle.meta_matcher.specs.declared.machine.Scene.{Scene}
 use Rattle.meta_matcher.specs.Written.{seen}
 use Rattle.meta_matcher.specs.Stacked.{stack_of}
 use Rattle.meta_matcher.specs.Told.{told_of}
-use Rattle.meta_forms.specs.Programs.{IsBound, IsRow, IsSound, expression_of, grammar_of, names_of, rule_of_row}
+use Rattle.matcher_program.specs.Programs.{IsBound, IsRow, IsSound, expression_of, grammar_of, names_of, rule_of_row}
 use Rattle.meta_matcher.specs.Runs.{Gives, Now, Setting}
 
 -- what a machine has so far

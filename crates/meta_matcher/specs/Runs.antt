@@ -8,9 +8,9 @@ use Rattle.meta_base.specs.Language.Meaning.{Does, Task}
 use Rattle.meta_base.specs.Language.Expected.{expected_at}
 use Rattle.meta_base.specs.Language.FurthestFailure.{furthest}
 use Rattle.meta_syntax.specs.Entries.{Entry, entries_of}
-use Rattle.meta_forms.specs.declared.form.Property.{Property}
-use Rattle.meta_forms.specs.Programs.{Fits}
-use Rattle.meta_forms.specs.Rests.{standing}
+use Rattle.matcher_program.specs.declared.form.Property.{Property}
+use Rattle.matcher_program.specs.Programs.{Fits}
+use Rattle.matcher_program.specs.Rests.{standing}
 use Rattle.meta_matcher.specs.Told.{with_name, with_names}
 use Rattle.meta_matcher.specs.declared.modes.Mode as mode
 use Rattle.meta_matcher.specs.declared.modes.Mode.TheVariants as in_mode

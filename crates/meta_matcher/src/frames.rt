@@ -1,7 +1,7 @@
 //! What waits while a part of a form is run.
 use crate::modes::Mode;
 use crate::stack::Stack;
-use meta_forms::form::{Form, Row};
+use matcher_program::form::{Form, Row};
 
 /// What there was at some place, to be put back.
 #[derive(Drop)]

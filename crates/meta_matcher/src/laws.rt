@@ -5,7 +5,7 @@ ghost use Rattle.meta_base.specs.Language.State.{Classes};
 ghost use Rattle.meta_base.specs.Language.Text.{Text};
 ghost use Rattle.meta_base.specs.Language.WellFormed.{EndsFrom, Start};
 ghost use Rattle.meta_matcher.specs.Endings.{EndsOn};
-ghost use Rattle.meta_forms.specs.declared.form.Property.{Property};
+ghost use Rattle.matcher_program.specs.declared.form.Property.{Property};
 
 /// A grammar whose rules have an outcome from every start has one on every text.
 pub fn ends_on_every_text()

@@ -3,10 +3,10 @@ ghost use Rattle.std.specs.Prelude.{◌≡◌, false, true, IfErr, IfOk, OnOk, [
 ghost use Rattle.meta_ast.specs.Ast.{text_of};
 ghost use Rattle.meta_base.specs.Language.Expression.{Ident, PeekSlice, PushLiteral, rule_of};
 ghost use Rattle.meta_base.specs.Language.Meaning.{Run};
-ghost use Rattle.meta_forms.specs.declared.form.Form.TheVariants.{Call};
+ghost use Rattle.matcher_program.specs.declared.form.Form.TheVariants.{Call};
 ghost use Rattle.meta_matcher.specs.Frames.{ComesAtOnce, FailsFrom, IsOutOfTexts, IsStuckAtOnce, starting};
 ghost use Rattle.meta_matcher.specs.Machines.{GivesIn, IsBoundIn, IsSaved, IsSoundIn, grammar_in, now_of, said, steps_of};
-ghost use Rattle.meta_forms.specs.Rests.{IsLeft, Progress};
+ghost use Rattle.matcher_program.specs.Rests.{IsLeft, Progress};
 ghost use Rattle.meta_matcher.specs.Runs.{IsReset, forgetting, mode_of, noting};
 ghost use Rattle.meta_matcher.specs.Stacked.{stack_of};
 ghost use Rattle.meta_matcher.specs.declared.machine.Stop.TheVariants.{Memory};
@@ -17,11 +17,11 @@ use crate::modes::{Mode, call_counts, is_seen_from, noted};
 use crate::skipping::{repeated, repeated_once};
 use crate::stack::{Stack, pushed, shared, texts_of};
 use crate::told::{count, forget, tell};
-use meta_forms::form::{Form, Program, Row};
-use meta_forms::leaves::{
+use matcher_program::form::{Form, Program, Row};
+use matcher_program::leaves::{
     ahead_to, character, insens, literal, literals, newline, one, slice, within,
 };
-use meta_forms::sets::{is_barred, one_of};
+use matcher_program::sets::{is_barred, one_of};
 use std::alloc::{AllocError, Global};
 
 /// Why a run has no answer.

@@ -3,16 +3,16 @@ ghost use Rattle.std.specs.Prelude.{◌≡◌, IfErr, IfNone, IfOk, IfSome, char
 ghost use Rattle.meta_ast.specs.Optimized.{optimized_rules_of};
 ghost use Rattle.meta_base.specs.Language.Expression.{rule_of};
 ghost use Rattle.meta_base.specs.Language.State.{Classes};
-ghost use Rattle.meta_forms.specs.Programs.{Fits, IsSkippedRule, grammar_of};
+ghost use Rattle.matcher_program.specs.Programs.{Fits, IsSkippedRule, grammar_of};
 
 use crate::ending::Ending;
 use crate::entries::Entry;
 use crate::machine::{Machine, Scene, Stop};
+use matcher_program::compile::{Unfit, program_of};
+use matcher_program::form::{Program, Row};
+use matcher_program::properties::Properties;
+use matcher_program::texts::same;
 use meta_ast::optimized::OptimizedRule;
-use meta_forms::compile::{Unfit, program_of};
-use meta_forms::form::{Program, Row};
-use meta_forms::properties::Properties;
-use meta_forms::texts::same;
 use std::alloc::Global;
 
 /// What a rule matched.

@@ -7,8 +7,8 @@ ghost use Rattle.meta_matcher.specs.Answers.{IsStopped};
 ghost use Rattle.meta_matcher.specs.Frames.{Awaits, Comes, Finishes, Follows, GivesFrom, IsAhead, IsBlank, IsBoundSecond, IsCall, IsComment, IsFirst, IsGap, IsLeftSide, IsNegated, IsNested, IsOnTheWay, IsOptional, IsPushed, IsResumed, IsRunning, IsSecond, IsStarting, Leads, Skips, comments, said_second, starting, top_of};
 ghost use Rattle.meta_matcher.specs.Endings.{classes_in};
 ghost use Rattle.meta_matcher.specs.Machines.{IsBoundIn, IsRowIn, IsSoundIn, grammar_in, names_within, now_of, round, said, steps_of};
-ghost use Rattle.meta_forms.specs.Programs.{Fits, rule_of_row};
-ghost use Rattle.meta_forms.specs.Rests.{IsLeft};
+ghost use Rattle.matcher_program.specs.Programs.{Fits, rule_of_row};
+ghost use Rattle.matcher_program.specs.Rests.{IsLeft};
 ghost use Rattle.meta_matcher.specs.Runs.{mode_of};
 
 use crate::ending::Ending;
@@ -19,7 +19,7 @@ use crate::modes::{Mode, body_mode, call_counts, gives_token};
 use crate::skipping::passed;
 use crate::stack::{pushed, shared};
 use crate::told::count;
-use meta_forms::form::{Form, Row};
+use matcher_program::form::{Form, Row};
 use std::alloc::AllocError;
 
 /// What was taken of a text, of which this is left.

@@ -5,16 +5,16 @@ ghost use Rattle.meta_base.specs.Language.Meaning.{Skipping};
 ghost use Rattle.meta_base.specs.Language.State.{NonAtomicMode};
 ghost use Rattle.meta_matcher.specs.Frames.{FindsFrom, starting};
 ghost use Rattle.meta_matcher.specs.Machines.{IsBoundIn, IsSoundIn, said};
-ghost use Rattle.meta_forms.specs.Rests.{IsLeft};
+ghost use Rattle.matcher_program.specs.Rests.{IsLeft};
 ghost use Rattle.meta_matcher.specs.Runs.{Now, mode_of};
 ghost use Rattle.meta_matcher.specs.Tight.{GivesAtOnce, IsTight};
 
 use crate::frames::AtOnce;
 use crate::machine::Scene;
 use crate::modes::Mode;
+use matcher_program::form::Form;
+use matcher_program::sets::{one_of, past_all};
 use meta_ast::ast::RuleType;
-use meta_forms::form::Form;
-use meta_forms::sets::{one_of, past_all};
 
 /// Whether it is known that nothing is skipped in a mode.
 #[inline(always)]

@@ -2,7 +2,7 @@
 ghost use Rattle.std.specs.Prelude.{◌≡◌, OnOk, chars, length, take};
 ghost use Rattle.meta_matcher.specs.Told.{is_among, told_of, with_name};
 
-use meta_forms::texts::same;
+use matcher_program::texts::same;
 use std::alloc::AllocError;
 
 /// How many names were told.

@@ -4,14 +4,14 @@ ghost use Rattle.meta_base.specs.Language.Expression.{Rep};
 ghost use Rattle.meta_base.specs.Language.Meaning.{Run, Turns};
 ghost use Rattle.meta_matcher.specs.Frames.{Awaits, Finishes, IsOnTheWay, IsResumed, IsTurn, IsTurnGap, starting};
 ghost use Rattle.meta_matcher.specs.Machines.{IsBoundIn, IsSoundIn, now_of, said, steps_of};
-ghost use Rattle.meta_forms.specs.Rests.{IsLeft};
+ghost use Rattle.matcher_program.specs.Rests.{IsLeft};
 ghost use Rattle.meta_matcher.specs.Runs.{mode_of};
 
 use crate::frames::{Control, Frame, Repetition};
 use crate::machine::{Machine, Scene};
 use crate::modes::Mode;
 use crate::skipping::passed;
-use meta_forms::form::Form;
+use matcher_program::form::Form;
 use std::alloc::AllocError;
 
 impl<'a> Machine<'a> {

@@ -24,3 +24,10 @@ pub mod Skipping
 pub mod Holding
 pub mod Turning
 pub mod Converting
+pub mod OneEnd
+pub mod OneFactoring
+pub mod OneJoining
+pub mod OneRotation
+pub mod OneUnrolling
+pub mod OneWrapping
+pub mod OneResult

@@ -10,14 +10,14 @@ use Rattle.meta_reader.specs.Reading as reading
 use Rattle.meta_reader.specs.Reading.{Reads, AnExpression, Alternatives, ASequence, ATerm, both}
 use Rattle.meta_base.specs.Pieces.MetaRules.{name_of}
 use Rattle.meta_syntax.specs.Shape.{Lone, IsExpression, AreTerms, IsMore, IsTerm, barred, unbarred, terms, infix_operator, tilde, bar}
-use Rattle.meta_nodes.specs.Spanned.{Span, Spanned, Binary, Seq, Choice}
+use Rattle.meta_spanned.specs.Spanned.{Span, Spanned, Binary, Seq, Choice}
 use Rattle.meta_reader.specs.Levels.{InFront, SplitOff}
 use Rattle.meta_reader.specs.Views.{IsBehindBar, IsRest, at_bar, TakesTerm, takes_term}
-use Rattle.meta_nodes.specs.Nodes.{view}
+use Rattle.meta_spanned.specs.Nodes.{view}
 use Rattle.meta_base.specs.declared.grammar.Rule.{Rule}
 use Rattle.meta_base.specs.declared.grammar.Rule.TheVariants as rule_is
-use Rattle.meta_nodes.specs.declared.node.ParserNode.{ParserNode}
-use Rattle.meta_nodes.proofs.Places.{span_of-view}
+use Rattle.meta_spanned.specs.declared.node.ParserNode.{ParserNode}
+use Rattle.meta_spanned.proofs.Places.{span_of-view}
 use Rattle.meta_reader.proofs.Nodes.{start_of-view, end_of-view}
 use Rattle.meta_reader.proofs.TreesStandInText.{stand_inner, stand_behind}
 use Rattle.meta_base.proofs.MetaNames.{name_of-injective}

@@ -7,9 +7,9 @@ use Rattle.meta_base.specs.Language.Text.{Text}
 use Rattle.meta_base.specs.Language.State.{Trees, Tree, joined}
 use Rattle.meta_base.specs.Pieces.NamedTrees.{named_trees_of}
 use Rattle.meta_base.specs.Pieces.Saying.{piece}
-use Rattle.meta_nodes.specs.Nodes.{view, piece_of}
-use Rattle.meta_nodes.specs.Spanned.{Spanned, Seq, Choice, One, Push, end_of, starting, ending}
-use Rattle.meta_nodes.specs.declared.node.ParserNode.{ParserNode}
+use Rattle.meta_spanned.specs.Nodes.{view, piece_of}
+use Rattle.meta_spanned.specs.Spanned.{Spanned, Seq, Choice, One, Push, end_of, starting, ending}
+use Rattle.meta_spanned.specs.declared.node.ParserNode.{ParserNode}
 use Rattle.meta_reader.specs.Flaws.{first_flaw, own_flaw}
 use Rattle.meta_reader.specs.Levels.{GoesOn, IsAlternativeRead, IsTermRead, IsOperandRead, IsInsideRead, IsLevelRead, node_view, together, IsReadAs, InFront, SplitOff, BeginsTerm, first_term, next_term, BeginsAlternative, first_alternative, next_alternative, IsAlternative, IsTermBeside, Opens, parentheses, push, IsInside, AreOpen, open_work, waits_of, work_of}
 use Rattle.meta_reader.specs.Pieces.{IsPiece, StandIn}

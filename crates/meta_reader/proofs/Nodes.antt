@@ -6,14 +6,14 @@ use Rattle.meta_base.specs.Language.State.{Trees, Tree}
 use Rattle.meta_base.specs.Pieces.Saying.{piece}
 use Rattle.meta_reader.specs.Pieces.{IsPiece}
 use Rattle.meta_reader.specs.Reading.{Postfixed, more, both}
-use Rattle.meta_nodes.specs.Spanned as spanned
-use Rattle.meta_nodes.specs.Spanned.{Spanned, span_of, start_of, end_of, placed, One, Two, Binary}
+use Rattle.meta_spanned.specs.Spanned as spanned
+use Rattle.meta_spanned.specs.Spanned.{Spanned, span_of, start_of, end_of, placed, One, Two, Binary}
 use Rattle.meta_reader.specs.Views.{StandsBefore, IsPostfixOf}
-use Rattle.meta_nodes.specs.Nodes.{view, view_at}
-use Rattle.meta_nodes.specs.declared.node.ParserExpr as expr
-use Rattle.meta_nodes.specs.declared.node.ParserExpr.TheVariants as is
-use Rattle.meta_nodes.specs.declared.node.ParserNode.{ParserNode}
-use Rattle.meta_nodes.proofs.Places.{span_of-view}
+use Rattle.meta_spanned.specs.Nodes.{view, view_at}
+use Rattle.meta_spanned.specs.declared.node.ParserExpr as expr
+use Rattle.meta_spanned.specs.declared.node.ParserExpr.TheVariants as is
+use Rattle.meta_spanned.specs.declared.node.ParserNode.{ParserNode}
+use Rattle.meta_spanned.proofs.Places.{span_of-view}
 use Rattle.meta_reader.proofs.TreesStandInText.{nested_order}
 
 pub start_of-view : (n : ParserNode) → start_of (view n) ≡ n.span.start

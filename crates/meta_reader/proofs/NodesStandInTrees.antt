@@ -4,7 +4,7 @@ use Rattle.std.specs.Prelude.{codes}
 use Rattle.meta_base.specs.Language.State.{Trees, None', Tree, joined}
 use Rattle.meta_reader.specs.Pieces.{NestedInBytes}
 use Rattle.meta_reader.specs.Reading.{Category, Reads, Postfixed, done, more, barred, unbarred, one_alternative, choice, one_term, sequence, tagged, pos_pred, neg_pred, bare, grouped, leaf, pushed, literally_pushed}
-use Rattle.meta_nodes.specs.Spanned.{Span, Spanned, Leaf, One, Two, span_of, start_of, end_of, placed, ending}
+use Rattle.meta_spanned.specs.Spanned.{Span, Spanned, Leaf, One, Two, span_of, start_of, end_of, placed, ending}
 use Rattle.meta_syntax.specs.Shape.{Lone}
 use Rattle.meta_reader.proofs.TreesStandInText.{nested_order}
 

@@ -9,7 +9,7 @@ use Rattle.meta_reader.specs.Reading as reading
 use Rattle.meta_reader.specs.Reading.{Postfix, number}
 use Rattle.meta_base.specs.Pieces.MetaRules.{name_of}
 use Rattle.meta_syntax.specs.Shape.{IsNumber, IsCounted, exact, min, max, min_max, IsPostfix, opt, rep, rep_once, counted, ArePostfixes, more}
-use Rattle.meta_nodes.specs.Spanned.{Unary, RepExact, RepMin, RepMax, RepMinMax}
+use Rattle.meta_spanned.specs.Spanned.{Unary, RepExact, RepMin, RepMax, RepMinMax}
 use Rattle.meta_base.specs.declared.grammar.Rule.{Rule}
 use Rattle.meta_base.specs.declared.grammar.Rule.TheVariants as rule_is
 use Rattle.meta_reader.proofs.FlawsInOrder.{or_none}

@@ -7,8 +7,8 @@ use Rattle.meta_base.specs.Language.Expression as bare
 use Rattle.meta_base.specs.Language.Expression.{Expression, Rule, Part, whole, of_pos_pred, of_neg_pred, of_seq_left, of_seq_right, of_choice_left, of_choice_right, of_opt, of_rep, of_rep_once, of_rep_exact, of_rep_min, of_rep_max, of_rep_min_max, of_push, of_tag}
 use Rattle.meta_base.specs.Language.State.{Trees, None', Tree, joined}
 use Rattle.meta_base.specs.Language.WellFormed.{InSomeRule}
-use Rattle.meta_nodes.specs.Erasure.{round, between, without_spans, rules_without_spans}
-use Rattle.meta_nodes.specs.Spanned.{Span, Spanned, Leaf, One, Two, Unary, PosPred, NegPred, Opt, Rep, RepOnce, RepExact, RepMin, RepMax, RepMinMax, Push, Tag, Binary, Seq, Choice, placed, SpannedRule}
+use Rattle.meta_spanned.specs.Erasure.{round, between, without_spans, rules_without_spans}
+use Rattle.meta_spanned.specs.Spanned.{Span, Spanned, Leaf, One, Two, Unary, PosPred, NegPred, Opt, Rep, RepOnce, RepExact, RepMin, RepMax, RepMinMax, Push, Tag, Binary, Seq, Choice, placed, SpannedRule}
 use Rattle.meta_reader.specs.Flaws.{closes}
 use Rattle.meta_reader.specs.Reading.{Category, Postfix, Postfixed, done, more, Terminal, identifier, string, insensitive, range, slice, slice_from, slice_to, slice_between, Reads, barred, unbarred, one_alternative, choice, one_term, sequence, tagged, pos_pred, neg_pred, bare, grouped, leaf, pushed, literally_pushed, literal_value, tag_name, ReadsRule, line_doc, normal, modified, ReadsRules, end_of_input, grammar_doc, documented, defined}
 

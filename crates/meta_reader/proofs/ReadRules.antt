@@ -11,10 +11,10 @@ use Rattle.meta_reader.specs.Reading as reading
 use Rattle.meta_reader.specs.Reading.{Reads, AnExpression, ReadsRule, ReadsRules, Modifies, characters_between}
 use Rattle.meta_base.specs.Pieces.MetaRules.{name_of}
 use Rattle.meta_syntax.specs.Shape.{Lone, IsRule, AreGrammarTrees, IsExpression, line_doc, normal, modified, silent, atomic, compound_atomic, non_atomic, end_of_input, grammar_doc, grammar_rule}
-use Rattle.meta_nodes.specs.Spanned.{Spanned, SpannedRule}
-use Rattle.meta_nodes.specs.declared.node.ParserRule.{ParserRule}
+use Rattle.meta_spanned.specs.Spanned.{Spanned, SpannedRule}
+use Rattle.meta_spanned.specs.declared.node.ParserRule.{ParserRule}
 use Rattle.meta_reader.specs.Views.{MayBeModifier, a_modifier, the_brace, TakesModifier, a_type, no_type}
-use Rattle.meta_nodes.specs.Nodes.{rule_view, rule_views}
+use Rattle.meta_spanned.specs.Nodes.{rule_view, rule_views}
 use Rattle.meta_base.specs.declared.grammar.Rule.{Rule}
 use Rattle.meta_base.specs.declared.grammar.Rule.TheVariants as rule_is
 use Rattle.meta_reader.proofs.FlawsInOrder.{or_none}

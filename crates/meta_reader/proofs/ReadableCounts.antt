@@ -5,8 +5,8 @@ use Rattle.meta_base.specs.Language.Text.{Text}
 use Rattle.meta_base.specs.Language.Expression.{Expression}
 use Rattle.meta_base.specs.Language.State.{Trees}
 use Rattle.meta_base.specs.Language.WellFormed.{CountIsReadable, HasReadableCounts}
-use Rattle.meta_nodes.specs.Erasure.{round, between, rules_without_spans}
-use Rattle.meta_nodes.specs.Spanned.{Unary, Binary, Seq, Choice, SpannedRule}
+use Rattle.meta_spanned.specs.Erasure.{round, between, rules_without_spans}
+use Rattle.meta_spanned.specs.Spanned.{Unary, Binary, Seq, Choice, SpannedRule}
 use Rattle.meta_reader.specs.Flaws.{Flaw, own_flaw, zero_times, first_flaw}
 use Rattle.meta_reader.specs.Reading as reading
 use Rattle.meta_reader.specs.Reading.{number, Postfix, Terminal, ReadsRules}

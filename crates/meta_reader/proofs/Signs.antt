@@ -14,9 +14,9 @@ use Rattle.meta_base.specs.declared.grammar.Rule.TheVariants as rule_is
 use Rattle.meta_base.proofs.MetaNames.{name_of-injective}
 use Rattle.meta_base.specs.Pieces.Saying.{piece}
 use Rattle.meta_syntax.specs.Shape.{Lone, IsTerm, tagged, predicate, grouped, bare, terminal, positive, negative}
-use Rattle.meta_nodes.specs.Spanned.{Spanned, One, Unary, PosPred, NegPred, Tag, end_of}
-use Rattle.meta_nodes.specs.Nodes.{view, piece_of}
-use Rattle.meta_nodes.specs.declared.node.ParserNode.{ParserNode}
+use Rattle.meta_spanned.specs.Spanned.{Spanned, One, Unary, PosPred, NegPred, Tag, end_of}
+use Rattle.meta_spanned.specs.Nodes.{view, piece_of}
+use Rattle.meta_spanned.specs.declared.node.ParserNode.{ParserNode}
 use Rattle.meta_reader.specs.Flaws.{first_flaw, own_flaw}
 use Rattle.meta_reader.specs.Pieces.{IsPiece, NestedInBytes, StandIn}
 use Rattle.meta_reader.specs.Reading as reading

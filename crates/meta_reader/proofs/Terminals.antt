@@ -10,7 +10,7 @@ use Rattle.meta_reader.specs.Flaws.{first_flaw, own_flaw, wrong_literal, past_i3
 use Rattle.meta_reader.specs.Reading as reading
 use Rattle.meta_reader.specs.Reading.{Terminal, Reads, ANode, literal_value, integer}
 use Rattle.meta_base.specs.Pieces.MetaRules.{name_of}
-use Rattle.meta_nodes.specs.Spanned.{Leaf}
+use Rattle.meta_spanned.specs.Spanned.{Leaf}
 use Rattle.meta_syntax.specs.Shape.{Lone, IsQuoted, in_quotes, in_single_quotes, IsTerminal, identifier, string, insensitive, range, slice, push_literal, IsInteger, MayBeNumber, IsSlice, in_brackets, IsSliceStart, IsSliceEnd}
 use Rattle.meta_syntax.specs.Shape as shape
 use Rattle.meta_reader.specs.Views as views

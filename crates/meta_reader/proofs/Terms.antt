@@ -11,15 +11,15 @@ use Rattle.meta_reader.specs.Reading as reading
 use Rattle.meta_reader.specs.Reading.{Reads, AnExpression, ATerm, ANode, tag_name}
 use Rattle.meta_base.specs.Pieces.MetaRules.{name_of}
 use Rattle.meta_syntax.specs.Shape.{Lone, IsTerm, IsNode, IsTerminal, ArePostfixes, tagged, predicate, bare, terminal, pushed, identifier, string, insensitive, range, slice, push_literal}
-use Rattle.meta_nodes.specs.Spanned as spanned
-use Rattle.meta_nodes.specs.Spanned.{Spanned, One, PosPred, NegPred, Push, Tag, span_of, end_of, placed, starting, ending}
+use Rattle.meta_spanned.specs.Spanned as spanned
+use Rattle.meta_spanned.specs.Spanned.{Spanned, One, PosPred, NegPred, Push, Tag, span_of, end_of, placed, starting, ending}
 use Rattle.meta_reader.specs.Signs.{IsOperand, group, node}
 use Rattle.meta_reader.specs.Views.{StandsBefore}
-use Rattle.meta_nodes.specs.Nodes.{view, piece_of}
+use Rattle.meta_spanned.specs.Nodes.{view, piece_of}
 use Rattle.meta_base.specs.declared.grammar.Rule.{Rule}
 use Rattle.meta_base.specs.declared.grammar.Rule.TheVariants as rule_is
-use Rattle.meta_nodes.specs.declared.node.ParserNode.{ParserNode}
-use Rattle.meta_nodes.proofs.Places.{span_of-view}
+use Rattle.meta_spanned.specs.declared.node.ParserNode.{ParserNode}
+use Rattle.meta_spanned.proofs.Places.{span_of-view}
 use Rattle.meta_reader.proofs.FlawsInOrder.{or_none, or_assoc}
 use Rattle.meta_reader.proofs.Chains.{same_text}
 use Rattle.meta_reader.proofs.Nodes.{end_of-view, view_at-placed}

@@ -5,7 +5,7 @@ use Rattle.std.specs.Option.{option_or}
 use Rattle.meta_base.specs.Language.Text.{Text}
 use Rattle.meta_base.specs.Language.State.{Trees, None', Tree}
 use Rattle.meta_base.specs.Pieces.Saying.{piece}
-use Rattle.meta_nodes.specs.Spanned.{Span}
+use Rattle.meta_spanned.specs.Spanned.{Span}
 use Rattle.meta_reader.specs.Reading.{number, integer, literal_value}
 
 pub data Cause : Type 0 where

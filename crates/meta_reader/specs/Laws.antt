@@ -4,10 +4,10 @@ use Rattle.meta_base.specs.Language.Expression as bare
 use Rattle.meta_base.specs.Language.Expression.{Expression}
 use Rattle.meta_base.specs.Language.State.{Trees}
 use Rattle.meta_base.specs.Language.WellFormed.{HasReadableCounts}
-use Rattle.meta_nodes.specs.Erasure.{rules_without_spans}
+use Rattle.meta_spanned.specs.Erasure.{rules_without_spans}
 use Rattle.meta_reader.specs.Flaws.{first_flaw}
 use Rattle.meta_reader.specs.Reading.{Category, Reads, ReadsRules}
-use Rattle.meta_nodes.specs.Spanned.{Spanned, SpannedRule}
+use Rattle.meta_spanned.specs.Spanned.{Spanned, SpannedRule}
 
 -- trees are read as one expression at most
 abbrev pub ReadsOneExpression : Type 0

@@ -7,7 +7,7 @@ use Rattle.meta_base.specs.Language.Expression.{Expression, Str, Insens, Range, 
 use Rattle.meta_base.specs.Language.State.{Trees, None', Tree, joined}
 use Rattle.meta_base.specs.Pieces.Saying.{piece}
 use Rattle.meta_syntax.specs.Shape.{Lone, Braced}
-use Rattle.meta_nodes.specs.Spanned.{Span, Spanned, Leaf, One, Two, Unary, PosPred, NegPred, Opt, Rep, RepOnce, RepExact, RepMin, RepMax, RepMinMax, Push, Tag, Binary, Seq, Choice, start_of, end_of, starting, ending, SpannedRule}
+use Rattle.meta_spanned.specs.Spanned.{Span, Spanned, Leaf, One, Two, Unary, PosPred, NegPred, Opt, Rep, RepOnce, RepExact, RepMin, RepMax, RepMinMax, Push, Tag, Binary, Seq, Choice, start_of, end_of, starting, ending, SpannedRule}
 use Rattle.meta_reader.specs.Literal.{unescaped}
 
 -- the categories of syntax: what a list of trees may be read as

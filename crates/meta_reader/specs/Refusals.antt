@@ -10,7 +10,7 @@ use Rattle.meta_base.specs.declared.runtime.faults.Fault.TheVariants as code_is
 use Rattle.meta_base.specs.declared.runtime.tokens.Pairs.{Pairs}
 use Rattle.meta_reader.specs.Flaws.{Cause, NoScalarValue, PastI32, PastU32, ZeroTimes, Flaw, first_flaw}
 use Rattle.meta_reader.specs.Reading.{ReadsRules}
-use Rattle.meta_nodes.specs.Spanned.{SpannedRule}
+use Rattle.meta_spanned.specs.Spanned.{SpannedRule}
 
 -- what the error of a flaw says
 abbrev pub cause_message : Cause → List ℕ

@@ -5,7 +5,7 @@ use Rattle.meta_base.specs.Language.Text.{Text}
 use Rattle.meta_base.specs.Language.State.{Trees, Tree}
 use Rattle.meta_base.specs.Pieces.Saying.{piece}
 use Rattle.meta_syntax.specs.Shape.{Lone, IsExpression, IsNode, ArePostfixes}
-use Rattle.meta_nodes.specs.Spanned.{Spanned, One, Unary, PosPred, NegPred, Tag, end_of}
+use Rattle.meta_spanned.specs.Spanned.{Spanned, One, Unary, PosPred, NegPred, Tag, end_of}
 use Rattle.meta_reader.specs.Flaws.{first_flaw}
 use Rattle.meta_reader.specs.Pieces.{NestedInBytes, StandIn}
 use Rattle.meta_reader.specs.Reading.{Reads, ATerm}

@@ -9,11 +9,11 @@ use Rattle.meta_base.specs.Language.State as state
 use Rattle.meta_base.specs.Language.Text.{Text}
 use Rattle.meta_base.specs.Language.State.{joined}
 use Rattle.meta_base.specs.Pieces.Span.{span_text, span_end}
-use Rattle.meta_nodes.specs.Spanned as spanned
+use Rattle.meta_spanned.specs.Spanned as spanned
 use Rattle.meta_reader.specs.Pieces.{StandBehind, StandIn}
 use Rattle.meta_syntax.specs.Shape.{Lone, AreTerms, IsMore, IsTerm, IsModifier}
-use Rattle.meta_nodes.specs.Spanned.{Spanned, Binary, Seq, Choice, One, Unary, Opt, Rep, RepOnce, RepExact, RepMin, RepMax, RepMinMax}
-use Rattle.meta_nodes.specs.Nodes.{piece_of, view, rule_view, rule_views}
+use Rattle.meta_spanned.specs.Spanned.{Spanned, Binary, Seq, Choice, One, Unary, Opt, Rep, RepOnce, RepExact, RepMin, RepMax, RepMinMax}
+use Rattle.meta_spanned.specs.Nodes.{piece_of, view, rule_view, rule_views}
 use Rattle.meta_base.specs.Pieces.NamedTrees.{named_trees_of}
 use Rattle.meta_reader.specs.Reading.{Modifies, Category, AnExpression, Alternatives, Reads, ReadsRule, ReadsRules, Postfix, Postfixed, integer, literal_value}
 use Rattle.meta_reader.specs.Literal.{unescaped}
@@ -24,8 +24,8 @@ use Rattle.meta_base.specs.declared.runtime.trees.TokenTree.{TokenTree}
 use Rattle.meta_base.specs.declared.runtime.trees.FirstTree.{FirstTree}
 use Rattle.meta_base.specs.declared.runtime.places.Span.{Span}
 use Rattle.meta_base.specs.Pieces.MetaRules.{name_of}
-use Rattle.meta_nodes.specs.declared.node.ParserNode.{ParserNode}
-use Rattle.meta_nodes.specs.declared.node.ParserRule.{ParserRule}
+use Rattle.meta_spanned.specs.declared.node.ParserNode.{ParserNode}
+use Rattle.meta_spanned.specs.declared.node.ParserRule.{ParserRule}
 use Rattle.meta_reader.specs.declared.rules.flaws.Cause as code_cause
 use Rattle.meta_reader.specs.declared.rules.flaws.Cause.TheVariants as cause_is
 use Rattle.meta_reader.specs.declared.rules.flaws.Flaw.{Flaw}

@@ -7,7 +7,7 @@ ghost use Rattle.meta_reader.specs.Refusals.{AreReadAs, IsReadRefusal, first_fla
 ghost use Rattle.meta_reader.specs.Pieces.{StandIn};
 ghost use Rattle.meta_syntax.specs.Shape.{AreGrammarTrees, IsRule};
 ghost use Rattle.meta_reader.specs.Views.{AnswersRule, AnswersRules, MayBeModifier, TakesModifier};
-ghost use Rattle.meta_nodes.specs.Nodes.{rule_views, type_of};
+ghost use Rattle.meta_spanned.specs.Nodes.{rule_views, type_of};
 
 mod common;
 mod flaws;
@@ -29,7 +29,7 @@ use meta_ast::ast::RuleType;
 use meta_ast::deep::Deep;
 pub use meta_base::grammar::Rule;
 use meta_base::runtime::{Fault, Pairs, TokenTree};
-pub use meta_nodes::{ParserExpr, ParserNode, ParserRule, filter_internal};
+pub use meta_spanned::{ParserExpr, ParserNode, ParserRule, filter_internal};
 pub use meta_syntax::grammar::PestParser;
 use meta_syntax::laws::trees_of_a_grammar_have_their_shape;
 use meta_syntax::trees::{first_tree, leading_tree};

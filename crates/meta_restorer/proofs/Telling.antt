@@ -7,7 +7,7 @@ use Rattle.meta_base.specs.Rewritings.Wrapping.{ChangesStack, changes_push, chan
 use Rattle.meta_base.proofs.Basics.{got_alike}
 use Rattle.meta_ast.specs.Ast.{text_of}
 use Rattle.meta_ast.specs.Optimized.{optimized_expression_of}
-use Rattle.meta_flags.specs.Least.{follows, is_set_at}
+use Rattle.meta_fixpoint.specs.Least.{follows, is_set_at}
 use Rattle.meta_restorer.specs.Bodies.{NamedBody, rule_with, grammar_with}
 use Rattle.meta_restorer.specs.Calls.{number_changes, name_changes}
 use Rattle.meta_restorer.specs.Changing.{is_changer, changes_by}

@@ -5,8 +5,8 @@ use Rattle.std.specs.List.{list_any}
 use Rattle.meta_base.specs.Language.Text.{Text}
 use Rattle.meta_base.specs.Language.Expression.{Expression}
 use Rattle.meta_ast.specs.Optimized.{optimized_expression_of}
-use Rattle.meta_flags.specs.Least as least
-use Rattle.meta_flags.specs.Least.{Follows}
+use Rattle.meta_fixpoint.specs.Least as least
+use Rattle.meta_fixpoint.specs.Least.{Follows}
 use Rattle.meta_restorer.specs.Bodies.{NamedBody}
 use Rattle.meta_restorer.specs.Calls.{names_in, number_changes}
 use Rattle.meta_restorer.specs.Changing.{changes_by, is_changer}

@@ -7,7 +7,7 @@ use Rattle.meta_base.specs.Language.Text.{Text}
 use Rattle.meta_base.specs.Language.Expression.{Expression, Ident, Grammar}
 use Rattle.meta_base.specs.Rewritings.Wrapping.{ChangesStack}
 use Rattle.meta_ast.specs.Ast.{text_of}
-use Rattle.meta_flags.specs.Least.{is_set_at}
+use Rattle.meta_fixpoint.specs.Least.{is_set_at}
 use Rattle.meta_restorer.specs.Calls.{AreNoted, name_changes}
 use Rattle.meta_restorer.specs.Names.{number_of}
 use Rattle.meta_restorer.specs.declared.changes.Changes.{Changes}

@@ -3,11 +3,11 @@ ghost use Rattle.std.specs.Prelude.{◌≡◌, [], Bool, true, false};
 ghost use Rattle.meta_base.specs.Language.Text.{Text};
 ghost use Rattle.meta_ast.specs.Optimized.{optimized_expression_of};
 ghost use Rattle.meta_restorer.specs.Changing.{changes_by, restored_by};
-ghost use Rattle.meta_flags.specs.Least.{is_set_at};
+ghost use Rattle.meta_fixpoint.specs.Least.{is_set_at};
 ghost use Rattle.meta_restorer.specs.Calls.{names_in, number_changes};
 
 use meta_ast::optimized::OptimizedExpr;
-use meta_flags::is_set;
+use meta_fixpoint::is_set;
 
 /// Whether the rule of a name is flagged.
 pub(crate) fn is_flagged(flags: &[bool], rule: Option<usize>) -> bool

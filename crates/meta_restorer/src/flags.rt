@@ -4,7 +4,7 @@ ghost use Rattle.std.specs.Prelude.{IfOk};
 ghost use Rattle.meta_restorer.specs.Noted.{AreClosed, AreSound, AreWithin};
 
 use crate::noted::{Noted, Share, is_shown};
-use meta_flags::{Inference, Listening, Told, least_flags, who_listens};
+use meta_fixpoint::{Inference, Listening, Told, least_flags, who_listens};
 use std::alloc::{AllocError, Global};
 
 impl Listening for Noted {

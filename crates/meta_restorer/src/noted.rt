@@ -4,7 +4,7 @@ ghost use Rattle.std.specs.Prelude.{◌≡◌, ◌++◌, ◌∷◌, [], IfOk, On
 ghost use Rattle.meta_base.specs.Language.Expression.{Expression};
 ghost use Rattle.meta_ast.specs.Ast.{text_of};
 ghost use Rattle.meta_ast.specs.Optimized.{optimized_expression_of};
-ghost use Rattle.meta_flags.specs.Least.{is_set_at};
+ghost use Rattle.meta_fixpoint.specs.Least.{is_set_at};
 ghost use Rattle.meta_restorer.specs.Bodies.{said_by};
 ghost use Rattle.meta_restorer.specs.Calls.{names_in};
 ghost use Rattle.meta_restorer.specs.Changing.{changes_by, is_changer};

@@ -1,8 +1,8 @@
 //! What texts are read as.
 use meta_ast::ast::{Rule, RuleType};
 use meta_base::runtime::Fault;
-use meta_nodes::erase_spans;
 use meta_reader::rules::{ParserExpr, ParserNode, ParserRule, consume_rules_with_spans, parse};
+use meta_spanned::erase_spans;
 use std::alloc::{AllocError, Global};
 use std::fmt;
 

@@ -48,8 +48,8 @@ fn with_spans(alloc: Global, text: &str, out: &mut String) -> Result<(), Fault> 
     let rules = rules_of(alloc, text)?;
     let copies = rules.clone()?;
     let written = write_equalities(out, "rules with spans", &rules, &copies);
-    meta_nodes::release(rules);
-    meta_nodes::release(copies);
+    meta_spanned::release(rules);
+    meta_spanned::release(copies);
     Ok(written?)
 }
 

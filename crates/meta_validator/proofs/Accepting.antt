@@ -6,22 +6,22 @@ use Rattle.meta_base.specs.Language.Expression.{Expression, Rule, Grammar, rule_
 use Rattle.meta_base.specs.Language.WellFormed.{IsNullable, InRules, IsSkipped, is_whitespace, is_comment, Leads, IsWellFormed}
 use Rattle.meta_base.proofs.Termination.{rule_name}
 use Rattle.meta_base.proofs.Basics.{got_alike}
-use Rattle.meta_nodes.specs.Nodes.{view}
-use Rattle.meta_nodes.specs.declared.node.ParserRule.{ParserRule}
-use Rattle.meta_flags.specs.Least.{is_set_at}
-use Rattle.meta_table.specs.Names.{grammar_of, rule_said}
-use Rattle.meta_nullable.specs.Names.{kind_in}
-use Rattle.meta_nullable.specs.Kinds.{Says, repeated, wrap_kind}
-use Rattle.meta_nullable.specs.Facts.{AreFacts}
+use Rattle.meta_spanned.specs.Nodes.{view}
+use Rattle.meta_spanned.specs.declared.node.ParserRule.{ParserRule}
+use Rattle.meta_fixpoint.specs.Least.{is_set_at}
+use Rattle.meta_analysis.specs.Names.{grammar_of, rule_said}
+use Rattle.meta_analysis.specs.NameKinds.{kind_in}
+use Rattle.meta_analysis.specs.Kinds.{Says, repeated, wrap_kind}
+use Rattle.meta_analysis.specs.Facts.{AreFacts}
 use Rattle.meta_validator.specs.Taking.{RepeatedTakes, AllRepeatedTake, SkippedTake}
 use Rattle.meta_validator.specs.Findings.{is_skipped_name}
-use Rattle.meta_nullable.specs.declared.facts.Facts.{Facts}
-use Rattle.meta_nullable.specs.declared.kinds.Wrap.TheVariants as wraps
+use Rattle.meta_analysis.specs.declared.facts.Facts.{Facts}
+use Rattle.meta_analysis.specs.declared.kinds.Wrap.TheVariants as wraps
 use Rattle.meta_validator.specs.Reports.{Reported, endless, bad_skipped, recursive, Repeats, repeats_any, repeats_once, repeats_min}
 use Rattle.meta_validator.proofs.Certain.{sure_null}
-use Rattle.meta_nullable.proofs.Tying.{says}
-use Rattle.meta_table.proofs.Resolved.{Named, absent, named, resolved}
-use Rattle.meta_nullable.proofs.Answering.{same_rule, no_rule}
+use Rattle.meta_analysis.proofs.Tying.{says}
+use Rattle.meta_analysis.proofs.Resolved.{Named, absent, named, resolved}
+use Rattle.meta_analysis.proofs.Answering.{same_rule, no_rule}
 use Rattle.meta_validator.proofs.Reports.{accepted}
 use Rattle.meta_validator.proofs.Walk.{no_walk}
 

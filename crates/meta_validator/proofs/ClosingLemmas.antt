@@ -7,16 +7,16 @@ use Rattle.meta_base.specs.Language.Text.{Text}
 use Rattle.meta_base.specs.Language.Expression.{Expression, Ident, Rule, Grammar, rule_of, last_place}
 use Rattle.meta_base.specs.Language.WellFormed.{Leads}
 use Rattle.meta_base.proofs.Basics.{one_item}
-use Rattle.meta_nodes.specs.Erasure.{without_spans, rule_without_spans}
-use Rattle.meta_nodes.specs.Nodes.{rule_view, rule_views}
-use Rattle.meta_nodes.specs.Spanned.{Spanned, Seq, Choice, SpannedRule}
-use Rattle.meta_nodes.specs.declared.node.ParserRule.{ParserRule}
-use Rattle.meta_flags.specs.Least.{unset}
+use Rattle.meta_spanned.specs.Erasure.{without_spans, rule_without_spans}
+use Rattle.meta_spanned.specs.Nodes.{rule_view, rule_views}
+use Rattle.meta_spanned.specs.Spanned.{Spanned, Seq, Choice, SpannedRule}
+use Rattle.meta_spanned.specs.declared.node.ParserRule.{ParserRule}
+use Rattle.meta_fixpoint.specs.Least.{unset}
 use Rattle.meta_validator.specs.LeftRecursion.{Closed, Means, Walks, walks_over, walks_closing, walks_outside, walks_again, walks_into, walks_inside, walks_first, walks_second, walks_neither, walks_other}
-use Rattle.meta_table.specs.Names.{grammar_of}
+use Rattle.meta_analysis.specs.Names.{grammar_of}
 use Rattle.meta_validator.specs.Searching.{NeverComesBack}
 use Rattle.meta_validator.specs.Walk.{Walked, w_name, w_first, w_second, w_left, w_right, WalkLeads, w_at_once, w_by_way}
-use Rattle.meta_table.proofs.Resolved.{Named, absent, named, resolved}
+use Rattle.meta_analysis.proofs.Resolved.{Named, absent, named, resolved}
 use Rattle.meta_validator.proofs.NoneWalks.{walked_round, in_rules, IsFine, flags_more, unset_flags, no_flags, none_walked}
 use Rattle.meta_validator.proofs.RegionLemmas.{got_rule}
 use Rattle.meta_validator.proofs.Walk.{leads, no_cycle}

@@ -6,25 +6,25 @@ use Rattle.meta_base.specs.Language.Text.{Text}
 use Rattle.meta_base.specs.Language.Expression.{Expression, Rule, Grammar, rule_of}
 use Rattle.meta_base.specs.Language.WellFormed.{IsNullable, Leads, at_once, by_way, IsWellFormed}
 use Rattle.meta_base.proofs.Basics.{clash}
-use Rattle.meta_nodes.specs.Erasure.{without_spans}
-use Rattle.meta_nodes.specs.Nodes.{view, rule_view, rule_views}
-use Rattle.meta_nodes.specs.Spanned.{Span, Spanned, Leaf, One, Two, Unary, PosPred, NegPred, Opt, Rep, RepOnce, RepExact, RepMin, RepMax, RepMinMax, Push, Tag, Seq, Choice, SpannedRule}
-use Rattle.meta_nodes.specs.declared.node.ParserRule.{ParserRule}
-use Rattle.meta_flags.specs.Least.{is_set_at}
-use Rattle.meta_flags.proofs.LeastLemmas.{item_at}
+use Rattle.meta_spanned.specs.Erasure.{without_spans}
+use Rattle.meta_spanned.specs.Nodes.{view, rule_view, rule_views}
+use Rattle.meta_spanned.specs.Spanned.{Span, Spanned, Leaf, One, Two, Unary, PosPred, NegPred, Opt, Rep, RepOnce, RepExact, RepMin, RepMax, RepMinMax, Push, Tag, Seq, Choice, SpannedRule}
+use Rattle.meta_spanned.specs.declared.node.ParserRule.{ParserRule}
+use Rattle.meta_fixpoint.specs.Least.{is_set_at}
+use Rattle.meta_fixpoint.proofs.LeastLemmas.{item_at}
 use Rattle.meta_validator.specs.Taking.{RepeatedTakes, AllRepeatedTake, SkippedTake}
-use Rattle.meta_nullable.specs.Facts.{AreFacts}
+use Rattle.meta_analysis.specs.Facts.{AreFacts}
 use Rattle.meta_validator.specs.Findings.{Finding, Reports, reports_none, reports_at, OfRepeated, never_fails, takes_nothing, goes_on, OfRepetition, repetition, no_repetition, OfSkipped, skipped, not_skipped, is_endless, is_repetition, is_skipped_name}
-use Rattle.meta_table.specs.Names.{grammar_of}
-use Rattle.meta_nullable.specs.Names.{kind_in}
-use Rattle.meta_table.specs.Nodes.{all_nodes}
-use Rattle.meta_nullable.specs.Kinds.{Fits, wrap_kind, wrap_of, Says}
-use Rattle.meta_nullable.specs.declared.facts.Facts.{Facts}
-use Rattle.meta_nullable.specs.declared.kinds.Wrap.TheVariants as wraps
-use Rattle.meta_nullable.specs.declared.table.Kind.{Kind}
+use Rattle.meta_analysis.specs.Names.{grammar_of}
+use Rattle.meta_analysis.specs.NameKinds.{kind_in}
+use Rattle.meta_analysis.specs.Nodes.{all_nodes}
+use Rattle.meta_analysis.specs.Kinds.{Fits, wrap_kind, wrap_of, Says}
+use Rattle.meta_analysis.specs.declared.facts.Facts.{Facts}
+use Rattle.meta_analysis.specs.declared.kinds.Wrap.TheVariants as wraps
+use Rattle.meta_analysis.specs.declared.kind_table.Kind.{Kind}
 use Rattle.meta_validator.proofs.Accepting.{well_formed}
 use Rattle.meta_validator.proofs.ReportingLemmas.{leaf_kinds, says_at}
-use Rattle.meta_nullable.proofs.Tying.{says}
+use Rattle.meta_analysis.proofs.Tying.{says}
 
 pub empty_first : {A : Type 0} (xs ys : List A) → xs ++ ys ≡ [] → xs ≡ []
 empty_first [] ys h = refl

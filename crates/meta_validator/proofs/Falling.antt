@@ -4,19 +4,19 @@ use Rattle.meta_base.specs.Language.Text.{Text}
 use Rattle.meta_base.specs.Language.Expression.{Expression, Rule, Grammar, rule_of, last_place}
 use Rattle.meta_base.specs.Language.WellFormed.{LeftCalls, left_name, left_first, left_second, left_pos_pred, left_neg_pred, left_left, left_right, left_opt, left_rep, left_rep_once, left_rep_exact, left_rep_min, left_rep_max, left_rep_min_max, left_push, left_restore, Leads, at_once, by_way, left_tag}
 use Rattle.meta_base.proofs.Basics.{got_alike}
-use Rattle.meta_nodes.specs.Nodes.{view}
-use Rattle.meta_nodes.specs.declared.node.ParserRule.{ParserRule}
-use Rattle.meta_table.specs.Names.{grammar_of, rule_said, is_end}
-use Rattle.meta_nullable.specs.Names.{kind_in, name_kind}
-use Rattle.meta_nullable.specs.Kinds.{Says, counted, repeated, wrap_kind}
-use Rattle.meta_nullable.specs.Facts.{AreFacts}
+use Rattle.meta_spanned.specs.Nodes.{view}
+use Rattle.meta_spanned.specs.declared.node.ParserRule.{ParserRule}
+use Rattle.meta_analysis.specs.Names.{grammar_of, rule_said, is_end}
+use Rattle.meta_analysis.specs.NameKinds.{kind_in, name_kind}
+use Rattle.meta_analysis.specs.Kinds.{Says, counted, repeated, wrap_kind}
+use Rattle.meta_analysis.specs.Facts.{AreFacts}
 use Rattle.meta_validator.specs.Cycles.{rank_at, Falls, AllFall, NoneRises, FallsFrom}
-use Rattle.meta_nullable.specs.declared.facts.Facts.{Facts}
-use Rattle.meta_nullable.specs.declared.table.Kind.{Kind}
-use Rattle.meta_nullable.specs.declared.kinds.Wrap.TheVariants as wraps
-use Rattle.meta_nullable.proofs.Tying.{says}
-use Rattle.meta_table.proofs.Resolved.{Named, absent, named, resolved}
-use Rattle.meta_nullable.proofs.Answering.{same_rule, no_rule}
+use Rattle.meta_analysis.specs.declared.facts.Facts.{Facts}
+use Rattle.meta_analysis.specs.declared.kind_table.Kind.{Kind}
+use Rattle.meta_analysis.specs.declared.kinds.Wrap.TheVariants as wraps
+use Rattle.meta_analysis.proofs.Tying.{says}
+use Rattle.meta_analysis.proofs.Resolved.{Named, absent, named, resolved}
+use Rattle.meta_analysis.proofs.Answering.{same_rule, no_rule}
 
 pub data Root (rules : List ParserRule) (facts : Facts) (n : Text) : Option ℕ → ℕ → Type 0 where
   root : {r j : ℕ} (rule : ParserRule) → rule_of (grammar_of rules) n ≡ Some (rule_said rule) → slice_get facts.table.roots.items r ≡ Some j → Says (kind_in (grammar_of rules)) facts.table.kinds.items j (rule_said rule).body → Root rules facts n (Some r) j

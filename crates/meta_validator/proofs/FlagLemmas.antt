@@ -3,7 +3,7 @@ use Rattle.std.proofs.Common.{◌≡◌, ℕ, zero, suc, ◌+◌, ◌<◌, ◌�
 use Rattle.std.specs.List.{Contains}
 use Rattle.std.proofs.Math.ListN.{set}
 use Rattle.std.proofs.lemmas.List.Elements.{Contains-append_left}
-use Rattle.meta_flags.specs.Least.{is_set_at}
+use Rattle.meta_fixpoint.specs.Least.{is_set_at}
 use Rattle.meta_validator.specs.Flags.{AreNoted}
 use Rattle.meta_validator.proofs.NoneWalks.{at_end}
 use Rattle.meta_validator.proofs.SearchLemmas.{Compared, same_place, other_place, compared}

@@ -7,29 +7,29 @@ use Rattle.meta_base.specs.Language.Text.{Text}
 use Rattle.meta_base.specs.Language.Expression as bare
 use Rattle.meta_base.specs.Language.Expression.{Expression, Ident, Grammar, last_place}
 use Rattle.meta_base.specs.Language.WellFormed.{IsNullable}
-use Rattle.meta_nodes.specs.Erasure.{without_spans}
-use Rattle.meta_nodes.specs.Nodes.{rule_views}
-use Rattle.meta_nodes.specs.Spanned.{Span, Spanned, Leaf, One, Two, Seq, Choice, SpannedRule}
-use Rattle.meta_nodes.specs.declared.node.ParserRule.{ParserRule}
-use Rattle.meta_flags.specs.Least.{is_set_at}
-use Rattle.meta_nullable.specs.Facts.{AreFacts}
+use Rattle.meta_spanned.specs.Erasure.{without_spans}
+use Rattle.meta_spanned.specs.Nodes.{rule_views}
+use Rattle.meta_spanned.specs.Spanned.{Span, Spanned, Leaf, One, Two, Seq, Choice, SpannedRule}
+use Rattle.meta_spanned.specs.declared.node.ParserRule.{ParserRule}
+use Rattle.meta_fixpoint.specs.Least.{is_set_at}
+use Rattle.meta_analysis.specs.Facts.{AreFacts}
 use Rattle.meta_validator.specs.LeftRecursion.{IsNoName, said, Means, Passes}
-use Rattle.meta_table.specs.Names.{grammar_of, is_end}
-use Rattle.meta_nullable.specs.Names.{kind_in, name_kind}
-use Rattle.meta_table.specs.Nodes.{IsSimple, all_nodes, size}
-use Rattle.meta_nullable.specs.Kinds.{Fits, leaf_kind, wrap_kind, wrap_of, both_kind}
+use Rattle.meta_analysis.specs.Names.{grammar_of, is_end}
+use Rattle.meta_analysis.specs.NameKinds.{kind_in, name_kind}
+use Rattle.meta_analysis.specs.Nodes.{IsSimple, all_nodes, size}
+use Rattle.meta_analysis.specs.Kinds.{Fits, leaf_kind, wrap_kind, wrap_of, both_kind}
 use Rattle.meta_validator.specs.Regions.{IsNodeOf, ArePassing}
 use Rattle.meta_validator.specs.Searching.{ordered, called_in, inside_of, size_at, cost, unentered, name_of, last_name, IsSearch}
 use Rattle.meta_validator.specs.Walk.{without}
-use Rattle.meta_nullable.specs.declared.facts.Facts.{Facts}
-use Rattle.meta_nullable.specs.declared.kinds.Wrap.{Wrap}
-use Rattle.meta_table.specs.declared.shapes.Joint.TheVariants as joints
-use Rattle.meta_nullable.specs.declared.kinds.Wrap.TheVariants as wraps
+use Rattle.meta_analysis.specs.declared.facts.Facts.{Facts}
+use Rattle.meta_analysis.specs.declared.kinds.Wrap.{Wrap}
+use Rattle.meta_analysis.specs.declared.shapes.Joint.TheVariants as joints
+use Rattle.meta_analysis.specs.declared.kinds.Wrap.TheVariants as wraps
 use Rattle.meta_validator.specs.declared.recursions.Task.{Task}
 use Rattle.meta_validator.specs.declared.recursions.Task.TheVariants.{Visit, Leave}
-use Rattle.meta_nullable.specs.declared.table.Kind.{Kind}
+use Rattle.meta_analysis.specs.declared.kind_table.Kind.{Kind}
 use Rattle.meta_validator.proofs.Certain.{sure_null}
-use Rattle.meta_table.proofs.LayoutLemmas.{some_size}
+use Rattle.meta_analysis.proofs.LayoutLemmas.{some_size}
 use Rattle.meta_validator.proofs.NoneWalks.{at_end, in_rules, sort, Sort, of_name, of_no_name}
 use Rattle.meta_validator.proofs.RegionLemmas.{node_inside, node_first, node_second}
 use Rattle.meta_validator.proofs.SearchLemmas.{inside, first_only, of_choice, of_sequence}

@@ -7,13 +7,13 @@ use Rattle.std.proofs.lemmas.Option.{slice_get_within}
 use Rattle.std.proofs.lemmas.Slice.Eq.{bytes_eq-Decides}
 use Rattle.meta_base.specs.Language.Text.{Text}
 use Rattle.meta_base.specs.Language.Expression.{Expression, Str, Insens, Range, Ident, PeekSlice, PosPred, NegPred, Seq as plain_seq, Choice as plain_choice, Opt, Rep, RepOnce, RepExact, RepMin, RepMax, RepMinMax, Skip, Push, RestoreOnErr, PushLiteral, NodeTag, last_place}
-use Rattle.meta_nodes.specs.Erasure.{without_spans, round}
-use Rattle.meta_nodes.specs.Spanned as spanned
-use Rattle.meta_nodes.specs.Spanned.{Spanned, Leaf, One, Two, Unary, Seq, Choice, SpannedRule}
-use Rattle.meta_flags.specs.Least.{is_set_at, unset}
+use Rattle.meta_spanned.specs.Erasure.{without_spans, round}
+use Rattle.meta_spanned.specs.Spanned as spanned
+use Rattle.meta_spanned.specs.Spanned.{Spanned, Leaf, One, Two, Unary, Seq, Choice, SpannedRule}
+use Rattle.meta_fixpoint.specs.Least.{is_set_at, unset}
 use Rattle.meta_validator.specs.LeftRecursion.{IsNoName, said, Means, Walks, walks_over, walks_outside, walks_again, walks_into, walks_inside, walks_neither, walks_other}
 use Rattle.meta_validator.specs.Walk.{Walked, w_name, w_first, w_second, w_pos_pred, w_neg_pred, w_left, w_right, w_opt, w_rep, w_rep_once, w_rep_exact, w_rep_min, w_rep_max, w_rep_min_max, w_push, w_tag}
-use Rattle.meta_flags.proofs.LeastLemmas.{unset_less, set_or_one}
+use Rattle.meta_fixpoint.proofs.LeastLemmas.{unset_less, set_or_one}
 
 -- 1. flags that say what a trail has
 pub record Flags (n : ℕ) (c : List ℕ) (flags : List Bool) : Type 0 where

@@ -6,8 +6,8 @@ use Rattle.meta_base.specs.declared.grammar.Rule.{Rule}
 use Rattle.meta_base.specs.declared.runtime.errors.Error.{Error}
 use Rattle.meta_base.proofs.CannotFailIsNullable.{nullable_of}
 use Rattle.meta_base.proofs.Basics.{clash}
-use Rattle.meta_nodes.specs.Erasure.{without_spans, rules_without_spans}
-use Rattle.meta_nodes.specs.Spanned.{Span, Spanned, Two, Choice, SpannedRule}
+use Rattle.meta_spanned.specs.Erasure.{without_spans, rules_without_spans}
+use Rattle.meta_spanned.specs.Spanned.{Span, Spanned, Two, Choice, SpannedRule}
 use Rattle.meta_validator.specs.Findings.{Finding, AreFound, endless_at, Reports, reports_none, reports_at, OfRepeated, never_fails, takes_nothing, goes_on, OfRepetition, repetition, no_repetition, OfChoice, unreachable, reachable, no_choice, OfSkipped, skipped, not_skipped, is_choice, last_alternative}
 use Rattle.meta_validator.specs.Reported.{AreReported}
 use Rattle.meta_validator.specs.Tags.{of_tags}

@@ -14,8 +14,8 @@ use Rattle.meta_base.specs.declared.runtime.errors.ErrorVariant.{ErrorVariant}
 use Rattle.meta_base.specs.declared.runtime.errors.ErrorVariant.TheVariants.{ParsingError, CustomError}
 use Rattle.meta_base.proofs.CannotFailIsNullable.{nullable_of}
 use Rattle.meta_base.proofs.Basics.{clash}
-use Rattle.meta_nodes.specs.Erasure.{rules_without_spans}
-use Rattle.meta_nodes.specs.Spanned.{Span, Spanned, SpannedRule}
+use Rattle.meta_spanned.specs.Erasure.{rules_without_spans}
+use Rattle.meta_spanned.specs.Spanned.{Span, Spanned, SpannedRule}
 use Rattle.meta_validator.specs.Alike.{AreAlike, IsAlike}
 use Rattle.meta_validator.specs.Tags.{of_tags}
 use Rattle.meta_validator.specs.Findings.{Finding, AreFound, endless_at, is_before, IsSortedBySpan, places, Reports, reports_none, reports_at, OfRepeated, never_fails, takes_nothing, goes_on, OfRepetition, repetition, no_repetition, OfChoice, unreachable, reachable, no_choice, OfSkipped, skipped, not_skipped, is_endless, is_skipped_name}

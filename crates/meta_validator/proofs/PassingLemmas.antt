@@ -7,29 +7,29 @@ use Rattle.std.proofs.lemmas.Option.{slice_get-map}
 use Rattle.meta_base.specs.Language.Text.{Text}
 use Rattle.meta_base.specs.Language.Expression.{Expression, Str, Insens, Range, Ident, PeekSlice, PosPred, NegPred, Seq, Choice, Opt, Rep, RepOnce, RepExact, RepMin, RepMax, RepMinMax, Skip, Push, RestoreOnErr, Rule, Grammar, rule_of, PushLiteral, NodeTag, last_place}
 use Rattle.meta_base.specs.Language.WellFormed.{IsNullable, nullable_str, nullable_insens, nullable_soi, nullable_eoi, nullable_call, nullable_pos_pred, nullable_neg_pred, nullable_opt, nullable_rep, nullable_rep_max, nullable_seq, nullable_left, nullable_right, nullable_rep_once, nullable_push, nullable_exact_zero, nullable_exact, nullable_min_zero, nullable_min, nullable_min_max_zero, nullable_min_max, nullable_skip, nullable_restore, nullable_push_literal, nullable_tag}
-use Rattle.meta_nodes.specs.Erasure.{without_spans, rule_without_spans}
-use Rattle.meta_nodes.specs.Nodes.{rule_view, rule_views}
-use Rattle.meta_nodes.specs.Spanned.{Spanned, SpannedRule}
-use Rattle.meta_nodes.specs.declared.node.ParserRule.{ParserRule}
-use Rattle.meta_flags.specs.Least.{is_set_at}
-use Rattle.meta_nullable.specs.Facts.{AreFacts}
+use Rattle.meta_spanned.specs.Erasure.{without_spans, rule_without_spans}
+use Rattle.meta_spanned.specs.Nodes.{rule_view, rule_views}
+use Rattle.meta_spanned.specs.Spanned.{Spanned, SpannedRule}
+use Rattle.meta_spanned.specs.declared.node.ParserRule.{ParserRule}
+use Rattle.meta_fixpoint.specs.Least.{is_set_at}
+use Rattle.meta_analysis.specs.Facts.{AreFacts}
 use Rattle.meta_validator.specs.LeftRecursion.{Means}
-use Rattle.meta_nullable.specs.RightAnswers.{AreSound, AreClosed}
-use Rattle.meta_table.specs.Names.{grammar_of, is_end}
-use Rattle.meta_nullable.specs.Names.{kind_in, name_kind}
-use Rattle.meta_table.specs.Nodes.{all_nodes}
-use Rattle.meta_nullable.specs.Kinds.{Says, counted, repeated, wrap_kind, text_kind}
+use Rattle.meta_analysis.specs.RightAnswers.{AreSound, AreClosed}
+use Rattle.meta_analysis.specs.Names.{grammar_of, is_end}
+use Rattle.meta_analysis.specs.NameKinds.{kind_in, name_kind}
+use Rattle.meta_analysis.specs.Nodes.{all_nodes}
+use Rattle.meta_analysis.specs.Kinds.{Says, counted, repeated, wrap_kind, text_kind}
 use Rattle.meta_validator.specs.Walk.{without}
 use Rattle.meta_validator.specs.Without.{without_kind, IsWithout}
-use Rattle.meta_nullable.specs.declared.facts.Facts.{Facts}
-use Rattle.meta_nullable.specs.declared.kinds.Wrap.{Wrap}
-use Rattle.meta_nullable.specs.declared.kinds.Wrap.TheVariants as wraps
-use Rattle.meta_nullable.specs.declared.table.Kind.{Kind}
-use Rattle.meta_nullable.specs.declared.table.Kind.TheVariants as is
-use Rattle.meta_nullable.specs.declared.table.Question.TheVariants as asks
-use Rattle.meta_nullable.specs.declared.table.KindTable.{KindTable}
-use Rattle.meta_table.proofs.Resolved.{Named, absent, named, resolved}
-use Rattle.meta_nullable.proofs.Answering.{Sense, absent_from, lies_at, sense_of, kinds_by, answered, no_rule, same_rule}
+use Rattle.meta_analysis.specs.declared.facts.Facts.{Facts}
+use Rattle.meta_analysis.specs.declared.kinds.Wrap.{Wrap}
+use Rattle.meta_analysis.specs.declared.kinds.Wrap.TheVariants as wraps
+use Rattle.meta_analysis.specs.declared.kind_table.Kind.{Kind}
+use Rattle.meta_analysis.specs.declared.kind_table.Kind.TheVariants as is
+use Rattle.meta_analysis.specs.declared.kind_table.Question.TheVariants as asks
+use Rattle.meta_analysis.specs.declared.kind_table.KindTable.{KindTable}
+use Rattle.meta_analysis.proofs.Resolved.{Named, absent, named, resolved}
+use Rattle.meta_analysis.proofs.Answering.{Sense, absent_from, lies_at, sense_of, kinds_by, answered, no_rule, same_rule}
 use Rattle.meta_validator.proofs.NoneWalks.{in_rules}
 use Rattle.meta_validator.proofs.ReportingLemmas.{says_at}
 use Rattle.meta_validator.proofs.Walk.{Compared, same_name, other_name, compared, rule_without, rule_gone, rule_within, null_more}

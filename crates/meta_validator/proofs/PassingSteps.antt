@@ -3,19 +3,19 @@ use Rattle.std.proofs.Common.{◌≡◌, ℕ, zero, suc, ◌+◌, ◌<◌, ◌�
 use Rattle.std.specs.Bool.{Decides}
 use Rattle.std.proofs.lemmas.Option.{slice_get_within}
 use Rattle.meta_base.specs.Language.WellFormed.{IsNullable}
-use Rattle.meta_nodes.specs.Erasure.{without_spans}
-use Rattle.meta_nodes.specs.Nodes.{rule_views}
-use Rattle.meta_nodes.specs.Spanned.{Spanned, SpannedRule}
-use Rattle.meta_nodes.specs.declared.node.ParserRule.{ParserRule}
-use Rattle.meta_flags.specs.Least.{is_set_at}
-use Rattle.meta_table.specs.Roots.{AreRoots}
+use Rattle.meta_spanned.specs.Erasure.{without_spans}
+use Rattle.meta_spanned.specs.Nodes.{rule_views}
+use Rattle.meta_spanned.specs.Spanned.{Spanned, SpannedRule}
+use Rattle.meta_spanned.specs.declared.node.ParserRule.{ParserRule}
+use Rattle.meta_fixpoint.specs.Least.{is_set_at}
+use Rattle.meta_analysis.specs.Roots.{AreRoots}
 use Rattle.meta_validator.specs.LeftRecursion.{said, Means}
-use Rattle.meta_table.specs.Nodes.{all_nodes}
+use Rattle.meta_analysis.specs.Nodes.{all_nodes}
 use Rattle.meta_validator.specs.Regions.{IsNodeOf, ArePassingSoFar, ArePassingBelow}
-use Rattle.meta_table.specs.Roots.{root_of, first_of}
+use Rattle.meta_analysis.specs.Roots.{root_of, first_of}
 use Rattle.meta_validator.specs.Walk.{without}
 use Rattle.meta_validator.proofs.RegionLemmas.{rises}
-use Rattle.meta_table.proofs.LayoutLemmas.{some_size}
+use Rattle.meta_analysis.proofs.LayoutLemmas.{some_size}
 
 pub data Lower (k m : ℕ) : Type 0 where
   lower : k < m → Lower k m

@@ -7,14 +7,14 @@ use Rattle.std.proofs.lemmas.List.Elements.{All-nil, All-cons, All-append, All-m
 use Rattle.std.proofs.lemmas.List.Sorted.{All-permutation}
 use Rattle.meta_base.specs.Language.Text.{Text}
 use Rattle.meta_base.specs.Language.Expression.{Expression, Grammar}
-use Rattle.meta_nodes.specs.Spanned.{Span, span_of, Spanned, Leaf, One, Two, Seq, Choice, SpannedRule}
-use Rattle.meta_nodes.specs.Erasure.{rules_without_spans}
-use Rattle.meta_table.specs.Nodes.{postorder, every_node}
+use Rattle.meta_spanned.specs.Spanned.{Span, span_of, Spanned, Leaf, One, Two, Seq, Choice, SpannedRule}
+use Rattle.meta_spanned.specs.Erasure.{rules_without_spans}
+use Rattle.meta_analysis.specs.Nodes.{postorder, every_node}
 use Rattle.meta_validator.specs.Findings.{Finding, last_alternative, Reports, reports_none, reports_at, OfRepeated, never_fails, takes_nothing, goes_on, OfRepetition, repetition, no_repetition, OfChoice, unreachable, reachable, no_choice, OfSkipped, skipped, not_skipped, OfRecursion, recursive, not_recursive, hidden, endless_at, AreFound, AreAllFound}
 use Rattle.meta_validator.specs.LeftRecursion.{Closed, Walks, walks_over, walks_closing, walks_outside, walks_again, walks_into, walks_inside, walks_first, walks_second, walks_neither, walks_other}
 use Rattle.meta_validator.specs.Placed.{IsIn, AreIn, ArePiecesOf}
 use Rattle.meta_validator.specs.Tags.{told_at, message_at, of_tag, of_tags_in, of_tags}
-use Rattle.meta_nodes.specs.Walk.{preorder}
+use Rattle.meta_spanned.specs.Walk.{preorder}
 
 -- what holds of all elements holds of one
 pub at_one : {X : Type 0} (P : X → Type 0) (xs : List X) (k : ℕ) (x : X) → All P xs → slice_get xs k ≡ Some x → P x

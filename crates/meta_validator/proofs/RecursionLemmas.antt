@@ -5,16 +5,16 @@ use Rattle.std.specs.Option.{option_map}
 use Rattle.std.proofs.lemmas.List.{append_assoc, length-map}
 use Rattle.std.proofs.lemmas.Option.{slice_get-map, slice_get_past}
 use Rattle.std.proofs.lemmas.Str.{encodes-chars, IsUtf8-string_bytes}
-use Rattle.meta_flags.proofs.LeastLemmas.{item_at}
+use Rattle.meta_fixpoint.proofs.LeastLemmas.{item_at}
 use Rattle.meta_base.specs.Language.Text.{Text}
 use Rattle.meta_base.specs.Language.WellFormed.{Leads}
 use Rattle.meta_base.specs.Language.Expression.{last_place}
-use Rattle.meta_nodes.specs.Nodes.{rule_view, rule_views}
-use Rattle.meta_nodes.specs.Spanned.{Span, SpannedRule}
-use Rattle.meta_nodes.specs.declared.node.ParserRule.{ParserRule}
+use Rattle.meta_spanned.specs.Nodes.{rule_view, rule_views}
+use Rattle.meta_spanned.specs.Spanned.{Span, SpannedRule}
+use Rattle.meta_spanned.specs.declared.node.ParserRule.{ParserRule}
 use Rattle.meta_validator.specs.Findings.{Finding, found_at, Reports, reports_none, reports_at, OfRecursion, recursive, not_recursive, hidden, places}
 use Rattle.meta_validator.specs.LeftRecursion.{said, Means, Walks, name_at, told_trail}
-use Rattle.meta_table.specs.Names.{grammar_of}
+use Rattle.meta_analysis.specs.Names.{grammar_of}
 use Rattle.meta_validator.proofs.ClosingLemmas.{closing_leads, none_comes}
 use Rattle.meta_validator.proofs.ReportingLemmas.{reports_more}
 use Rattle.meta_validator.proofs.SearchLemmas.{same_place, other_place, compared}

@@ -2,16 +2,16 @@
 use Rattle.std.proofs.Common.{◌≡◌, ℕ, zero, suc, ◌+◌, ◌<◌, ◌≤◌, List, Option, Some, None, slice_get, unwrap_or, length, refl, sym, ◌∙◌, ap, arith, inl, inr, ◌⊎◌}
 use Rattle.std.specs.Option.{option_map}
 use Rattle.std.proofs.lemmas.Option.{slice_get_within, slice_get-map}
-use Rattle.meta_flags.proofs.LeastLemmas.{item_at}
+use Rattle.meta_fixpoint.proofs.LeastLemmas.{item_at}
 use Rattle.meta_base.proofs.Basics.{got_alike}
-use Rattle.meta_nodes.specs.Nodes.{view, rule_view, rule_views}
-use Rattle.meta_nodes.specs.Spanned.{Span, Spanned, One, Two, Unary, Binary, SpannedRule}
-use Rattle.meta_nodes.specs.declared.node.ParserRule.{ParserRule}
-use Rattle.meta_table.specs.Roots.{AreRoots}
-use Rattle.meta_table.specs.Nodes.{all_nodes, size}
+use Rattle.meta_spanned.specs.Nodes.{view, rule_view, rule_views}
+use Rattle.meta_spanned.specs.Spanned.{Span, Spanned, One, Two, Unary, Binary, SpannedRule}
+use Rattle.meta_spanned.specs.declared.node.ParserRule.{ParserRule}
+use Rattle.meta_analysis.specs.Roots.{AreRoots}
+use Rattle.meta_analysis.specs.Nodes.{all_nodes, size}
 use Rattle.meta_validator.specs.Regions.{IsNodeOf}
-use Rattle.meta_table.specs.Roots.{root_of, first_of}
-use Rattle.meta_table.proofs.LayoutLemmas.{some_size}
+use Rattle.meta_analysis.specs.Roots.{root_of, first_of}
+use Rattle.meta_analysis.proofs.LayoutLemmas.{some_size}
 
 pub got_rule : (rules : List ParserRule) (k : ℕ) (r : SpannedRule) → slice_get (rule_views rules) k ≡ Some r → (rule : ParserRule) × (slice_get rules k ≡ Some rule) × (rule_view rule ≡ r)
 got_rule rules k r e = go (slice_get rules k) refl (sym (slice_get-map rule_view rules k) ∙ e)

@@ -9,26 +9,26 @@ use Rattle.meta_base.specs.Language.Expression as bare
 use Rattle.meta_base.specs.Language.Expression.{Expression, Grammar, last_place}
 use Rattle.meta_base.specs.declared.runtime.places.Span as code_span
 use Rattle.meta_base.proofs.Basics.{clash, got_alike}
-use Rattle.meta_nodes.specs.Erasure.{without_spans}
-use Rattle.meta_nodes.specs.Nodes.{view, piece_of, rule_view, rule_views}
-use Rattle.meta_nodes.specs.Spanned.{Span, span_of, Spanned, Leaf, One, Two, Unary, PosPred, NegPred, Opt, Rep, RepOnce, RepExact, RepMin, RepMax, RepMinMax, Push, Tag, Seq, Choice}
-use Rattle.meta_nodes.specs.declared.node.ParserRule.{ParserRule}
-use Rattle.meta_nodes.proofs.Places.{span_at}
-use Rattle.meta_flags.specs.Least.{is_set_at}
-use Rattle.meta_flags.proofs.LeastLemmas.{item_at}
-use Rattle.meta_nullable.specs.Facts.{AreFacts}
+use Rattle.meta_spanned.specs.Erasure.{without_spans}
+use Rattle.meta_spanned.specs.Nodes.{view, piece_of, rule_view, rule_views}
+use Rattle.meta_spanned.specs.Spanned.{Span, span_of, Spanned, Leaf, One, Two, Unary, PosPred, NegPred, Opt, Rep, RepOnce, RepExact, RepMin, RepMax, RepMinMax, Push, Tag, Seq, Choice}
+use Rattle.meta_spanned.specs.declared.node.ParserRule.{ParserRule}
+use Rattle.meta_spanned.proofs.Places.{span_at}
+use Rattle.meta_fixpoint.specs.Least.{is_set_at}
+use Rattle.meta_fixpoint.proofs.LeastLemmas.{item_at}
+use Rattle.meta_analysis.specs.Facts.{AreFacts}
 use Rattle.meta_validator.specs.Findings.{Finding, found_at, is_skipped_name, last_alternative, Reports, reports_none, reports_at, OfRepeated, never_fails, takes_nothing, goes_on, OfRepetition, repetition, no_repetition, OfChoice, unreachable, reachable, no_choice, OfSkipped, skipped, not_skipped}
-use Rattle.meta_table.specs.Names.{grammar_of, is_end}
-use Rattle.meta_nullable.specs.Names.{kind_in, name_kind}
-use Rattle.meta_table.specs.Nodes.{all_nodes}
-use Rattle.meta_nullable.specs.Kinds.{Says, Fits, leaf_kind, wrap_kind, wrap_of}
+use Rattle.meta_analysis.specs.Names.{grammar_of, is_end}
+use Rattle.meta_analysis.specs.NameKinds.{kind_in, name_kind}
+use Rattle.meta_analysis.specs.Nodes.{all_nodes}
+use Rattle.meta_analysis.specs.Kinds.{Says, Fits, leaf_kind, wrap_kind, wrap_of}
 use Rattle.meta_validator.specs.Reporting.{AreSpans, repeated_at, repetition_at, alternative_of, alternative_at, unreachable_at, choice_at, skipped_at}
-use Rattle.meta_nullable.specs.declared.facts.Facts.{Facts}
-use Rattle.meta_nullable.specs.declared.kinds.Wrap.{Wrap}
-use Rattle.meta_nullable.specs.declared.kinds.Wrap.TheVariants as wraps
-use Rattle.meta_nullable.specs.declared.table.Kind.{Kind}
-use Rattle.meta_nullable.specs.declared.table.Kind.TheVariants as is
-use Rattle.meta_nullable.proofs.Tying.{stands_at, says}
+use Rattle.meta_analysis.specs.declared.facts.Facts.{Facts}
+use Rattle.meta_analysis.specs.declared.kinds.Wrap.{Wrap}
+use Rattle.meta_analysis.specs.declared.kinds.Wrap.TheVariants as wraps
+use Rattle.meta_analysis.specs.declared.kind_table.Kind.{Kind}
+use Rattle.meta_analysis.specs.declared.kind_table.Kind.TheVariants as is
+use Rattle.meta_analysis.proofs.Tying.{stands_at, says}
 
 -- 1. one more is looked at
 pub reports_more : {X : Type 0} (R : X → List Finding → Type 0) {xs : List X} {fs : List Finding} → Reports R xs fs → (x : X) (gs : List Finding) → R x gs → Reports R (xs ++ x ∷ []) (fs ++ gs)

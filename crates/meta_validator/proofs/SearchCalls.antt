@@ -8,18 +8,18 @@ use Rattle.meta_base.specs.Language.Text.{Text}
 use Rattle.meta_base.specs.Language.Expression.{Expression, Ident, last_place}
 use Rattle.meta_base.specs.Language.Expression as bare
 use Rattle.meta_base.proofs.Basics.{clash, one_item}
-use Rattle.meta_nodes.specs.Erasure.{without_spans}
-use Rattle.meta_nodes.specs.Spanned.{Spanned, Leaf, SpannedRule, Span}
-use Rattle.meta_nodes.specs.declared.node.ParserRule.{ParserRule}
-use Rattle.meta_flags.specs.Least.{is_set_at, unset}
+use Rattle.meta_spanned.specs.Erasure.{without_spans}
+use Rattle.meta_spanned.specs.Spanned.{Spanned, Leaf, SpannedRule, Span}
+use Rattle.meta_spanned.specs.declared.node.ParserRule.{ParserRule}
+use Rattle.meta_fixpoint.specs.Least.{is_set_at, unset}
 use Rattle.meta_validator.specs.LeftRecursion.{Closed, IsNoName, said, Means, Walks, walks_over, walks_closing, walks_outside, walks_again, walks_into}
-use Rattle.meta_table.specs.Nodes.{all_nodes, IsSimple}
+use Rattle.meta_analysis.specs.Nodes.{all_nodes, IsSimple}
 use Rattle.meta_validator.specs.Regions.{IsNodeOf}
 use Rattle.meta_validator.specs.Searching.{ordered, after, views, Calls, name_of, last_name, Comes, Goes, Owes, IsKnown, AreCovered, AreSettled, IsSought, IsSearch}
 use Rattle.meta_validator.specs.Walk.{Walked, w_name}
 use Rattle.meta_validator.specs.declared.recursions.Task.{Task}
 use Rattle.meta_validator.specs.declared.recursions.Task.TheVariants.{Visit, Leave}
-use Rattle.meta_flags.proofs.LeastLemmas.{set_or_one}
+use Rattle.meta_fixpoint.proofs.LeastLemmas.{set_or_one}
 use Rattle.meta_validator.proofs.NoneWalks.{Flags, flags_more, no_flags, unset_flags, none_walked, at_end, set_keeps, set_sets, in_rules, IsFine, alone}
 use Rattle.meta_validator.proofs.SearchLemmas.{nothing}
 

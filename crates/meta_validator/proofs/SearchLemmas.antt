@@ -7,13 +7,13 @@ use Rattle.meta_base.specs.Language.Text.{Text}
 use Rattle.meta_base.specs.Language.Expression.{Expression}
 use Rattle.meta_base.specs.Language.Expression as bare
 use Rattle.meta_base.proofs.Basics.{one_item}
-use Rattle.meta_nodes.specs.Erasure.{without_spans, round}
-use Rattle.meta_nodes.specs.Spanned as spanned
-use Rattle.meta_nodes.specs.Spanned.{Spanned, One, Two, Unary, Seq, Choice, SpannedRule, Span}
-use Rattle.meta_nodes.specs.declared.node.ParserRule.{ParserRule}
-use Rattle.meta_flags.specs.Least.{is_set_at}
+use Rattle.meta_spanned.specs.Erasure.{without_spans, round}
+use Rattle.meta_spanned.specs.Spanned as spanned
+use Rattle.meta_spanned.specs.Spanned.{Spanned, One, Two, Unary, Seq, Choice, SpannedRule, Span}
+use Rattle.meta_spanned.specs.declared.node.ParserRule.{ParserRule}
+use Rattle.meta_fixpoint.specs.Least.{is_set_at}
 use Rattle.meta_validator.specs.LeftRecursion.{Closed, said, Passes, Walks, walks_inside, walks_first, walks_second, walks_neither, walks_other}
-use Rattle.meta_table.specs.Nodes.{all_nodes}
+use Rattle.meta_analysis.specs.Nodes.{all_nodes}
 use Rattle.meta_validator.specs.Regions.{IsNodeOf}
 use Rattle.meta_validator.specs.Searching.{ordered, rest, after, views, Calls, name_of, last_name, Comes, Goes, Owes, ArePlaced, IsKnown, AreCovered, IsSearch}
 use Rattle.meta_validator.specs.Walk.{Walked, w_first, w_second, w_pos_pred, w_neg_pred, w_left, w_right, w_opt, w_rep, w_rep_once, w_rep_exact, w_rep_min, w_rep_max, w_rep_min_max, w_push, w_tag}

@@ -6,30 +6,30 @@ use Rattle.std.proofs.lemmas.List.{length_push}
 use Rattle.meta_base.specs.Language.Text.{Text}
 use Rattle.meta_base.specs.Language.Expression.{Expression, Str, Insens, Range, Ident, PeekSlice, Seq, Choice, RepOnce, RepExact, RepMin, RepMinMax, Push, Rule, Grammar, rule_of, PushLiteral, NodeTag, last_place}
 use Rattle.meta_base.specs.Language.WellFormed.{IsNullable, nullable_str, nullable_insens, nullable_soi, nullable_eoi, nullable_call, nullable_pos_pred, nullable_neg_pred, nullable_opt, nullable_rep, nullable_rep_max, nullable_seq, nullable_left, nullable_right, nullable_rep_once, nullable_push, nullable_exact_zero, nullable_exact, nullable_min_zero, nullable_min, nullable_min_max_zero, nullable_min_max, nullable_skip, nullable_restore, nullable_push_literal, nullable_tag}
-use Rattle.meta_nodes.specs.Erasure.{without_spans}
-use Rattle.meta_nodes.specs.Nodes.{rule_views}
-use Rattle.meta_nodes.specs.Spanned as spanned
-use Rattle.meta_nodes.specs.Spanned.{Span, Spanned, Leaf, One, Two, Unary, SpannedRule}
-use Rattle.meta_nodes.specs.declared.node.ParserRule.{ParserRule}
-use Rattle.meta_flags.specs.Least.{is_set_at}
-use Rattle.meta_flags.proofs.FlagLists.{set_before, set_last}
+use Rattle.meta_spanned.specs.Erasure.{without_spans}
+use Rattle.meta_spanned.specs.Nodes.{rule_views}
+use Rattle.meta_spanned.specs.Spanned as spanned
+use Rattle.meta_spanned.specs.Spanned.{Span, Spanned, Leaf, One, Two, Unary, SpannedRule}
+use Rattle.meta_spanned.specs.declared.node.ParserRule.{ParserRule}
+use Rattle.meta_fixpoint.specs.Least.{is_set_at}
+use Rattle.meta_fixpoint.proofs.FlagLists.{set_before, set_last}
 use Rattle.meta_validator.specs.Cycles.{rank_at}
-use Rattle.meta_nullable.specs.Facts.{AreFacts}
+use Rattle.meta_analysis.specs.Facts.{AreFacts}
 use Rattle.meta_validator.specs.LeftRecursion.{Means}
 use Rattle.meta_validator.specs.Levels.{Rests, AllRest, IsSettled, AreSettled, own_answer, own_answer_at}
-use Rattle.meta_table.specs.Names.{grammar_of, is_end}
-use Rattle.meta_nullable.specs.Names.{kind_in, name_kind}
-use Rattle.meta_table.specs.Nodes.{IsSimple, all_nodes}
-use Rattle.meta_nullable.specs.Kinds.{Says, Fits, counted, repeated, wrap_of, wrap_kind, leaf_kind}
+use Rattle.meta_analysis.specs.Names.{grammar_of, is_end}
+use Rattle.meta_analysis.specs.NameKinds.{kind_in, name_kind}
+use Rattle.meta_analysis.specs.Nodes.{IsSimple, all_nodes}
+use Rattle.meta_analysis.specs.Kinds.{Says, Fits, counted, repeated, wrap_of, wrap_kind, leaf_kind}
 use Rattle.meta_validator.specs.Regions.{IsNodeOf, ArePassingSoFar}
-use Rattle.meta_table.specs.Roots.{first_of}
-use Rattle.meta_nullable.specs.Table.{at_root}
+use Rattle.meta_analysis.specs.Roots.{first_of}
+use Rattle.meta_analysis.specs.KindTable.{at_root}
 use Rattle.meta_validator.specs.Walk.{without}
-use Rattle.meta_nullable.specs.declared.facts.Facts.{Facts}
-use Rattle.meta_nullable.specs.declared.kinds.Wrap.TheVariants as wraps
-use Rattle.meta_nullable.specs.declared.table.Kind.{Kind}
-use Rattle.meta_nullable.proofs.Answering.{Sense, absent_from, lies_at, sense_of, end_null, no_rule, same_rule}
-use Rattle.meta_table.proofs.LayoutLemmas.{some_size}
+use Rattle.meta_analysis.specs.declared.facts.Facts.{Facts}
+use Rattle.meta_analysis.specs.declared.kinds.Wrap.TheVariants as wraps
+use Rattle.meta_analysis.specs.declared.kind_table.Kind.{Kind}
+use Rattle.meta_analysis.proofs.Answering.{Sense, absent_from, lies_at, sense_of, end_null, no_rule, same_rule}
+use Rattle.meta_analysis.proofs.LayoutLemmas.{some_size}
 use Rattle.meta_validator.proofs.NoneWalks.{in_rules}
 use Rattle.meta_validator.proofs.PassingSteps.{Lower, lower, equal, lower_or_equal}
 use Rattle.meta_validator.proofs.RegionLemmas.{node_inside, node_first, node_second}

@@ -7,14 +7,14 @@ use Rattle.std.specs.Prelude.{string_bytes}
 use Rattle.std.proofs.lemmas.List.{map-append}
 use Rattle.meta_base.specs.Language.Text.{Text}
 use Rattle.meta_base.specs.Language.Expression.{rule_of, last_place}
-use Rattle.meta_nodes.specs.declared.node.ParserRule.{ParserRule}
-use Rattle.meta_table.specs.Names.{grammar_of, rule_said}
-use Rattle.meta_nodes.specs.Nodes.{piece_of}
-use Rattle.meta_nodes.specs.Spanned.{Span}
+use Rattle.meta_spanned.specs.declared.node.ParserRule.{ParserRule}
+use Rattle.meta_analysis.specs.Names.{grammar_of, rule_said}
+use Rattle.meta_spanned.specs.Nodes.{piece_of}
+use Rattle.meta_spanned.specs.Spanned.{Span}
 use Rattle.meta_validator.specs.Reporting.{finding_of, findings_of}
 use Rattle.meta_validator.specs.Tags.{told_at}
 use Rattle.meta_validator.specs.declared.findings.Finding.{Finding}
-use Rattle.meta_table.proofs.Resolved.{Named, absent, named, resolved}
+use Rattle.meta_analysis.proofs.Resolved.{Named, absent, named, resolved}
 
 -- the rule that is lent is the one at its place
 pub lent_rule : (rules : List ParserRule) (i : ℕ) (r : Option (Bor ParserRule)) → IsItemAt rules i r

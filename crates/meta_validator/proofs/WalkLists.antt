@@ -1,7 +1,7 @@
 -- Lists that are taken from their ends.
 use Rattle.std.proofs.Common.{◌≡◌, ℕ, zero, suc, List, [], ◌∷◌, ◌++◌, ◌-◌, take, length, arith, refl, sym, ◌∙◌, ap}
 use Rattle.std.proofs.lemmas.List.{length_push}
-use Rattle.meta_table.proofs.LayoutLemmas.{tails, heads}
+use Rattle.meta_analysis.proofs.LayoutLemmas.{tails, heads}
 use Rattle.meta_validator.specs.Searching.{ordered, rest}
 
 none_at_end : {A : Type 0} (xs : List A) (x : A) → xs ++ x ∷ [] ≡ [] → ⊥

@@ -5,29 +5,29 @@ use Rattle.std.proofs.lemmas.List.{length-map}
 use Rattle.std.proofs.lemmas.Option.{slice_get_within}
 use Rattle.meta_base.specs.Language.Text.{Text}
 use Rattle.meta_base.specs.Language.Expression.{Ident, Rule, rule_of, last_place}
-use Rattle.meta_nodes.specs.Erasure.{without_spans, rule_without_spans}
-use Rattle.meta_nodes.specs.Nodes.{rule_view, rule_views}
-use Rattle.meta_nodes.specs.Spanned.{Span, Spanned, Leaf, SpannedRule}
-use Rattle.meta_nodes.specs.declared.node.ParserRule.{ParserRule}
-use Rattle.meta_flags.specs.Least.{is_set_at}
-use Rattle.meta_flags.proofs.LeastLemmas.{item_at}
-use Rattle.meta_nullable.specs.Facts.{AreFacts}
+use Rattle.meta_spanned.specs.Erasure.{without_spans, rule_without_spans}
+use Rattle.meta_spanned.specs.Nodes.{rule_view, rule_views}
+use Rattle.meta_spanned.specs.Spanned.{Span, Spanned, Leaf, SpannedRule}
+use Rattle.meta_spanned.specs.declared.node.ParserRule.{ParserRule}
+use Rattle.meta_fixpoint.specs.Least.{is_set_at}
+use Rattle.meta_fixpoint.proofs.LeastLemmas.{item_at}
+use Rattle.meta_analysis.specs.Facts.{AreFacts}
 use Rattle.meta_validator.specs.LeftRecursion.{Means}
-use Rattle.meta_table.specs.Names.{grammar_of}
-use Rattle.meta_table.specs.Nodes.{all_nodes}
+use Rattle.meta_analysis.specs.Names.{grammar_of}
+use Rattle.meta_analysis.specs.Nodes.{all_nodes}
 use Rattle.meta_validator.specs.Walk.{Walked, WalkLeads, w_at_once, w_by_way}
 use Rattle.meta_validator.specs.Regions.{ArePassing}
 use Rattle.meta_validator.specs.Searching.{ordered, called_in, inside_of, cost, unentered, Calls, IsKnown, IsSearch, IsGoing, IsClosing, NeverComesBack}
-use Rattle.meta_nullable.specs.declared.facts.Facts.{Facts}
+use Rattle.meta_analysis.specs.declared.facts.Facts.{Facts}
 use Rattle.meta_validator.specs.declared.recursions.Walk.{Walk}
-use Rattle.meta_nullable.specs.declared.table.Kind.{Kind}
+use Rattle.meta_analysis.specs.declared.kind_table.Kind.{Kind}
 use Rattle.meta_validator.specs.declared.recursions.Task.{Task}
 use Rattle.meta_validator.specs.declared.recursions.Task.TheVariants.{Visit, Leave}
 use Rattle.meta_validator.proofs.NoneWalks.{in_rules}
 use Rattle.meta_validator.proofs.NodeSteps.{Step, calls, goes_in, stepped_at, cost-append, cost_visit, unentered_set}
 use Rattle.meta_validator.proofs.RegionLemmas.{body_node}
-use Rattle.meta_table.proofs.Resolved.{Named, absent, named as named_rule, resolved}
-use Rattle.meta_nullable.proofs.Answering.{no_rule}
+use Rattle.meta_analysis.proofs.Resolved.{Named, absent, named as named_rule, resolved}
+use Rattle.meta_analysis.proofs.Answering.{no_rule}
 use Rattle.meta_validator.proofs.PassingLemmas.{its_rule}
 use Rattle.meta_validator.proofs.SearchCalls.{over_known, closes, enters, begins}
 

@@ -1,9 +1,9 @@
 -- Numbers that fall along left calls, and numbers that do not rise along them.
 use Rattle.std.specs.Prelude.{◌≡◌, ℕ, ◌+◌, ◌<◌, List, Some, true, ⊤, slice_get, unwrap_or}
-use Rattle.meta_flags.specs.Least.{is_set_at}
-use Rattle.meta_nullable.specs.declared.table.Kind.{Kind}
-use Rattle.meta_nullable.specs.declared.table.Kind.TheVariants as is
-use Rattle.meta_nullable.specs.declared.facts.Facts.{Facts}
+use Rattle.meta_fixpoint.specs.Least.{is_set_at}
+use Rattle.meta_analysis.specs.declared.kind_table.Kind.{Kind}
+use Rattle.meta_analysis.specs.declared.kind_table.Kind.TheVariants as is
+use Rattle.meta_analysis.specs.declared.facts.Facts.{Facts}
 
 abbrev pub rank_at : List ℕ → ℕ → ℕ
 rank_at order i = unwrap_or (slice_get order i) 0

@@ -8,9 +8,9 @@ use Rattle.meta_base.specs.Pieces.Saying.{Complaint}
 use Rattle.meta_base.specs.Language.Text.{Text}
 use Rattle.meta_base.specs.Language.Expression.{Expression, Grammar}
 use Rattle.meta_base.specs.Language.WellFormed.{IsNullable, CannotFail, Leads}
-use Rattle.meta_nodes.specs.Erasure.{without_spans, rules_without_spans}
-use Rattle.meta_nodes.specs.Spanned.{Span, span_of, Spanned, One, Two, Unary, Rep, RepOnce, RepMin, Choice, SpannedRule}
-use Rattle.meta_table.specs.Nodes.{every_node}
+use Rattle.meta_spanned.specs.Erasure.{without_spans, rules_without_spans}
+use Rattle.meta_spanned.specs.Spanned.{Span, span_of, Spanned, One, Two, Unary, Rep, RepOnce, RepMin, Choice, SpannedRule}
+use Rattle.meta_analysis.specs.Nodes.{every_node}
 use Rattle.meta_validator.specs.LeftRecursion.{Closed, Means, Walks, told_trail}
 use Rattle.meta_validator.specs.Tags.{of_tags}
 

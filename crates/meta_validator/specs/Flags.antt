@@ -1,7 +1,7 @@
 -- Flags that are set one by one and unset together.
 use Rattle.std.specs.Prelude.{◌≡◌, ℕ, List, Bool, false}
 use Rattle.std.specs.List.{Contains}
-use Rattle.meta_flags.specs.Least.{is_set_at}
+use Rattle.meta_fixpoint.specs.Least.{is_set_at}
 
 -- no flag is set
 abbrev pub NoneSet : List Bool → Type 0

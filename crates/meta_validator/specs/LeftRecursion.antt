@@ -6,8 +6,8 @@ use Rattle.meta_base.specs.Pieces.Saying.{written}
 use Rattle.meta_base.specs.Language.Text.{Text}
 use Rattle.meta_base.specs.Language.Expression.{Expression, Ident, Grammar, last_place}
 use Rattle.meta_base.specs.Language.WellFormed.{IsNullable, CannotFail}
-use Rattle.meta_nodes.specs.Erasure.{without_spans, rules_without_spans}
-use Rattle.meta_nodes.specs.Spanned.{Span, Spanned, Leaf, One, Two, Unary, Binary, Seq, Choice, SpannedRule}
+use Rattle.meta_spanned.specs.Erasure.{without_spans, rules_without_spans}
+use Rattle.meta_spanned.specs.Spanned.{Span, Spanned, Leaf, One, Two, Unary, Binary, Seq, Choice, SpannedRule}
 use Rattle.meta_validator.specs.Walk.{without}
 
 -- a call of the first rule of a trail: the places of the rules of the trail, and where the call stands

@@ -1,13 +1,13 @@
 -- Levels of nodes: none is lower than those of the nodes on which it depends whether the node may take
 -- nothing.
 use Rattle.std.specs.Prelude.{◌≡◌, ℕ, ◌<◌, ◌≤◌, List, Option, Some, None, Bool, true, false, if◌then◌else◌, nat_eq, ⊤, slice_get}
-use Rattle.meta_flags.specs.Least.{is_set_at}
+use Rattle.meta_fixpoint.specs.Least.{is_set_at}
 use Rattle.meta_validator.specs.Cycles.{rank_at}
-use Rattle.meta_nullable.specs.Table.{at_root, fires}
-use Rattle.meta_nullable.specs.declared.facts.Facts.{Facts}
-use Rattle.meta_nullable.specs.declared.table.Kind.{Kind}
-use Rattle.meta_nullable.specs.declared.table.Kind.TheVariants as is
-use Rattle.meta_nullable.specs.declared.table.Question.TheVariants as asks
+use Rattle.meta_analysis.specs.KindTable.{at_root, fires}
+use Rattle.meta_analysis.specs.declared.facts.Facts.{Facts}
+use Rattle.meta_analysis.specs.declared.kind_table.Kind.{Kind}
+use Rattle.meta_analysis.specs.declared.kind_table.Kind.TheVariants as is
+use Rattle.meta_analysis.specs.declared.kind_table.Question.TheVariants as asks
 
 -- the body of a rule that may take nothing has no higher level
 abbrev pub IsRootWithin : Facts → List ℕ → ℕ → ℕ → Type 0

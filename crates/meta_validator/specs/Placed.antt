@@ -1,7 +1,7 @@
 -- Rules whose spans are all of one text.
 use Rattle.std.specs.Prelude.{◌≡◌, ℕ, List}
 use Rattle.std.specs.List.{All}
-use Rattle.meta_nodes.specs.Spanned.{Span, Spanned, Leaf, One, Two, SpannedRule}
+use Rattle.meta_spanned.specs.Spanned.{Span, Spanned, Leaf, One, Two, SpannedRule}
 
 -- the spans of a node and of all nodes inside it are of this text
 abbrev pub IsIn : List ℕ → Spanned → Type 0

@@ -2,14 +2,14 @@
 use Rattle.std.specs.Prelude.{◌≡◌, ℕ, ◌+◌, ◌<◌, ◌≤◌, List, Bool, Some, length, slice_get}
 use Rattle.std.specs.Bool.{Decides}
 use Rattle.meta_base.specs.Language.WellFormed.{IsNullable}
-use Rattle.meta_nodes.specs.Erasure.{without_spans}
-use Rattle.meta_nodes.specs.Nodes.{rule_views}
-use Rattle.meta_nodes.specs.Spanned.{Spanned, SpannedRule}
-use Rattle.meta_nodes.specs.declared.node.ParserRule.{ParserRule}
-use Rattle.meta_flags.specs.Least.{is_set_at}
+use Rattle.meta_spanned.specs.Erasure.{without_spans}
+use Rattle.meta_spanned.specs.Nodes.{rule_views}
+use Rattle.meta_spanned.specs.Spanned.{Spanned, SpannedRule}
+use Rattle.meta_spanned.specs.declared.node.ParserRule.{ParserRule}
+use Rattle.meta_fixpoint.specs.Least.{is_set_at}
 use Rattle.meta_validator.specs.LeftRecursion.{said, Means}
-use Rattle.meta_table.specs.Nodes.{size, all_nodes}
-use Rattle.meta_table.specs.Roots.{root_of, first_of}
+use Rattle.meta_analysis.specs.Nodes.{size, all_nodes}
+use Rattle.meta_analysis.specs.Roots.{root_of, first_of}
 use Rattle.meta_validator.specs.Walk.{without}
 
 -- the node of this number is one of the body of the rule at k, with all that is inside it

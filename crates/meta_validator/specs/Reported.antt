@@ -3,7 +3,7 @@ use Rattle.std.specs.Prelude.{List}
 use Rattle.meta_base.specs.Pieces.Saying.{Tell}
 use Rattle.meta_base.specs.declared.grammar.Rule.{Rule}
 use Rattle.meta_base.specs.declared.runtime.errors.Error.{Error}
-use Rattle.meta_nodes.specs.Spanned.{Span, SpannedRule}
+use Rattle.meta_spanned.specs.Spanned.{Span, SpannedRule}
 use Rattle.meta_validator.specs.Findings.{Finding, AreAllFound}
 
 -- the errors tell of all that is found in the rules, by place, where these repetitions are known to be

@@ -1,17 +1,17 @@
 -- What is reported, by the facts.
 use Rattle.std.specs.Prelude.{◌≡◌, ℕ, List, [], ◌∷◌, ◌++◌, map, Option, Some, None, if◌then◌else◌, slice_get, string_bytes, codes}
 use Rattle.meta_ast.specs.Ast.{text_of}
-use Rattle.meta_nodes.specs.Nodes.{piece_of}
-use Rattle.meta_nodes.specs.Spanned.{Span, span_of}
-use Rattle.meta_nodes.specs.declared.node.ParserRule.{ParserRule}
+use Rattle.meta_spanned.specs.Nodes.{piece_of}
+use Rattle.meta_spanned.specs.Spanned.{Span, span_of}
+use Rattle.meta_spanned.specs.declared.node.ParserRule.{ParserRule}
 use Rattle.meta_base.specs.declared.runtime.places.Span as code_span
-use Rattle.meta_flags.specs.Least.{is_set_at}
+use Rattle.meta_fixpoint.specs.Least.{is_set_at}
 use Rattle.meta_validator.specs.Findings.{Finding, found_at, is_skipped_name}
-use Rattle.meta_table.specs.Nodes.{all_nodes}
-use Rattle.meta_nullable.specs.declared.facts.Facts.{Facts}
+use Rattle.meta_analysis.specs.Nodes.{all_nodes}
+use Rattle.meta_analysis.specs.declared.facts.Facts.{Facts}
 use Rattle.meta_validator.specs.declared.findings.Finding as code
-use Rattle.meta_nullable.specs.declared.table.Kind.{Kind}
-use Rattle.meta_nullable.specs.declared.table.Kind.TheVariants as is
+use Rattle.meta_analysis.specs.declared.kind_table.Kind.{Kind}
+use Rattle.meta_analysis.specs.declared.kind_table.Kind.TheVariants as is
 
 -- what a finding of code says
 abbrev pub finding_of : code.Finding → Finding

@@ -3,9 +3,9 @@ use Rattle.std.specs.Prelude.{ℕ, List, [], ◌∷◌, Option, Some, None, Bool
 use Rattle.meta_base.specs.Language.Text.{Text}
 use Rattle.meta_base.specs.Language.Expression.{Expression, Ident, RuleType, Silent, Rule, Grammar, rule_of}
 use Rattle.meta_names.specs.Names.{is_builtin}
-use Rattle.meta_nodes.specs.Erasure.{rules_without_spans}
-use Rattle.meta_nodes.specs.Spanned.{Span, Spanned, Leaf, One, Two, Tag, SpannedRule, span_of}
-use Rattle.meta_nodes.specs.Walk.{preorder}
+use Rattle.meta_spanned.specs.Erasure.{rules_without_spans}
+use Rattle.meta_spanned.specs.Spanned.{Span, Spanned, Leaf, One, Two, Tag, SpannedRule, span_of}
+use Rattle.meta_spanned.specs.Walk.{preorder}
 use Rattle.meta_base.specs.Pieces.Saying.{Complaint}
 
 abbrev pub name_of : Expression → Option Text

@@ -1,12 +1,12 @@
 -- What may take nothing is not repeated, and not skipped.
 use Rattle.std.specs.Prelude.{◌≡◌, ℕ, List, Some, true, false, ⊤, slice_get}
 use Rattle.meta_ast.specs.Ast.{text_of}
-use Rattle.meta_nodes.specs.declared.node.ParserRule.{ParserRule}
-use Rattle.meta_flags.specs.Least.{is_set_at}
+use Rattle.meta_spanned.specs.declared.node.ParserRule.{ParserRule}
+use Rattle.meta_fixpoint.specs.Least.{is_set_at}
 use Rattle.meta_validator.specs.Findings.{is_skipped_name}
-use Rattle.meta_nullable.specs.declared.table.Kind.{Kind}
-use Rattle.meta_nullable.specs.declared.table.Kind.TheVariants as is
-use Rattle.meta_nullable.specs.declared.facts.Facts.{Facts}
+use Rattle.meta_analysis.specs.declared.kind_table.Kind.{Kind}
+use Rattle.meta_analysis.specs.declared.kind_table.Kind.TheVariants as is
+use Rattle.meta_analysis.specs.declared.facts.Facts.{Facts}
 
 abbrev pub RepeatedTakes : Facts → Kind → Type 0
 RepeatedTakes facts (is.Again j) = is_set_at facts.nullable.items j ≡ false

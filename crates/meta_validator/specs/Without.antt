@@ -1,10 +1,10 @@
 -- A table where calls of a rule count as neither.
 use Rattle.std.specs.Prelude.{◌≡◌, ℕ, List, Bool, map, nat_eq, if◌then◌else◌}
-use Rattle.meta_nullable.specs.RightAnswers.{AreSound, AreClosed}
-use Rattle.meta_nullable.specs.declared.table.Kind.{Kind}
-use Rattle.meta_nullable.specs.declared.table.Kind.TheVariants as is
-use Rattle.meta_nullable.specs.declared.table.Question.TheVariants as asks
-use Rattle.meta_nullable.specs.declared.table.KindTable.{KindTable}
+use Rattle.meta_analysis.specs.RightAnswers.{AreSound, AreClosed}
+use Rattle.meta_analysis.specs.declared.kind_table.Kind.{Kind}
+use Rattle.meta_analysis.specs.declared.kind_table.Kind.TheVariants as is
+use Rattle.meta_analysis.specs.declared.kind_table.Question.TheVariants as asks
+use Rattle.meta_analysis.specs.declared.kind_table.KindTable.{KindTable}
 
 abbrev pub without_kind : ℕ → Kind → Kind
 without_kind r (is.Call n) = if nat_eq n r then is.Taking else is.Call n

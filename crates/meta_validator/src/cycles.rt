@@ -6,14 +6,14 @@
 ghost use Rattle.std.specs.Prelude.{◌≡◌, ◌<◌, ◌≤◌, ◌+◌, ◌*◌, IfOk, OnOk, length, true};
 ghost use Rattle.meta_base.specs.Language.Text.{Text};
 ghost use Rattle.meta_base.specs.Language.WellFormed.{Leads};
-ghost use Rattle.meta_flags.specs.Least.{unset};
-ghost use Rattle.meta_nullable.specs.Facts.{AreFacts};
-ghost use Rattle.meta_table.specs.Names.{grammar_of};
+ghost use Rattle.meta_fixpoint.specs.Least.{unset};
+ghost use Rattle.meta_analysis.specs.Facts.{AreFacts};
+ghost use Rattle.meta_analysis.specs.Names.{grammar_of};
 ghost use Rattle.meta_validator.specs.Cycles.{AllFall, Falls, FallsFrom, IsBelowRoot, NoneRises, rank_at};
 
-use meta_flags::is_set;
-use meta_nodes::ParserRule;
-use meta_nullable::{Facts, Kind};
+use meta_analysis::{Facts, Kind};
+use meta_fixpoint::is_set;
+use meta_spanned::ParserRule;
 use std::alloc::{AllocError, Global};
 
 /// What is to be done with a node.

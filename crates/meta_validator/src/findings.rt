@@ -1,20 +1,19 @@
 //! What is wrong with rules besides left recursion: repetitions that never end, alternatives that are never
 //! reached, and rules that are skipped although they may take nothing.
 ghost use Rattle.std.specs.Prelude.{◌≡◌, ◌++◌, ◌∷◌, [], IfOk, OnOk, map, string_bytes, slice_get, List, Option};
-ghost use Rattle.meta_nodes.specs.Nodes.{piece_of, rule_views};
-ghost use Rattle.meta_nullable.specs.Facts.{AreFacts};
+ghost use Rattle.meta_spanned.specs.Nodes.{piece_of, rule_views};
+ghost use Rattle.meta_analysis.specs.Facts.{AreFacts};
 ghost use Rattle.meta_validator.specs.Findings.{found_at, OfRepetition, OfChoice, OfSkipped, Reports};
-ghost use Rattle.meta_table.specs.Names.{grammar_of};
-ghost use Rattle.meta_nodes.specs.declared.node.ParserRule.{ParserRule};
-ghost use Rattle.meta_table.specs.Nodes.{all_nodes};
-ghost use Rattle.meta_table.specs.Roots.{IsTabled};
+ghost use Rattle.meta_analysis.specs.Names.{grammar_of};
+ghost use Rattle.meta_spanned.specs.declared.node.ParserRule.{ParserRule};
+ghost use Rattle.meta_analysis.specs.Nodes.{all_nodes};
+ghost use Rattle.meta_analysis.specs.Roots.{IsTabled};
 ghost use Rattle.meta_validator.specs.Reporting.{findings_of, AreSpans, repeated_at, repetition_at, alternative_of, unreachable_at, choice_at, skipped_at};
 
+use meta_analysis::{Facts, Kind, Table, is_literal};
 use meta_base::runtime::Span;
-use meta_flags::is_set;
-use meta_nodes::ParserRule;
-use meta_nullable::{Facts, Kind};
-use meta_table::{Table, is_literal};
+use meta_fixpoint::is_set;
+use meta_spanned::ParserRule;
 use std::alloc::{AllocError, Global};
 
 /// What is wrong, and where.

@@ -1,9 +1,9 @@
 //! Flags that are set one by one, and unset together in the time that it takes to unset those that were set.
 ghost use Rattle.std.specs.Prelude.{◌≡◌, ◌<◌, IfOk, OnOk, length, slice_set, true};
-ghost use Rattle.meta_flags.specs.Least.{is_set_at};
+ghost use Rattle.meta_fixpoint.specs.Least.{is_set_at};
 ghost use Rattle.meta_validator.specs.Flags.{AreNoted, NoneSet};
 
-use meta_flags::is_set;
+use meta_fixpoint::is_set;
 use std::alloc::{AllocError, Global};
 
 /// Flags by number, and the numbers of those that were set.

@@ -2,13 +2,13 @@
 //! nothing, or than those to which its left calls lead. Nodes that lead to one another have one level. The
 //! levels are found by a search in depth and then looked over node by node; only what is looked over counts.
 ghost use Rattle.std.specs.Prelude.{◌≡◌, ◌≤◌, ◌+◌, ◌*◌, IfOk, OnOk, length, true};
-ghost use Rattle.meta_flags.specs.Least.{unset};
+ghost use Rattle.meta_fixpoint.specs.Least.{unset};
 ghost use Rattle.meta_validator.specs.Cycles.{NoneRises, rank_at};
 ghost use Rattle.meta_validator.specs.Levels.{AllRest, IsRootWithin, Rests};
 
 use crate::cycles::{Step, none_rises, number_at};
-use meta_flags::is_set;
-use meta_nullable::{Facts, Kind, listened_to};
+use meta_analysis::{Facts, Kind, listened_to};
+use meta_fixpoint::is_set;
 use std::alloc::{AllocError, Global};
 
 /// The nodes on which it depends whether a node may take nothing, two at most. A call of a rule that takes

@@ -1,17 +1,17 @@
 //! What may take nothing where a call of the rule in whose body it stands counts as one that takes something.
 ghost use Rattle.std.specs.Prelude.{◌≡◌, ℕ, ◌+◌, ◌<◌, ◌≤◌, Some, true, false, IfOk, OnOk, length, slice_get};
-ghost use Rattle.meta_flags.specs.Least.{is_set_at};
-ghost use Rattle.meta_nullable.specs.Facts.{AreFacts};
+ghost use Rattle.meta_fixpoint.specs.Least.{is_set_at};
+ghost use Rattle.meta_analysis.specs.Facts.{AreFacts};
 ghost use Rattle.meta_validator.specs.Levels.{AllRest, AreSettled, IsSettled, own_answer, own_answer_at};
-ghost use Rattle.meta_nullable.specs.RightAnswers.{AreSound, AreClosed};
+ghost use Rattle.meta_analysis.specs.RightAnswers.{AreSound, AreClosed};
 ghost use Rattle.meta_validator.specs.Regions.{ArePassing, ArePassingBelow};
 ghost use Rattle.meta_validator.specs.Without.{AreAnswersWithout, IsWithout, without_kind};
 
 use crate::cycles::number_at;
 use crate::levels::levels_of;
-use meta_flags::{is_set, who_listens};
-use meta_nodes::ParserRule;
-use meta_nullable::{Facts, Kind, KindTable, Question, answers_to};
+use meta_analysis::{Facts, Kind, KindTable, Question, answers_to};
+use meta_fixpoint::{is_set, who_listens};
+use meta_spanned::ParserRule;
 use std::alloc::{AllocError, Global};
 
 /// What a node does where calls of a rule count as neither.

@@ -4,19 +4,19 @@ ghost use Rattle.meta_base.specs.Pieces.Saying.{SaysAt, Tell};
 ghost use Rattle.meta_base.specs.Language.WellFormed.{IsWellFormed};
 ghost use Rattle.meta_base.specs.Pieces.Span.{span_text};
 ghost use Rattle.meta_base.specs.Pieces.Survey.{survey_text};
-ghost use Rattle.meta_nodes.specs.Nodes.{piece_of, rule_views};
+ghost use Rattle.meta_spanned.specs.Nodes.{piece_of, rule_views};
 ghost use Rattle.meta_validator.specs.Findings.{AreFound, AreAllFound, IsSortedBySpan, endless_at};
-ghost use Rattle.meta_nullable.specs.Groundwork.{IsGroundwork};
-ghost use Rattle.meta_table.specs.Names.{grammar_of};
+ghost use Rattle.meta_analysis.specs.Groundwork.{IsGroundwork};
+ghost use Rattle.meta_analysis.specs.Names.{grammar_of};
 ghost use Rattle.meta_validator.specs.Reporting.{finding_of, findings_of};
 
 use crate::findings::{Finding, choices, repetitions, skips, spans_of};
 use crate::recursions::recursions;
 use crate::tags::tags;
+use meta_analysis::Groundwork;
 use meta_base::grammar::Rule;
 use meta_base::runtime::{Error, ErrorVariant, Fault, Span, Survey};
-use meta_nodes::ParserRule;
-use meta_nullable::Groundwork;
+use meta_spanned::ParserRule;
 use std::alloc::{AllocError, Global};
 
 /// What is found of repetitions that are known to be endless.

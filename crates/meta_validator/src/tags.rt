@@ -3,17 +3,17 @@ ghost use Rattle.std.specs.Prelude.{◌≡◌, ◌++◌, IfOk, OnOk, Option};
 ghost use Rattle.std.specs.Option.{option_map};
 ghost use Rattle.meta_ast.specs.Ast.{text_of};
 ghost use Rattle.meta_base.specs.Language.Expression.{rule_of};
-ghost use Rattle.meta_nodes.specs.Nodes.{rule_views, view};
-ghost use Rattle.meta_table.specs.NameMaps.{KnowsRules};
-ghost use Rattle.meta_table.specs.Names.{grammar_of, rule_said};
+ghost use Rattle.meta_spanned.specs.Nodes.{rule_views, view};
+ghost use Rattle.meta_analysis.specs.NameMaps.{KnowsRules};
+ghost use Rattle.meta_analysis.specs.Names.{grammar_of, rule_said};
 ghost use Rattle.meta_validator.specs.Reporting.{findings_of};
 ghost use Rattle.meta_validator.specs.Tags as spec;
 
 use crate::findings::Finding;
+use meta_analysis::{Names, rule_of_name};
 use meta_ast::ast::RuleType;
 use meta_names::is_builtin;
-use meta_nodes::{ParserExpr, ParserNode, ParserRule, push_operands};
-use meta_table::{Names, rule_of_name};
+use meta_spanned::{ParserExpr, ParserNode, ParserRule, push_operands};
 use std::alloc::{AllocError, Global};
 
 /// What is found of all tags: those on Silent rules, and on builtins. The order is that of the text.

@@ -1,21 +1,21 @@
 //! What may take nothing, and what cannot fail.
 ghost use Rattle.std.specs.Prelude.{◌≡◌, ◌↔◌, [], IsTrue, IfOk, IfErr, alloc_error, map};
 ghost use Rattle.meta_base.specs.Language.WellFormed.{IsNullable, CannotFail, IsWellFormed};
-ghost use Rattle.meta_nodes.specs.Erasure.{without_spans, rules_without_spans};
-ghost use Rattle.meta_nodes.specs.Nodes.{piece_of, rule_views, unplaced};
+ghost use Rattle.meta_spanned.specs.Erasure.{without_spans, rules_without_spans};
+ghost use Rattle.meta_spanned.specs.Nodes.{piece_of, rule_views, unplaced};
 ghost use Rattle.meta_validator.specs.Findings.{AreAllFound};
-ghost use Rattle.meta_nullable.specs.Groundwork.{IsGroundwork};
-ghost use Rattle.meta_table.specs.Names.{grammar_of};
+ghost use Rattle.meta_analysis.specs.Groundwork.{IsGroundwork};
+ghost use Rattle.meta_analysis.specs.Names.{grammar_of};
 ghost use Rattle.meta_validator.specs.Placed.{AreIn, ArePiecesOf};
 ghost use Rattle.meta_validator.specs.Reported.{AreReported};
 ghost use Rattle.meta_validator.specs.Reporting.{findings_of};
 
 use crate::findings::Finding;
 use crate::reported::{errors_in, errors_of, sorted_findings};
+use meta_analysis::{Groundwork, Question, answer_for, groundwork_of};
 use meta_base::grammar::Rule;
 use meta_base::runtime::{Error, Fault, Span};
-use meta_nodes::{ParserExpr, ParserRule};
-use meta_nullable::{Groundwork, Question, answer_for, groundwork_of};
+use meta_spanned::{ParserExpr, ParserRule};
 use std::alloc::Global;
 
 /// Whether an expression may succeed without taking anything, where its names mean these rules (the last of

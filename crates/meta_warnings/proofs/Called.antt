@@ -8,8 +8,8 @@ use Rattle.std.proofs.Math.Bool.{or_assoc}
 use Rattle.meta_base.specs.Language.Builtins.{is_one_of}
 use Rattle.meta_base.specs.Language.Expression.{Expression, Ident}
 use Rattle.meta_base.specs.Language.Text.{Text}
-use Rattle.meta_nodes.specs.Spanned.{Spanned, SpannedRule, Leaf, One, Two}
-use Rattle.meta_nodes.specs.Walk.{preorder}
+use Rattle.meta_spanned.specs.Spanned.{Spanned, SpannedRule, Leaf, One, Two}
+use Rattle.meta_spanned.specs.Walk.{preorder}
 use Rattle.meta_warnings.specs.Laws.{Calls, IsCalledElsewhere}
 use Rattle.meta_warnings.specs.Rules.{calls_another, is_called, name_called, name_of_call}
 

@@ -11,8 +11,8 @@ use Rattle.meta_base.specs.Language.Matching.{any_begins, begins, text_outcome, 
 use Rattle.meta_base.specs.Language.Meaning.{Does, Run, Matches, str, range, seq_first, left, right}
 use Rattle.meta_base.specs.Language.State.{Classes, Mode, State, None', Outcome, Success, Failure}
 use Rattle.meta_base.proofs.OneOutcome.{same}
-use Rattle.meta_nodes.specs.Erasure.{without_spans}
-use Rattle.meta_nodes.specs.Spanned.{Spanned, Span, Leaf, One, Two, Seq, Choice}
+use Rattle.meta_spanned.specs.Erasure.{without_spans}
+use Rattle.meta_spanned.specs.Spanned.{Spanned, Span, Leaf, One, Two, Seq, Choice}
 use Rattle.meta_warnings.specs.Choices.{alternatives, begins_so, beginning_of, is_begun, literal_of, literals, own_literal}
 use Rattle.meta_warnings.specs.Laws.{FailsAlone}
 use Rattle.meta_warnings.specs.Ranges.{is_above, is_reversed, is_reversed_range}

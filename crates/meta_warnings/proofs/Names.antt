@@ -9,9 +9,9 @@ use Rattle.meta_base.specs.Language.Builtins.{is_one_of}
 use Rattle.meta_base.specs.Language.Text.{Text}
 use Rattle.meta_base.specs.declared.runtime.places.Span as code
 use Rattle.meta_warnings.specs.Lists.{HasNames, TextSet}
-use Rattle.meta_nodes.specs.Nodes.{piece_of, rule_view, rule_views}
-use Rattle.meta_nodes.specs.Spanned.{Spanned, SpannedRule}
-use Rattle.meta_nodes.specs.declared.node.ParserRule.{ParserRule}
+use Rattle.meta_spanned.specs.Nodes.{piece_of, rule_view, rule_views}
+use Rattle.meta_spanned.specs.Spanned.{Spanned, SpannedRule}
+use Rattle.meta_spanned.specs.declared.node.ParserRule.{ParserRule}
 use Rattle.meta_warnings.specs.Rules.{calls_another, is_called, name_called, uncalled_at, uncalled_rules}
 use Rattle.meta_warnings.proofs.Called.{is_one_of-append}
 

@@ -2,16 +2,16 @@
 use Rattle.std.proofs.Common.{◌≡◌, ℕ, ◌+◌, ◌<◌, List, [], ◌∷◌, ◌++◌, Bor, map, length, refl, sym, ap, ◌∙◌, append_assoc, append-nil, length-append, arith}
 use Rattle.std.proofs.lemmas.Grind.{flat_map-append}
 use Rattle.std.proofs.lemmas.List.{map-append}
-use Rattle.meta_nodes.specs.Nodes.{piece_of, view, view_at}
-use Rattle.meta_nodes.specs.Spanned.{Spanned, Span, Leaf, One, Two, Choice, span_of}
-use Rattle.meta_nodes.specs.Erasure.{without_spans}
-use Rattle.meta_nodes.specs.Walk.{preorder, waiting}
-use Rattle.meta_nodes.specs.declared.node.ParserExpr.{ParserExpr}
-use Rattle.meta_nodes.specs.declared.node.ParserExpr as expr
-use Rattle.meta_nodes.specs.declared.node.ParserExpr.TheVariants as is
-use Rattle.meta_nodes.specs.declared.node.ParserNode.{ParserNode}
-use Rattle.meta_nodes.proofs.Walks.{operands_wait}
-use Rattle.meta_nodes.proofs.Places.{span_of-view}
+use Rattle.meta_spanned.specs.Nodes.{piece_of, view, view_at}
+use Rattle.meta_spanned.specs.Spanned.{Spanned, Span, Leaf, One, Two, Choice, span_of}
+use Rattle.meta_spanned.specs.Erasure.{without_spans}
+use Rattle.meta_spanned.specs.Walk.{preorder, waiting}
+use Rattle.meta_spanned.specs.declared.node.ParserExpr.{ParserExpr}
+use Rattle.meta_spanned.specs.declared.node.ParserExpr as expr
+use Rattle.meta_spanned.specs.declared.node.ParserExpr.TheVariants as is
+use Rattle.meta_spanned.specs.declared.node.ParserNode.{ParserNode}
+use Rattle.meta_spanned.proofs.Walks.{operands_wait}
+use Rattle.meta_spanned.proofs.Places.{span_of-view}
 use Rattle.meta_base.specs.declared.runtime.places.Span as code
 use Rattle.meta_warnings.specs.Choices.{alternatives, beginning_of, literal_of, literals, own_literal, told_behind, unreachable_behind}
 use Rattle.meta_warnings.specs.Lists.{AreOperands, IsTold, Knows, left_over}

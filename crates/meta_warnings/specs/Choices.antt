@@ -4,9 +4,9 @@ use Rattle.meta_base.specs.Language.Text.{Text}
 use Rattle.meta_base.specs.Language.Expression.{Expression, Str}
 use Rattle.meta_base.specs.Language.Expression as bare
 use Rattle.meta_base.specs.Language.Matching.{any_begins}
-use Rattle.meta_nodes.specs.Erasure.{without_spans}
-use Rattle.meta_nodes.specs.Spanned.{Span, Spanned, SpannedRule, Leaf, One, Two, Seq, Choice, span_of}
-use Rattle.meta_nodes.specs.Walk.{preorder}
+use Rattle.meta_spanned.specs.Erasure.{without_spans}
+use Rattle.meta_spanned.specs.Spanned.{Span, Spanned, SpannedRule, Leaf, One, Two, Seq, Choice, span_of}
+use Rattle.meta_spanned.specs.Walk.{preorder}
 
 -- the alternatives of an expression, in order: those of both sides of a choice, or else itself
 abbrev pub alternatives : Spanned → List Spanned

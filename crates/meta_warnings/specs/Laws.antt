@@ -5,8 +5,8 @@ use Rattle.meta_base.specs.Language.Text.{Text}
 use Rattle.meta_base.specs.Language.Expression.{Expression, Grammar, Ident}
 use Rattle.meta_base.specs.Language.Meaning.{Matches}
 use Rattle.meta_base.specs.Language.State.{Classes, Mode, State, Outcome, Failure}
-use Rattle.meta_nodes.specs.Erasure.{without_spans}
-use Rattle.meta_nodes.specs.Spanned.{Span, Spanned, SpannedRule, Leaf, One, Two, Choice}
+use Rattle.meta_spanned.specs.Erasure.{without_spans}
+use Rattle.meta_spanned.specs.Spanned.{Span, Spanned, SpannedRule, Leaf, One, Two, Choice}
 use Rattle.meta_warnings.specs.Choices.{alternatives, is_begun, literals}
 use Rattle.meta_warnings.specs.Ranges.{is_reversed}
 use Rattle.meta_warnings.specs.Rules.{is_called}

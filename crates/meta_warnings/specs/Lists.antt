@@ -9,10 +9,10 @@ use Rattle.std.specs.declared.hash.BuildHasherDefault.{BuildHasherDefault}
 use Rattle.meta_base.specs.Language.Builtins.{is_one_of}
 use Rattle.meta_base.specs.Language.Expression.{Expression}
 use Rattle.meta_base.specs.Language.Text.{Text}
-use Rattle.meta_nodes.specs.Nodes.{view}
-use Rattle.meta_nodes.specs.Spanned as spanned
-use Rattle.meta_nodes.specs.Spanned.{Span, Spanned, SpannedRule, Leaf, One, Two, Unary}
-use Rattle.meta_nodes.specs.declared.node.ParserNode.{ParserNode}
+use Rattle.meta_spanned.specs.Nodes.{view}
+use Rattle.meta_spanned.specs.Spanned as spanned
+use Rattle.meta_spanned.specs.Spanned.{Span, Spanned, SpannedRule, Leaf, One, Two, Unary}
+use Rattle.meta_spanned.specs.declared.node.ParserNode.{ParserNode}
 use Rattle.meta_warnings.specs.Choices.{alternatives, literals, unreachable_behind}
 use Rattle.meta_warnings.specs.Rules.{is_called}
 use Rattle.meta_warnings.specs.declared.nodes.Operands.{Operands}

@@ -2,8 +2,8 @@
 use Rattle.std.specs.Prelude.{List, [], ◌∷◌, Bool, false, if◌then◌else◌, nat_lt, flat_map}
 use Rattle.meta_base.specs.Language.Text.{Text}
 use Rattle.meta_base.specs.Language.Expression.{Expression, Range}
-use Rattle.meta_nodes.specs.Walk.{preorder}
-use Rattle.meta_nodes.specs.Spanned.{Span, Spanned, SpannedRule, Leaf, span_of}
+use Rattle.meta_spanned.specs.Walk.{preorder}
+use Rattle.meta_spanned.specs.Spanned.{Span, Spanned, SpannedRule, Leaf, span_of}
 
 -- the first character of a text is above that of another
 abbrev pub is_above : Text → Text → Bool

@@ -3,9 +3,9 @@ use Rattle.std.specs.Prelude.{List, [], ◌∷◌, Bool, false, not, ◌&&◌, �
 use Rattle.meta_base.specs.Language.Text.{Text}
 use Rattle.meta_base.specs.Language.Expression.{Expression, Ident}
 use Rattle.meta_base.specs.Language.Builtins.{is_one_of}
-use Rattle.meta_nodes.specs.Walk.{preorder}
-pub use Rattle.meta_nodes.specs.Spanned.{SpannedRule}
-use Rattle.meta_nodes.specs.Spanned.{Span, Spanned, Leaf}
+use Rattle.meta_spanned.specs.Walk.{preorder}
+pub use Rattle.meta_spanned.specs.Spanned.{SpannedRule}
+use Rattle.meta_spanned.specs.Spanned.{Span, Spanned, Leaf}
 
 -- the name that an expression calls, where it is a call
 abbrev pub name_of_call : Expression → List Text

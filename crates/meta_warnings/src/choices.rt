@@ -1,9 +1,9 @@
 //! Alternatives that are never taken.
 ghost use Rattle.std.specs.Prelude.{◌≡◌, ◌++◌, ◌+◌, ◌<◌, IfOk, OnOk, List, length, map};
 ghost use Rattle.meta_base.specs.Language.Text.{Text};
-ghost use Rattle.meta_nodes.specs.Nodes.{piece_of, rule_views, view};
-ghost use Rattle.meta_nodes.specs.Spanned.{Span as Place, Spanned};
-ghost use Rattle.meta_nodes.specs.Walk.{preorder, waiting};
+ghost use Rattle.meta_spanned.specs.Nodes.{piece_of, rule_views, view};
+ghost use Rattle.meta_spanned.specs.Spanned.{Span as Place, Spanned};
+ghost use Rattle.meta_spanned.specs.Walk.{preorder, waiting};
 ghost use Rattle.meta_warnings.specs.Choices as spec;
 ghost use Rattle.meta_warnings.specs.Choices.{alternatives};
 ghost use Rattle.meta_warnings.specs.Lists.{IsTold, Knows, left_over};
@@ -11,7 +11,7 @@ ghost use Rattle.meta_warnings.specs.Lists.{IsTold, Knows, left_over};
 use crate::literals::{Literals, beginning, literal};
 use crate::nodes::{Operands, operands_of, push_both};
 use meta_base::runtime::Span;
-use meta_nodes::{ParserNode, ParserRule, push_operands};
+use meta_spanned::{ParserNode, ParserRule, push_operands};
 use std::alloc::{AllocError, Global};
 
 /// Where alternatives stand that are never taken, since one before them in their choice is a literal with

@@ -4,12 +4,12 @@ ghost use Rattle.std.specs.List.{list_any};
 ghost use Rattle.std.specs.Str.{IsCharBoundary, chars};
 ghost use Rattle.meta_base.specs.Language.Matching.{any_begins};
 ghost use Rattle.meta_base.specs.Language.Text.{Text};
-ghost use Rattle.meta_nodes.specs.Erasure.{without_spans};
-ghost use Rattle.meta_nodes.specs.Nodes.{view};
+ghost use Rattle.meta_spanned.specs.Erasure.{without_spans};
+ghost use Rattle.meta_spanned.specs.Nodes.{view};
 ghost use Rattle.meta_warnings.specs.Choices.{beginning_of, literal_of};
 ghost use Rattle.meta_warnings.specs.Lists.{IsKnown, Knows};
 
-use meta_nodes::{ParserExpr, ParserNode};
+use meta_spanned::{ParserExpr, ParserNode};
 use std::alloc::{AllocError, Global};
 use std::collections::HashSet;
 

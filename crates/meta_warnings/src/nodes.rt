@@ -1,9 +1,9 @@
 //! The operands of a node.
 ghost use Rattle.std.specs.Prelude.{◌≡◌, ◌++◌, ◌∷◌, [], OnOk};
-ghost use Rattle.meta_nodes.specs.Nodes.{view};
+ghost use Rattle.meta_spanned.specs.Nodes.{view};
 ghost use Rattle.meta_warnings.specs.Lists.{AreOperands};
 
-use meta_nodes::{ParserExpr, ParserNode};
+use meta_spanned::{ParserExpr, ParserNode};
 use std::alloc::{AllocError, Global};
 
 /// The operands of a node, by what stands between two of them.

@@ -1,11 +1,11 @@
 //! Ranges that match nothing.
 ghost use Rattle.std.specs.Prelude.{◌≡◌, ◌++◌, IfOk, OnOk, map};
 ghost use Rattle.std.specs.Str.{chars};
-ghost use Rattle.meta_nodes.specs.Nodes.{piece_of, rule_views, view};
+ghost use Rattle.meta_spanned.specs.Nodes.{piece_of, rule_views, view};
 ghost use Rattle.meta_warnings.specs.Ranges as spec;
 
 use meta_base::runtime::Span;
-use meta_nodes::{ParserExpr, ParserNode, ParserRule, push_operands};
+use meta_spanned::{ParserExpr, ParserNode, ParserRule, push_operands};
 use std::alloc::{AllocError, Global};
 
 /// Where ranges stand whose first bound is above their last, as `'z'..'a'`, in the order of the text: such a

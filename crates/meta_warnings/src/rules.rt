@@ -3,13 +3,13 @@ ghost use Rattle.std.specs.Prelude.{◌≡◌, ◌++◌, ◌&&◌, ◌||◌, IfO
 ghost use Rattle.std.specs.Str.{IsAscii, IsUtf8, chars};
 ghost use Rattle.meta_ast.specs.Ast.{text_of};
 ghost use Rattle.meta_base.specs.Language.Builtins.{is_one_of};
-ghost use Rattle.meta_nodes.specs.Nodes.{piece_of, rule_view, rule_views, view};
+ghost use Rattle.meta_spanned.specs.Nodes.{piece_of, rule_view, rule_views, view};
 ghost use Rattle.meta_warnings.specs.Lists.{HasNames, has_name};
 ghost use Rattle.meta_warnings.specs.Rules as spec;
 
 use meta_ast::texts::same_text;
 use meta_base::runtime::Span;
-use meta_nodes::{ParserExpr, ParserNode, ParserRule, push_operands};
+use meta_spanned::{ParserExpr, ParserNode, ParserRule, push_operands};
 use std::alloc::{AllocError, Global};
 use std::collections::HashSet;
 

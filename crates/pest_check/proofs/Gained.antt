@@ -12,7 +12,7 @@ use Rattle.meta_ast.specs.Printing.{printed}
 use Rattle.meta_ast.specs.declared.optimized.OptimizedExpr.{OptimizedExpr}
 use Rattle.meta_ast.specs.declared.optimized.OptimizedRule.{OptimizedRule}
 use Rattle.meta_ast.proofs.Characters.{encodes-text_of}
-use Rattle.reading_back.specs.ReadsBack.{grammar_text, modifier, rule_line}
+use Rattle.meta_roundtrip.specs.ReadsBack.{grammar_text, modifier, rule_line}
 
 -- what is kept behind a gain
 pub Appends-kept : (a b c : Option (List ℕ)) (xs : List ℕ) → Appends a b xs → Keeps b c → Appends a c xs

@@ -8,7 +8,7 @@ use Rattle.meta_ast.specs.Optimized.{optimized_rules_of}
 use Rattle.meta_ast.specs.declared.optimized.OptimizedRule.{OptimizedRule}
 use Rattle.pest_meta.specs.Reports.{report_text}
 use Rattle.pest_meta.specs.Spelling.{IsAnswer, IsRefusedWith}
-use Rattle.reading_back.specs.ReadsBack.{grammar_text}
+use Rattle.meta_roundtrip.specs.ReadsBack.{grammar_text}
 
 -- there is an answer for the text, and what the writer holds grew by its rules, a line each
 pub record PrintsAnswer (text : List ℕ) (old new : Option (List ℕ)) : Type 0 where

@@ -5,7 +5,7 @@ ghost use Rattle.meta_ast.specs.Ast.{rule_type_of};
 ghost use Rattle.meta_ast.specs.Optimized.{optimized_rules_of};
 ghost use Rattle.pest_check.specs.Written.{PrintsAnswer, TellsLine, TellsRefusal};
 ghost use Rattle.pest_meta.specs.Spelling.{HasAnswer};
-ghost use Rattle.reading_back.specs.ReadsBack.{grammar_text, modifier};
+ghost use Rattle.meta_roundtrip.specs.ReadsBack.{grammar_text, modifier};
 
 use meta_ast::optimized::release;
 use pest_meta::ast::RuleType;

@@ -1,7 +1,7 @@
 -- What is found in the text of a grammar.
 use Rattle.std.specs.Prelude.{◌≡◌, ℕ, List, [], ◌∷◌, ◌++◌, Bool, None, codes, if◌then◌else◌, map, ⊤}
 use Rattle.meta_base.specs.Pieces.Saying.{Complaint, Span}
-use Rattle.meta_nodes.specs.Spanned.{SpannedRule}
+use Rattle.meta_spanned.specs.Spanned.{SpannedRule}
 use Rattle.meta_warnings.specs.Choices.{unreachable_alternatives}
 use Rattle.meta_warnings.specs.Ranges.{reversed_ranges}
 use Rattle.meta_warnings.specs.Rules.{uncalled_rules}

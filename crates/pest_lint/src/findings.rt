@@ -1,14 +1,14 @@
 //! What is found in the text of a grammar.
 ghost use Rattle.std.specs.Prelude.{◌≡◌, ◌++◌, IfOk, map};
 ghost use Rattle.meta_base.specs.Pieces.Saying.{SaysAt, Tell};
-ghost use Rattle.meta_nodes.specs.Nodes.{piece_of, rule_views};
+ghost use Rattle.meta_spanned.specs.Nodes.{piece_of, rule_views};
 ghost use Rattle.pest_lint.specs.Found.{IsVerdict, reversed_of, said_at, uncalled_of, unreachable_of, warnings_of};
 
 use meta_ast::deep::Deep;
 use meta_ast::optimized::release;
 use meta_base::grammar::Rule;
 use meta_base::runtime::{Error, ErrorVariant, Fault, Span};
-use meta_nodes::ParserRule;
+use meta_spanned::ParserRule;
 use meta_warnings::{reversed_ranges, uncalled_rules, unreachable_alternatives};
 use pest_meta::parse_and_optimize;
 use pest_meta::parser::{consume_rules_with_spans, parse};

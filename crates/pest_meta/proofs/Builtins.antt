@@ -14,8 +14,8 @@ use Rattle.meta_base.specs.Pieces.Saying.{Span, piece, written}
 use Rattle.meta_base.proofs.Basics.{first_of_neither, second_of_neither}
 use Rattle.meta_names.specs.GrammarNames.{AreWrittenAt, called_by, calls, definitions, first_calls, name_complaints, names_in, own_name}
 use Rattle.meta_names.specs.Names.{duplicate_complaints, first_places, is_builtin, pest_keyword_complaints, undefined_calls, undefined_complaints}
-use Rattle.meta_nodes.specs.Erasure.{rules_without_spans}
-use Rattle.meta_nodes.specs.Spanned.{SpannedRule}
+use Rattle.meta_spanned.specs.Erasure.{rules_without_spans}
+use Rattle.meta_spanned.specs.Spanned.{SpannedRule}
 use Rattle.meta_reader.specs.Reading.{ReadsRules}
 use Rattle.pest_meta.proofs.WellNamed.{AreTexts, defined_texts, heads, names_read, no_rule, none_taken, nothing_said, tails, texts_append, texts_if, true_is_false}
 use Rattle.pest_meta.proofs.WholeCharacters.{OnCharacters}

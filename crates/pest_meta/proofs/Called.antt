@@ -13,8 +13,8 @@ use Rattle.meta_base.specs.Language.WellFormed.{InSomeRule}
 use Rattle.meta_base.specs.Pieces.Saying.{Span, written}
 use Rattle.meta_names.specs.GrammarNames.{AreWrittenAt, called_by, calls, definitions, first_calls, names_in, own_name}
 use Rattle.meta_names.specs.Names.{first_places}
-use Rattle.meta_nodes.specs.Erasure.{between, round, rules_without_spans, without_spans}
-use Rattle.meta_nodes.specs.Spanned.{Binary, Choice, Seq, SpannedRule, Unary}
+use Rattle.meta_spanned.specs.Erasure.{between, round, rules_without_spans, without_spans}
+use Rattle.meta_spanned.specs.Spanned.{Binary, Choice, Seq, SpannedRule, Unary}
 use Rattle.meta_reader.proofs.ReadParts.{IsGiven, IsHandedDown, parts_so}
 use Rattle.meta_reader.specs.Reading as reading
 use Rattle.meta_reader.specs.Reading.{Postfix, ReadsRule, ReadsRules, Terminal, defined, documented, end_of_input, grammar_doc, line_doc, modified, normal}

@@ -13,8 +13,8 @@ use Rattle.meta_base.specs.Language.Expression.{Expression}
 use Rattle.meta_base.specs.Language.Grammar.{FitsItsTypes, FitsSigned32, FitsUnsigned32}
 use Rattle.meta_base.specs.Language.State.{Trees, None', Tree, joined}
 use Rattle.meta_base.proofs.Basics.{first_of_both, second_of_both}
-use Rattle.meta_nodes.specs.Erasure.{round, between}
-use Rattle.meta_nodes.specs.Spanned.{Unary, Binary, Seq, Choice}
+use Rattle.meta_spanned.specs.Erasure.{round, between}
+use Rattle.meta_spanned.specs.Spanned.{Unary, Binary, Seq, Choice}
 use Rattle.meta_reader.specs.Flaws.{Cause, own_flaw, closes, flaw_if, fits_i32, past_u32, past_i32, wrong_literal, zero_times, first_flaw}
 use Rattle.meta_reader.specs.Reading as reading
 use Rattle.meta_reader.specs.Reading.{Postfix, Terminal, behind_first, number, integer, literal_value}

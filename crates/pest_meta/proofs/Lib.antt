@@ -12,3 +12,4 @@ pub mod OneText
 pub mod OneReportList
 pub mod OneRefusal
 pub mod InText
+pub mod OneAnswer

@@ -14,8 +14,8 @@ use Rattle.meta_base.proofs.ListingKeepsGrammars.{Finished, finished_grammar, fi
 use Rattle.meta_base.proofs.SomeRule.{names_readable}
 use Rattle.meta_base.proofs.StepsKeepGrammars.{grammar_along, plain_along, well_formed_along}
 use Rattle.meta_names.specs.GrammarNames.{calls}
-use Rattle.meta_nodes.specs.Erasure.{rules_without_spans}
-use Rattle.meta_nodes.specs.Spanned.{SpannedRule}
+use Rattle.meta_spanned.specs.Erasure.{rules_without_spans}
+use Rattle.meta_spanned.specs.Spanned.{SpannedRule}
 use Rattle.meta_reader.proofs.ReadableCounts.{counts_readable}
 use Rattle.meta_reader.proofs.ReadParts.{parts_so}
 use Rattle.meta_reader.specs.Reading.{ReadsRules}

@@ -16,8 +16,8 @@ use Rattle.meta_base.specs.declared.runtime.faults.Fault as code
 use Rattle.meta_base.specs.declared.runtime.faults.Fault.TheVariants as fault_is
 use Rattle.meta_base.specs.declared.runtime.tokens.Pairs.{Pairs}
 use Rattle.meta_base.proofs.OneOutcome.{same, same_trees}
-use Rattle.meta_nodes.specs.Erasure.{rules_without_spans}
-use Rattle.meta_nodes.specs.Spanned.{SpannedRule}
+use Rattle.meta_spanned.specs.Erasure.{rules_without_spans}
+use Rattle.meta_spanned.specs.Spanned.{SpannedRule}
 use Rattle.meta_reader.specs.Flaws.{Flaw, first_flaw}
 use Rattle.meta_reader.specs.Reading.{ReadsRules}
 use Rattle.meta_reader.specs.Refusals.{AreReadAs, first_flaw_of, IsReadRefusal, TellsOf}
@@ -25,7 +25,7 @@ use Rattle.meta_reader.proofs.Uniqueness.{rules_once}
 use Rattle.meta_syntax.specs.MetaGrammar.{meta_grammar}
 use Rattle.meta_syntax.specs.Parses.{AreOfAGrammar, FailsAt, ParseRefuses}
 use Rattle.meta_names.specs.GrammarNames.{AreWrittenAt, complaints_of, first_calls_of, IsNameRefusal}
-use Rattle.meta_stack_pass.specs.Certain.{AreReports}
+use Rattle.meta_stack_loops.specs.Certain.{AreReports}
 use Rattle.meta_validator.specs.Reported.{AreReported}
 use Rattle.meta_validator.proofs.NothingElse.{nothing_else}
 use Rattle.pest_meta.specs.Findings.{TellFindings}

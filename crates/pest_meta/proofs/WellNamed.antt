@@ -17,8 +17,8 @@ use Rattle.meta_base.specs.Pieces.Saying.{Span, piece, written}
 use Rattle.meta_base.specs.Language.State.{Trees, None', Tree}
 use Rattle.meta_names.specs.GrammarNames.{defined_by, definitions, name_complaints}
 use Rattle.meta_names.specs.Names.{later_places, places_of, pest_keyword_complaints, duplicate_complaints, undefined_complaints, said}
-use Rattle.meta_nodes.specs.Erasure.{rules_without_spans}
-use Rattle.meta_nodes.specs.Spanned.{SpannedRule}
+use Rattle.meta_spanned.specs.Erasure.{rules_without_spans}
+use Rattle.meta_spanned.specs.Spanned.{SpannedRule}
 use Rattle.meta_base.specs.Language.Text.{IsText}
 use Rattle.meta_base.proofs.Basics.{first_of_neither, second_of_neither}
 use Rattle.pest_meta.proofs.Fitting.{characters_are_text}

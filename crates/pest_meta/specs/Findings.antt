@@ -2,8 +2,8 @@
 use Rattle.std.specs.Prelude.{List}
 use Rattle.meta_base.specs.declared.grammar.Rule.{Rule}
 use Rattle.meta_base.specs.declared.runtime.errors.Error.{Error}
-use Rattle.meta_nodes.specs.Spanned.{Span, SpannedRule}
-use Rattle.meta_stack_pass.specs.Certain.{AreReports}
+use Rattle.meta_spanned.specs.Spanned.{Span, SpannedRule}
+use Rattle.meta_stack_loops.specs.Certain.{AreReports}
 use Rattle.meta_validator.specs.Reported.{AreReported}
 
 -- the errors tell of all that is found in the rules, by place: the repetitions that the stack pass reports

@@ -1,11 +1,15 @@
 -- Laws of what a text spells.
-use Rattle.std.specs.Prelude.{◌≡◌, ℕ, List}
-use Rattle.meta_base.specs.Language.Expression.{Grammar}
+use Rattle.std.specs.Prelude.{◌≡◌, ℕ, List, map}
+use Rattle.std.specs.Borrow.{Bor}
+use Rattle.meta_ast.specs.Optimized.{optimized_rules_of}
+use Rattle.meta_ast.specs.declared.optimized.OptimizedRule.{OptimizedRule}
+use Rattle.meta_base.specs.Language.Expression.{Expression, Grammar, RuleType}
 use Rattle.meta_base.specs.Language.State.{Trees}
 use Rattle.meta_base.specs.declared.grammar.Rule.{Rule}
 use Rattle.meta_base.specs.declared.runtime.errors.Error.{Error}
+use Rattle.meta_optimizer.specs.Passes.{IsOptimized}
 use Rattle.meta_validator.specs.Alike.{AreAlike}
-use Rattle.pest_meta.specs.Spelling.{AreFlawed, Give, HasAnswer, HasRefusal, HasTrees, HasWrongRules, IsMisnamed, IsNoGrammar, IsRefusedWith, SpellsGrammar}
+use Rattle.pest_meta.specs.Spelling.{AreFlawed, Give, HasAnswer, HasRefusal, HasTrees, HasWrongRules, IsAnswer, IsMisnamed, IsNoGrammar, IsRefusedWith, SpellsGrammar}
 
 -- a text has one list of trees at most
 abbrev pub HasOneListOfTrees : Type 0
@@ -40,3 +44,24 @@ NamesComeFirst = (text : List ℕ) (trees : Trees) (errors others : List (Error 
 abbrev pub HasOneRefusal : Type 0
 HasOneRefusal = (text : List ℕ) (errors others : List (Error Rule)) → IsRefusedWith text errors
     → IsRefusedWith text others → AreAlike errors others
+
+-- what a pass has to leave behind settles what it makes of an expression in a rule of a type
+abbrev pub HasOneResult : (RuleType → Expression → Expression → Type 0) → Type 0
+HasOneResult P = (y : RuleType) (a b c : Expression) → P y a b → P y a c → b ≡ c
+
+-- rules are optimized in one way at most
+abbrev pub HasOneOptimization : Type 0
+HasOneOptimization = (rules answer other : Grammar) → IsOptimized rules answer → IsOptimized rules other
+    → answer ≡ other
+
+-- two answers for a text have the same builtins, as texts
+abbrev pub HasOneListOfBuiltins : Type 0
+HasOneListOfBuiltins = (text : List ℕ) (builtins others : List (Bor (List ℕ)))
+    (answer rules : List OptimizedRule) → IsAnswer text builtins answer → IsAnswer text others rules
+    → map (λ t. t.now) builtins ≡ map (λ t. t.now) others
+
+-- and they say the same rules
+abbrev pub HasOneListOfRules : Type 0
+HasOneListOfRules = (text : List ℕ) (builtins others : List (Bor (List ℕ)))
+    (answer rules : List OptimizedRule) → IsAnswer text builtins answer → IsAnswer text others rules
+    → optimized_rules_of answer ≡ optimized_rules_of rules

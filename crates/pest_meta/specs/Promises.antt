@@ -10,7 +10,7 @@ use Rattle.meta_base.specs.Language.Text.{Text}
 use Rattle.meta_base.specs.Language.WellFormed.{EndsFrom, InSomeRule, IsWellFormed, Start}
 use Rattle.meta_names.specs.Names.{is_builtin}
 use Rattle.meta_optimizer.specs.Passes.{IsListing}
-use Rattle.meta_nodes.specs.Spanned.{SpannedRule}
+use Rattle.meta_spanned.specs.Spanned.{SpannedRule}
 use Rattle.meta_reader.specs.Reading.{ReadsRules}
 use Rattle.pest_meta.specs.Spelling.{HasTrees, SpellsGrammar}
 

@@ -13,15 +13,15 @@ use Rattle.meta_base.specs.declared.runtime.faults.Fault.TheVariants as fault_is
 use Rattle.meta_ast.specs.Optimized.{optimized_rules_of}
 use Rattle.meta_ast.specs.declared.optimized.OptimizedRule.{OptimizedRule}
 use Rattle.meta_names.specs.GrammarNames.{AreWrittenAt, calls, definitions, first_calls, name_complaints}
-use Rattle.meta_nodes.specs.Erasure.{rules_without_spans}
-use Rattle.meta_nodes.specs.Spanned.{SpannedRule}
+use Rattle.meta_spanned.specs.Erasure.{rules_without_spans}
+use Rattle.meta_spanned.specs.Spanned.{SpannedRule}
 use Rattle.meta_optimizer.specs.Passes.{IsOptimized}
 use Rattle.meta_reader.specs.Flaws.{Flaw, first_flaw}
 use Rattle.meta_reader.specs.Reading.{ReadsRules}
 use Rattle.meta_reader.specs.Refusals.{TellsOf}
 use Rattle.meta_syntax.specs.Parses as parsed
 use Rattle.meta_syntax.specs.Parses.{IsRefused}
-use Rattle.meta_stack_pass.specs.Certain.{AreReports}
+use Rattle.meta_stack_loops.specs.Certain.{AreReports}
 use Rattle.meta_validator.specs.Reported.{AreReported}
 use Rattle.pest_meta.specs.Findings.{TellFindings}
 

@@ -1,11 +1,13 @@
 //! Laws over the definitions alone.
 ghost use Rattle.meta_base.specs.Language.Expression.{Grammar};
 ghost use Rattle.meta_base.specs.Rewritings.Listing.{EachListed};
-ghost use Rattle.meta_base.specs.Rewritings.Rewriting.{Chain};
-ghost use Rattle.meta_base.specs.Rewritings.Wrapping.{EachRestored};
+ghost use Rattle.meta_base.specs.Rewritings.Rewriting.{Chain, IsDone, Joins, Rotates, SkipsUntil};
+ghost use Rattle.meta_base.specs.Rewritings.Wrapping.{EachRestored, RestoresTo};
+ghost use Rattle.meta_optimizer.specs.Passes.{IsFactoring, IsUnrolling};
 ghost use Rattle.meta_restorer.specs.Agreeing.{WrappersSuffice};
-ghost use Rattle.pest_meta.specs.Laws.{FlawedGiveNothing, HasOneListOfTrees, HasOneRefusal, HasTreesOrFails, IsNotBoth, NamesComeFirst};
-ghost use Rattle.pest_meta.specs.Laws.{SpellsOneGrammar};
+ghost use Rattle.pest_meta.specs.Laws.{FlawedGiveNothing, HasOneListOfBuiltins, HasOneListOfRules, HasOneListOfTrees};
+ghost use Rattle.pest_meta.specs.Laws.{HasOneOptimization, HasOneRefusal, HasOneResult, HasTreesOrFails, IsNotBoth};
+ghost use Rattle.pest_meta.specs.Laws.{NamesComeFirst, SpellsOneGrammar};
 
 /// A text spells one list of rules at most.
 pub fn spells_one_grammar()
@@ -26,6 +28,25 @@ pub fn one_kind_of_answer()
 pub fn one_refusal()
     ensures names { NamesComeFirst }
     ensures errors { HasOneRefusal }
+{}
+
+/// What a pass has to leave behind settles what it makes of a body: each has one result at most, and so have
+/// the wrappers, put where the restorer puts them, and all of them together.
+pub fn one_result()
+    ensures rotate { HasOneResult (λ y. IsDone Rotates) }
+    ensures skip { (g : Grammar) → HasOneResult (λ y. IsDone (SkipsUntil g y)) }
+    ensures unroll { HasOneResult (λ y. IsUnrolling) }
+    ensures concatenate { HasOneResult (λ y. IsDone (Joins y)) }
+    ensures factor { HasOneResult IsFactoring }
+    ensures restore { (g : Grammar) → HasOneResult (λ y. RestoresTo g) }
+    ensures optimize { HasOneOptimization }
+{}
+
+/// A text has one answer at most: two answers have the same builtins, each as it is written, and they say the
+/// same rules.
+pub fn one_answer()
+    ensures builtins { HasOneListOfBuiltins }
+    ensures rules { HasOneListOfRules }
 {}
 
 /// Steps, the listing of every body and the wrappers bring in no way from `WHITESPACE` or `COMMENT` to `POP`

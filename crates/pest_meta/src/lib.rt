@@ -10,7 +10,7 @@ pub mod validator;
 ghost use Rattle.std.specs.Prelude.{[], IfErr, IfOk};
 ghost use Rattle.meta_ast.specs.Optimized.{optimized_rules_of};
 ghost use Rattle.meta_base.specs.Language.WellFormed.{IsPlain};
-ghost use Rattle.meta_stack_pass.specs.Certain.{AreReports};
+ghost use Rattle.meta_stack_loops.specs.Certain.{AreReports};
 ghost use Rattle.pest_meta.specs.Promises.{AreBuiltinsOf, EndsFromEverywhere, HasOutcomesOf, IsWellFormedGrammar};
 ghost use Rattle.pest_meta.specs.Promises.{OfRead, OfSpelled};
 ghost use Rattle.meta_restorer.specs.Agreeing.{AgreesLoosely, WrappersSuffice};

@@ -11,12 +11,12 @@ use crate::validator::validate_ast_in;
 use meta_ast::ast;
 use meta_ast::deep::Deep;
 use meta_base::runtime::{Fault, Pairs};
-use meta_nodes::erase_spans;
-pub use meta_nodes::release;
 pub use meta_reader::rules::{
     ParserExpr, ParserNode, ParserRule, PestParser, Rule, common_name, consume_rules_with_spans,
     filter_internal, parse, rename_meta_rule,
 };
+use meta_spanned::erase_spans;
+pub use meta_spanned::release;
 use std::alloc::Global;
 
 /// The rules that the pairs of a grammar's text spell, in order, without spans. `pairs` are all those of a

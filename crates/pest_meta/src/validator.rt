@@ -1,22 +1,22 @@
 //! What is wrong with a grammar's names and rules, as errors.
 ghost use Rattle.std.specs.Prelude.{◌≡◌, [], IfErr, IfOk, alloc_error};
 ghost use Rattle.meta_base.specs.Language.WellFormed.{IsWellFormed};
-ghost use Rattle.meta_nodes.specs.Erasure.{rules_without_spans};
-ghost use Rattle.meta_nodes.specs.Nodes.{rule_views};
-ghost use Rattle.meta_stack_pass.specs.Certain.{AreReports};
+ghost use Rattle.meta_spanned.specs.Erasure.{rules_without_spans};
+ghost use Rattle.meta_spanned.specs.Nodes.{rule_views};
+ghost use Rattle.meta_stack_loops.specs.Certain.{AreReports};
 ghost use Rattle.meta_validator.specs.Placed.{AreIn};
 ghost use Rattle.pest_meta.specs.Findings.{TellFindings};
 
+use meta_analysis::groundwork_of;
 use meta_base::grammar::Rule;
 use meta_base::runtime::{Error, Fault};
 pub use meta_names::{
     unicode_property_names, validate_already_defined, validate_pairs, validate_pest_keywords,
     validate_rust_keywords, validate_undefined,
 };
-use meta_nodes::ParserRule;
-use meta_nullable::groundwork_of;
-use meta_stack_pass::sorted_reports_in;
-pub use meta_stack_pass::validate_stack_repetition;
+use meta_spanned::ParserRule;
+use meta_stack_loops::sorted_reports_in;
+pub use meta_stack_loops::validate_stack_repetition;
 use meta_validator::validator::{validate_by, validate_by_in};
 pub use meta_validator::validator::{is_non_failing, is_non_progressing};
 use std::alloc::Global;

@@ -14,8 +14,8 @@ use Rattle.meta_json.specs.Errors.{names_data}
 use Rattle.meta_json.specs.Format.{rules_data}
 use Rattle.meta_json.specs.Placed.{placed_rules_data}
 use Rattle.meta_names.specs.GrammarNames.{AreWrittenAt, complaints_of, first_calls_of}
-use Rattle.meta_nodes.specs.Nodes.{rule_views}
-use Rattle.meta_nodes.specs.declared.node.ParserRule.{ParserRule}
+use Rattle.meta_spanned.specs.Nodes.{rule_views}
+use Rattle.meta_spanned.specs.declared.node.ParserRule.{ParserRule}
 use Rattle.meta_reader.specs.Refusals.{AreReadAs, first_flaw_of}
 use Rattle.meta_syntax.specs.Parses.{AreOfAGrammar}
 use Rattle.pest_meta.specs.Spelling.{AreAccepted}

@@ -20,13 +20,13 @@ use Rattle.meta_json.specs.Tokens.{tokens_data}
 use Rattle.meta_json.specs.Versions.{version_data}
 use Rattle.meta_names.specs.GrammarNames.{AreWrittenAt, calls, definitions, first_calls}
 use Rattle.meta_names.specs.Names.{rust_keyword_complaints}
-use Rattle.meta_nodes.specs.Nodes.{rule_views}
-use Rattle.meta_nodes.specs.declared.node.ParserRule.{ParserRule}
+use Rattle.meta_spanned.specs.Nodes.{rule_views}
+use Rattle.meta_spanned.specs.declared.node.ParserRule.{ParserRule}
 use Rattle.meta_optimizer.specs.Passes.{IsOptimized}
 use Rattle.meta_reader.specs.Flaws.{first_flaw}
 use Rattle.meta_reader.specs.Reading.{ReadsRules}
 use Rattle.meta_restorer.specs.Agreeing.{AgreesLoosely, WrappersSuffice}
-use Rattle.meta_stack_pass.specs.Certain.{AreReports}
+use Rattle.meta_stack_loops.specs.Certain.{AreReports}
 use Rattle.meta_syntax.specs.Entries as entries
 use Rattle.meta_syntax.specs.Parses.{TokensGive}
 use Rattle.meta_syntax.specs.declared.entries.Entry.{Entry}

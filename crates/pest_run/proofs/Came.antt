@@ -9,9 +9,9 @@ use Rattle.meta_base.specs.Language.State.{Classes, Failure}
 use Rattle.meta_base.proofs.ExpectedOnce.{one_list}
 use Rattle.meta_matcher.specs.Answers.{AreExpectedAt, Has}
 use Rattle.meta_matcher.specs.Told.{each_once, told_of}
-use Rattle.meta_forms.specs.Programs.{Fits}
-use Rattle.meta_forms.specs.declared.form.Property.{Property}
-use Rattle.meta_properties.specs.Sets.{is_in_property}
+use Rattle.matcher_program.specs.Programs.{Fits}
+use Rattle.matcher_program.specs.declared.form.Property.{Property}
+use Rattle.matcher_support.specs.Sets.{is_in_property}
 use Rattle.pest_run.specs.Outcomes.{IsOutcome, TellsOf, failure_text}
 use Rattle.pest_run.specs.declared.arguments.Format.{Format}
 use Rattle.pest_run.specs.declared.outcomes.Outcome.{Outcome}

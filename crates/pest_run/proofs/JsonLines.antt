@@ -2,7 +2,7 @@
 use Rattle.std.proofs.Common.{◌≡◌, ℕ, List, ◌++◌, false, codes, refl, ap, ◌∙◌}
 use Rattle.meta_base.specs.Language.Text.{Text}
 use Rattle.meta_base.specs.Language.State.{Trees, None', Tree}
-use Rattle.meta_runner.specs.Values.{answer_data, tree_data, trees_data}
+use Rattle.matcher_support.specs.Values.{answer_data, tree_data, trees_data}
 use Rattle.serde_json.specs.Data.{Data, Items, no_items, item}
 use Rattle.serde_json.specs.Written.{compact_text, has_float, items_have_float}
 

@@ -11,9 +11,9 @@ use Rattle.meta_base.specs.Pieces.PrintedError.{printed_error, printed_line}
 use Rattle.meta_base.specs.declared.runtime.errors.LineColLocation.TheVariants.{Pos}
 use Rattle.meta_matcher.specs.Answers.{Has}
 use Rattle.meta_matcher.specs.Told.{each_once}
-use Rattle.meta_properties.specs.Sets.{is_in_property}
-use Rattle.meta_runner.specs.Shown.{shown}
-use Rattle.meta_runner.specs.Values.{answer_data}
+use Rattle.matcher_support.specs.Sets.{is_in_property}
+use Rattle.matcher_support.specs.Shown.{shown}
+use Rattle.matcher_support.specs.Values.{answer_data}
 use Rattle.pest_run.specs.Messages.{failure_message}
 use Rattle.pest_run.specs.declared.arguments.Format.{Format}
 use Rattle.pest_run.specs.declared.arguments.Format.TheVariants as format_is

@@ -10,15 +10,15 @@ ghost use Rattle.pest_run.specs.Outcomes.{IsNoAnswer, IsOutcome, TellsOf, failur
 
 use crate::arguments::Format;
 use crate::messages::failure_message;
+use matcher_program::compile::Unfit;
+use matcher_support::shown::tree_text;
+use matcher_support::unicode_properties::UnicodeProperties;
+use matcher_support::values::tree_value;
 use meta_base::grammar::Rule;
 use meta_base::runtime::{Error, ErrorVariant, Fault, Position};
-use meta_forms::compile::Unfit;
 use meta_matcher::entries::Entry;
 use meta_matcher::machine::Stop;
 use meta_matcher::matcher::{Found, Matcher, Refusal};
-use meta_properties::UnicodeProperties;
-use meta_runner::shown::tree_text;
-use meta_runner::values::tree_value;
 use pest_meta::optimizer::OptimizedRule;
 use std::alloc::{AllocError, Global};
 

@@ -33,7 +33,7 @@ pub(crate) enum Leaf<'a> {
 }
 
 /// What an expression is made of.
-#[derive(Clone, Copy)]
+#[derive(Drop)]
 pub(crate) enum Parts<'a, E> {
     Leaf(Leaf<'a>),
     /// A predicate with its sign.

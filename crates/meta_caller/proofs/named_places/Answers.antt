@@ -1,4 +1,4 @@
-use Rattle.meta_nodes.specs.Nodes.{rule_views}
+use Rattle.meta_spanned.specs.Nodes.{rule_views}
 use Rattle.meta_caller.proofs.Named.{are_named}
 use Rattle.meta_caller.proofs.named_places.Goals as goal
 

@@ -1,7 +1,7 @@
 use Rattle.std.proofs.Common.{◌≡◌, ◌++◌, length, map}
 use Rattle.std.specs.Vec.Iter.{into_iter_items, into_iter_len}
 use Rattle.meta_caller.specs.NamedPlaces.{named_place, named_place_of}
-use Rattle.meta_nodes.specs.Nodes.{rule_views}
+use Rattle.meta_spanned.specs.Nodes.{rule_views}
 use Rattle.meta_caller.proofs.places.Given as goal
 
 -- what is there already, and what is still to come

@@ -3,7 +3,7 @@ use crate::rules::signs::Sign;
 use meta_ast::deep::Deep;
 use meta_base::grammar::Rule;
 use meta_base::runtime::TokenTree;
-use meta_nodes::ParserNode;
+use meta_spanned::ParserNode;
 
 /// What stands beside a term in its expression.
 #[derive(Drop)]

@@ -5,9 +5,9 @@ ghost use Rattle.meta_base.specs.Pieces.Span.{span_text};
 ghost use Rattle.meta_reader.specs.Pieces.{StandIn};
 ghost use Rattle.meta_base.specs.Pieces.MetaRules.{name_of};
 ghost use Rattle.meta_syntax.specs.Shape.{ArePostfixes, IsCounted, IsPostfix};
-ghost use Rattle.meta_nodes.specs.Nodes.{view, view_at};
-ghost use Rattle.meta_nodes.specs.Spanned as spanned;
-ghost use Rattle.meta_nodes.specs.Spanned.{One, RepExact, RepMax, RepMin, RepMinMax};
+ghost use Rattle.meta_spanned.specs.Nodes.{view, view_at};
+ghost use Rattle.meta_spanned.specs.Spanned as spanned;
+ghost use Rattle.meta_spanned.specs.Spanned.{One, RepExact, RepMax, RepMin, RepMinMax};
 ghost use Rattle.meta_reader.specs.Views.{AnswersCount, AnswersPostfix, AnswersPostfixes, StandsBefore, operator_of};
 
 use crate::rules::flaws::ReadError;
@@ -15,7 +15,7 @@ use crate::rules::pieces::{count, number, span_at};
 use meta_ast::deep::Deep;
 use meta_base::grammar::Rule;
 use meta_base::runtime::{FirstTree, Span, TokenTree};
-use meta_nodes::{ParserExpr, ParserNode};
+use meta_spanned::{ParserExpr, ParserNode};
 use meta_syntax::trees::{first_tree, leading_tree};
 use std::alloc::Global;
 

@@ -6,7 +6,7 @@ ghost use Rattle.meta_reader.specs.Pieces.{IsPiece};
 ghost use Rattle.meta_reader.specs.Reading.{number, integer};
 ghost use Rattle.meta_syntax.specs.Shape.{IsNumber, IsInteger};
 ghost use Rattle.meta_reader.specs.Views.{Answers};
-ghost use Rattle.meta_nodes.specs.Nodes.{piece_of};
+ghost use Rattle.meta_spanned.specs.Nodes.{piece_of};
 ghost use Rattle.meta_reader.specs.declared.rules.flaws.ReadError.TheVariants.{Found};
 
 use crate::rules::flaws::{Cause, Flaw, ReadError};

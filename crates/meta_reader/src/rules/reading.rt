@@ -9,9 +9,9 @@ ghost use Rattle.meta_reader.specs.Reading.{ATerm, AnExpression, both};
 ghost use Rattle.meta_reader.specs.Levels.{GoesOn, HoldsNoExpression, IsAlternative, IsAlternativeRead, IsOperandRead, IsInsideRead, IsLevelRead, IsTermBeside, IsTermRead, Opens, node_view, together, waits_of, work_of};
 ghost use Rattle.meta_reader.specs.Signs.{IsOperand};
 ghost use Rattle.meta_syntax.specs.Shape.{IsExpression, IsMore};
-ghost use Rattle.meta_nodes.specs.Spanned.{Span, Two};
+ghost use Rattle.meta_spanned.specs.Spanned.{Span, Two};
 ghost use Rattle.meta_reader.specs.Views.{IsFirst, TakesTerm, IsBehindBar, IsRest, ReadsAs, all_from, binary_of, count_of};
-ghost use Rattle.meta_nodes.specs.Nodes.{view, view_at};
+ghost use Rattle.meta_spanned.specs.Nodes.{view, view_at};
 
 use crate::rules::flaws::ReadError;
 use crate::rules::levels::{Beside, Level, Next, Within};
@@ -22,7 +22,7 @@ use crate::rules::terminals::terminal;
 use meta_ast::deep::Deep;
 use meta_base::grammar::Rule;
 use meta_base::runtime::{FirstTree, TokenTree};
-use meta_nodes::{ParserExpr, ParserNode};
+use meta_spanned::{ParserExpr, ParserNode};
 use meta_syntax::trees::{first_tree, leading_tree};
 use std::alloc::{AllocError, Global};
 

@@ -2,8 +2,8 @@
 ghost use Rattle.std.specs.Prelude.{◌≡◌, All, IfOk, chars};
 ghost use Rattle.meta_base.specs.Pieces.NamedTrees.{named_trees_of};
 ghost use Rattle.meta_base.specs.Pieces.Span.{span_end, span_text};
-ghost use Rattle.meta_nodes.specs.Nodes.{view, view_at};
-ghost use Rattle.meta_nodes.specs.Spanned.{One, Span};
+ghost use Rattle.meta_spanned.specs.Nodes.{view, view_at};
+ghost use Rattle.meta_spanned.specs.Spanned.{One, Span};
 ghost use Rattle.meta_reader.specs.Pieces.{IsPiece, StandIn};
 ghost use Rattle.meta_reader.specs.Reading.{tag_name};
 ghost use Rattle.meta_reader.specs.Signs.{IsBehindSigns, sign_of, signed};
@@ -13,7 +13,7 @@ use crate::rules::pieces::{span_at, text_of};
 use meta_ast::deep::Deep;
 use meta_base::grammar::Rule;
 use meta_base::runtime::{FirstTree, TokenTree};
-use meta_nodes::{ParserExpr, ParserNode};
+use meta_spanned::{ParserExpr, ParserNode};
 use meta_syntax::trees::first_tree;
 use std::alloc::{AllocError, Global};
 

@@ -12,7 +12,7 @@ use crate::rules::literal::literal;
 use crate::rules::pieces::{slice_number, span_of, text_of};
 use meta_base::grammar::Rule;
 use meta_base::runtime::{FirstTree, TokenTree};
-use meta_nodes::{ParserExpr, ParserNode};
+use meta_spanned::{ParserExpr, ParserNode};
 use meta_syntax::trees::leading_tree;
 use std::alloc::Global;
 

@@ -1,5 +1,5 @@
-use Rattle.meta_base.proofs.ListingKeepsGrammars.{finished_well_formed, listing_finishes, restoring_finishes}
-use Rattle.meta_base.proofs.StepsKeepGrammars.{well_formed_along}
+use Rattle.meta_base.proofs.ListingKeepsGrammars.{finished_plain, finished_well_formed, listing_finishes, restoring_finishes}
+use Rattle.meta_base.proofs.StepsKeepGrammars.{plain_along, well_formed_along}
 use Rattle.meta_base.proofs.laws.stays_well_formed.Goals as goal
 
 pub returns-clause-steps : goal.returns-clause-steps
@@ -10,3 +10,12 @@ returns-clause-listing c = λ g h e. finished_well_formed g h (listing_finishes 
 
 pub returns-clause-wrappers : goal.returns-clause-wrappers
 returns-clause-wrappers c = λ g h e. finished_well_formed g h (restoring_finishes g h e)
+
+pub returns-clause-steps_plain : goal.returns-clause-steps_plain
+returns-clause-steps_plain c = plain_along
+
+pub returns-clause-listing_plain : goal.returns-clause-listing_plain
+returns-clause-listing_plain c = λ g h e. finished_plain g h (listing_finishes g h e)
+
+pub returns-clause-wrappers_plain : goal.returns-clause-wrappers_plain
+returns-clause-wrappers_plain c = λ g h e. finished_plain g h (restoring_finishes g h e)

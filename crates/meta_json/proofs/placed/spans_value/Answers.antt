@@ -2,11 +2,11 @@ use Rattle.std.proofs.Common.{[], ◌∷◌, ◌++◌, map, ap, sym, refl, ◌�
 use Rattle.serde_json.specs.View.{view}
 use Rattle.meta_json.specs.Placed.{span_data}
 use Rattle.meta_json.proofs.Turns.{written_on}
-use Rattle.meta_nodes.specs.Nodes.{piece_of}
-use Rattle.meta_nodes.specs.Spanned.{span_of}
-use Rattle.meta_nodes.specs.Walk.{waiting}
-use Rattle.meta_nodes.proofs.Walks.{waiting_on, waits_less}
-use Rattle.meta_nodes.proofs.Places.{span_at}
+use Rattle.meta_spanned.specs.Nodes.{piece_of}
+use Rattle.meta_spanned.specs.Spanned.{span_of}
+use Rattle.meta_spanned.specs.Walk.{waiting}
+use Rattle.meta_spanned.proofs.Walks.{waiting_on, waits_less}
+use Rattle.meta_spanned.proofs.Places.{span_at}
 use Rattle.meta_json.proofs.placed.spans_value.Goals as goal
 
 pub loop-next-smaller : goal.loop-next-smaller

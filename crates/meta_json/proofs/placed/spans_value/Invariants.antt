@@ -1,9 +1,9 @@
 use Rattle.std.proofs.Common.{◌≡◌, ◌++◌, length, map}
 use Rattle.serde_json.specs.View.{view}
 use Rattle.meta_json.specs.Placed.{span_data}
-use Rattle.meta_nodes.specs.Nodes as nodes
-use Rattle.meta_nodes.specs.Spanned.{span_of}
-use Rattle.meta_nodes.specs.Walk.{preorder, waiting}
+use Rattle.meta_spanned.specs.Nodes as nodes
+use Rattle.meta_spanned.specs.Spanned.{span_of}
+use Rattle.meta_spanned.specs.Walk.{preorder, waiting}
 use Rattle.meta_json.proofs.placed.spans_value.Given as goal
 
 -- the places of what waits come behind those that are written

@@ -1,7 +1,7 @@
 use Rattle.std.proofs.Common.{arith, sym, ◌∙◌, ap, ◌≡◌, bytes_eq, true, false, chars, ◌<◌, ◌-◌, length}
 use Rattle.meta_ast.specs.Ast.{text_of}
-use Rattle.meta_forms.specs.Programs.{names_of, rule_of_row}
-use Rattle.meta_forms.proofs.Compiling.{not_that_name, that_name}
+use Rattle.matcher_program.specs.Programs.{names_of, rule_of_row}
+use Rattle.matcher_program.proofs.Compiling.{not_that_name, that_name}
 use Rattle.meta_matcher.proofs.matcher.find_row.Goals as goal
 
 pub returns-then-same : goal.returns-then-same

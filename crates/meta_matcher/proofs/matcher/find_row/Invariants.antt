@@ -1,6 +1,6 @@
 use Rattle.std.proofs.Common.{◌≡◌, None, chars, drop, ◌≤◌, length}
 use Rattle.meta_base.specs.Language.Expression.{rule_of}
-use Rattle.meta_forms.specs.Programs.{grammar_of}
+use Rattle.matcher_program.specs.Programs.{grammar_of}
 use Rattle.meta_matcher.proofs.matcher.find_row.Given as goal
 
 abbrev pub invariant-loop-below : goal.invariant-loop-below

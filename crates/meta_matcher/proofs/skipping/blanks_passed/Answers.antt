@@ -2,7 +2,7 @@ use Rattle.std.proofs.Common.{◌≡◌, Some, ap, subst}
 use Rattle.meta_ast.specs.Ast.{rule_type_of}
 use Rattle.meta_base.specs.Language.Expression.{rule_of}
 use Rattle.meta_matcher.specs.Machines.{grammar_in, names_within}
-use Rattle.meta_forms.specs.Programs.{expression_of, rule_of_row}
+use Rattle.matcher_program.specs.Programs.{expression_of, rule_of_row}
 use Rattle.meta_matcher.proofs.Passing.{passes_blanks}
 use Rattle.meta_matcher.proofs.Steps.{row_known, row_meant}
 use Rattle.meta_matcher.proofs.Waiting.{skipped_nowhere}

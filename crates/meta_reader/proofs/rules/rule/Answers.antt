@@ -1,6 +1,6 @@
 use Rattle.std.proofs.Common.{refl}
 use Rattle.std.proofs.lemmas.Result.{err_from_is_err_and}
-use Rattle.meta_nodes.specs.Nodes.{view}
+use Rattle.meta_spanned.specs.Nodes.{view}
 use Rattle.meta_reader.proofs.TreesStandInText.{stand_inner, stand_behind}
 use Rattle.meta_reader.proofs.ReadRules.{may_be_modifier, rule_body, comment_rule, modifier_standing}
 use Rattle.meta_reader.proofs.rules.rule.Goals as goal

@@ -1,6 +1,6 @@
 use Rattle.std.proofs.Common.{[], ◌∷◌, refl, append-nil}
 use Rattle.std.proofs.lemmas.Result.{err_from_is_err_and}
-use Rattle.meta_nodes.specs.Nodes.{rule_view}
+use Rattle.meta_spanned.specs.Nodes.{rule_view}
 use Rattle.meta_reader.proofs.FlawsInOrder.{first_in}
 use Rattle.meta_reader.proofs.TreesStandInText.{stand_behind}
 use Rattle.meta_reader.proofs.ReadRules.{left, nothing, init_reads, rule_first, other_first, rule_views-push}

@@ -1,5 +1,5 @@
 use Rattle.std.proofs.Common.{◌≡◌, ◌∙◌, rules}
-use Rattle.meta_flags.specs.Least.{is_set_at}
+use Rattle.meta_fixpoint.specs.Least.{is_set_at}
 use Rattle.meta_restorer.specs.Noted.{shows}
 use Rattle.meta_restorer.proofs.Looking.{shown}
 use Rattle.meta_restorer.proofs.restorer.is_changed.Goals as goal

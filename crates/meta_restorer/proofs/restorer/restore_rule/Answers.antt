@@ -1,6 +1,6 @@
 use Rattle.std.proofs.Common.{◌≡◌, ◌∙◌, ap, sym, false, rules, subst}
 use Rattle.meta_ast.specs.Optimized.{optimized_expression_of, optimized_rule_of}
-use Rattle.meta_flags.specs.Least.{is_set_at}
+use Rattle.meta_fixpoint.specs.Least.{is_set_at}
 use Rattle.meta_restorer.specs.Noted.{IsWithin, shows}
 use Rattle.meta_restorer.specs.Telling.{told}
 use Rattle.meta_restorer.proofs.Looking.{shown}

@@ -1,6 +1,6 @@
 use Rattle.std.proofs.Common.{◌≡◌, ◌<◌, ◌+◌, ℕ, Some, slice_get}
 use Rattle.meta_validator.specs.Cycles.{Falls, rank_at}
-use Rattle.meta_nullable.specs.declared.table.Kind.{Kind}
+use Rattle.meta_analysis.specs.declared.kind_table.Kind.{Kind}
 use Rattle.meta_validator.proofs.cycles.none_rises.Given as goal
 
 abbrev pub invariant-loop-node : goal.invariant-loop-node

@@ -1,7 +1,7 @@
 use Rattle.std.proofs.Common.{◌∙◌, sym, ap, subst, take, ◌++◌, ◌+◌}
 use Rattle.meta_validator.specs.Findings.{Reports, reports_none, OfChoice}
-use Rattle.meta_table.specs.Names.{grammar_of}
-use Rattle.meta_table.specs.Nodes.{all_nodes}
+use Rattle.meta_analysis.specs.Names.{grammar_of}
+use Rattle.meta_analysis.specs.Nodes.{all_nodes}
 use Rattle.meta_validator.specs.Reporting.{findings_of, choice_at}
 use Rattle.meta_validator.proofs.ReportingLemmas.{choice_step}
 use Rattle.meta_validator.proofs.findings.choices.Goals as goal

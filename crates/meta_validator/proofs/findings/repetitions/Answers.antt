@@ -1,9 +1,9 @@
 use Rattle.std.proofs.Common.{◌≡◌, ◌∙◌, sym, ap, subst, take, ◌++◌, ◌+◌, Some, slice_get, get_or}
 use Rattle.std.proofs.lemmas.Option.{slice_get-get_or}
-use Rattle.meta_nodes.specs.Nodes.{piece_of}
+use Rattle.meta_spanned.specs.Nodes.{piece_of}
 use Rattle.meta_validator.specs.Findings.{Reports, reports_none, OfRepetition}
-use Rattle.meta_table.specs.Names.{grammar_of}
-use Rattle.meta_table.specs.Nodes.{all_nodes}
+use Rattle.meta_analysis.specs.Names.{grammar_of}
+use Rattle.meta_analysis.specs.Nodes.{all_nodes}
 use Rattle.meta_validator.specs.Reporting.{findings_of, repetition_at}
 use Rattle.meta_validator.proofs.ReportingLemmas.{repetition_step}
 use Rattle.meta_validator.proofs.findings.repetitions.Goals as goal

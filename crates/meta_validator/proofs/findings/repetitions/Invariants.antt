@@ -1,7 +1,7 @@
 use Rattle.std.proofs.Common.{take}
 use Rattle.meta_validator.specs.Findings.{OfRepetition, Reports}
-use Rattle.meta_table.specs.Names.{grammar_of}
-use Rattle.meta_table.specs.Nodes.{all_nodes}
+use Rattle.meta_analysis.specs.Names.{grammar_of}
+use Rattle.meta_analysis.specs.Nodes.{all_nodes}
 use Rattle.meta_validator.specs.Reporting.{findings_of}
 use Rattle.meta_validator.proofs.findings.repetitions.Given as goal
 

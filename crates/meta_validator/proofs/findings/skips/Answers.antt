@@ -1,8 +1,8 @@
 use Rattle.std.proofs.Common.{◌≡◌, ◌∙◌, sym, ap, subst, take, ◌++◌, ◌+◌, Some, slice_get, get_or}
 use Rattle.std.proofs.lemmas.Option.{slice_get-get_or}
-use Rattle.meta_nodes.specs.Nodes.{rule_views}
+use Rattle.meta_spanned.specs.Nodes.{rule_views}
 use Rattle.meta_validator.specs.Findings.{Reports, reports_none, OfSkipped}
-use Rattle.meta_table.specs.Names.{grammar_of}
+use Rattle.meta_analysis.specs.Names.{grammar_of}
 use Rattle.meta_validator.specs.Reporting.{findings_of, skipped_at}
 use Rattle.meta_validator.proofs.ReportingLemmas.{skipped_step}
 use Rattle.meta_validator.proofs.findings.skips.Goals as goal

@@ -1,7 +1,7 @@
 use Rattle.std.proofs.Common.{take}
-use Rattle.meta_nodes.specs.Nodes.{rule_views}
+use Rattle.meta_spanned.specs.Nodes.{rule_views}
 use Rattle.meta_validator.specs.Findings.{OfSkipped, Reports}
-use Rattle.meta_table.specs.Names.{grammar_of}
+use Rattle.meta_analysis.specs.Names.{grammar_of}
 use Rattle.meta_validator.specs.Reporting.{findings_of}
 use Rattle.meta_validator.proofs.findings.skips.Given as goal
 

@@ -1,9 +1,9 @@
 use Rattle.std.proofs.Common.{◌∙◌, ◌<◌, ◌≤◌, ap, map, length, rules}
 use Rattle.std.proofs.lemmas.List.{map-append, take_all}
-use Rattle.meta_nodes.specs.Nodes.{piece_of}
-use Rattle.meta_table.specs.Nodes.{all_nodes}
-use Rattle.meta_table.specs.declared.table.Node.{Node}
-use Rattle.meta_table.proofs.Numbered.{mapped_more, spans_alike}
+use Rattle.meta_spanned.specs.Nodes.{piece_of}
+use Rattle.meta_analysis.specs.Nodes.{all_nodes}
+use Rattle.meta_analysis.specs.declared.table.Node.{Node}
+use Rattle.meta_analysis.proofs.Numbered.{mapped_more, spans_alike}
 use Rattle.meta_validator.proofs.findings.spans_of.Goals as goal
 
 pub loop-place-preserved : goal.loop-place-preserved

@@ -1,5 +1,5 @@
 use Rattle.std.proofs.Common.{◌≡◌, map, take}
-use Rattle.meta_nodes.specs.Nodes.{piece_of}
+use Rattle.meta_spanned.specs.Nodes.{piece_of}
 use Rattle.meta_validator.proofs.findings.spans_of.Given as goal
 
 abbrev pub invariant-loop-place : goal.invariant-loop-place

@@ -1,6 +1,6 @@
 use Rattle.std.proofs.Common.{◌≡◌, arith, false, rules}
-use Rattle.meta_flags.specs.Least.{is_set_at}
-use Rattle.meta_flags.proofs.LeastLemmas.{unset_less}
+use Rattle.meta_fixpoint.specs.Least.{is_set_at}
+use Rattle.meta_fixpoint.proofs.LeastLemmas.{unset_less}
 use Rattle.meta_validator.proofs.levels.enter.Goals as goal
 
 pub returns : goal.returns

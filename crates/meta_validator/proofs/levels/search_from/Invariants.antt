@@ -1,5 +1,5 @@
 use Rattle.std.proofs.Common.{◌+◌, ◌*◌, length}
-use Rattle.meta_flags.specs.Least.{unset}
+use Rattle.meta_fixpoint.specs.Least.{unset}
 use Rattle.meta_validator.proofs.levels.search_from.Given as goal
 
 abbrev pub decreases-loop-step : goal.decreases-loop-step

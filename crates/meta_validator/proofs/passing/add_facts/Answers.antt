@@ -1,5 +1,5 @@
 use Rattle.std.proofs.Common.{◌∙◌, ap}
-use Rattle.meta_flags.specs.Least.{is_set_at}
+use Rattle.meta_fixpoint.specs.Least.{is_set_at}
 use Rattle.meta_validator.proofs.PassingLemmas.{marked_settled}
 use Rattle.meta_validator.proofs.PassingSteps.{passing_more}
 use Rattle.meta_validator.proofs.RegionLemmas.{body_node, rule_at}

@@ -1,5 +1,5 @@
 use Rattle.std.proofs.Common.{◌≡◌, ◌+◌, ◌-◌, ◌<◌, ◌≤◌, ℕ, length, vec_len}
-use Rattle.meta_flags.specs.Least.{is_set_at}
+use Rattle.meta_fixpoint.specs.Least.{is_set_at}
 use Rattle.meta_validator.proofs.passing.add_flags.Given as goal
 
 abbrev pub invariant-loop-to : goal.invariant-loop-to

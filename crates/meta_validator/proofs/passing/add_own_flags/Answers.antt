@@ -1,7 +1,7 @@
 use Rattle.std.proofs.Common.{◌≡◌, ◌∙◌, ◌≤◌, ◌+◌, ◌++◌, ◌∷◌, [], ap, sym, subst, length, slice_get, arith}
 use Rattle.std.proofs.lemmas.List.{length_push}
-use Rattle.meta_flags.specs.Least.{is_set_at}
-use Rattle.meta_flags.proofs.FlagLists.{set_before}
+use Rattle.meta_fixpoint.specs.Least.{is_set_at}
+use Rattle.meta_fixpoint.proofs.FlagLists.{set_before}
 use Rattle.meta_validator.specs.Levels.{own_answer_at}
 use Rattle.meta_validator.specs.Regions.{ArePassingSoFar}
 use Rattle.meta_validator.proofs.PassingSteps.{passing_next}

@@ -1,7 +1,7 @@
 use Rattle.std.proofs.Common.{◌≡◌, ◌+◌, ◌-◌, ◌<◌, ◌≤◌, ℕ, length, vec_len}
-use Rattle.meta_flags.specs.Least.{is_set_at}
+use Rattle.meta_fixpoint.specs.Least.{is_set_at}
 use Rattle.meta_validator.specs.Regions.{ArePassingSoFar}
-use Rattle.meta_table.specs.Roots.{first_of}
+use Rattle.meta_analysis.specs.Roots.{first_of}
 use Rattle.meta_validator.proofs.passing.add_own_flags.Given as goal
 
 abbrev pub invariant-loop-flags : goal.invariant-loop-flags

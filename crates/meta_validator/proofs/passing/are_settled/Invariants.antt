@@ -1,6 +1,6 @@
 use Rattle.std.proofs.Common.{◌≡◌, ◌<◌, ◌≤◌, ℕ, Some, slice_get}
 use Rattle.meta_validator.specs.Levels.{IsSettled}
-use Rattle.meta_nullable.specs.declared.table.Kind.{Kind}
+use Rattle.meta_analysis.specs.declared.kind_table.Kind.{Kind}
 use Rattle.meta_validator.proofs.passing.are_settled.Given as goal
 
 abbrev pub invariant-loop-node : goal.invariant-loop-node

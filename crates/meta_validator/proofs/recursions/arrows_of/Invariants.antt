@@ -1,5 +1,5 @@
 use Rattle.std.proofs.Common.{◌≡◌, take, string_bytes}
-use Rattle.meta_nodes.specs.Nodes.{rule_views}
+use Rattle.meta_spanned.specs.Nodes.{rule_views}
 use Rattle.meta_validator.specs.LeftRecursion.{arrows}
 use Rattle.meta_validator.proofs.recursions.arrows_of.Given as goal
 

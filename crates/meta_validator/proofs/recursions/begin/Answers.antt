@@ -2,8 +2,8 @@ use Rattle.std.proofs.Common.{◌≡◌, ◌∙◌, ◌++◌, ◌∷◌, [], tru
 use Rattle.std.proofs.Math.ListN.{set}
 use Rattle.std.specs.Option.{option_map}
 use Rattle.std.proofs.lemmas.Option.{slice_get-map}
-use Rattle.meta_flags.proofs.LeastLemmas.{item_at}
-use Rattle.meta_nodes.specs.Nodes.{rule_view, rule_views}
+use Rattle.meta_fixpoint.proofs.LeastLemmas.{item_at}
+use Rattle.meta_spanned.specs.Nodes.{rule_view, rule_views}
 use Rattle.meta_validator.specs.Searching.{IsGoing}
 use Rattle.meta_validator.specs.declared.recursions.Task.TheVariants.{Visit, Leave}
 use Rattle.meta_validator.proofs.WalkSteps.{begun_going}

@@ -1,5 +1,5 @@
 use Rattle.std.proofs.Common.{◌≡◌, ◌∙◌, ◌++◌, ◌∷◌, [], ap, sym, subst, refl, append-nil, arith}
-use Rattle.meta_table.specs.Nodes.{all_nodes}
+use Rattle.meta_analysis.specs.Nodes.{all_nodes}
 use Rattle.meta_validator.specs.Searching.{cost, rest, IsSearch}
 use Rattle.meta_validator.specs.declared.recursions.Task.TheVariants.{Visit, Leave}
 use Rattle.meta_validator.proofs.NodeSteps.{cost-append}

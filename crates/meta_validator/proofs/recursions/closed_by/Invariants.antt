@@ -1,6 +1,6 @@
 use Rattle.std.proofs.Common.{◌+◌}
-use Rattle.meta_nodes.specs.Nodes.{rule_views}
-use Rattle.meta_table.specs.Nodes.{all_nodes}
+use Rattle.meta_spanned.specs.Nodes.{rule_views}
+use Rattle.meta_analysis.specs.Nodes.{all_nodes}
 use Rattle.meta_validator.specs.Searching.{cost, unentered, IsGoing}
 use Rattle.meta_validator.proofs.recursions.closed_by.Given as goal
 

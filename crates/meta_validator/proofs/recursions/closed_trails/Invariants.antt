@@ -1,6 +1,6 @@
 use Rattle.std.proofs.Common.{◌≡◌, ◌<◌, ℕ, []}
 use Rattle.std.specs.List.{range_with_len}
-use Rattle.meta_nodes.specs.Nodes.{rule_views}
+use Rattle.meta_spanned.specs.Nodes.{rule_views}
 use Rattle.meta_validator.specs.Findings.{OfRecursion, Reports}
 use Rattle.meta_validator.specs.Reporting.{findings_of}
 use Rattle.meta_validator.specs.Searching.{IsIdle, NeverComesBack}

@@ -1,8 +1,8 @@
 use Rattle.std.proofs.Common.{◌≡◌, false, true, sym, subst, rules}
-use Rattle.meta_nodes.specs.Nodes.{rule_views}
+use Rattle.meta_spanned.specs.Nodes.{rule_views}
 use Rattle.meta_validator.specs.Findings.{hidden, not_recursive}
 use Rattle.meta_validator.specs.LeftRecursion.{Means}
-use Rattle.meta_table.specs.Names.{grammar_of}
+use Rattle.meta_analysis.specs.Names.{grammar_of}
 use Rattle.meta_validator.proofs.ClosingLemmas.{none_comes}
 use Rattle.meta_validator.proofs.Falling.{no_cycle_from}
 use Rattle.meta_validator.proofs.NoneWalks.{in_rules}

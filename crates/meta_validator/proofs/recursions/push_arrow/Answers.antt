@@ -1,7 +1,7 @@
 use Rattle.std.proofs.Common.{◌≡◌, ◌∙◌, ◌++◌, ap, sym, slice_get, get_or, Some, string_bytes, codes, arith}
 use Rattle.std.proofs.lemmas.List.{append_assoc, append-nil}
 use Rattle.std.proofs.lemmas.Option.{slice_get-get_or}
-use Rattle.meta_nodes.specs.Nodes.{rule_views}
+use Rattle.meta_spanned.specs.Nodes.{rule_views}
 use Rattle.meta_validator.specs.LeftRecursion.{name_at}
 use Rattle.meta_validator.proofs.RecursionLemmas.{name_there, no_name}
 use Rattle.meta_validator.proofs.recursions.push_arrow.Goals as goal

@@ -3,8 +3,8 @@ use Rattle.std.specs.Prelude.{IfSome, IfNone}
 use Rattle.std.specs.Option.{option_map}
 use Rattle.std.proofs.lemmas.Option.{slice_get-get_or, slice_get-map, slice_get_within}
 use Rattle.meta_base.proofs.Basics.{one_item}
-use Rattle.meta_nodes.specs.Nodes.{rule_view, piece_of}
-use Rattle.meta_nodes.specs.Spanned.{span_of}
+use Rattle.meta_spanned.specs.Nodes.{rule_view, piece_of}
+use Rattle.meta_spanned.specs.Spanned.{span_of}
 use Rattle.meta_validator.specs.Findings.{not_recursive}
 use Rattle.meta_validator.specs.Searching.{IsClosing, IsSought, NeverComesBack}
 use Rattle.meta_validator.specs.declared.recursions.ClosedTrail.{ClosedTrail}

@@ -3,7 +3,7 @@ use Rattle.std.specs.Str.{encode_utf8_all}
 use Rattle.std.proofs.lemmas.Str.{encodes-chars, IsUtf8-string_bytes}
 use Rattle.meta_ast.specs.Ast.{text_of}
 use Rattle.meta_base.specs.Pieces.Saying.{written}
-use Rattle.meta_nodes.specs.Nodes.{rule_views, piece_of}
+use Rattle.meta_spanned.specs.Nodes.{rule_views, piece_of}
 use Rattle.meta_validator.specs.LeftRecursion.{arrows}
 use Rattle.meta_validator.proofs.RecursionLemmas.{of_six}
 use Rattle.meta_validator.proofs.recursions.told.Goals as goal

@@ -1,5 +1,5 @@
 use Rattle.std.proofs.Common.{◌≡◌, take, map}
-use Rattle.meta_nodes.specs.Nodes.{piece_of}
+use Rattle.meta_spanned.specs.Nodes.{piece_of}
 use Rattle.meta_validator.specs.Findings.{endless_at}
 use Rattle.meta_validator.specs.Reporting.{findings_of}
 use Rattle.meta_validator.proofs.reported.endless_findings.Given as goal

@@ -1,6 +1,6 @@
-use Rattle.meta_nodes.specs.Nodes.{view}
-use Rattle.meta_nodes.proofs.Walks.{waiting_on, waits_less, walk_step}
-use Rattle.meta_table.specs.Names.{grammar_of}
+use Rattle.meta_spanned.specs.Nodes.{view}
+use Rattle.meta_spanned.proofs.Walks.{waiting_on, waits_less, walk_step}
+use Rattle.meta_analysis.specs.Names.{grammar_of}
 use Rattle.meta_validator.specs.Tags.{of_tag}
 use Rattle.meta_validator.proofs.tags.add_of_body.Goals as goal
 

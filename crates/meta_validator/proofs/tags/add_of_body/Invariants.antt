@@ -1,8 +1,8 @@
 use Rattle.std.proofs.Common.{◌≡◌, ◌++◌, length}
 use Rattle.std.specs.Prelude.{flat_map}
-use Rattle.meta_nodes.specs.Nodes.{view}
-use Rattle.meta_nodes.specs.Walk.{waiting}
-use Rattle.meta_table.specs.Names.{grammar_of}
+use Rattle.meta_spanned.specs.Nodes.{view}
+use Rattle.meta_spanned.specs.Walk.{waiting}
+use Rattle.meta_analysis.specs.Names.{grammar_of}
 use Rattle.meta_validator.specs.Reporting.{findings_of}
 use Rattle.meta_validator.specs.Tags.{of_tag, of_tags_in}
 use Rattle.meta_validator.proofs.tags.add_of_body.Given as goal

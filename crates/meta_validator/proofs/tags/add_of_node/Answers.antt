@@ -1,9 +1,9 @@
 use Rattle.std.proofs.Common.{Some, ◌∙◌, ap, sym}
 use Rattle.std.specs.Option.{option_map}
-use Rattle.meta_nodes.specs.Nodes.{view, piece_of}
-use Rattle.meta_nodes.specs.Spanned.{span_of}
-use Rattle.meta_nodes.proofs.Places.{span_at}
-use Rattle.meta_table.specs.Names.{grammar_of}
+use Rattle.meta_spanned.specs.Nodes.{view, piece_of}
+use Rattle.meta_spanned.specs.Spanned.{span_of}
+use Rattle.meta_spanned.proofs.Places.{span_at}
+use Rattle.meta_analysis.specs.Names.{grammar_of}
 use Rattle.meta_validator.specs.Reporting.{findings_of}
 use Rattle.meta_validator.specs.Tags.{message_at}
 use Rattle.meta_validator.proofs.TagLemmas.{told_more}

@@ -1,6 +1,6 @@
 use Rattle.std.proofs.Common.{◌≡◌, length}
-use Rattle.meta_nodes.specs.Nodes.{view}
-use Rattle.meta_nodes.specs.Walk.{preorder}
+use Rattle.meta_spanned.specs.Nodes.{view}
+use Rattle.meta_spanned.specs.Walk.{preorder}
 use Rattle.meta_validator.specs.Tags.{name_within}
 use Rattle.meta_validator.proofs.tags.name_within.Given as goal
 

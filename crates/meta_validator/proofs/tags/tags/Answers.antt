@@ -1,5 +1,5 @@
-use Rattle.meta_nodes.proofs.Walks.{rule_step, all_rules}
-use Rattle.meta_table.specs.Names.{grammar_of}
+use Rattle.meta_spanned.proofs.Walks.{rule_step, all_rules}
+use Rattle.meta_analysis.specs.Names.{grammar_of}
 use Rattle.meta_validator.specs.Tags.{of_tags_in}
 use Rattle.meta_validator.proofs.tags.tags.Goals as goal
 

@@ -1,7 +1,7 @@
 use Rattle.std.proofs.Common.{◌≡◌, take}
 use Rattle.std.specs.Prelude.{flat_map}
-use Rattle.meta_nodes.specs.Nodes.{rule_views}
-use Rattle.meta_table.specs.Names.{grammar_of}
+use Rattle.meta_spanned.specs.Nodes.{rule_views}
+use Rattle.meta_analysis.specs.Names.{grammar_of}
 use Rattle.meta_validator.specs.Reporting.{findings_of}
 use Rattle.meta_validator.specs.Tags.{of_tags_in}
 use Rattle.meta_validator.proofs.tags.tags.Given as goal

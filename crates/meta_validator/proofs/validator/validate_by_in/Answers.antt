@@ -1,6 +1,6 @@
 use Rattle.std.proofs.Common.{map, subst, sym}
 use Rattle.std.proofs.lemmas.Result.{IfOk-weaker}
-use Rattle.meta_nodes.specs.Nodes.{piece_of, rule_views}
+use Rattle.meta_spanned.specs.Nodes.{piece_of, rule_views}
 use Rattle.meta_validator.specs.Reporting.{findings_of}
 use Rattle.meta_base.specs.Pieces.Saying.{Tell}
 use Rattle.std.specs.List.{All}

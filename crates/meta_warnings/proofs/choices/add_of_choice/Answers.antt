@@ -1,6 +1,6 @@
 use Rattle.std.proofs.Common.{ap, length, ◌∙◌, arith}
-use Rattle.meta_nodes.specs.Walk.{waiting}
-use Rattle.meta_nodes.proofs.Walks.{waiting_push}
+use Rattle.meta_spanned.specs.Walk.{waiting}
+use Rattle.meta_spanned.proofs.Walks.{waiting_push}
 use Rattle.std.proofs.lemmas.List.{length-append}
 use Rattle.meta_warnings.specs.Lists.{left_over}
 use Rattle.meta_warnings.proofs.Steps.{left_over_push, told_along}

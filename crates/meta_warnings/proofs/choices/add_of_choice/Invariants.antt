@@ -1,7 +1,7 @@
 use Rattle.std.proofs.Common.{◌++◌, List, map, length}
-use Rattle.meta_nodes.specs.Nodes.{piece_of, view}
-use Rattle.meta_nodes.specs.Spanned.{Spanned}
-use Rattle.meta_nodes.specs.Walk.{waiting}
+use Rattle.meta_spanned.specs.Nodes.{piece_of, view}
+use Rattle.meta_spanned.specs.Spanned.{Spanned}
+use Rattle.meta_spanned.specs.Walk.{waiting}
 use Rattle.meta_warnings.specs.Choices.{unreachable_at}
 use Rattle.meta_warnings.specs.Lists.{IsTold, left_over}
 use Rattle.meta_warnings.proofs.choices.add_of_choice.Given as goal

@@ -1,6 +1,6 @@
 use Rattle.std.proofs.Common.{◌≡◌, ◌∙◌, [], ◌∷◌, ◌++◌, map, true, if◌then◌else◌, ap, sym}
-use Rattle.meta_nodes.specs.Nodes.{piece_of, view}
-use Rattle.meta_nodes.specs.Spanned.{span_of}
+use Rattle.meta_spanned.specs.Nodes.{piece_of, view}
+use Rattle.meta_spanned.specs.Spanned.{span_of}
 use Rattle.meta_warnings.proofs.Steps.{push_piece}
 use Rattle.meta_warnings.specs.Choices.{begins_so, is_begun}
 use Rattle.meta_warnings.proofs.choices.add_where_begun.Goals as goal

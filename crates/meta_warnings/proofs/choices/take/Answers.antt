@@ -1,6 +1,6 @@
 use Rattle.std.proofs.Common.{refl, length, [], ◌∷◌, ◌++◌, ap}
-use Rattle.meta_nodes.specs.Nodes.{view}
-use Rattle.meta_nodes.specs.Walk.{waiting}
+use Rattle.meta_spanned.specs.Nodes.{view}
+use Rattle.meta_spanned.specs.Walk.{waiting}
 use Rattle.meta_warnings.specs.Choices.{literals}
 use Rattle.meta_warnings.specs.Lists.{left_over}
 use Rattle.meta_warnings.proofs.Steps.{fewer, only_choice, sides_fewer, sides_left, told_along, told_more}

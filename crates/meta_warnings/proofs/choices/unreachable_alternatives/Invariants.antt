@@ -1,6 +1,6 @@
 use Rattle.std.proofs.Common.{◌≡◌, map, take}
 use Rattle.std.specs.Prelude.{flat_map}
-use Rattle.meta_nodes.specs.Nodes.{piece_of, rule_views}
+use Rattle.meta_spanned.specs.Nodes.{piece_of, rule_views}
 use Rattle.meta_warnings.specs.Choices.{unreachable_in}
 use Rattle.meta_warnings.proofs.choices.unreachable_alternatives.Given as goal
 

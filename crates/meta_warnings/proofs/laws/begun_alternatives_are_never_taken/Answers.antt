@@ -1,4 +1,4 @@
-use Rattle.meta_nodes.specs.Erasure.{without_spans}
+use Rattle.meta_spanned.specs.Erasure.{without_spans}
 use Rattle.meta_warnings.proofs.Failing.{fails_alone, never_taken, changes_nothing}
 use Rattle.meta_warnings.proofs.laws.begun_alternatives_are_never_taken.Goals as goal
 

@@ -1,4 +1,4 @@
-use Rattle.meta_nodes.specs.Erasure.{without_spans}
+use Rattle.meta_spanned.specs.Erasure.{without_spans}
 use Rattle.meta_warnings.proofs.Failing.{fails_alone, reversed_fails}
 use Rattle.meta_warnings.proofs.laws.reversed_ranges_match_nothing.Goals as goal
 

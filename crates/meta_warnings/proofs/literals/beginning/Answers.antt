@@ -1,5 +1,5 @@
 use Rattle.std.proofs.Common.{◌∙◌, sym}
-use Rattle.meta_nodes.specs.Nodes.{piece_of}
+use Rattle.meta_spanned.specs.Nodes.{piece_of}
 use Rattle.meta_warnings.proofs.Steps.{no_sequence}
 use Rattle.meta_warnings.proofs.literals.beginning.Goals as goal
 

@@ -1,6 +1,6 @@
 use Rattle.std.proofs.Common.{◌≡◌}
-use Rattle.meta_nodes.specs.Erasure.{without_spans}
-use Rattle.meta_nodes.specs.Nodes.{view}
+use Rattle.meta_spanned.specs.Erasure.{without_spans}
+use Rattle.meta_spanned.specs.Nodes.{view}
 use Rattle.meta_warnings.specs.Choices.{beginning_of}
 use Rattle.meta_warnings.proofs.literals.beginning.Given as goal
 

@@ -1,5 +1,5 @@
-use Rattle.meta_nodes.specs.Nodes.{view}
-use Rattle.meta_nodes.proofs.Walks.{waiting_on, waits_less, walk_step}
+use Rattle.meta_spanned.specs.Nodes.{view}
+use Rattle.meta_spanned.proofs.Walks.{waiting_on, waits_less, walk_step}
 use Rattle.meta_warnings.specs.Ranges.{reversed_at}
 use Rattle.meta_warnings.proofs.ranges.add_of_body.Goals as goal
 

@@ -1,7 +1,7 @@
 use Rattle.std.proofs.Common.{◌≡◌, ◌++◌, map, length}
 use Rattle.std.specs.Prelude.{flat_map}
-use Rattle.meta_nodes.specs.Nodes.{piece_of, view}
-use Rattle.meta_nodes.specs.Walk.{waiting}
+use Rattle.meta_spanned.specs.Nodes.{piece_of, view}
+use Rattle.meta_spanned.specs.Walk.{waiting}
 use Rattle.meta_warnings.specs.Ranges.{reversed_at, reversed_in}
 use Rattle.meta_warnings.proofs.ranges.add_of_body.Given as goal
 

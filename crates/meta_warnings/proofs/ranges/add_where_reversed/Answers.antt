@@ -1,6 +1,6 @@
 use Rattle.std.proofs.Common.{◌≡◌, ◌∙◌, [], ◌∷◌, ◌++◌, map, true, if◌then◌else◌, ap, sym}
-use Rattle.meta_nodes.specs.Nodes.{piece_of, view}
-use Rattle.meta_nodes.specs.Spanned.{span_of}
+use Rattle.meta_spanned.specs.Nodes.{piece_of, view}
+use Rattle.meta_spanned.specs.Spanned.{span_of}
 use Rattle.meta_warnings.proofs.Steps.{push_piece}
 use Rattle.meta_warnings.specs.Ranges.{is_reversed}
 use Rattle.meta_warnings.proofs.ranges.add_where_reversed.Goals as goal

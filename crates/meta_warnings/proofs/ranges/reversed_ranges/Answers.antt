@@ -1,5 +1,5 @@
 use Rattle.meta_warnings.specs.Ranges.{reversed_in}
-use Rattle.meta_nodes.proofs.Walks.{rule_step, all_rules}
+use Rattle.meta_spanned.proofs.Walks.{rule_step, all_rules}
 use Rattle.meta_warnings.proofs.ranges.reversed_ranges.Goals as goal
 
 pub loop-rule-preserved : goal.loop-rule-preserved

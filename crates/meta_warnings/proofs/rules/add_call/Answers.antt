@@ -3,7 +3,7 @@ use Rattle.std.proofs.lemmas.Str.{IsUtf8-string_bytes}
 use Rattle.meta_ast.specs.Ast.{text_of}
 use Rattle.meta_ast.proofs.Characters.{bytes_text_eq}
 use Rattle.meta_base.specs.Language.Builtins.{is_one_of}
-use Rattle.meta_nodes.specs.Nodes.{piece_of, view_at}
+use Rattle.meta_spanned.specs.Nodes.{piece_of, view_at}
 use Rattle.meta_warnings.specs.Lists.{has_name}
 use Rattle.meta_warnings.specs.Rules.{name_called}
 use Rattle.meta_warnings.proofs.Known.{inserted}

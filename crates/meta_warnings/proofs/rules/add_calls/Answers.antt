@@ -1,7 +1,7 @@
 use Rattle.std.proofs.Common.{chars}
 use Rattle.meta_ast.specs.Ast.{text_of}
-use Rattle.meta_nodes.specs.Nodes.{view}
-use Rattle.meta_nodes.proofs.Walks.{waiting_on, waits_less}
+use Rattle.meta_spanned.specs.Nodes.{view}
+use Rattle.meta_spanned.proofs.Walks.{waiting_on, waits_less}
 use Rattle.meta_warnings.proofs.Names.{call_met}
 use Rattle.meta_warnings.proofs.rules.add_calls.Goals as goal
 

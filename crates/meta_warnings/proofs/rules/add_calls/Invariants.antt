@@ -3,8 +3,8 @@ use Rattle.std.specs.Prelude.{flat_map}
 use Rattle.std.specs.Str.{IsUtf8, chars}
 use Rattle.meta_ast.specs.Ast.{text_of}
 use Rattle.meta_base.specs.Language.Builtins.{is_one_of}
-use Rattle.meta_nodes.specs.Nodes.{rule_view}
-use Rattle.meta_nodes.specs.Walk.{waiting}
+use Rattle.meta_spanned.specs.Nodes.{rule_view}
+use Rattle.meta_spanned.specs.Walk.{waiting}
 use Rattle.meta_warnings.specs.Lists.{has_name}
 use Rattle.meta_warnings.specs.Rules.{calls_another, name_called}
 use Rattle.meta_warnings.proofs.rules.add_calls.Given as goal

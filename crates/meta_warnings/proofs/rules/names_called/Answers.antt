@@ -1,7 +1,7 @@
 use Rattle.std.proofs.Common.{chars, subst, List}
-use Rattle.meta_nodes.specs.Nodes.{rule_views}
+use Rattle.meta_spanned.specs.Nodes.{rule_views}
 use Rattle.std.proofs.lemmas.List.{take_all}
-use Rattle.meta_nodes.specs.declared.node.ParserRule.{ParserRule}
+use Rattle.meta_spanned.specs.declared.node.ParserRule.{ParserRule}
 use Rattle.meta_warnings.specs.Lists.{HasNames}
 use Rattle.meta_warnings.proofs.Names.{rule_called}
 use Rattle.meta_warnings.proofs.rules.names_called.Goals as goal

@@ -1,5 +1,5 @@
 use Rattle.std.proofs.Common.{take}
-use Rattle.meta_nodes.specs.Nodes.{rule_views}
+use Rattle.meta_spanned.specs.Nodes.{rule_views}
 use Rattle.meta_warnings.specs.Lists.{HasNames}
 use Rattle.meta_warnings.proofs.rules.names_called.Given as goal
 

@@ -1,5 +1,5 @@
 use Rattle.meta_warnings.specs.Rules.{uncalled_at}
-use Rattle.meta_nodes.proofs.Walks.{rule_step, all_rules}
+use Rattle.meta_spanned.proofs.Walks.{rule_step, all_rules}
 use Rattle.meta_warnings.proofs.rules.uncalled_among.Goals as goal
 
 pub loop-rule-preserved : goal.loop-rule-preserved

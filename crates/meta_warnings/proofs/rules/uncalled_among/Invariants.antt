@@ -1,7 +1,7 @@
 use Rattle.std.proofs.Common.{◌≡◌, List, map, take}
 use Rattle.std.specs.Prelude.{flat_map}
-use Rattle.meta_nodes.specs.Nodes.{piece_of, rule_views}
-use Rattle.meta_nodes.specs.Spanned.{SpannedRule}
+use Rattle.meta_spanned.specs.Nodes.{piece_of, rule_views}
+use Rattle.meta_spanned.specs.Spanned.{SpannedRule}
 use Rattle.meta_warnings.specs.Lists.{HasNames}
 use Rattle.meta_warnings.specs.Rules.{uncalled_at}
 use Rattle.meta_warnings.proofs.rules.uncalled_among.Given as goal

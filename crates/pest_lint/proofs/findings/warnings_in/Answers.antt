@@ -1,7 +1,7 @@
 use Rattle.std.proofs.Common.{◌++◌, sym, subst}
 use Rattle.meta_names.proofs.Places.{tell_both}
 use Rattle.meta_base.specs.Pieces.Saying.{Tell}
-use Rattle.meta_nodes.specs.Nodes.{rule_views}
+use Rattle.meta_spanned.specs.Nodes.{rule_views}
 use Rattle.pest_lint.specs.Found.{reversed_of, uncalled_of, unreachable_of}
 use Rattle.pest_lint.proofs.Told.{tell_joined}
 use Rattle.pest_lint.proofs.findings.warnings_in.Goals as goal

@@ -5,9 +5,9 @@ use Rattle.meta_base.specs.Pieces.NamedTrees.{named}
 use Rattle.meta_base.specs.Pieces.Pairs.{pairs_text, pairs_trees}
 use Rattle.meta_base.specs.declared.grammar.Rule.{Rule}
 use Rattle.meta_base.specs.declared.runtime.errors.Error.{Error}
-use Rattle.meta_nodes.specs.Erasure.{rules_without_spans}
-use Rattle.meta_nodes.specs.Spanned.{SpannedRule}
-use Rattle.meta_nodes.specs.Nodes.{rule_views}
+use Rattle.meta_spanned.specs.Erasure.{rules_without_spans}
+use Rattle.meta_spanned.specs.Spanned.{SpannedRule}
+use Rattle.meta_spanned.specs.Nodes.{rule_views}
 use Rattle.meta_reader.proofs.ReadableCounts.{counts_readable}
 use Rattle.meta_validator.specs.Reported.{AreReported}
 use Rattle.meta_validator.specs.Placed.{AreIn}

@@ -1,9 +1,9 @@
 use Rattle.std.proofs.Common.{◌≡◌, [], IfOk, map, subst, sym}
 use Rattle.std.proofs.lemmas.Result.{IfOk-weaker}
 use Rattle.meta_base.specs.Language.WellFormed.{IsWellFormed}
-use Rattle.meta_nodes.specs.Nodes.{piece_of, rule_views}
-use Rattle.meta_table.specs.Names.{grammar_of}
-use Rattle.meta_stack_pass.specs.Certain.{AreReports}
+use Rattle.meta_spanned.specs.Nodes.{piece_of, rule_views}
+use Rattle.meta_analysis.specs.Names.{grammar_of}
+use Rattle.meta_stack_loops.specs.Certain.{AreReports}
 use Rattle.meta_validator.specs.Reported.{AreReported}
 use Rattle.meta_validator.proofs.NothingElse.{none_endless}
 use Rattle.meta_validator.specs.Placed.{AreIn, ArePiecesOf}

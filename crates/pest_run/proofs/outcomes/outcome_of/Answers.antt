@@ -1,6 +1,6 @@
 use Rattle.std.proofs.Common.{subst}
 use Rattle.meta_base.specs.Language.Expression.{Grammar}
-use Rattle.meta_forms.specs.Programs.{grammar_of}
+use Rattle.matcher_program.specs.Programs.{grammar_of}
 use Rattle.pest_run.specs.Outcomes.{IsOutcome}
 use Rattle.pest_run.proofs.Came.{failed}
 use Rattle.pest_run.proofs.outcomes.outcome_of.Goals as goal

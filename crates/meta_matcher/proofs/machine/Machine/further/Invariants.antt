@@ -4,7 +4,7 @@ use denote.Shadow.{shadow}
 use Rattle.meta_base.specs.Language.Meaning.{Run}
 use Rattle.meta_matcher.specs.Frames.{Awaits, IsSecond, starting}
 use Rattle.meta_matcher.specs.Machines.{IsBoundIn, now_of, said, steps_of}
-use Rattle.meta_forms.specs.Rests.{IsLeft}
+use Rattle.matcher_program.specs.Rests.{IsLeft}
 use Rattle.meta_matcher.specs.Runs.{mode_of}
 use Rattle.meta_matcher.proofs.machine.Machine.further.Given as goal
 

@@ -2,9 +2,9 @@ use Rattle.std.proofs.Common.{◌≡◌, subst, refl, w32}
 use Rattle.std.proofs.Math.Facts.{to_z-of_z}
 use Rattle.meta_base.specs.Language.Matching.{slice_outcome}
 use Rattle.meta_matcher.specs.Machines.{now_of}
-use Rattle.meta_forms.specs.Rests.{leaving, standing}
+use Rattle.matcher_program.specs.Rests.{leaving, standing}
 use Rattle.meta_matcher.proofs.Stacking.{gives_slice}
-use Rattle.meta_forms.proofs.TextLemmas.{reversed_texts}
+use Rattle.matcher_program.proofs.TextLemmas.{reversed_texts}
 use Rattle.meta_matcher.proofs.machine.Machine.peek_slice.Goals as goal
 
 pub returns-clause-means : goal.returns-clause-means

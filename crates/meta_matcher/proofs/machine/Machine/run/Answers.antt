@@ -1,5 +1,5 @@
 use Rattle.std.proofs.Common.{◌+◌, ◌*◌, arith}
-use Rattle.meta_forms.proofs.TextLemmas.{left_whole}
+use Rattle.matcher_program.proofs.TextLemmas.{left_whole}
 use Rattle.meta_matcher.specs.Machines.{round, steps_of}
 use Rattle.meta_matcher.proofs.Whole.{out_at_top, stops_at_top}
 use Rattle.meta_matcher.proofs.Waiting.{on_the_way_sooner, starts_at_top}

@@ -4,7 +4,7 @@ use Rattle.meta_base.specs.Language.Meaning.{Run}
 use Rattle.meta_matcher.specs.Frames.{FailsFrom, starting}
 use Rattle.meta_matcher.specs.Runs.{mode_of}
 use Rattle.meta_matcher.proofs.Noting.{ran_range, ran_str}
-use Rattle.meta_forms.specs.declared.form.Form.TheVariants as form
+use Rattle.matcher_program.specs.declared.form.Form.TheVariants as form
 use Rattle.meta_matcher.proofs.Passing.{comes_at_once, gives_one}
 use Rattle.meta_matcher.proofs.Stacking.{finds_skip, gives_class, gives_insens, gives_newline}
 use Rattle.meta_matcher.proofs.Steps.{fails_first, fails_start, finds_start, gives_leaving, ran_one}

@@ -1,5 +1,5 @@
 use Rattle.std.proofs.Common.{refl, chars}
-use Rattle.meta_forms.specs.Programs.{IsRuleOf, grammar_of}
+use Rattle.matcher_program.specs.Programs.{IsRuleOf, grammar_of}
 use Rattle.meta_matcher.proofs.Steps.{row_known, row_meant}
 use Rattle.meta_matcher.proofs.matcher.Matcher.scene_of.Goals as goal
 

@@ -3,7 +3,7 @@ use Rattle.std.proofs.lemmas.Result.{err_from_is_err_and}
 use Rattle.meta_base.specs.Pieces.NamedTrees.{named_trees_of}
 use Rattle.meta_reader.specs.Reading.{done}
 use Rattle.meta_base.specs.Pieces.Span.{span_text}
-use Rattle.meta_nodes.specs.Spanned.{Span}
+use Rattle.meta_spanned.specs.Spanned.{Span}
 use Rattle.meta_reader.proofs.FlawsInOrder.{first_in, or_skip}
 use Rattle.meta_reader.proofs.Nodes.{piece_round, before_next, postfix_in, postfixed_more}
 use Rattle.meta_reader.proofs.Operators.{postfixes_tree, quiet_postfix}

@@ -3,9 +3,9 @@ use Rattle.meta_base.specs.Pieces.NamedTrees.{named_trees_of}
 use Rattle.meta_reader.specs.Flaws.{first_flaw}
 use Rattle.meta_reader.specs.Reading.{Postfixed}
 use Rattle.meta_syntax.specs.Shape.{ArePostfixes}
-use Rattle.meta_nodes.specs.Spanned.{Spanned}
+use Rattle.meta_spanned.specs.Spanned.{Spanned}
 use Rattle.meta_reader.specs.Views.{StandsBefore, count_of}
-use Rattle.meta_nodes.specs.Nodes.{view}
+use Rattle.meta_spanned.specs.Nodes.{view}
 use Rattle.meta_reader.proofs.rules.operators.postfixed.Given as goal
 
 abbrev pub invariant-loop-operator : goal.invariant-loop-operator

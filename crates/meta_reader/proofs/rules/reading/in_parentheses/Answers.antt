@@ -1,6 +1,6 @@
 use Rattle.std.proofs.Common.{refl}
 use Rattle.std.proofs.lemmas.Result.{err_from_is_err_and}
-use Rattle.meta_nodes.specs.Nodes.{view}
+use Rattle.meta_spanned.specs.Nodes.{view}
 use Rattle.meta_reader.proofs.Levels.{opened, close}
 use Rattle.meta_reader.proofs.Terms.{view_ending, view_starting}
 use Rattle.meta_reader.proofs.rules.reading.in_parentheses.Goals as goal

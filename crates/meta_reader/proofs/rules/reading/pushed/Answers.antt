@@ -1,5 +1,5 @@
 use Rattle.std.proofs.Common.{refl, ◌∙◌}
-use Rattle.meta_nodes.specs.Nodes.{view}
+use Rattle.meta_spanned.specs.Nodes.{view}
 use Rattle.meta_reader.proofs.FlawsInOrder.{answers_as}
 use Rattle.meta_reader.proofs.Levels.{opened, push_closed}
 use Rattle.meta_reader.proofs.Nodes.{end_of-view}

@@ -1,8 +1,8 @@
 use Rattle.std.proofs.Common.{◌≡◌, refl, ap, sym, ◌∙◌}
 use Rattle.meta_base.specs.Pieces.Span.{span_text, span_end}
 use Rattle.meta_base.specs.Pieces.Saying.{piece}
-use Rattle.meta_nodes.specs.Spanned.{Span}
-use Rattle.meta_nodes.specs.Nodes.{piece_of}
+use Rattle.meta_spanned.specs.Spanned.{Span}
+use Rattle.meta_spanned.specs.Nodes.{piece_of}
 use Rattle.meta_reader.proofs.Signs.{last_place, last_sign}
 use Rattle.meta_reader.proofs.rules.signs.with_signs.Goals as goal
 

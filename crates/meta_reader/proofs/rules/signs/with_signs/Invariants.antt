@@ -1,7 +1,7 @@
 use Rattle.std.proofs.Common.{◌≡◌, vec_len}
 use Rattle.std.specs.Prelude.{All}
 use Rattle.meta_base.specs.Pieces.Span.{span_text, span_end}
-use Rattle.meta_nodes.specs.Nodes.{view}
+use Rattle.meta_spanned.specs.Nodes.{view}
 use Rattle.meta_reader.specs.Pieces.{IsPiece}
 use Rattle.meta_reader.specs.Signs.{signed}
 use Rattle.meta_reader.proofs.rules.signs.with_signs.Given as goal

@@ -363,3 +363,75 @@ called-returns-in_ok-remember-in-None-clause-means t c =
       kept = ap (λ v. named_entries v.items) m.entries ∙ cut_opened c.args.self.now.entries.items c.open.new.entries.items c.run.new.self.entries.items c.cut.new.entries.items c.count_of_entries-first.result _ c.in_ok-open.ensures x.kept c.cut.ensures c.count_of_entries-first.ensures;
       ran = λ classes. call_failed c.args.rule _ _ _ _ r.defined c.body_mode-inner_mode.ensures.means r.body r.kind _ (x.ran classes) c.call_counts.ensures (m.furthest ∙ c.furthest_with-self.ensures.value);
     }
+
+pub run-returns-in-Call-clause-goes_on : goal.run-returns-in-Call-clause-goes_on
+run-returns-in-Call-clause-goes_on t c = rw c.in-Call.is c.call.ensures.goes_on
+
+pub run-returns-in-Call-clause-remembers : goal.run-returns-in-Call-clause-remembers
+run-returns-in-Call-clause-remembers t c = c.call.ensures.remembers
+
+pub run-returns-in-Call-clause-means : goal.run-returns-in-Call-clause-means
+run-returns-in-Call-clause-means t c = rw c.in-Call.is c.call.ensures.means
+
+pub run-returns-in-Seq-clause-goes_on : goal.run-returns-in-Seq-clause-goes_on
+run-returns-in-Seq-clause-goes_on t c = rw c.in-Seq.is c.sequence.ensures.goes_on
+
+pub run-returns-in-Seq-clause-remembers : goal.run-returns-in-Seq-clause-remembers
+run-returns-in-Seq-clause-remembers t c = c.sequence.ensures.remembers
+
+pub run-returns-in-Seq-clause-means : goal.run-returns-in-Seq-clause-means
+run-returns-in-Seq-clause-means t c = rw c.in-Seq.is c.sequence.ensures.means
+
+pub run-returns-in-Group-clause-goes_on : goal.run-returns-in-Group-clause-goes_on
+run-returns-in-Group-clause-goes_on t c = rw c.in-Group.is c.copies.ensures.goes_on
+
+pub run-returns-in-Group-clause-remembers : goal.run-returns-in-Group-clause-remembers
+run-returns-in-Group-clause-remembers t c = c.copies.ensures.remembers
+
+pub run-returns-in-Group-clause-means : goal.run-returns-in-Group-clause-means
+run-returns-in-Group-clause-means t c = rw c.in-Group.is c.copies.ensures.means
+
+pub run-returns-in-Choice-clause-goes_on : goal.run-returns-in-Choice-clause-goes_on
+run-returns-in-Choice-clause-goes_on t c = rw c.in-Choice.is c.choice.ensures.goes_on
+
+pub run-returns-in-Choice-clause-remembers : goal.run-returns-in-Choice-clause-remembers
+run-returns-in-Choice-clause-remembers t c = c.choice.ensures.remembers
+
+pub run-returns-in-Choice-clause-means : goal.run-returns-in-Choice-clause-means
+run-returns-in-Choice-clause-means t c = rw c.in-Choice.is c.choice.ensures.means
+
+pub run-returns-in-FirstOf-clause-goes_on : goal.run-returns-in-FirstOf-clause-goes_on
+run-returns-in-FirstOf-clause-goes_on t c = rw c.in-FirstOf.is c.first_of.ensures.goes_on
+
+pub run-returns-in-FirstOf-clause-remembers : goal.run-returns-in-FirstOf-clause-remembers
+run-returns-in-FirstOf-clause-remembers t c = c.first_of.ensures.remembers
+
+pub run-returns-in-FirstOf-clause-means : goal.run-returns-in-FirstOf-clause-means
+run-returns-in-FirstOf-clause-means t c = rw c.in-FirstOf.is c.first_of.ensures.means
+
+pub run-returns-in-Opt-clause-goes_on : goal.run-returns-in-Opt-clause-goes_on
+run-returns-in-Opt-clause-goes_on t c = rw c.in-Opt.is c.option.ensures.goes_on
+
+pub run-returns-in-Opt-clause-remembers : goal.run-returns-in-Opt-clause-remembers
+run-returns-in-Opt-clause-remembers t c = c.option.ensures.remembers
+
+pub run-returns-in-Opt-clause-means : goal.run-returns-in-Opt-clause-means
+run-returns-in-Opt-clause-means t c = rw c.in-Opt.is c.option.ensures.means
+
+pub run-returns-in-RepOnce-clause-goes_on : goal.run-returns-in-RepOnce-clause-goes_on
+run-returns-in-RepOnce-clause-goes_on t c = rw c.in-RepOnce.is c.once_or_more.ensures.goes_on
+
+pub run-returns-in-RepOnce-clause-remembers : goal.run-returns-in-RepOnce-clause-remembers
+run-returns-in-RepOnce-clause-remembers t c = c.once_or_more.ensures.remembers
+
+pub run-returns-in-RepOnce-clause-means : goal.run-returns-in-RepOnce-clause-means
+run-returns-in-RepOnce-clause-means t c = rw c.in-RepOnce.is c.once_or_more.ensures.means
+
+pub run-returns-in-NegPred-clause-goes_on : goal.run-returns-in-NegPred-clause-goes_on
+run-returns-in-NegPred-clause-goes_on t c = rw c.in-NegPred.is c.negation.ensures.goes_on
+
+pub run-returns-in-NegPred-clause-remembers : goal.run-returns-in-NegPred-clause-remembers
+run-returns-in-NegPred-clause-remembers t c = c.negation.ensures.remembers
+
+pub run-returns-in-NegPred-clause-means : goal.run-returns-in-NegPred-clause-means
+run-returns-in-NegPred-clause-means t c = rw c.in-NegPred.is c.negation.ensures.means

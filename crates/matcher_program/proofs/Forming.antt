@@ -1,0 +1,67 @@
+-- One more that stands around an operand, innermost, and one less, while a form is made.
+use Rattle.std.proofs.Common.{◌≡◌, ◌+◌, ◌≤◌, ◌<◌, List, [], ◌∷◌, ◌++◌, Bor, ap, subst, ◌∙◌, arith}
+use Rattle.std.specs.Prelude.{⊤}
+use Rattle.meta_base.specs.Language.Expression.{Expression, Grammar}
+use Rattle.meta_ast.specs.Rebuilding.{GoesOn, filled, waiting}
+use Rattle.meta_ast.proofs.Rebuilding.{AllReady, last_ready, less_inside, less_outside, ready_inside, ready_outside, same_inside, same_outside}
+use Rattle.meta_ast.specs.declared.optimized.OptimizedExpr.{OptimizedExpr}
+use Rattle.meta_ast.specs.declared.rebuilt.Step.{Step}
+use Rattle.meta_ast.specs.declared.rebuilt.Step.TheVariants as is
+use Rattle.meta_ast.specs.Weight.{weight}
+use Rattle.matcher_program.specs.Compiled.{names_in}
+use Rattle.matcher_program.specs.Forming.{IsReady, IsSoundStep, comes_of, effort, heft, said, size, waits_of, with_operand}
+use Rattle.matcher_program.specs.Programs.{IsBound, expression_of}
+use Rattle.matcher_program.specs.declared.form.Form.{Form}
+use Rattle.matcher_program.specs.declared.form.Property.{Property}
+use Rattle.matcher_program.specs.declared.forms.Around.{Around}
+
+module _ (g : Grammar) (ps : List Property) where
+  abbrev AnyExpression : Bor OptimizedExpr → Type 0
+  AnyExpression e = ⊤
+
+  abbrev Stands : Step (Bor OptimizedExpr) Around Form → List Around → Type 0
+  Stands step os = AllReady AnyExpression (IsReady g ps) step os
+
+  -- what is at hand, inside what waits, is the whole; and names mean what they say in all of it
+  pub record IsUnderWay (whole : Expression) (step : Step (Bor OptimizedExpr) Around Form) (os : List Around) : Type 0 where
+    pub says : filled (with_operand (names_in g)) os (comes_of (names_in g) step) ≡ whole
+    pub sound : IsSoundStep g ps step
+    pub ready : Stands step os
+
+  goes : (step : Step (Bor OptimizedExpr) Around Form) → IsSoundStep g ps step → GoesOn AnyExpression (IsReady g ps) step
+  goes (is.Made f) h = tt
+  goes (is.Inside a e) h = (h, tt)
+
+  -- an operand is gone into
+  pub gone_inside : (whole : Expression) (step next : Step (Bor OptimizedExpr) Around Form) (os ns : List Around) (a : Around) (e : Bor OptimizedExpr) → step ≡ is.Inside a e → ns ≡ os ++ (a ∷ []) → comes_of (names_in g) next ≡ said e → IsSoundStep g ps next → IsUnderWay whole step os → IsUnderWay whole next ns
+  gone_inside whole step next os ns a e h i j sound w = record {
+    says = same_inside said (expression_of (names_in g)) (with_operand (names_in g)) step next os ns a e whole h i j w.says;
+    sound = sound;
+    ready = ready_inside AnyExpression (IsReady g ps) step next os ns a e h i w.ready (goes next sound);
+  }
+
+  -- an operand has its form
+  pub gone_outside : (whole : Expression) (step next : Step (Bor OptimizedExpr) Around Form) (os ns : List Around) (a : Around) (f : Form) → step ≡ is.Made f → os ≡ ns ++ (a ∷ []) → (IsBound g (names_in g) ps f → comes_of (names_in g) next ≡ with_operand (names_in g) a (expression_of (names_in g) f)) → (IsReady g ps a → IsBound g (names_in g) ps f → IsSoundStep g ps next) → IsUnderWay whole step os → IsUnderWay whole next ns
+  gone_outside whole step next os ns a f h i j k w =
+      let bound : IsBound g (names_in g) ps f = subst (IsSoundStep g ps) h w.sound in
+      let sound = k (last_ready AnyExpression (IsReady g ps) step os ns a i w.ready) bound in
+      record {
+        says = same_outside said (expression_of (names_in g)) (with_operand (names_in g)) step next os ns a f whole h i (j bound) w.says;
+        sound = sound;
+        ready = ready_outside AnyExpression (IsReady g ps) step next os ns a i w.ready (goes next sound);
+      }
+
+-- less is to be done
+pub less_in : (step next : Step (Bor OptimizedExpr) Around Form) (os ns : List Around) (a : Around) (e : Bor OptimizedExpr) → step ≡ is.Inside a e → ns ≡ os ++ (a ∷ []) → effort next ≤ size e → effort next + waiting waits_of ns < effort step + waiting waits_of os
+less_in step next os ns a e h i j = less_inside size waits_of step next os ns a e h i j
+
+pub less_out : (step next : Step (Bor OptimizedExpr) Around Form) (os ns : List Around) (a : Around) (f : Form) → step ≡ is.Made f → os ≡ ns ++ (a ∷ []) → effort next < waits_of a → effort next + waiting waits_of ns < effort step + waiting waits_of os
+less_out step next os ns a f h i j = less_outside size waits_of step next os ns a f h i j
+
+-- one expression more that waits
+pub heft-last : (es : List (Bor OptimizedExpr)) (e : Bor OptimizedExpr) → heft (es ++ (e ∷ [])) ≡ heft es + weight (said e)
+heft-last [] e = omega arith
+heft-last (d ∷ es) e = let rest = heft-last es e in omega arith
+
+pub heavier : (es ds : List (Bor OptimizedExpr)) (e : Bor OptimizedExpr) → ds ≡ es ++ (e ∷ []) → heft ds ≡ heft es + weight (said e)
+heavier es ds e h = ap heft h ∙ heft-last es e

@@ -1,0 +1,9 @@
+use Rattle.std.proofs.Common.{sym, ◌∙◌}
+use Rattle.matcher_program.proofs.Compiling.{blank_then, blank_else}
+use Rattle.matcher_program.proofs.compile.is_blank.Goals as goal
+
+pub returns-then-same : goal.returns-then-same
+returns-then-same c = blank_then _ (sym c.same.ensures ∙ c.if-same.true)
+
+pub returns-else-same : goal.returns-else-same
+returns-else-same c = blank_else _ _ (sym c.same.ensures ∙ c.if-same.false) c.same-else-same.ensures

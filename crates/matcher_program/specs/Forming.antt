@@ -1,0 +1,71 @@
+-- What stands around an operand while its form is made.
+use Rattle.std.specs.Prelude.{ℕ, ◌+◌, ◌*◌, List, [], ◌∷◌, ⊤}
+use Rattle.std.specs.Borrow.{Bor}
+use Rattle.meta_base.specs.Language.Text.{Text}
+use Rattle.meta_base.specs.Language.Expression as spec
+use Rattle.meta_base.specs.Language.Expression.{Expression, Grammar}
+use Rattle.meta_ast.specs.Ast.{text_of}
+use Rattle.meta_ast.specs.Optimized.{optimized_expression_of}
+use Rattle.meta_ast.specs.Rebuilding.{meaning_of, work_of}
+use Rattle.meta_ast.specs.Weight.{weight}
+use Rattle.meta_ast.specs.declared.optimized.OptimizedExpr.{OptimizedExpr}
+use Rattle.meta_ast.specs.declared.rebuilt.Step.{Step}
+use Rattle.meta_ast.specs.declared.rebuilt.Step.TheVariants as is
+use Rattle.matcher_program.specs.Compiled.{names_in}
+use Rattle.matcher_program.specs.Programs.{IsBound, expression_of}
+use Rattle.matcher_program.specs.declared.form.Form.{Form}
+use Rattle.matcher_program.specs.declared.form.Property.{Property}
+use Rattle.matcher_program.specs.declared.forms.Around.{Around}
+use Rattle.matcher_program.specs.declared.forms.Around.TheVariants as around
+
+-- an expression of code, and what is at hand of it
+abbrev pub said : Bor OptimizedExpr → Expression
+said e = optimized_expression_of e.now
+
+-- an operand inside what stands around it, where the rules have these names
+abbrev pub with_operand : List Text → Around → Expression → Expression
+with_operand names around.PosPred x = spec.PosPred x
+with_operand names around.NegPred x = spec.NegPred x
+with_operand names around.Opt x = spec.Opt x
+with_operand names around.Rep x = spec.Rep x
+with_operand names around.RepOnce x = spec.RepOnce x
+with_operand names around.Push x = spec.Push x
+with_operand names around.Restore x = spec.RestoreOnErr x
+with_operand names (around.Tag t) x = spec.NodeTag x (text_of t)
+with_operand names (around.FirstOfSeq right) x = spec.Seq x (optimized_expression_of right.now.value)
+with_operand names (around.FirstOfChoice right) x = spec.Choice x (optimized_expression_of right.now.value)
+with_operand names (around.SecondOfSeq left) x = spec.Seq (expression_of names left.value.value) x
+with_operand names (around.SecondOfChoice left) x = spec.Choice (expression_of names left.value.value) x
+
+-- what comes of a step, as an expression
+abbrev pub comes_of : List Text → Step (Bor OptimizedExpr) Around Form → Expression
+comes_of names step = meaning_of said (expression_of names) (with_operand names) step
+
+-- how much there is to be done
+abbrev pub size : Bor OptimizedExpr → ℕ
+size e = 4 * weight (said e)
+
+abbrev pub waits_of : Around → ℕ
+waits_of (around.FirstOfSeq right) = 4 * weight (optimized_expression_of right.now.value) + 3
+waits_of (around.FirstOfChoice right) = 4 * weight (optimized_expression_of right.now.value) + 3
+waits_of _ = 1
+
+abbrev pub effort : Step (Bor OptimizedExpr) Around Form → ℕ
+effort step = work_of size waits_of step
+
+-- the weight of expressions that wait
+abbrev pub heft : List (Bor OptimizedExpr) → ℕ
+heft [] = 0
+heft (e ∷ es) = weight (said e) + heft es
+
+module _ (g : Grammar) (ps : List Property) where
+  -- the names in a form that waits mean what it says
+  abbrev pub IsReady : Around → Type 0
+  IsReady (around.SecondOfSeq left) = IsBound g (names_in g) ps left.value.value
+  IsReady (around.SecondOfChoice left) = IsBound g (names_in g) ps left.value.value
+  IsReady _ = ⊤
+
+  -- so do those in what comes of a step
+  abbrev pub IsSoundStep : Step (Bor OptimizedExpr) Around Form → Type 0
+  IsSoundStep (is.Made f) = IsBound g (names_in g) ps f
+  IsSoundStep (is.Inside a e) = IsReady a

@@ -1,0 +1,287 @@
+//! From optimized rules to rules as they are run.
+ghost use Rattle.std.specs.Prelude.{◌≡◌, ℕ, List, Option, IfOk, IfSome, None, bytes_eq, chars, map, codes, ◌∷◌, [], ◌||◌};
+ghost use Rattle.meta_base.specs.Language.Text.{Text};
+ghost use Rattle.meta_base.specs.Language.Expression.{Grammar, Ident, rule_of, whitespace, comment};
+ghost use Rattle.meta_ast.specs.Optimized.{optimized_expression_of, optimized_rule_of, optimized_rules_of};
+ghost use Rattle.meta_base.specs.Language.Builtins.{is_one_of, property_names};
+ghost use Rattle.matcher_program.specs.declared.form.Property.{Property};
+ghost use Rattle.matcher_program.specs.Programs.{Fits, IsNumberOf, IsRow, IsSkippedRule, IsSound, class_name, grammar_of, rule_of_row};
+ghost use Rattle.matcher_program.specs.Compiled.{Compiles, names_in};
+ghost use Rattle.matcher_program.specs.Indexed.{KnowsLast};
+ghost use Rattle.meta_ast.specs.Ast.{text_of};
+
+use crate::form::{Class, Form, Program, Property, Row};
+use crate::forms::form_of;
+use crate::indexed::{Indexed, numbered};
+use crate::properties::{Properties, properties_in};
+use crate::sets::{firsts_of, gathered};
+use crate::texts::same;
+use meta_ast::optimized::OptimizedRule;
+use meta_names::unicode_property_names;
+use std::alloc::{AllocError, Global};
+
+/// Why rules are not run.
+#[derive(Debug, Drop)]
+pub enum Unfit {
+    /// Memory was wanting.
+    Memory,
+    /// A name is called that is neither a rule's nor a builtin's.
+    UnknownName(String),
+    /// A bound of a range is not one character.
+    Bound(String),
+}
+
+impl From<AllocError> for Unfit {
+    fn from(_error: AllocError) -> Unfit {
+        Unfit::Memory
+    }
+}
+
+/// The name of a class.
+fn name_of(class: Class) -> &'static str
+    ensures { chars result.now ≡ class_name class }
+{
+    match class {
+        Class::Any => "ANY",
+        Class::Digit => "ASCII_DIGIT",
+        Class::NonzeroDigit => "ASCII_NONZERO_DIGIT",
+        Class::BinDigit => "ASCII_BIN_DIGIT",
+        Class::OctDigit => "ASCII_OCT_DIGIT",
+        Class::HexDigit => "ASCII_HEX_DIGIT",
+        Class::AlphaLower => "ASCII_ALPHA_LOWER",
+        Class::AlphaUpper => "ASCII_ALPHA_UPPER",
+        Class::Alpha => "ASCII_ALPHA",
+        Class::Alphanumeric => "ASCII_ALPHANUMERIC",
+        Class::Ascii => "ASCII",
+    }
+}
+
+/// The class of a name.
+fn class_of(name: &str) -> Option<Class>
+    ensures { IfSome result (λ class. chars name.now ≡ class_name class) }
+{
+    for class in [
+        Class::Any,
+        Class::Digit,
+        Class::NonzeroDigit,
+        Class::BinDigit,
+        Class::OctDigit,
+        Class::HexDigit,
+        Class::AlphaLower,
+        Class::AlphaUpper,
+        Class::Alpha,
+        Class::Alphanumeric,
+        Class::Ascii,
+    ] {
+        if same(name, name_of(class)) {
+            return Some(class);
+        }
+    }
+    None
+}
+
+/// The one character of a text.
+fn single(text: &str) -> Option<char>
+    ensures { IfSome result (λ c. chars text.now ≡ c ∷ []) }
+{
+    let mut characters = text.chars();
+    let c = characters.next()?;
+    if characters.as_str().is_empty() {
+        Some(c)
+    } else {
+        None
+    }
+}
+
+/// The one character of a range's bound.
+pub(crate) fn bound(text: &String) -> Result<char, Unfit>
+    ensures { IfOk result (λ c. text_of text.now ≡ c ∷ []) }
+{
+    match single(text.as_str()) {
+        Some(c) => Ok(c),
+        None => Err(Unfit::Bound(text.clone()?)),
+    }
+}
+
+/// What the name of a builtin that matches no set of characters stands for.
+fn sign(name: &str) -> Option<Form>
+    ensures { IfSome result (λ form. (g : Grammar) (ps : List Property) → rule_of g (chars name.now) ≡ None
+        → Compiles g ps (Ident (chars name.now)) form) }
+{
+    if same(name, "SOI") {
+        Some(Form::Start)
+    } else if same(name, "EOI") {
+        Some(Form::End)
+    } else if same(name, "NEWLINE") {
+        Some(Form::Newline)
+    } else {
+        None
+    }
+}
+
+/// What the name of a builtin of the stack stands for.
+fn of_stack(name: &str) -> Option<Form>
+    ensures { IfSome result (λ form. (g : Grammar) (ps : List Property) → rule_of g (chars name.now) ≡ None
+        → Compiles g ps (Ident (chars name.now)) form) }
+{
+    if same(name, "PEEK") {
+        Some(Form::Peek)
+    } else if same(name, "POP") {
+        Some(Form::Pop)
+    } else if same(name, "DROP") {
+        Some(Form::Discard)
+    } else if same(name, "PEEK_ALL") {
+        Some(Form::PeekAll)
+    } else if same(name, "POP_ALL") {
+        Some(Form::PopAll)
+    } else {
+        None
+    }
+}
+
+/// Whether a name is a property's.
+fn is_property(name: &str) -> bool
+    ensures { result ≡ is_one_of property_names (chars name.now) }
+{
+    let names = unicode_property_names();
+    for property in names {
+        if same(property, name) {
+            return true;
+        }
+    }
+    false
+}
+
+/// The number of a property of a name.
+fn find_property(properties: &[Property], name: &str) -> Option<usize>
+    ensures { IfSome result (λ i. IsNumberOf properties.now (chars name.now) i) }
+{
+    for (number, property) in properties.iter().enumerate() {
+        if same(property.name.as_str(), name) {
+            return Some(number);
+        }
+    }
+    None
+}
+
+/// What a name stands for that is no rule's, or `None` where it stands for nothing.
+fn builtin(properties: &[Property], name: &String) -> Result<Option<Form>, AllocError>
+    ensures { IfOk result (λ found. IfSome found (λ form. (g : Grammar) → rule_of g (text_of name.now) ≡ None
+        → Compiles g properties.now (Ident (text_of name.now)) form)) }
+{
+    if let Some(class) = class_of(name.as_str()) {
+        return Ok(Some(Form::One(class)));
+    }
+    if let Some(form) = sign(name.as_str()) {
+        return Ok(Some(form));
+    }
+    if let Some(form) = of_stack(name.as_str()) {
+        return Ok(Some(form));
+    }
+    if !is_property(name.as_str()) {
+        return Ok(None);
+    }
+    match find_property(properties, name.as_str()) {
+        Some(number) => Ok(Some(Form::Property(name.clone()?, number))),
+        None => Ok(None),
+    }
+}
+
+/// What a name stands for: the last rule of that name, or else a builtin.
+pub(crate) fn named(
+    rules: &Indexed<'_>,
+    properties: &[Property],
+    name: &String,
+) -> Result<Form, Unfit>
+    requires { KnowsLast (optimized_rules_of rules.now.rules.now) rules.now.numbers }
+    ensures { IfOk result (Compiles (optimized_rules_of rules.now.rules.now) properties.now
+        (Ident (text_of name.now))) }
+{
+    match rules.number_of(name.as_str()) {
+        Some(number) => Ok(Form::Call(number)),
+        None => match builtin(properties, name)? {
+            Some(form) => Ok(form),
+            None => Err(Unfit::UnknownName(name.clone()?)),
+        },
+    }
+}
+
+/// Whether a name is one of the two that are skipped.
+fn is_blank(name: &str) -> bool
+    ensures { result ≡ (bytes_eq (chars name.now) whitespace || bytes_eq (chars name.now) comment) }
+{
+    if same(name, "WHITESPACE") {
+        true
+    } else {
+        same(name, "COMMENT")
+    }
+}
+
+/// The row of a rule.
+fn row_of(
+    alloc: Global,
+    rules: &Indexed<'_>,
+    properties: &[Property],
+    rule: &OptimizedRule,
+) -> Result<Row, Unfit>
+    requires { KnowsLast (optimized_rules_of rules.now.rules.now) rules.now.numbers }
+    ensures says { IfOk result (λ row. rule_of_row (names_in (optimized_rules_of rules.now.rules.now)) row
+        ≡ optimized_rule_of rule.now) }
+    ensures sound { IfOk result (IsRow (optimized_rules_of rules.now.rules.now)
+        (names_in (optimized_rules_of rules.now.rules.now)) properties.now) }
+{
+    let name = rule.name.clone()?;
+    let blank = is_blank(name.as_str());
+    let body = gathered(alloc, form_of(alloc, rules, properties, &rule.expr)?)?;
+    let firsts = firsts_of(alloc, &body)?;
+    Ok(Row {
+        name,
+        kind: rule.ty,
+        blank,
+        firsts,
+        body,
+    })
+}
+
+/// The rows of rules.
+fn rows_of(alloc: Global, rules: &Indexed<'_>, properties: &[Property]) -> Result<Vec<Row>, Unfit>
+    requires { KnowsLast (optimized_rules_of rules.now.rules.now) rules.now.numbers }
+    ensures sound { IfOk result (λ rows. (white note : Option ℕ)
+        → IsSkippedRule (optimized_rules_of rules.now.rules.now) whitespace white
+        → IsSkippedRule (optimized_rules_of rules.now.rules.now) comment note
+        → IsSound rows.items properties.now white note) }
+    ensures means { IfOk result (λ rows. grammar_of rows.items ≡ optimized_rules_of rules.now.rules.now) }
+{
+    let mut rows = Vec::new(alloc);
+    for rule in rules.rules {
+        let row = row_of(alloc, rules, properties, rule)?;
+        if rows.push(row).is_err() {
+            return Err(Unfit::Memory);
+        }
+    }
+    Ok(rows)
+}
+
+/// The rules as they are run, with the sets of the property names that they name.
+pub fn program_of<P: Properties>(
+    alloc: Global,
+    rules: &[OptimizedRule],
+    properties: &P,
+) -> Result<Program, Unfit>
+    ensures sound { IfOk result (λ program.
+        IsSound program.rows.items program.properties.items program.whitespace program.comment) }
+    ensures means { IfOk result (λ program. grammar_of program.rows.items ≡ optimized_rules_of rules.now) }
+    ensures fits { IfOk result (λ program. Fits program.properties.items P.classes) }
+{
+    let properties = properties_in(alloc, rules, properties)?;
+    let rules = numbered(alloc, rules)?;
+    let rows = rows_of(alloc, &rules, &properties)?;
+    let whitespace = rules.number_of("WHITESPACE");
+    let comment = rules.number_of("COMMENT");
+    Ok(Program {
+        rows,
+        properties,
+        whitespace,
+        comment,
+    })
+}

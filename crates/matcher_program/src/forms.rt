@@ -1,0 +1,173 @@
+//! The forms of expressions. They are made by a loop with a list of what stands around an operand, so no
+//! nesting of a grammar takes the machine's stack.
+ghost use Rattle.std.specs.Prelude.{◌≡◌, ◌<◌, ◌≤◌, ◌*◌, IfOk, List};
+ghost use Rattle.meta_base.specs.Language.Expression.{Expression, Grammar};
+ghost use Rattle.meta_base.specs.Language.Text.{Text};
+ghost use Rattle.meta_ast.specs.Optimized.{optimized_expression_of, optimized_rules_of};
+ghost use Rattle.meta_ast.specs.Weight.{weight};
+ghost use Rattle.matcher_program.specs.Compiled.{Compiles, names_in};
+ghost use Rattle.matcher_program.specs.Forming.{IsReady, IsSoundStep, comes_of, effort, waits_of, with_operand};
+ghost use Rattle.matcher_program.specs.Indexed.{KnowsLast};
+ghost use Rattle.matcher_program.specs.Programs.{IsBound, expression_of};
+ghost use Rattle.matcher_program.specs.declared.form.Property.{Property};
+
+use crate::compile::{Unfit, bound, named};
+use crate::form::{Form, Property};
+use crate::indexed::Indexed;
+use crate::sets::{gathered, stops_of};
+use meta_ast::deep::Deep;
+use meta_ast::optimized::OptimizedExpr;
+use meta_ast::rebuilt::Step;
+use meta_ast::texts::copy_texts;
+use std::alloc::Global;
+
+/// What an operand stands under while its form is made.
+#[derive(Drop)]
+pub enum Around<'e> {
+    PosPred,
+    NegPred,
+    Opt,
+    Rep,
+    RepOnce,
+    Push,
+    Restore,
+    Tag(String),
+    /// A `~` whose left side is at hand, and the right one.
+    FirstOfSeq(&'e Box<OptimizedExpr>),
+    /// The same of a `|`.
+    FirstOfChoice(&'e Box<OptimizedExpr>),
+    /// A `~` whose right side is at hand, and the form of the left one.
+    SecondOfSeq(Deep<Box<Form>>),
+    /// The same of a `|`.
+    SecondOfChoice(Deep<Box<Form>>),
+}
+
+/// The form of an expression without operands; else its first operand, and what it stands under.
+fn begun<'e>(
+    alloc: Global,
+    rules: &Indexed<'_>,
+    properties: &[Property],
+    expr: &'e OptimizedExpr,
+) -> Result<Step<&'e OptimizedExpr, Around<'e>, Form>, Unfit>
+    requires { KnowsLast (optimized_rules_of rules.now.rules.now) rules.now.numbers }
+    ensures says { IfOk result (λ step. comes_of (names_in (optimized_rules_of rules.now.rules.now)) step
+        ≡ optimized_expression_of expr.entry.now) }
+    ensures work { IfOk result (λ step. effort step ≤ 4 * weight (optimized_expression_of expr.entry.now)) }
+    ensures sound { IfOk result (IsSoundStep (optimized_rules_of rules.now.rules.now) properties.now) }
+{
+    use OptimizedExpr as E;
+    let (around, operand) = match expr {
+        E::Str(text) => return Ok(Step::Made(Form::Str(text.clone()?))),
+        E::Insens(text) => return Ok(Step::Made(Form::Insens(text.clone()?))),
+        E::Range(low, high) => return Ok(Step::Made(Form::Range(bound(low)?, bound(high)?))),
+        E::Ident(name) => return Ok(Step::Made(named(rules, properties, name)?)),
+        E::PeekSlice(start, end) => return Ok(Step::Made(Form::PeekSlice(*start, *end))),
+        E::Skip(texts) => {
+            let texts = copy_texts(texts)?;
+            let stops = stops_of(alloc, &texts)?;
+            return Ok(Step::Made(Form::Skip(texts, stops)));
+        }
+        E::PushLiteral(text) => return Ok(Step::Made(Form::PushLiteral(text.clone()?))),
+        E::PosPred(inner) => (Around::PosPred, inner),
+        E::NegPred(inner) => (Around::NegPred, inner),
+        E::Opt(inner) => (Around::Opt, inner),
+        E::Rep(inner) => (Around::Rep, inner),
+        E::RepOnce(inner) => (Around::RepOnce, inner),
+        E::Push(inner) => (Around::Push, inner),
+        E::RestoreOnErr(inner) => (Around::Restore, inner),
+        E::NodeTag(inner, tag) => (Around::Tag(tag.clone()?), inner),
+        E::Seq(left, right) => (Around::FirstOfSeq(right), left),
+        E::Choice(left, right) => (Around::FirstOfChoice(right), left),
+    };
+    Ok(Step::Inside(around, operand))
+}
+
+/// An operand's form in a box: a set where it is one, but in a choice, which may be one as a whole.
+fn in_place(alloc: Global, around: &Around<'_>, form: Form) -> Result<Deep<Box<Form>>, Unfit>
+    ensures { IfOk result (λ made. (g : Grammar) (ps : List Property) (e : Expression)
+        → Compiles g ps e form → Compiles g ps e made.value.value) }
+{
+    match around {
+        Around::FirstOfChoice(_) | Around::SecondOfChoice(_) => {
+            Ok(Deep { value: form }.boxed(alloc)?)
+        }
+        _ => {
+            let value = gathered(alloc, form)?;
+            Ok(Deep { value }.boxed(alloc)?)
+        }
+    }
+}
+
+/// The form of the whole, once that of its last operand is at hand; else the next operand.
+fn closed<'e>(
+    around: Around<'e>,
+    form: Deep<Box<Form>>,
+) -> Step<&'e OptimizedExpr, Around<'e>, Form>
+    ensures says { (names : List Text) → comes_of names result
+        ≡ with_operand names around.entry (expression_of names form.value.value) }
+    ensures work { effort result < waits_of around.entry }
+    ensures sound { (g : Grammar) (ps : List Property) → IsReady g ps around.entry
+        → IsBound g (names_in g) ps form.value.value → IsSoundStep g ps result }
+{
+    match around {
+        Around::FirstOfSeq(right) => Step::Inside(Around::SecondOfSeq(form), right),
+        Around::FirstOfChoice(right) => Step::Inside(Around::SecondOfChoice(form), right),
+        Around::PosPred => Step::Made(Form::PosPred(form.into_inner())),
+        Around::NegPred => Step::Made(Form::NegPred(form.into_inner())),
+        Around::Opt => Step::Made(Form::Opt(form.into_inner())),
+        Around::Rep => Step::Made(Form::Rep(form.into_inner())),
+        Around::RepOnce => Step::Made(Form::RepOnce(form.into_inner())),
+        Around::Push => Step::Made(Form::Push(form.into_inner())),
+        Around::Restore => Step::Made(Form::Restore(form.into_inner())),
+        Around::Tag(tag) => Step::Made(Form::Tag(form.into_inner(), tag)),
+        Around::SecondOfSeq(left) => { Step::Made(Form::Seq(left.into_inner(), form.into_inner())) }
+        Around::SecondOfChoice(left) => {
+            Step::Made(Form::Choice(left.into_inner(), form.into_inner()))
+        }
+    }
+}
+
+/// The form of the whole, once its last operand has a form; else the next operand.
+fn ended<'e>(
+    alloc: Global,
+    around: Around<'e>,
+    operand: Form,
+) -> Result<Step<&'e OptimizedExpr, Around<'e>, Form>, Unfit>
+    ensures says { IfOk result (λ step. (g : Grammar) (ps : List Property)
+        → IsBound g (names_in g) ps operand → comes_of (names_in g) step
+        ≡ with_operand (names_in g) around.entry (expression_of (names_in g) operand)) }
+    ensures work { IfOk result (λ step. effort step < waits_of around.entry) }
+    ensures sound { IfOk result (λ step. (g : Grammar) (ps : List Property) → IsReady g ps around.entry
+        → IsBound g (names_in g) ps operand → IsSoundStep g ps step) }
+{
+    let form = in_place(alloc, &around, operand)?;
+    Ok(closed(around, form))
+}
+
+/// The form of an expression. Refused for want of memory, for a name that means nothing, and for a bound of a
+/// range that is not one character.
+pub(crate) fn form_of(
+    alloc: Global,
+    rules: &Indexed<'_>,
+    properties: &[Property],
+    expr: &OptimizedExpr,
+) -> Result<Form, Unfit>
+    requires { KnowsLast (optimized_rules_of rules.now.rules.now) rules.now.numbers }
+    ensures { IfOk result (Compiles (optimized_rules_of rules.now.rules.now) properties.now
+        (optimized_expression_of expr.now)) }
+{
+    let mut outside = Vec::new(alloc);
+    let mut step = begun(alloc, rules, properties, expr)?;
+    'steps: loop {
+        match step {
+            Step::Inside(around, operand) => match outside.push(around) {
+                Ok(()) => step = begun(alloc, rules, properties, operand)?,
+                Err(_) => return Err(Unfit::Memory),
+            },
+            Step::Made(form) => match outside.pop() {
+                Some(around) => step = ended(alloc, around, form)?,
+                None => return Ok(form),
+            },
+        }
+    }
+}

@@ -1,0 +1,149 @@
+//! The sets of characters of property names.
+ghost use Rattle.std.specs.Prelude.{◌≡◌, ◌<◌, ◌+◌, ℕ, Bool, false, IfOk, IfSome, OnOk, chars};
+ghost use Rattle.meta_ast.specs.Optimized.{optimized_expression_of};
+ghost use Rattle.meta_ast.specs.Weight.{weight};
+ghost use Rattle.meta_base.specs.Language.Text.{Text};
+ghost use Rattle.matcher_program.specs.Forming.{heft};
+ghost use Rattle.matcher_program.specs.Programs.{Fits, is_in_ranges};
+
+use crate::form::Property;
+use meta_ast::optimized::{OptimizedExpr, OptimizedRule};
+use std::alloc::{AllocError, Global};
+
+/// What the names of Unicode's properties stand for.
+pub trait Properties {
+    /// The set of each name.
+    ghost classes: { Text → ℕ → Bool };
+
+    /// The set of a name as ranges of code points, both ends among them, or `None` where it is not known.
+    /// The only fault is a want of memory.
+    fn ranges(&self, alloc: Global, name: &str) -> Result<Option<Vec<(u32, u32)>>, AllocError>
+        ensures { IfOk result (λ found. IfSome found (λ ranges. (c : ℕ) → c < 1114112
+            → is_in_ranges ranges.items c ≡ classes (chars name.now) c)) };
+}
+
+/// No property is known: rules that name one are refused.
+#[derive(Clone, Copy, Debug)]
+pub struct NoProperties;
+
+impl Properties for NoProperties {
+    ghost classes = { λ n c. false };
+
+    fn ranges(&self, _alloc: Global, _name: &str) -> Result<Option<Vec<(u32, u32)>>, AllocError> {
+        Ok(None)
+    }
+}
+
+/// Puts two operands on a list, the left one on top.
+#[tactic(auto, using(crate::proofs::Forming::heavier))]
+fn put_both<'a>(
+    waiting: &mut Vec<&'a OptimizedExpr>,
+    left: &'a OptimizedExpr,
+    right: &'a OptimizedExpr,
+) -> Result<(), AllocError>
+    ensures { OnOk result (heft waiting.new.items ≡ heft waiting.old.items
+        + (weight (optimized_expression_of left.entry.now)
+        + weight (optimized_expression_of right.entry.now))) }
+{
+    waiting.push(right)?;
+    waiting.push(left)?;
+    Ok(())
+}
+
+/// Puts the operands of an expression on a list.
+#[tactic(auto, using(crate::proofs::Forming::heavier))]
+fn put_operands<'a>(
+    waiting: &mut Vec<&'a OptimizedExpr>,
+    expr: &'a OptimizedExpr,
+) -> Result<(), AllocError>
+    ensures { OnOk result (heft waiting.new.items
+        < heft waiting.old.items + weight (optimized_expression_of expr.entry.now)) }
+{
+    match expr {
+        OptimizedExpr::Str(_)
+        | OptimizedExpr::Insens(_)
+        | OptimizedExpr::Range(_, _)
+        | OptimizedExpr::Ident(_)
+        | OptimizedExpr::PeekSlice(_, _)
+        | OptimizedExpr::Skip(_)
+        | OptimizedExpr::PushLiteral(_) => {}
+        OptimizedExpr::Seq(left, right) | OptimizedExpr::Choice(left, right) => {
+            put_both(waiting, left, right)?;
+        }
+        OptimizedExpr::NodeTag(inner, _) => waiting.push(inner)?,
+        OptimizedExpr::PosPred(inner)
+        | OptimizedExpr::NegPred(inner)
+        | OptimizedExpr::Opt(inner)
+        | OptimizedExpr::Rep(inner)
+        | OptimizedExpr::RepOnce(inner)
+        | OptimizedExpr::Push(inner)
+        | OptimizedExpr::RestoreOnErr(inner) => waiting.push(inner)?,
+    }
+    Ok(())
+}
+
+/// Adds the names that an expression calls, by a loop.
+#[tactic(auto, using(crate::proofs::Forming::heavier))]
+fn add_names<'a>(
+    alloc: Global,
+    names: &mut Vec<&'a str>,
+    expr: &'a OptimizedExpr,
+) -> Result<(), AllocError> {
+    let mut waiting = Vec::new(alloc);
+    waiting.push(expr)?;
+    'parts: while let Some(part) = waiting.pop() {
+        if let OptimizedExpr::Ident(name) = part {
+            names.push(name.as_str())?;
+        }
+        put_operands(&mut waiting, part)?;
+    }
+    Ok(())
+}
+
+/// Whether a property of a name is there.
+fn is_there(properties: &[Property], name: &str) -> bool {
+    properties
+        .iter()
+        .any(|property| property.name.as_str() == name)
+}
+
+/// Adds the property of a name, where it is known and not there yet.
+fn add_property<P: Properties>(
+    alloc: Global,
+    found: &mut Vec<Property>,
+    properties: &P,
+    name: &str,
+) -> Result<(), AllocError>
+    requires fits { Fits found.old.items P.classes }
+    ensures fits { Fits found.new.items P.classes }
+{
+    if is_there(found, name) {
+        return Ok(());
+    }
+    match properties.ranges(alloc, name)? {
+        Some(ranges) => {
+            let name = String::from_str(alloc, name)?;
+            Ok(found.push(Property { name, ranges })?)
+        }
+        None => Ok(()),
+    }
+}
+
+/// The properties that rules name, each once, as far as they are known.
+pub(crate) fn properties_in<P: Properties>(
+    alloc: Global,
+    rules: &[OptimizedRule],
+    properties: &P,
+) -> Result<Vec<Property>, AllocError>
+    ensures fits { IfOk result (λ found. Fits found.items P.classes) }
+{
+    let mut names = Vec::new(alloc);
+    for rule in rules {
+        add_names(alloc, &mut names, &rule.expr)?;
+    }
+    let mut found = Vec::new(alloc);
+    for name in &names {
+        add_property(alloc, &mut found, properties, name)?;
+    }
+    Ok(found)
+}

@@ -1,0 +1,279 @@
+//! Forms that match one character of a set.
+ghost use Rattle.std.specs.Prelude.{◌≡◌, ◌==◌, ◌<◌, ◌∷◌, ℕ, List, IfOk, chars, false, get_or, length, map, nat_eq, true};
+ghost use Rattle.meta_ast.specs.Ast.{text_of};
+ghost use Rattle.meta_base.specs.Language.Expression.{Expression, Grammar};
+ghost use Rattle.meta_base.specs.Language.Matching.{any_begins, begins, character_outcome, starts_in};
+ghost use Rattle.meta_base.specs.Language.State.{moved};
+ghost use Rattle.meta_base.specs.Language.Text.{Text};
+ghost use Rattle.matcher_program.specs.declared.form.Property.{Property};
+ghost use Rattle.matcher_program.specs.Compiled.{Compiles};
+ghost use Rattle.matcher_program.specs.Programs.{AreStops, IsBarred, IsSetOf, characters_of, is_one, is_set, may_begin, may_start};
+ghost use Rattle.matcher_program.specs.Rests.{GoesOn, IsLeft, Progress, leaving, span, standing};
+
+use crate::form::Form;
+use crate::leaves::is_in;
+use std::alloc::{AllocError, Global};
+
+/// Flags tell of so many characters, which are those of ASCII.
+const FLAGS: u8 = 128;
+
+/// How many levels of a body are looked at for the characters with which it may begin: alternatives count
+/// one each.
+const LEVELS: u8 = 200;
+
+/// Whether a text is one character.
+fn is_single(text: &str) -> bool
+    ensures { result ≡ true → (length (chars text.now) == 1) ≡ true }
+{
+    let mut characters = text.chars();
+    match characters.next() {
+        Some(_) => characters.as_str().is_empty(),
+        None => false,
+    }
+}
+
+/// Whether a text begins with a character.
+fn begins_with(text: &str, c: char) -> bool
+    ensures { result ≡ starts_in (λ d. nat_eq d c) (chars text.now) }
+{
+    match text.chars().next() {
+        Some(first) => first == c,
+        None => false,
+    }
+}
+
+/// Whether a form matches one character and no more, and is no choice.
+fn is_one(form: &Form) -> bool
+    ensures { result ≡ true → is_one form.now ≡ true }
+{
+    match form {
+        Form::Str(text) => is_single(text.as_str()),
+        Form::Range(_, _) | Form::One(_) => true,
+        _ => false,
+    }
+}
+
+/// Whether a form matches one character and no more. No choice takes the machine's stack, however wide.
+fn is_set(form: &Form) -> bool
+    ensures { result ≡ true → is_set form.now ≡ true }
+{
+    let mut rest = form;
+    'alternatives: while let Form::Choice(left, right) = rest {
+        if !is_one(left) {
+            return false;
+        }
+        rest = right;
+    }
+    is_one(rest)
+}
+
+/// Whether a form that matches one character, and is no choice, matches this one.
+fn has_here(form: &Form, c: char) -> bool
+    requires { is_one form.now ≡ true }
+    ensures { result ≡ characters_of form.now c }
+{
+    match form {
+        Form::Str(text) => begins_with(text.as_str(), c),
+        Form::Range(low, high) => *low <= c && c <= *high,
+        Form::One(class) => is_in(*class, c),
+        _ => false,
+    }
+}
+
+/// Whether a form that matches one character matches this one.
+fn matches_one(form: &Form, c: char) -> bool
+    requires { is_set form.now ≡ true }
+    ensures { result ≡ characters_of form.now c }
+{
+    let mut rest = form;
+    'alternatives: while let Form::Choice(left, right) = rest {
+        if has_here(left, c) {
+            return true;
+        }
+        rest = right;
+    }
+    has_here(rest, c)
+}
+
+/// Flags that tell of the first characters by number whether a form matches them.
+fn flags_of(alloc: Global, form: &Form) -> Result<Vec<bool>, AllocError>
+    requires { is_set form.now ≡ true }
+    ensures { IfOk result (λ flags. IsSetOf flags.items form.now) }
+{
+    let mut flags = Vec::new(alloc);
+    for number in 0..FLAGS {
+        flags.push(matches_one(form, number as char))?;
+    }
+    Ok(flags)
+}
+
+/// Whether a text may begin with a character, whatever stands behind it.
+fn may_start(text: &str, c: char) -> bool
+    ensures { result ≡ may_start (chars text.now) c }
+{
+    match text.chars().next() {
+        Some(first) => first == c,
+        None => true,
+    }
+}
+
+/// Whether one of some texts may begin with a character.
+#[tactic(auto, using(crate::proofs::TextLemmas::not_begun))]
+fn any_may_begin_with(texts: &Vec<String>, c: char) -> bool
+    ensures { result ≡ false → (u : Text) → any_begins (map text_of texts.now.items) (c ∷ u) ≡ false }
+{
+    for text in texts {
+        if may_start(text.as_str(), c) {
+            return true;
+        }
+    }
+    false
+}
+
+/// Flags that tell of the first characters by number whether one of some texts may begin with them.
+pub(crate) fn stops_of(alloc: Global, texts: &Vec<String>) -> Result<Vec<bool>, AllocError>
+    ensures { IfOk result (λ flags. AreStops flags.items (map text_of texts.now.items)) }
+{
+    let mut flags = Vec::new(alloc);
+    for number in 0..FLAGS {
+        flags.push(any_may_begin_with(texts, number as char))?;
+    }
+    Ok(flags)
+}
+
+/// Whether a form that matches one character, if it does, matches this one; where it is of another kind it
+/// may.
+fn may_match(form: &Form, c: char) -> bool
+    ensures { result ≡ false → characters_of form.now c ≡ false }
+{
+    if is_set(form) {
+        matches_one(form, c)
+    } else {
+        true
+    }
+}
+
+/// Whether a form may begin with a character, as far as that is seen from so many levels. Where not, it fails
+/// at once, and calls no rule before.
+#[cycle(may_begin)]
+fn may_begin(form: &Form, c: char, levels: u8) -> bool
+    ensures { result ≡ false → may_begin form.now c ≡ false }
+{
+    if levels == 0 {
+        return true;
+    }
+    match form {
+        Form::Str(text) => may_start(text.as_str(), c),
+        Form::Range(low, high) => *low <= c && c <= *high,
+        Form::One(class) => is_in(*class, c),
+        Form::Set(_, inner) => may_match(inner, c),
+        Form::Choice(left, right) => {
+            may_begin(left, c, levels - 1) || may_begin(right, c, levels - 1)
+        }
+        Form::Seq(inner, _)
+        | Form::PosPred(inner)
+        | Form::RepOnce(inner)
+        | Form::Push(inner)
+        | Form::Tag(inner, _)
+        | Form::Restore(inner) => may_begin(inner, c, levels - 1),
+        _ => true,
+    }
+}
+
+/// Flags that tell of the first characters by number whether a form may begin with them.
+pub(crate) fn firsts_of(alloc: Global, form: &Form) -> Result<Vec<bool>, AllocError>
+    ensures { IfOk result (λ flags. (c : ℕ) → c < length flags.items
+        → get_or flags.items c true ≡ false → may_begin form.now c ≡ false) }
+{
+    let mut flags = Vec::new(alloc);
+    for number in 0..FLAGS {
+        flags.push(may_begin(form, number as char, LEVELS))?;
+    }
+    Ok(flags)
+}
+
+/// Whether it is told that what is left begins with none of some first characters.
+#[inline(always)]
+pub fn is_barred(firsts: &Vec<bool>, rest: &str) -> bool
+    ensures { result ≡ true → IsBarred firsts.now.items (chars rest.now) }
+{
+    match rest.chars().next() {
+        Some(c) => match firsts.get(c as usize) {
+            Some(may) => !*may,
+            None => false,
+        },
+        None => false,
+    }
+}
+
+/// The form of a set, where a form matches one character and no more, and else the form itself.
+pub(crate) fn gathered(alloc: Global, form: Form) -> Result<Form, AllocError>
+    ensures { IfOk result (λ made. (g : Grammar) (ps : List Property) (e : Expression)
+        → Compiles g ps e form → Compiles g ps e made) }
+{
+    if !is_set(&form) {
+        return Ok(form);
+    }
+    let flags = flags_of(alloc, &form)?;
+    Ok(Form::Set(flags, Box::new(alloc, form)?))
+}
+
+/// Whether a character is in a set.
+#[inline(always)]
+fn has(flags: &Vec<bool>, form: &Form, c: char) -> bool
+    requires { IsSetOf flags.now.items form.now }
+    ensures { result ≡ characters_of form.now c }
+{
+    match flags.get(c as usize) {
+        Some(is) => *is,
+        None => matches_one(form, c),
+    }
+}
+
+/// Matches one character of a set.
+#[inline(always)]
+pub fn one_of<'i>(flags: &Vec<bool>, form: &Form, rest: &'i str) -> Option<&'i str>
+    requires { IsSetOf flags.now.items form.now }
+    ensures goes_on { (whole : List ℕ) → IsLeft whole rest.entry.now
+        → Progress whole rest.entry.now result }
+    ensures means { (whole : List ℕ) (ts : List Text) → IsLeft whole rest.entry.now
+        → leaving whole ts result
+        ≡ character_outcome (characters_of form.now) (standing whole rest.entry.now ts) }
+{
+    let mut characters = rest.chars();
+    match characters.next() {
+        Some(c) => {
+            if has(flags, form, c) {
+                Some(characters.as_str())
+            } else {
+                None
+            }
+        }
+        None => None,
+    }
+}
+
+/// Goes past all characters of a set that stand here.
+pub fn past_all<'i>(flags: &Vec<bool>, form: &Form, from: &'i str) -> &'i str
+    requires { IsSetOf flags.now.items form.now }
+    ensures goes_on { (whole : List ℕ) → IsLeft whole from.entry.now
+        → GoesOn whole from.entry.now result.now }
+    ensures means { (whole : List ℕ) (ts : List Text) → IsLeft whole from.entry.now
+        → standing whole result.now ts
+        ≡ moved (span (characters_of form.now) (chars from.entry.now)) (standing whole from.entry.now ts) }
+{
+    let mut rest = from;
+    loop {
+        let mut characters = rest.chars();
+        match characters.next() {
+            Some(c) => {
+                if has(flags, form, c) {
+                    rest = characters.as_str();
+                } else {
+                    return rest;
+                }
+            }
+            None => return rest,
+        }
+    }
+}

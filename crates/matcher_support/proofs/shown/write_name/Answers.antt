@@ -1,0 +1,6 @@
+use Rattle.std.proofs.Common.{rules}
+use Rattle.std.proofs.lemmas.Str.{encodes-chars}
+use Rattle.matcher_support.proofs.shown.write_name.Goals as goal
+
+pub returns : goal.returns
+returns c = rw (encodes-chars c.args.rule.now c.utf8.rule) (search rules)

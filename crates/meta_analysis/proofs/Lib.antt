@@ -1,0 +1,11 @@
+pub mod NameLemmas
+pub mod Resolved
+pub mod LastNames
+pub mod Numbered
+pub mod LayoutLemmas
+pub mod RootLemmas
+pub mod RuleNumbers
+pub mod NameKindLemmas
+pub mod Tying
+pub mod Roots
+pub mod Answering

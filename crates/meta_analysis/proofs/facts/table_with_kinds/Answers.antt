@@ -1,0 +1,14 @@
+use Rattle.std.proofs.Common.{sym, subst}
+use Rattle.meta_analysis.specs.Nodes.{all_nodes}
+use Rattle.meta_analysis.specs.Roots.{AreRoots}
+use Rattle.meta_analysis.specs.Shapes as shapes
+use Rattle.meta_analysis.proofs.facts.table_with_kinds.Goals as goal
+
+pub returns : goal.returns
+returns c =
+    let rs = c.args.rules.now in
+    let nodes = subst (shapes.AreNodes (all_nodes rs)) (sym c.as_slice.ensures.value) c.requires.tabled.numbered.nodes in
+    record {
+      nodes = c.in_ok-kinds.ensures (all_nodes rs) nodes;
+      roots = subst (AreRoots rs (all_nodes rs)) (sym c.in_ok-roots.ensures) c.requires.tabled.roots;
+    }

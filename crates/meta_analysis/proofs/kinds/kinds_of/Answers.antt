@@ -1,0 +1,19 @@
+use Rattle.std.proofs.Common.{◌∙◌, ◌≤◌, ap, map, length, rules}
+use Rattle.std.proofs.lemmas.List.{take_all}
+use Rattle.meta_analysis.specs.Names.{grammar_of}
+use Rattle.meta_analysis.proofs.Numbered.{mapped_more}
+use Rattle.meta_analysis.specs.NameKinds.{kind_in}
+use Rattle.meta_analysis.proofs.Tying.{kind_at, with_kinds}
+use Rattle.meta_analysis.proofs.kinds.kinds_of.Goals as goal
+
+pub loop-place-preserved : goal.loop-place-preserved
+loop-place-preserved c =
+    let f = kind_at (kind_in (grammar_of c.args.rules.now)) in
+    mapped_more f c.args.nodes.now c.loop-place.place c.index-nodes-place.result c.loop-place.kinds.items c.push.new.self.items c.kind_of_shape.result c.loop-place-test.true c.in_ok-push.ensures.items
+    (c.kind_of_shape.ensures ∙ ap f c.index-nodes-place.is) c.loop-place.invariant
+
+pub returns : goal.returns
+returns c = λ all h.
+    let names = kind_in (grammar_of c.args.rules.now) in
+    let done : length c.args.nodes.now ≤ c.loop-place.place = search rules in
+    with_kinds names all c.args.nodes.now c.loop-place.kinds.items h (c.loop-place.invariant ∙ ap (map (kind_at names)) (take_all c.loop-place.place c.args.nodes.now done))

@@ -1,0 +1,13 @@
+pub mod Names
+pub mod NameMaps
+pub mod Nodes
+pub mod NamedPlaces
+pub mod Shapes
+pub mod Layout
+pub mod Roots
+pub mod NameKinds
+pub mod Kinds
+pub mod KindTable
+pub mod RightAnswers
+pub mod Facts
+pub mod Groundwork

@@ -1,0 +1,19 @@
+-- Answers to a question for each node of a table.
+use Rattle.std.specs.Prelude.{ℕ, List, Bool}
+use Rattle.meta_fixpoint.specs.Least as least
+use Rattle.meta_fixpoint.specs.Least.{Follows}
+use Rattle.meta_analysis.specs.KindTable.{fires}
+use Rattle.meta_analysis.specs.declared.kind_table.Question.{Question}
+use Rattle.meta_analysis.specs.declared.kind_table.KindTable.{KindTable}
+
+-- the answer for a node is yes
+abbrev pub Holds : Question → KindTable → ℕ → Type 0
+Holds q t = Follows (fires q t.roots.items) t.kinds.items
+
+-- as many answers as nodes, and each is right
+abbrev pub AreSound : Question → KindTable → List Bool → Type 0
+AreSound q t = least.AreSound (fires q t.roots.items) t.kinds.items
+
+-- a node whose answer is yes by those of others is answered so
+abbrev pub AreClosed : Question → KindTable → List Bool → Type 0
+AreClosed q t = least.AreClosed (fires q t.roots.items) t.kinds.items

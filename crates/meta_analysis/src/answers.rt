@@ -1,0 +1,85 @@
+//! Which nodes answer a question with yes: the least flags that follow from one another.
+ghost use Rattle.std.specs.Prelude.{◌≡◌, ℕ, Bool, IfOk};
+ghost use Rattle.meta_analysis.specs.RightAnswers.{AreSound, AreClosed};
+ghost use Rattle.meta_analysis.specs.KindTable.{AgreeAt, fires};
+ghost use Rattle.meta_analysis.specs.declared.kind_table.Question.{Question};
+
+use crate::kind_table::{Kind, KindTable, Question};
+use meta_fixpoint::{Inference, Listeners, Listening, Told, least_flags};
+use std::alloc::{AllocError, Global};
+
+/// The nodes on which the answers for a node depend, two at most: for any other the answers may change.
+pub fn listened_to(table: &KindTable, kind: Kind) -> (Option<usize>, Option<usize>)
+    ensures { (q : Question) (p r : ℕ → Bool) → AgreeAt p r result.0 → AgreeAt p r result.1
+        → fires q table.now.roots.items p kind ≡ fires q table.now.roots.items r kind }
+{
+    match kind {
+        Kind::Taking | Kind::Still | Kind::End => (None, None),
+        Kind::Call(rule) | Kind::EndCall(rule) => (table.roots.get(rule).copied(), None),
+        Kind::Ahead(body)
+        | Kind::NotAhead(body)
+        | Kind::Free(body)
+        | Kind::Inside(body)
+        | Kind::Again(body)
+        | Kind::OnceAgain(body) => (Some(body), None),
+        Kind::Seq(first, second) | Kind::Choice(first, second) => (Some(first), Some(second)),
+    }
+}
+
+impl Listening for KindTable {
+    fn count(&self) -> usize {
+        self.kinds.len()
+    }
+
+    fn tell<T: Told>(&self, node: usize, told: &mut T) {
+        if let Some(kind) = self.kinds.get(node) {
+            let (first, second) = listened_to(self, *kind);
+            if let Some(first) = first {
+                told.listens_to(first);
+            }
+            if let Some(second) = second {
+                told.listens_to(second);
+            }
+        }
+    }
+}
+
+/// A question about the nodes of a table.
+#[derive(Clone, Copy)]
+struct Asked<'a> {
+    question: Question,
+    table: &'a KindTable,
+}
+
+impl<'a> Inference for Asked<'a> {
+    ghost use Rattle.meta_analysis.specs.KindTable.{fires};
+
+    type Item = Kind;
+
+    ghost items = { λ asked. asked.table.now.kinds.items };
+
+    ghost infers = { λ asked. fires asked.question asked.table.now.roots.items };
+
+    fn count(&self) -> usize {
+        self.table.kinds.len()
+    }
+
+    fn infers(&self, answers: &[bool], node: usize) -> bool {
+        self.table
+            .fires(self.question, answers, self.table.kind_at(node))
+    }
+}
+
+/// Which nodes answer a question with yes: the least flags that follow from one another. The only fault is a
+/// want of memory.
+pub fn answers_to(
+    alloc: Global,
+    table: &KindTable,
+    listeners: &Listeners,
+    question: Question,
+) -> Result<Vec<bool>, AllocError>
+    ensures sound { IfOk result (λ answers. AreSound question table.now answers.items) }
+    ensures closed { IfOk result (λ answers. AreClosed question table.now answers.items) }
+{
+    least_flags(alloc, &Asked { question, table }, listeners)
+}

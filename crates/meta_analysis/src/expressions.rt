@@ -1,0 +1,48 @@
+//! The answer for one expression.
+ghost use Rattle.std.specs.Prelude.{IfOk};
+ghost use Rattle.std.specs.Bool.{Decides};
+ghost use Rattle.meta_spanned.specs.Erasure.{without_spans};
+ghost use Rattle.meta_spanned.specs.Nodes.{unplaced};
+ghost use Rattle.meta_analysis.specs.Facts.{Asked};
+ghost use Rattle.meta_analysis.specs.Names.{grammar_of};
+
+use crate::answers::answers_to;
+use crate::kind_table::{KindTable, Question};
+use crate::kinds::kinds_of;
+use crate::names::names_of;
+use crate::table::{Unnumbered, number, tabulated};
+use meta_base::runtime::Span;
+use meta_fixpoint::{is_set, who_listens};
+use meta_spanned::{ParserExpr, ParserRule};
+use std::alloc::{AllocError, Global};
+
+/// The answer for an expression, where its names mean these rules (the last of a name): its nodes are put
+/// behind those of the rules, and then asked. The only fault is a want of memory.
+pub fn answer_for<'i>(
+    alloc: Global,
+    expr: &ParserExpr<'i>,
+    rules: &[ParserRule<'i>],
+    question: Question,
+) -> Result<bool, AllocError>
+    ensures { IfOk result (λ yes. Decides yes
+        (Asked question (grammar_of rules.now) (without_spans (unplaced expr.now)))) }
+{
+    let nowhere = Span::of("", 0, 0);
+    let names = names_of(alloc, rules)?;
+    let mut nodes = tabulated(alloc, rules)?;
+    let own = number(
+        &mut Unnumbered::new(alloc),
+        rules.len(),
+        expr,
+        &nowhere,
+        &mut nodes.nodes,
+    )?;
+    let table = KindTable {
+        kinds: kinds_of(alloc, rules, &names, nodes.nodes.as_slice())?,
+        roots: nodes.roots,
+    };
+    let listeners = who_listens(alloc, &table)?;
+    let answers = answers_to(alloc, &table, &listeners, question)?;
+    let answer = is_set(answers.as_slice(), own);
+    Ok(answer)
+}

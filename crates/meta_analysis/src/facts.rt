@@ -1,0 +1,73 @@
+//! What is known of the nodes of all rules.
+ghost use Rattle.std.specs.Prelude.{◌≡◌, IfOk};
+ghost use Rattle.meta_analysis.specs.NameMaps.{KnowsRules};
+ghost use Rattle.meta_analysis.specs.Roots.{IsTabled};
+ghost use Rattle.meta_analysis.specs.Facts.{AreFacts, AreTabled};
+
+use crate::answers::answers_to;
+use crate::kind_table::{KindTable, Question};
+use crate::kinds::kinds_of;
+use crate::names::Names;
+use crate::table::Table;
+use meta_fixpoint::who_listens;
+use meta_spanned::ParserRule;
+use std::alloc::{AllocError, Global};
+
+/// What is known of the nodes of all rules.
+#[derive(Drop)]
+pub struct Facts {
+    pub table: KindTable,
+    /// Which nodes may succeed without taking anything.
+    pub nullable: Vec<bool>,
+    /// Which nodes cannot fail.
+    pub certain: Vec<bool>,
+}
+
+impl Facts {
+    /// Which nodes may succeed without taking anything, once more.
+    pub fn copied_nullable(&self, alloc: Global) -> Result<Vec<bool>, AllocError>
+        ensures { IfOk result (λ flags. flags.items ≡ self.now.nullable.items) }
+    {
+        let mut flags = Vec::new(alloc);
+        flags.extend_from_slice(self.nullable.as_slice())?;
+        Ok(flags)
+    }
+}
+
+/// The table of rules, with what its nodes do.
+fn table_with_kinds<'i>(
+    alloc: Global,
+    rules: &[ParserRule<'i>],
+    names: &Names,
+    table: &Table<'_, 'i>,
+) -> Result<KindTable, AllocError>
+    requires known { KnowsRules rules.now names.now }
+    requires tabled { IsTabled rules.now table.now }
+    ensures { IfOk result (λ made. AreTabled rules.now made) }
+{
+    let kinds = kinds_of(alloc, rules, names, table.nodes.as_slice())?;
+    let roots = table.copied_roots(alloc)?;
+    Ok(KindTable { kinds, roots })
+}
+
+/// Finds out which nodes may take nothing, and which cannot fail. The only fault is a want of memory.
+pub fn facts_of<'i>(
+    alloc: Global,
+    rules: &[ParserRule<'i>],
+    names: &Names,
+    table: &Table<'_, 'i>,
+) -> Result<Facts, AllocError>
+    requires known { KnowsRules rules.now names.now }
+    requires tabled { IsTabled rules.now table.now }
+    ensures { IfOk result (λ facts. AreFacts rules.now facts) }
+{
+    let table = table_with_kinds(alloc, rules, names, table)?;
+    let listeners = who_listens(alloc, &table)?;
+    let nullable = answers_to(alloc, &table, &listeners, Question::TakesNothing)?;
+    let certain = answers_to(alloc, &table, &listeners, Question::CannotFail)?;
+    Ok(Facts {
+        table,
+        nullable,
+        certain,
+    })
+}

@@ -1,0 +1,25 @@
+//! What the passes over rules with spans share, made once for a grammar: rules by the names that mean them, the nodes
+//! of all bodies by number, and which nodes are nullable or cannot fail.
+#![tactic(auto)]
+
+mod answers;
+mod expressions;
+mod facts;
+mod groundwork;
+mod kind_table;
+mod kinds;
+mod name_kinds;
+mod names;
+mod places;
+mod shapes;
+mod table;
+
+pub use answers::{answers_to, listened_to};
+pub use expressions::answer_for;
+pub use facts::{Facts, facts_of};
+pub use groundwork::{Groundwork, groundwork_of};
+pub use kind_table::{Kind, KindTable, Question};
+pub use names::{Names, is_end, is_literal, names_of, rule_of_name};
+pub use places::rule_number;
+pub use shapes::{Joint, Shape, Sign};
+pub use table::{Node, Table, Unnumbered, number, tabulated};

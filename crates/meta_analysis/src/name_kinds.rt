@@ -1,0 +1,28 @@
+//! What names do.
+ghost use Rattle.std.specs.Prelude.{◌≡◌};
+ghost use Rattle.meta_ast.specs.Ast.{text_of};
+ghost use Rattle.meta_analysis.specs.NameMaps.{KnowsRules};
+ghost use Rattle.meta_analysis.specs.Names.{grammar_of};
+ghost use Rattle.meta_analysis.specs.NameKinds.{kind_in};
+
+use crate::kind_table::Kind;
+use crate::names::{Names, is_end, rule_of_name};
+use meta_spanned::ParserRule;
+
+/// What a name does.
+pub(crate) fn kind_of_name<'i>(rules: &[ParserRule<'i>], names: &Names, name: &String) -> Kind
+    requires { KnowsRules rules.now names.now }
+    ensures { result ≡ kind_in (grammar_of rules.now) (text_of name.now) }
+{
+    let is_end = is_end(name);
+    match rule_of_name(rules, names, name) {
+        Some(rule) => {
+            if is_end {
+                Kind::EndCall(rule)
+            } else {
+                Kind::Call(rule)
+            }
+        }
+        None => { if is_end { Kind::End } else { Kind::Taking } }
+    }
+}

@@ -1,0 +1,64 @@
+//! Names, resolved to the numbers of rules.
+ghost use Rattle.std.specs.Prelude.{◌≡◌, IfOk, bytes_eq};
+ghost use Rattle.std.specs.Str.{IsAscii};
+ghost use Rattle.meta_base.specs.Language.Expression.{last_place};
+ghost use Rattle.meta_ast.specs.Ast.{text_of};
+ghost use Rattle.meta_analysis.specs.Names.{grammar_of, is_end};
+ghost use Rattle.meta_analysis.specs.NameMaps.{KnowsRules};
+
+use meta_spanned::ParserRule;
+use std::alloc::{AllocError, Global};
+use std::collections::HashMap;
+
+/// For each name the place of its last rule.
+#[derive(Drop)]
+pub struct Names {
+    pub places: HashMap<String, usize>,
+}
+
+/// The names of rules.
+pub fn names_of<'i>(alloc: Global, rules: &[ParserRule<'i>]) -> Result<Names, AllocError>
+    ensures { IfOk result (λ names. KnowsRules rules.now names) }
+{
+    let mut places = HashMap::new(alloc);
+    for place in 0..rules.len() {
+        let name = String::from_str(alloc, rules[place].name.as_str())?;
+        places.insert(name, place)?;
+    }
+    Ok(Names { places })
+}
+
+impl Names {
+    ghost use Rattle.std.specs.Prelude.{string_bytes};
+    ghost use Rattle.std.specs.HashMap.{get_by_text};
+
+    /// The place of the last rule of that name, if there is one.
+    pub fn place_of(&self, name: &str) -> Option<usize>
+        ensures { result ≡ get_by_text self.now.places name.now }
+    {
+        self.places.get(name).copied()
+    }
+}
+
+/// The place of the last rule of that name, if there is one.
+pub fn rule_of_name<'i>(rules: &[ParserRule<'i>], names: &Names, name: &String) -> Option<usize>
+    requires { KnowsRules rules.now names.now }
+    ensures { result ≡ last_place (grammar_of rules.now) (text_of name.now) }
+{
+    names.place_of(name.as_str())
+}
+
+/// Whether a name is a literal's text.
+pub fn is_literal(name: &String, literal: &str) -> bool
+    requires { IsAscii literal.now }
+    ensures { result ≡ bytes_eq (text_of name.now) literal.now }
+{
+    name.as_str() == literal
+}
+
+/// Whether a name is that of a builtin that takes nothing.
+pub fn is_end(name: &String) -> bool
+    ensures { result ≡ is_end (text_of name.now) }
+{
+    is_literal(name, "SOI") || is_literal(name, "EOI")
+}

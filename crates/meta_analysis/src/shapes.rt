@@ -1,0 +1,75 @@
+//! What nodes are made of.
+ghost use Rattle.meta_analysis.specs.Shapes.{IsMadeOf};
+
+use meta_spanned::{ParserExpr, ParserNode};
+
+/// What stands round one operand.
+#[derive(Clone, Copy)]
+pub enum Sign {
+    PosPred,
+    NegPred,
+    Opt,
+    Rep,
+    RepOnce,
+    RepExact(u32),
+    RepMin(u32),
+    RepMax(u32),
+    RepMinMax(u32, u32),
+    Push,
+    /// A tag, whatever its text.
+    NodeTag,
+}
+
+/// What stands between two operands.
+#[derive(Clone, Copy)]
+pub enum Joint {
+    Sequence,
+    Choice,
+}
+
+/// How a node stands to those inside it, its operands by their numbers.
+#[derive(Clone, Copy)]
+pub enum Shape {
+    Leaf,
+    One(Sign, usize),
+    Two(Joint, usize, usize),
+}
+
+/// What an expression is made of.
+pub enum Operands<'n, 'i> {
+    /// Nothing inside.
+    Nothing,
+    /// One operand, and what stands round it.
+    Inside(Sign, &'n ParserNode<'i>),
+    /// Two, and what stands between them.
+    Both(Joint, &'n ParserNode<'i>, &'n ParserNode<'i>),
+}
+
+/// What an expression is made of.
+pub(crate) fn taken_apart<'n, 'i>(expr: &'n ParserExpr<'i>) -> Operands<'n, 'i>
+    ensures { IsMadeOf expr.now result }
+{
+    match expr {
+        ParserExpr::Str(_) => Operands::Nothing,
+        ParserExpr::Insens(_) => Operands::Nothing,
+        ParserExpr::Range(_, _) => Operands::Nothing,
+        ParserExpr::Ident(_) => Operands::Nothing,
+        ParserExpr::PeekSlice(_, _) => Operands::Nothing,
+        ParserExpr::PushLiteral(_) => Operands::Nothing,
+        ParserExpr::PosPred(body) => Operands::Inside(Sign::PosPred, body),
+        ParserExpr::NegPred(body) => Operands::Inside(Sign::NegPred, body),
+        ParserExpr::Opt(body) => Operands::Inside(Sign::Opt, body),
+        ParserExpr::Push(body) => Operands::Inside(Sign::Push, body),
+        ParserExpr::NodeTag(body, _) => Operands::Inside(Sign::NodeTag, body),
+        ParserExpr::Seq(first, second) => Operands::Both(Joint::Sequence, first, second),
+        ParserExpr::Choice(first, second) => Operands::Both(Joint::Choice, first, second),
+        ParserExpr::Rep(body) => Operands::Inside(Sign::Rep, body),
+        ParserExpr::RepOnce(body) => Operands::Inside(Sign::RepOnce, body),
+        ParserExpr::RepExact(body, count) => Operands::Inside(Sign::RepExact(*count), body),
+        ParserExpr::RepMin(body, count) => Operands::Inside(Sign::RepMin(*count), body),
+        ParserExpr::RepMax(body, count) => Operands::Inside(Sign::RepMax(*count), body),
+        ParserExpr::RepMinMax(body, low, high) => {
+            Operands::Inside(Sign::RepMinMax(*low, *high), body)
+        }
+    }
+}

@@ -1,0 +1,5 @@
+use Rattle.meta_examples.proofs.facts.blank_is_taken.Goals as goal
+use Rattle.meta_examples.proofs.WhatTheyDo.{taken}
+
+pub returns : goal.returns
+returns c = taken

@@ -1,5 +1,0 @@
-use Rattle.meta_forms.proofs.Compiling.{call_compiles}
-use Rattle.meta_forms.proofs.compile.named.Goals as goal
-
-pub returns-in-Some : goal.returns-in-Some
-returns-in-Some c = let h = rw c.as_str.ensures.value at c.in-Some.ensures in call_compiles _ _ _ _ h

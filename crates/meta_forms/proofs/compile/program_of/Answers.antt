@@ -1,8 +1,0 @@
-use Rattle.meta_forms.proofs.Compiling.{comment_chars, white_chars}
-use Rattle.meta_forms.proofs.compile.program_of.Goals as goal
-
-pub returns-clause-sound : goal.returns-clause-sound
-returns-clause-sound g c =
-    let w = rw white_chars at c.number_of-whitespace.ensures in
-    let m = rw comment_chars at c.number_of-comment.ensures in
-    rw (← c.deref.ensures.value) (c.in_ok-rows.ensures.sound _ _ w m)

@@ -1,7 +1,0 @@
-use Rattle.std.proofs.Common.{subst, sym}
-use Rattle.meta_forms.specs.Compiled.{Compiles}
-use Rattle.meta_forms.proofs.forms.in_place.Goals as goal
-
-pub returns-in_ok-boxed-in_default : goal.returns-in_ok-boxed-in_default
-returns-in_ok-boxed-in_default c = λ g ps e h.
-    subst (Compiles g ps e) (sym c.in_ok-boxed-in_default.ensures) (c.in_ok-value-in_default.ensures g ps e h)

@@ -1,6 +1,0 @@
-use Rattle.std.proofs.Common.{◌∙◌}
-use Rattle.meta_ast.proofs.Characters.{bytes_text_eq}
-use Rattle.meta_forms.proofs.texts.same.Goals as goal
-
-pub returns : goal.returns
-returns c = c.eq.ensures ∙ bytes_text_eq _ _ c.utf8.a c.utf8.b

@@ -1,8 +1,0 @@
-use Rattle.meta_nodes.specs.Nodes.{view}
-use Rattle.meta_nodes.proofs.Walks.{answered_alone}
-use Rattle.meta_nodes.proofs.filter.filter_internal.Goals as goal
-
-pub returns-clause-appended : goal.returns-clause-appended
-returns-clause-appended g c =
-    let found = answered_alone _ c.args.f.now c.walk.new.f (view c.args.node) c.new-found.result.items c.walk.new.answers.items c.new-found.ensures.items c.in_ok-walk.ensures.appended in
-    (c.walk.new.answers.items, found, c.in_ok-append.ensures.items)

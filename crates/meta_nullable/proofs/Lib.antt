@@ -1,4 +1,0 @@
-pub mod NameLemmas
-pub mod Tying
-pub mod Roots
-pub mod Answering

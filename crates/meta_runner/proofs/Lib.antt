@@ -1,2 +1,0 @@
-pub mod FlatLines
-pub mod BuiltTrees

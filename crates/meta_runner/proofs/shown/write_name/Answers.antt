@@ -1,6 +1,0 @@
-use Rattle.std.proofs.Common.{rules}
-use Rattle.std.proofs.lemmas.Str.{encodes-chars}
-use Rattle.meta_runner.proofs.shown.write_name.Goals as goal
-
-pub returns : goal.returns
-returns c = rw (encodes-chars c.args.rule.now c.utf8.rule) (search rules)

@@ -1,4 +1,0 @@
-pub mod Shown
-pub mod Flat
-pub mod Values
-pub mod Built

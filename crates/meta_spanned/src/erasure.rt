@@ -1,0 +1,129 @@
+//! Rules without the spans of their nodes.
+ghost use Rattle.std.specs.Prelude.{◌≡◌, ◌*◌, IfOk, ⊤};
+ghost use Rattle.meta_base.specs.Language.Expression.{Expression};
+ghost use Rattle.meta_ast.specs.Ast.{expression_of, rule_of_code, rules_of};
+ghost use Rattle.meta_ast.specs.Weight.{weight};
+ghost use Rattle.meta_spanned.specs.Erasing.{with_operand, waits_of};
+ghost use Rattle.meta_spanned.specs.Erasure.{rule_without_spans, rules_without_spans, without_spans};
+ghost use Rattle.meta_spanned.specs.Nodes.{rule_view, rule_views, unplaced, view, view_at};
+ghost use Rattle.meta_spanned.specs.Shapes.{IsLeaf};
+ghost use Rattle.meta_spanned.specs.Spanned.{Span as Place};
+
+use crate::node::{ParserExpr, ParserNode, ParserRule};
+use crate::shaped::opened;
+use meta_ast::ast::{Expr, Rule, Sign};
+use meta_ast::deep::Deep;
+use meta_ast::rebuilt::{Rebuild, Step, rebuilt};
+use meta_ast::shape::{Joint, Shape, Shaped};
+use std::alloc::{AllocError, Global};
+
+/// The same rules, in order, without the spans of their names and nodes. The only fault is a want of memory.
+///
+/// Texts are handed on and not copied. What is wide or deep takes no more of the machine's stack.
+pub fn erase_spans(alloc: Global, rules: Vec<ParserRule<'_>>) -> Result<Vec<Rule>, AllocError>
+    ensures { IfOk result
+        (λ erased. rules_of erased.items ≡ rules_without_spans (rule_views rules.entry.items)) }
+{
+    // A list gives from its end, so the first rule is put there.
+    let mut rest = Deep { value: rules };
+    rest.value.reverse();
+    let mut erased = Deep {
+        value: Vec::new(alloc),
+    };
+    while let Some(rule) = rest.value.pop() {
+        let rule = erased_rule(alloc, rule)?;
+        erased.push(Deep { value: rule })?;
+    }
+    Ok(erased.into_inner())
+}
+
+/// The same rule without its spans.
+fn erased_rule(alloc: Global, rule: ParserRule<'_>) -> Result<Rule, AllocError>
+    ensures { IfOk result (λ erased. rule_of_code erased ≡ rule_without_spans (rule_view rule.entry)) }
+{
+    let ParserRule { name, ty, node, .. } = rule;
+    let expr = rebuilt::<Around<'_>>(alloc, node)?;
+    Ok(Rule { name, ty, expr })
+}
+
+/// What stands around an operand while its spans are left out.
+#[derive(Drop)]
+enum Around<'i> {
+    Sign(Sign),
+    /// The operand is the left one, and this the right one.
+    First(Joint, Deep<ParserNode<'i>>),
+    /// The operand is the right one, and this what the left one is without spans.
+    Second(Joint, Deep<Box<Expr>>),
+}
+
+impl<'i> Rebuild for Around<'i> {
+    type Source = ParserNode<'i>;
+
+    type Target = Expr;
+
+    ghost Meaning = { Expression };
+
+    ghost says = { λ node. without_spans (view node) };
+
+    ghost made = { λ expr. expression_of expr };
+
+    ghost fills = { λ around operand. with_operand around operand };
+
+    ghost is_right = { λ _. ⊤ };
+
+    ghost is_ready = { λ _. ⊤ };
+
+    ghost size = { λ node. 4 * weight (without_spans (view node)) };
+
+    ghost waits = { λ around. waits_of around };
+
+    fn open(node: ParserNode<'i>) -> Result<Step<ParserNode<'i>, Around<'i>, Expr>, AllocError> {
+        match opened(node.expr) {
+            Shape::Leaf(leaf) => Ok(Step::Made(erased_leaf(leaf))),
+            Shape::One(sign, operand) => {
+                let operand = Box::into_inner(operand);
+                Ok(Step::Inside(Around::Sign(sign), operand))
+            }
+            Shape::Two(joint, left, right) => {
+                let value = Box::into_inner(right);
+                let around = Around::First(joint, Deep { value });
+                Ok(Step::Inside(around, Box::into_inner(left)))
+            }
+        }
+    }
+
+    fn close(
+        self,
+        alloc: Global,
+        operand: Expr,
+    ) -> Result<Step<ParserNode<'i>, Around<'i>, Expr>, AllocError> {
+        let operand = Deep { value: operand }.boxed(alloc)?;
+        match self {
+            Around::Sign(sign) => Ok(Step::Made(Expr::enclose(sign, operand.into_inner()))),
+            Around::First(joint, right) => {
+                let around = Around::Second(joint, operand);
+                Ok(Step::Inside(around, right.into_inner()))
+            }
+            Around::Second(joint, left) => {
+                let whole = Expr::join(joint, left.into_inner(), operand.into_inner());
+                Ok(Step::Made(whole))
+            }
+        }
+    }
+}
+
+/// An expression without operands.
+fn erased_leaf(leaf: ParserExpr<'_>) -> Expr
+    requires { IsLeaf (unplaced leaf) }
+    ensures { (place : Place) → expression_of result ≡ without_spans (view_at place leaf.entry) }
+{
+    match leaf {
+        ParserExpr::Str(text) => Expr::Str(text),
+        ParserExpr::Insens(text) => Expr::Insens(text),
+        ParserExpr::Range(first, last) => Expr::Range(first, last),
+        ParserExpr::Ident(name) => Expr::Ident(name),
+        ParserExpr::PushLiteral(text) => Expr::PushLiteral(text),
+        ParserExpr::PeekSlice(start, end) => Expr::PeekSlice(start, end),
+        _ => unreachable!(),
+    }
+}

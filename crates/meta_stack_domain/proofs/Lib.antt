@@ -1,0 +1,15 @@
+pub mod Stacks
+pub mod Walking
+pub mod Skipping
+pub mod Sound
+pub mod Bases
+pub mod Certain
+pub mod Reaching
+pub mod Fuel
+pub mod MarkLemmas
+pub mod Routes
+pub mod Counting
+pub mod FewMarks
+pub mod Turning
+pub mod AnyLimit
+pub mod Refuting

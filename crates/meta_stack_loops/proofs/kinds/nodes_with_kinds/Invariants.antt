@@ -1,0 +1,8 @@
+use Rattle.std.proofs.Common.{◌≡◌, map, take}
+use Rattle.meta_analysis.specs.Names.{grammar_of}
+use Rattle.meta_stack_loops.specs.Names.{kind_in}
+use Rattle.meta_stack_loops.proofs.KindLemmas.{node_of}
+use Rattle.meta_stack_loops.proofs.kinds.nodes_with_kinds.Given as goal
+
+abbrev pub invariant-loop-place : goal.invariant-loop-place
+invariant-loop-place l = l.nodes.items ≡ map (node_of (kind_in (grammar_of l.rules))) (take l.place l.table.nodes.items)

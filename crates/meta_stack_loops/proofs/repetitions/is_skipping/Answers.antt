@@ -1,0 +1,20 @@
+use Rattle.std.proofs.Common.{◌≡◌, ◌∙◌, ◌||◌, sym, ap, is_some}
+use Rattle.meta_base.specs.Language.Expression.{rule_of, whitespace, comment}
+use Rattle.meta_analysis.specs.Names.{grammar_of}
+use Rattle.meta_analysis.proofs.Resolved.{is_named}
+use Rattle.meta_stack_loops.proofs.repetitions.is_skipping.Goals as goal
+
+pub returns-then-is_defined : goal.returns-then-is_defined
+unfolding whitespace comment
+returns-then-is_defined c =
+    let rs = c.args.rules.now in
+    let w : c.is_defined.result ≡ is_some (rule_of (grammar_of rs) whitespace) = c.is_defined.ensures ∙ is_named rs whitespace in
+    c.if-is_defined.true ∙ sym (ap (λ z. z || is_some (rule_of (grammar_of rs) comment)) (sym w ∙ c.if-is_defined.true))
+
+pub returns-else-is_defined : goal.returns-else-is_defined
+unfolding whitespace comment
+returns-else-is_defined c =
+    let rs = c.args.rules.now in
+    let w : c.is_defined.result ≡ is_some (rule_of (grammar_of rs) whitespace) = c.is_defined.ensures ∙ is_named rs whitespace in
+    let v : c.is_defined-else-is_defined.result ≡ is_some (rule_of (grammar_of rs) comment) = c.is_defined-else-is_defined.ensures ∙ is_named rs comment in
+    v ∙ sym (ap (λ z. z || is_some (rule_of (grammar_of rs) comment)) (sym w ∙ c.if-is_defined.false))

@@ -1,0 +1,19 @@
+use Rattle.std.proofs.Common.{◌∙◌, ◌&&◌, not, sym, ap}
+use Rattle.meta_base.specs.Language.Expression.{whitespace, comment}
+use Rattle.meta_stack_loops.specs.Expressions.{name_flag}
+use Rattle.meta_analysis.specs.Names.{grammar_of}
+use Rattle.meta_stack_loops.proofs.repetitions.leaves_stack.Goals as goal
+
+pub returns-then-not-is_body_set : goal.returns-then-not-is_body_set
+unfolding whitespace comment
+returns-then-not-is_body_set c =
+    let g = grammar_of c.args.rules.now in
+    let second = not (name_flag g c.args.roots.now c.args.flags.now comment) in
+    ap (λ z. not z) c.is_body_set-then-not-is_body_set.ensures ∙ sym (ap (λ z. not z && second) (sym c.is_body_set.ensures ∙ c.if-not-is_body_set.true))
+
+pub returns-else-not-is_body_set : goal.returns-else-not-is_body_set
+unfolding whitespace comment
+returns-else-not-is_body_set c =
+    let g = grammar_of c.args.rules.now in
+    let second = not (name_flag g c.args.roots.now c.args.flags.now comment) in
+    ap (λ z. not z) c.if-not-is_body_set.false ∙ sym (ap (λ z. not z && second) (sym c.is_body_set.ensures ∙ c.if-not-is_body_set.false))

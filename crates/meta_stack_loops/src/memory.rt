@@ -1,0 +1,130 @@
+//! Readings that were made, by node and stack; of nodes that stay apart from the stack, by node alone.
+ghost use Rattle.std.specs.Prelude.{◌≡◌, ◌<◌, IfSome, OnOk};
+ghost use Rattle.meta_stack_loops.specs.Apart.{AreMovable, moved};
+ghost use Rattle.meta_stack_loops.specs.Keys as spec;
+ghost use Rattle.meta_stack_domain.specs.Views.{possible, reading_of, stack_of};
+ghost use Rattle.meta_stack_domain.specs.Reading as says;
+
+use meta_fixpoint::is_set;
+use meta_stack_domain::{Base, Reading, Stack};
+use std::alloc::{AllocError, Global};
+use std::collections::HashMap;
+
+/// The readings of nodes that were made.
+#[derive(Drop)]
+pub struct Memory {
+    pub known: HashMap<u64, Reading>,
+    /// Which nodes do the same from every stack, and leave it. Their readings are kept as they are from a
+    /// stack of which nothing is known.
+    pub apart: Vec<bool>,
+}
+
+fn base_number(base: Base) -> u64
+    ensures value { result ≡ spec.base_number base }
+    ensures small { result < 3 }
+{
+    match base {
+        Base::Empty => 0,
+        Base::Blank => 1,
+        Base::Any => 2,
+    }
+}
+
+/// A number of its own for each node and stack; `None` for nodes past any that memory holds.
+fn key_of(node: usize, stack: Stack) -> Option<u64>
+    ensures { IfSome result (λ key. key ≡ spec.key_of node stack) }
+{
+    if node >= 1 << 40 {
+        return None;
+    }
+    let intact: u64 = if stack.intact { 1 } else { 0 };
+    let marks = (stack.count as u64) * 512 + ((stack.marks as u64) * 2 + intact);
+    Some((node as u64) * 32768 + (base_number(stack.base) * 8192 + marks))
+}
+
+/// The stack, where another one is possible.
+fn only_if(condition: Option<Stack>, stack: Stack) -> Option<Stack>
+    ensures { possible result ≡ says.only_if (possible condition) (stack_of stack) }
+{
+    match condition {
+        None => None,
+        Some(_) => Some(stack),
+    }
+}
+
+/// The reading from a stack, of what stays apart from it, by the reading from another one.
+fn moved(reading: Reading, stack: Stack) -> Reading
+    ensures { reading_of result ≡ moved (stack_of stack) (reading_of reading) }
+{
+    Reading {
+        ok: only_if(reading.ok, stack),
+        err: only_if(reading.err, stack),
+        still: reading.still,
+    }
+}
+
+impl Memory {
+    ghost use Rattle.meta_stack_loops.specs.Memory.{IsRight, Meaning};
+
+    /// Nothing is remembered. `apart`: which nodes stay apart from the stack.
+    pub fn new(alloc: Global, apart: Vec<bool>) -> Memory
+        ensures { (meaning : Meaning) → AreMovable meaning apart.items → IsRight meaning result }
+    {
+        Memory {
+            known: HashMap::new(alloc),
+            apart,
+        }
+    }
+
+    /// The reading of a node from a stack, if it is remembered.
+    pub fn recalled(&self, node: usize, stack: Stack) -> Option<Reading>
+        ensures { IfSome result (λ reading. (meaning : Meaning) → IsRight meaning self.now
+            → reading_of reading ≡ meaning node (stack_of stack)) }
+    {
+        if !is_set(self.apart.as_slice(), node) {
+            return self.found(node, stack);
+        }
+        match self.found(node, Stack::unknown()) {
+            None => None,
+            Some(reading) => Some(moved(reading, stack)),
+        }
+    }
+
+    /// Remembers the reading of a node from a stack.
+    pub fn remember(
+        &mut self,
+        node: usize,
+        stack: Stack,
+        reading: Reading,
+    ) -> Result<(), AllocError>
+        ensures { OnOk result ((meaning : Meaning) → IsRight meaning self.old
+            → reading_of reading ≡ meaning node (stack_of stack) → IsRight meaning self.new) }
+    {
+        if !is_set(self.apart.as_slice(), node) {
+            return self.keep(node, stack, reading);
+        }
+        let unknown = Stack::unknown();
+        let kept = moved(reading, unknown);
+        self.keep(node, unknown, kept)
+    }
+
+    /// The reading that was kept of a node from a stack, if one was.
+    fn found(&self, node: usize, stack: Stack) -> Option<Reading>
+        ensures { IfSome result (λ reading. (meaning : Meaning) → IsRight meaning self.now
+            → reading_of reading ≡ meaning node (stack_of stack)) }
+    {
+        let key = key_of(node, stack)?;
+        self.known.get(&key).copied()
+    }
+
+    /// Keeps the reading of a node from a stack.
+    fn keep(&mut self, node: usize, stack: Stack, reading: Reading) -> Result<(), AllocError>
+        ensures { OnOk result ((meaning : Meaning) → IsRight meaning self.old
+            → reading_of reading ≡ meaning node (stack_of stack) → IsRight meaning self.new) }
+    {
+        if let Some(key) = key_of(node, stack) {
+            self.known.insert(key, reading)?;
+        }
+        Ok(())
+    }
+}

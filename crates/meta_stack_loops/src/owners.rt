@@ -1,0 +1,137 @@
+//! In which rule's body each node stands, and which rules call which by that.
+ghost use Rattle.std.specs.Prelude.{◌≡◌, IfOk, OnOk, Some};
+ghost use Rattle.meta_stack_loops.specs.Leading.{AreLinks, AreOwned, LeadsFrom, Owns, owner_in};
+
+use crate::calls::Link;
+use crate::table::{Kind, Node, Parts};
+use std::alloc::{AllocError, Global};
+
+/// The rule in whose body a node is known to stand.
+fn owner_of(owners: &[Option<usize>], node: usize) -> Option<usize>
+    ensures { result ≡ owner_in owners.now node }
+{
+    match owners.get(node) {
+        Some(owner) => *owner,
+        None => None,
+    }
+}
+
+/// Notes in which rule's body a node stands.
+fn own<'n, 'i>(
+    roots: &[usize],
+    nodes: &[Node<'n, 'i>],
+    owners: &mut Vec<Option<usize>>,
+    node: usize,
+    rule: usize,
+)
+    requires owned { AreOwned nodes.now roots.now owners.old.items }
+    requires inside { Owns nodes.now roots.now rule node }
+    ensures { AreOwned nodes.now roots.now owners.new.items }
+{
+    if node < owners.len() {
+        owners[node] = Some(rule);
+    }
+}
+
+/// Notes it of the operands of a node.
+fn own_parts<'n, 'i>(
+    roots: &[usize],
+    nodes: &[Node<'n, 'i>],
+    owners: &mut Vec<Option<usize>>,
+    place: usize,
+)
+    requires { AreOwned nodes.now roots.now owners.old.items }
+    ensures { AreOwned nodes.now roots.now owners.new.items }
+{
+    if place >= nodes.len() {
+        return;
+    }
+    let Some(rule) = owner_of(owners.as_slice(), place) else {
+        return;
+    };
+    match nodes[place].kind.parts() {
+        Parts::Nothing => {}
+        Parts::Inside(body, _, _, _) => own(roots, nodes, owners, body, rule),
+        Parts::Both(first, second, _) => {
+            own(roots, nodes, owners, first, rule);
+            own(roots, nodes, owners, second, rule);
+        }
+    }
+}
+
+/// Notes it of all bodies.
+#[tactic(auto, using(crate::proofs::GroupLemmas::root_owned))]
+fn own_roots<'n, 'i>(roots: &[usize], nodes: &[Node<'n, 'i>], owners: &mut Vec<Option<usize>>)
+    requires { AreOwned nodes.now roots.now owners.old.items }
+    ensures { AreOwned nodes.now roots.now owners.new.items }
+{
+    for rule in 0..roots.len() {
+        own(roots, nodes, owners, roots[rule], rule);
+    }
+}
+
+/// Notes it of all that stands in nodes, the last of these first.
+fn own_all<'n, 'i>(roots: &[usize], nodes: &[Node<'n, 'i>], owners: &mut Vec<Option<usize>>)
+    requires { AreOwned nodes.now roots.now owners.old.items }
+    ensures { AreOwned nodes.now roots.now owners.new.items }
+{
+    let count = nodes.len();
+    for done in 0..count {
+        own_parts(roots, nodes, owners, count - 1 - done);
+    }
+}
+
+/// In which rule's body each node stands.
+fn owners_of<'n, 'i>(
+    alloc: Global,
+    roots: &[usize],
+    nodes: &[Node<'n, 'i>],
+) -> Result<Vec<Option<usize>>, AllocError>
+    ensures { IfOk result (λ owners. AreOwned nodes.now roots.now owners.items) }
+{
+    let mut owners = vec![in alloc; None; nodes.len()]?;
+    own_roots(roots, nodes, &mut owners);
+    own_all(roots, nodes, &mut owners);
+    Ok(owners)
+}
+
+/// Adds the link that a node is: from the rule in whose body it stands to the one that it calls.
+fn add_link<'n, 'i>(
+    roots: &[usize],
+    nodes: &[Node<'n, 'i>],
+    owners: &[Option<usize>],
+    place: usize,
+    links: &mut Vec<Link>,
+) -> Result<(), AllocError>
+    requires owned { AreOwned nodes.now roots.now owners.now }
+    requires links { AreLinks nodes.now roots.now links.old.items }
+    ensures { OnOk result (AreLinks nodes.now roots.now links.new.items) }
+{
+    if place >= nodes.len() {
+        return Ok(());
+    }
+    let Some(target) = nodes[place].kind.called() else {
+        return Ok(());
+    };
+    let Some(source) = owner_of(owners, place) else {
+        return Ok(());
+    };
+    links.push(Link { source, target })?;
+    Ok(())
+}
+
+/// The calls in all bodies.
+pub(crate) fn links_of<'n, 'i>(
+    alloc: Global,
+    roots: &[usize],
+    nodes: &[Node<'n, 'i>],
+) -> Result<Vec<Link>, AllocError>
+    ensures { IfOk result (λ links. AreLinks nodes.now roots.now links.items) }
+{
+    let owners = owners_of(alloc, roots, nodes)?;
+    let mut links = Vec::new(alloc);
+    for place in 0..nodes.len() {
+        add_link(roots, nodes, owners.as_slice(), place, &mut links)?;
+    }
+    Ok(links)
+}

@@ -1,0 +1,195 @@
+//! Readings of nodes, each made once.
+ghost use Rattle.std.specs.Prelude.{◌≡◌, ◌<◌, [], IfOk};
+ghost use Rattle.meta_stack_loops.specs.Table.{IsOrdered};
+ghost use Rattle.meta_stack_loops.specs.Memory.{ReadsNode, Steps};
+ghost use Rattle.meta_stack_loops.specs.Following.{Follows, Turned};
+ghost use Rattle.meta_stack_loops.specs.Waiting.{ReadsOn};
+ghost use Rattle.meta_stack_domain.specs.Views.{stack_of, walk_of};
+
+use crate::copies::{Begun, Counts, Repeated, all_copies, foreseen, is_among, next_copy};
+use crate::memory::Memory;
+use crate::table::{Kind, Table};
+use crate::waiting::{Awaited, How, Next, Waiting, go_on, wait};
+use meta_stack_domain::{Reading, Stack, Walk};
+use std::alloc::{AllocError, Global};
+
+/// The reading of a node from a stack. What waits for the reading of an operand, or of what it repeats, lies
+/// on a list, so that no depth of an expression or of calls takes the machine's stack.
+pub fn read(
+    alloc: Global,
+    table: &Table,
+    memory: &mut Memory,
+    node: usize,
+    stack: Stack,
+) -> Result<Reading, AllocError>
+    requires inside { node < table.now.nodes.len }
+    requires ordered { IsOrdered table.now }
+    ensures { IfOk result (ReadsNode table.now memory.old memory.new node (stack_of stack)) }
+{
+    let mut waiting = Vec::new(alloc);
+    let mut next = Next::Read(node, stack);
+    'steps: loop {
+        match next {
+            Next::Read(node, stack) => {
+                next = begin(alloc, table, memory, node, stack, &mut waiting)?;
+            }
+            Next::Done(reading) => match waiting.pop() {
+                Some(last) => next = go_on(table, memory, &mut waiting, last, reading)?,
+                None => return Ok(reading),
+            },
+        }
+    }
+}
+
+/// What is done to read a node: it waits for the reading of an operand, or its reading is there.
+fn begin(
+    alloc: Global,
+    table: &Table,
+    memory: &mut Memory,
+    node: usize,
+    stack: Stack,
+    waiting: &mut Vec<Waiting>,
+) -> Result<Next, AllocError>
+    requires inside { node < table.now.nodes.len }
+    requires ordered { IsOrdered table.now }
+    ensures { IfOk result (ReadsOn table.now memory.old memory.new (Next.Read node stack)
+        waiting.old.items waiting.new.items) }
+{
+    if let Some(reading) = memory.recalled(node, stack) {
+        return Ok(Next::Done(reading));
+    }
+    match table.kind_at(node) {
+        Kind::Still => Ok(Next::Done(Reading::surely(stack))),
+        Kind::Leaf => Ok(Next::Done(Reading::maybe(stack))),
+        Kind::Peek => Ok(Next::Done(Reading::top(stack, stack))),
+        Kind::Pop => Ok(Next::Done(Reading::top(stack, stack.popped()))),
+        Kind::Drop => Ok(Next::Done(Reading::dropped(stack))),
+        Kind::PeekAll => Ok(Next::Done(Reading::peek_all(stack))),
+        Kind::PopAll => Ok(Next::Done(Reading::pop_all(stack))),
+        Kind::PushLiteral(blank) => Ok(Next::Done(Reading::surely(stack.pushed(blank)))),
+        Kind::Call(rule) => match table.followed(rule) {
+            None => Ok(Next::Done(Reading::anything())),
+            Some(body) => wait(waiting, node, stack, Awaited::Last(How::Same), body),
+        },
+        Kind::PosPred(body) => wait(waiting, node, stack, Awaited::Last(How::Ahead), body),
+        Kind::NegPred(body) => wait(waiting, node, stack, Awaited::Last(How::NotAhead), body),
+        Kind::Opt(body) => wait(waiting, node, stack, Awaited::Last(How::Optional), body),
+        Kind::Push(body) => wait(waiting, node, stack, Awaited::Last(How::Pushed), body),
+        Kind::Tag(body) => wait(waiting, node, stack, Awaited::Last(How::Same), body),
+        Kind::Seq(first, second) => {
+            wait(waiting, node, stack, Awaited::First(second, false), first)
+        }
+        Kind::Choice(first, second) => {
+            wait(waiting, node, stack, Awaited::First(second, true), first)
+        }
+        Kind::Repeat(body, required, optional, endless) => {
+            let counts = Counts {
+                required,
+                optional,
+                endless,
+            };
+            let copies = all_copies(alloc, table, stack, Repeated { body, counts });
+            next_copy(table, memory, waiting, Begun { node, stack }, copies)
+        }
+    }
+}
+
+/// One copy more.
+fn step(
+    alloc: Global,
+    table: &Table,
+    memory: &mut Memory,
+    body: usize,
+    required: bool,
+    walk: Walk,
+) -> Result<Walk, AllocError>
+    requires inside { body < table.now.nodes.len }
+    requires ordered { IsOrdered table.now }
+    ensures { IfOk result (Steps table.now memory.old memory.new body required (walk_of walk)) }
+{
+    let Some(stack) = walk.here else {
+        return Ok(walk);
+    };
+    let reading = read(alloc, table, memory, body, stack)?;
+    Ok(walk.stepped(reading, stack, required))
+}
+
+/// So many copies of one kind.
+#[derive(Clone, Copy)]
+pub struct Series {
+    pub body: usize,
+    pub required: bool,
+    pub count: u32,
+}
+
+/// So many copies, followed until they come back to a walk that was seen. `trace` has the walks
+/// from which one of them starts, each once.
+pub fn follow(
+    alloc: Global,
+    table: &Table,
+    memory: &mut Memory,
+    series: Series,
+    start: Walk,
+    trace: &mut Vec<Walk>,
+) -> Result<Walk, AllocError>
+    requires inside { series.body < table.now.nodes.len }
+    requires ordered { IsOrdered table.now }
+    requires none { trace.old.items ≡ [] }
+    ensures { IfOk result (Follows table.now memory.old memory.new series.body series.required series.count
+        (walk_of start) trace.new.items) }
+{
+    let Series { body, required, .. } = series;
+    let count = series.count as usize;
+    let mut walk = start;
+    for done in 0..count {
+        if let Some(last) = foreseen(trace, walk, count - done) {
+            return Ok(last);
+        }
+        trace.push(walk)?;
+        walk = step(alloc, table, memory, body, required, walk)?;
+    }
+    Ok(walk)
+}
+
+/// Turns without end, followed until one starts as an earlier one. `seen` has the stacks from which
+/// they start.
+pub fn turn(
+    alloc: Global,
+    table: &Table,
+    memory: &mut Memory,
+    body: usize,
+    start: Walk,
+    seen: &mut Vec<Stack>,
+) -> Result<Walk, AllocError>
+    requires inside { body < table.now.nodes.len }
+    requires ordered { IsOrdered table.now }
+    requires none { seen.old.items ≡ [] }
+    ensures { IfOk result (Turned table.now memory.old memory.new body (walk_of start) seen.new.items) }
+{
+    let Some(first) = start.here else {
+        return Ok(start);
+    };
+    let mut walk = Walk {
+        here: None,
+        failing: start.failing,
+        still: start.still,
+    };
+    let mut next = Some(first);
+    for taken in 0..table.limit {
+        let Some(stack) = next else {
+            return Ok(walk);
+        };
+        if is_among(seen, stack) {
+            return Ok(walk);
+        }
+        seen.push(stack)?;
+        let reading = read(alloc, table, memory, body, stack)?;
+        walk = walk.turned(reading, stack);
+        next = reading.ok;
+    }
+    Ok(Walk {
+        here: Some(Stack::unknown()),
+        failing: walk.failing,
+        still: false,
+    })
+}

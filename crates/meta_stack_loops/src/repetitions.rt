@@ -1,0 +1,452 @@
+//! The whole pass.
+ghost use Rattle.std.specs.Prelude.{◌≡◌, ◌<◌, ◌&&◌, not, IfOk, IfErr, IfSome, OnOk, MatchOption, alloc_error, map, is_some, [], ◌∷◌};
+ghost use Rattle.std.specs.List.{filter};
+ghost use Rattle.std.specs.Str.{IsAscii};
+ghost use Rattle.meta_base.specs.Language.Expression.{whitespace, comment, last_place};
+ghost use Rattle.meta_base.specs.Pieces.Saying.{Tell};
+ghost use Rattle.meta_fixpoint.specs.Least.{is_set_at};
+ghost use Rattle.meta_spanned.specs.Nodes.{rule_views, piece_of};
+ghost use Rattle.meta_analysis.specs.Facts.{AreFacts, AreNullable};
+ghost use Rattle.meta_analysis.specs.Groundwork.{IsGroundwork};
+ghost use Rattle.meta_stack_domain.specs.Reports.{skips_in};
+ghost use Rattle.meta_stack_loops.specs.Certain.{AreFound, AreReports, IsSorted, TellReports, complaint_at};
+ghost use Rattle.meta_stack_loops.specs.Expressions.{body_flag, name_flag};
+ghost use Rattle.meta_analysis.specs.NameMaps.{KnowsRules};
+ghost use Rattle.meta_analysis.specs.Names.{grammar_of};
+ghost use Rattle.meta_analysis.specs.Roots.{IsTabled};
+ghost use Rattle.meta_stack_loops.specs.Table.{AreInside, IsOrdered};
+ghost use Rattle.meta_stack_loops.specs.Reportable.{FindsMore, IsToVisit};
+ghost use Rattle.meta_stack_loops.specs.Visiting.{FindsAll, Keeps};
+
+use crate::apart::apart_of;
+use crate::calls::numbers;
+use crate::facts::{Question, answers, is_root_set, nodes_of_rule};
+use crate::kinds::nodes_with_kinds;
+use crate::memory::Memory;
+use crate::reader::read;
+use crate::recursion::{Calls, calls_of};
+use crate::reportable::{is_some_root_set, reportable_nodes};
+use crate::table::Table;
+use crate::visits::{Pending, visit};
+use meta_analysis::{Facts, Groundwork, Names, facts_of, names_of, tabulated};
+use meta_base::grammar::Rule;
+use meta_base::runtime::{Error, ErrorVariant, Fault, Span, Survey};
+use meta_fixpoint::is_set;
+use meta_spanned::ParserRule;
+use meta_stack_domain::Stack;
+use std::alloc::{AllocError, Global};
+
+/// How many abstract stacks there are.
+const ABSTRACT_STACKS: usize = 3066;
+
+/// How many turns of a repetition are followed at most: of so many, one starts from a stack that was seen.
+const MOST_TURNS: usize = ABSTRACT_STACKS + 1;
+
+/// How many turns the loop search follows.
+const SEARCHED_TURNS: usize = 64;
+
+/// Whether the flag of the body of the rule of that name is set.
+fn is_body_set<'i>(
+    rules: &[ParserRule<'i>],
+    names: &Names,
+    roots: &[usize],
+    flags: &[bool],
+    name: &str,
+) -> bool
+    requires known { KnowsRules rules.now names.now }
+    requires ascii { IsAscii name.now }
+    ensures { result ≡ body_flag roots.now flags.now (last_place (grammar_of rules.now) name.now) }
+{
+    match names.place_of(name) {
+        Some(rule) => is_root_set(roots, flags, rule),
+        None => false,
+    }
+}
+
+/// Whether there is a rule of that name.
+fn is_defined<'i>(rules: &[ParserRule<'i>], names: &Names, name: &str) -> bool
+    requires known { KnowsRules rules.now names.now }
+    requires ascii { IsAscii name.now }
+    ensures { result ≡ is_some (last_place (grammar_of rules.now) name.now) }
+{
+    names.place_of(name).is_some()
+}
+
+/// Whether something may be skipped between the parts of a sequence.
+fn is_skipping<'i>(rules: &[ParserRule<'i>], names: &Names) -> bool
+    requires { KnowsRules rules.now names.now }
+    ensures { result ≡ skips_in (grammar_of rules.now) }
+{
+    is_defined(rules, names, "WHITESPACE") || is_defined(rules, names, "COMMENT")
+}
+
+/// Whether what is skipped leaves the stack alone, by the flags of nodes that change it.
+fn leaves_stack<'i>(
+    rules: &[ParserRule<'i>],
+    names: &Names,
+    roots: &[usize],
+    flags: &[bool],
+) -> bool
+    requires { KnowsRules rules.now names.now }
+    ensures { result ≡ (not (name_flag (grammar_of rules.now) roots.now flags.now whitespace)
+        && not (name_flag (grammar_of rules.now) roots.now flags.now comment)) }
+{
+    !is_body_set(rules, names, roots, flags, "WHITESPACE")
+        && !is_body_set(rules, names, roots, flags, "COMMENT")
+}
+
+/// Which nodes may take nothing, by the facts that are lent, or found out where none are.
+fn nullable_flags<'i>(
+    alloc: Global,
+    rules: &[ParserRule<'i>],
+    names: &Names,
+    table: &meta_analysis::Table<'_, 'i>,
+    lent: Option<&Facts>,
+) -> Result<Vec<bool>, AllocError>
+    requires known { KnowsRules rules.now names.now }
+    requires tabled { IsTabled rules.now table.now }
+    requires facts { IfSome lent (λ facts. AreFacts rules.now facts.now) }
+    ensures { IfOk result (λ flags. AreNullable rules.now flags.items) }
+{
+    match lent {
+        Some(facts) => facts.copied_nullable(alloc),
+        None => {
+            let Facts { nullable, .. } = facts_of(alloc, rules, names, table)?;
+            Ok(nullable)
+        }
+    }
+}
+
+/// What is visited.
+#[derive(Drop)]
+pub struct ToVisit<'n, 'i> {
+    /// The table of rules.
+    pub table: Table<'n, 'i>,
+    /// In which of its nodes something may be reported.
+    pub reportable: Vec<bool>,
+}
+
+/// What is visited; none where nothing is reported, which is mostly seen before it is asked which calls are
+/// followed.
+fn to_visit_in<'n, 'i>(
+    alloc: Global,
+    rules: &[ParserRule<'i>],
+    names: &Names,
+    table: &meta_analysis::Table<'n, 'i>,
+    lent: Option<&Facts>,
+) -> Result<Option<ToVisit<'n, 'i>>, AllocError>
+    requires known { KnowsRules rules.now names.now }
+    requires tabled { IsTabled rules.now table.now }
+    requires facts { IfSome lent (λ facts. AreFacts rules.now facts.now) }
+    ensures { IfOk result (λ found. MatchOption found (AreFound (rule_views rules.now) [])
+        (λ visited. IsToVisit rules.now visited)) }
+{
+    let nodes = nodes_with_kinds(alloc, rules, names, table)?;
+    let roots = table.copied_roots(alloc)?;
+    let reportable = reportable_nodes(alloc, roots.as_slice(), nodes.as_slice())?;
+    if !is_some_root_set(roots.as_slice(), reportable.as_slice()) {
+        return Ok(None);
+    }
+    let changing = answers(
+        alloc,
+        Question::AltersStack,
+        roots.as_slice(),
+        nodes.as_slice(),
+    )?;
+    if !leaves_stack(rules, names, roots.as_slice(), changing.as_slice()) {
+        return Ok(None);
+    }
+    let nullable = nullable_flags(alloc, rules, names, table, lent)?;
+    let Calls { recursive, ranks } = calls_of(alloc, roots.as_slice(), nodes.as_slice())?;
+    let table = Table {
+        nodes,
+        roots,
+        recursive,
+        ranks,
+        nullable,
+        skips: is_skipping(rules, names),
+        limit: MOST_TURNS,
+        turns: SEARCHED_TURNS,
+    };
+    Ok(Some(ToVisit { table, reportable }))
+}
+
+/// The rules by their ranks, the lowest first.
+fn by_rank<'n, 'i>(alloc: Global, table: &Table<'n, 'i>) -> Result<Vec<usize>, AllocError> {
+    let mut order = numbers(alloc, table.roots.len())?;
+    order.sort_by_key(|rule| table.rank_of_rule(*rule))?;
+    Ok(order)
+}
+
+/// Reads the body of a rule from where each rule begins, where the rule is noted.
+fn read_body<'n, 'i>(
+    alloc: Global,
+    table: &Table<'n, 'i>,
+    wanted: &[bool],
+    memory: &mut Memory,
+    rule: usize,
+) -> Result<(), AllocError>
+    requires { IsOrdered table.now }
+    ensures { OnOk result (Keeps table.now memory.old memory.new) }
+{
+    if !is_set(wanted, rule) {
+        return Ok(());
+    }
+    match table.roots.get(rule) {
+        None => Ok(()),
+        Some(root) => {
+            if *root < table.nodes.len() {
+                read(alloc, table, memory, *root, Stack::entry())?;
+            }
+            Ok(())
+        }
+    }
+}
+
+/// Notes a rule.
+fn want(wanted: &mut Vec<bool>, rule: usize) {
+    if rule < wanted.len() {
+        wanted[rule] = true;
+    }
+}
+
+/// Notes a rule in whose body something may be reported; and where a rule is noted, the rules that it calls,
+/// where these calls are followed.
+fn want_with_calls<'n, 'i>(
+    table: &Table<'n, 'i>,
+    reportable: &[bool],
+    wanted: &mut Vec<bool>,
+    rule: usize,
+) {
+    if is_root_set(table.roots.as_slice(), reportable, rule) {
+        want(wanted, rule);
+    }
+    if !is_set(wanted.as_slice(), rule) {
+        return;
+    }
+    let (first, root) = nodes_of_rule(table.roots.as_slice(), rule);
+    for place in first..root {
+        want_call(table, wanted, place);
+    }
+    want_call(table, wanted, root);
+}
+
+/// Notes the rule that a node calls, where the call is followed.
+fn want_call<'n, 'i>(table: &Table<'n, 'i>, wanted: &mut Vec<bool>, place: usize) {
+    let Some(node) = table.nodes.get(place) else {
+        return;
+    };
+    let Some(rule) = node.kind.called() else {
+        return;
+    };
+    if table.followed(rule).is_some() {
+        want(wanted, rule);
+    }
+}
+
+/// The rules in whose bodies something may be reported, and those that they lead to by calls that are
+/// followed; `order`: all rules, those of lower ranks first.
+fn wanted_of<'n, 'i>(
+    alloc: Global,
+    table: &Table<'n, 'i>,
+    reportable: &[bool],
+    order: &[usize],
+) -> Result<Vec<bool>, AllocError> {
+    let mut wanted = vec![in alloc; false; table.roots.len()]?;
+    for done in 0..order.len() {
+        want_with_calls(
+            table,
+            reportable,
+            &mut wanted,
+            order[order.len() - 1 - done],
+        );
+    }
+    Ok(wanted)
+}
+
+/// Reads the bodies that are visited, and those that they lead to, those of lower ranks first: so that no
+/// reading goes deep along calls.
+fn read_wanted<'n, 'i>(
+    alloc: Global,
+    table: &Table<'n, 'i>,
+    reportable: &[bool],
+    memory: &mut Memory,
+) -> Result<(), AllocError>
+    requires { IsOrdered table.now }
+    ensures { OnOk result (Keeps table.now memory.old memory.new) }
+{
+    let order = by_rank(alloc, table)?;
+    let wanted = wanted_of(alloc, table, reportable, order.as_slice())?;
+    for rule in &order {
+        read_body(alloc, table, wanted.as_slice(), memory, *rule)?;
+    }
+    Ok(())
+}
+
+/// Appends the repetitions that are reported in a body, where something may be.
+fn visit_body<'n, 'i>(
+    alloc: Global,
+    table: &Table<'n, 'i>,
+    reportable: &[bool],
+    memory: &mut Memory,
+    body: usize,
+    found: &mut Vec<Span<'i>>,
+) -> Result<(), AllocError>
+    requires inside { body < table.now.nodes.len }
+    requires ordered { IsOrdered table.now }
+    ensures kept { OnOk result (Keeps table.now memory.old memory.new) }
+    ensures found { OnOk result (FindsMore table.now reportable.now memory.old body
+        found.old.items found.new.items) }
+{
+    if !is_set(reportable, body) {
+        return Ok(());
+    }
+    let start = Pending {
+        node: body,
+        stacks: vec![in alloc; Stack::entry(); 1]?,
+    };
+    visit(alloc, table, memory, start, found)?;
+    Ok(())
+}
+
+/// The repetitions that are reported in each rule's body, one body after another; bodies in which nothing can
+/// be reported are left out.
+fn visit_all<'n, 'i>(
+    alloc: Global,
+    table: &Table<'n, 'i>,
+    reportable: &[bool],
+) -> Result<Vec<Span<'i>>, AllocError>
+    requires ordered { IsOrdered table.now }
+    requires inside { AreInside table.now }
+    ensures { IfOk result (λ found. FindsAll table.now
+        (filter (is_set_at reportable.now) table.now.roots.items) found.items) }
+{
+    let apart = apart_of(alloc, table)?;
+    let mut memory = Memory::new(alloc, apart);
+    read_wanted(alloc, table, reportable, &mut memory)?;
+    let mut found = Vec::new(alloc);
+    for rule in 0..table.roots.len() {
+        visit_body(
+            alloc,
+            table,
+            reportable,
+            &mut memory,
+            table.roots[rule],
+            &mut found,
+        )?;
+    }
+    Ok(found)
+}
+
+/// The places of all reports, one body after another.
+fn all_reports<'i>(
+    alloc: Global,
+    rules: &[ParserRule<'i>],
+    names: &Names,
+    table: &meta_analysis::Table<'_, 'i>,
+    lent: Option<&Facts>,
+) -> Result<Vec<Span<'i>>, AllocError>
+    requires known { KnowsRules rules.now names.now }
+    requires tabled { IsTabled rules.now table.now }
+    requires facts { IfSome lent (λ facts. AreFacts rules.now facts.now) }
+    ensures { IfOk result (λ found. AreFound (rule_views rules.now) (map piece_of found.items)) }
+{
+    match to_visit_in(alloc, rules, names, table, lent)? {
+        None => Ok(Vec::new(alloc)),
+        Some(visited) => visit_all(alloc, &visited.table, visited.reportable.as_slice()),
+    }
+}
+
+/// Puts places in order.
+fn sort_spans<'i>(found: &mut Vec<Span<'i>>) -> Result<(), AllocError>
+    ensures { OnOk result (IsSorted (map piece_of found.old.items) (map piece_of found.new.items)) }
+{
+    found.sort_by_key(|span| (span.start(), span.end()))?;
+    Ok(())
+}
+
+/// The places of the repetitions that `validate_stack_repetition` tells of, by start, then end. The only
+/// fault is a want of memory.
+pub fn sorted_reports<'i>(
+    alloc: Global,
+    rules: &[ParserRule<'i>],
+) -> Result<Vec<Span<'i>>, AllocError>
+    ensures exact { IfOk result (λ found. AreReports (rule_views rules.now) (map piece_of found.items)) }
+{
+    let names = names_of(alloc, rules)?;
+    let table = tabulated(alloc, rules)?;
+    let mut found = all_reports(alloc, rules, &names, &table, None)?;
+    sort_spans(&mut found)?;
+    Ok(found)
+}
+
+/// The same places, by the groundwork that was laid for the rules. The only fault is a want of memory.
+pub fn sorted_reports_in<'i>(
+    alloc: Global,
+    rules: &[ParserRule<'i>],
+    groundwork: &Groundwork<'_, 'i>,
+) -> Result<Vec<Span<'i>>, AllocError>
+    requires { IsGroundwork rules.now groundwork.now }
+    ensures exact { IfOk result (λ found. AreReports (rule_views rules.now) (map piece_of found.items)) }
+{
+    let Groundwork {
+        names,
+        table,
+        facts,
+    } = groundwork;
+    let mut found = all_reports(alloc, rules, names, table, Some(facts))?;
+    sort_spans(&mut found)?;
+    Ok(found)
+}
+
+/// The error that tells of a repetition, made by the survey where the repetition is in its text.
+fn error_at<'i>(
+    alloc: Global,
+    survey: &mut Survey<'_>,
+    span: Span<'i>,
+) -> Result<Error<Rule>, Fault>
+    ensures tells { IfOk result (λ error. Tell (complaint_at (piece_of span.entry) ∷ []) (error ∷ [])) }
+    ensures memory { IfErr result (λ fault. fault ≡ Fault.Memory alloc_error) }
+{
+    let text = "expression inside repetition is non-progressing and will repeat infinitely";
+    let message = String::from_str(alloc, text)?;
+    let variant = ErrorVariant::CustomError { message };
+    let error = Error::new_where_surveyed(alloc, variant, survey, span)?;
+    Ok(error)
+}
+
+/// The text of the first of these, which is that of all of them where they are found in one text.
+fn first_text<'i>(found: &[Span<'i>]) -> &'i str {
+    match found.first() {
+        Some(span) => span.get_input(),
+        None => "",
+    }
+}
+
+/// The errors that tell of repetitions, in their order.
+fn errors_at<'i>(alloc: Global, found: &[Span<'i>]) -> Result<Vec<Error<Rule>>, Fault>
+    ensures told { IfOk result (λ errors. Tell (map complaint_at (map piece_of found.now)) errors.items) }
+    ensures memory { IfErr result (λ fault. fault ≡ Fault.Memory alloc_error) }
+{
+    let mut errors = Vec::new(alloc);
+    let mut survey = Survey::new(alloc, first_text(found))?;
+    for place in 0..found.len() {
+        let error = error_at(alloc, &mut survey, found[place])?;
+        errors.push(error)?;
+    }
+    Ok(errors)
+}
+
+/// The repetitions `e*`, `e+` and `e{n,}` that certainly never end by what is known of the stack, as
+/// `a = { POP_ALL ~ PEEK_ALL* }`, in the order of their places (by start, then end). Each error stands where
+/// the repetition does. The only fault is a want of memory.
+pub fn validate_stack_repetition<'i>(
+    alloc: Global,
+    rules: &Vec<ParserRule<'i>>,
+) -> Result<Vec<Error<Rule>>, Fault>
+    ensures exact { IfOk result (λ errors. TellReports (rule_views rules.now.items) errors.items) }
+    ensures memory { IfErr result (λ fault. fault ≡ Fault.Memory alloc_error) }
+{
+    let found = sorted_reports(alloc, rules.as_slice())?;
+    errors_at(alloc, found.as_slice())
+}

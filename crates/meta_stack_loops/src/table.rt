@@ -1,0 +1,192 @@
+//! The nodes of all rules, by number.
+ghost use Rattle.std.specs.Prelude.{◌≡◌, ◌<◌, ℕ, slice_get};
+ghost use Rattle.meta_fixpoint.specs.Least.{is_set_at};
+ghost use Rattle.meta_stack_domain.specs.Stack as is;
+ghost use Rattle.meta_stack_domain.specs.Reading as says;
+
+use meta_base::runtime::Span;
+use meta_fixpoint::is_set;
+
+/// What a node does, its operands by their numbers.
+#[derive(Clone, Copy)]
+pub enum Kind {
+    /// It takes nothing, and cannot fail.
+    Still,
+    /// It may take something, or fail, and leaves the stack.
+    Leaf,
+    Peek,
+    Pop,
+    Drop,
+    PeekAll,
+    PopAll,
+    /// It pushes a text, which is empty or not.
+    PushLiteral(bool),
+    /// A call, by the number of the rule.
+    Call(usize),
+    PosPred(usize),
+    NegPred(usize),
+    Opt(usize),
+    Push(usize),
+    /// What is tagged, which does the same.
+    Tag(usize),
+    Seq(usize, usize),
+    Choice(usize, usize),
+    /// What is repeated, how often it has to succeed, how often more it may be tried, and whether
+    /// it then goes on without end.
+    Repeat(usize, u32, u32, bool),
+}
+
+/// The operands of a node, as they are visited.
+#[derive(Clone, Copy)]
+pub enum Parts {
+    Nothing,
+    /// One, as often as the copies of a repetition are followed.
+    Inside(usize, u32, u32, bool),
+    /// Two: the second one after the first, or after its failure.
+    Both(usize, usize, bool),
+}
+
+impl Kind {
+    ghost use Rattle.meta_stack_loops.specs.Table.{called_by, parts_of};
+
+    /// The rule that is called.
+    pub(crate) fn called(self) -> Option<usize>
+        ensures { result ≡ called_by self }
+    {
+        match self {
+            Kind::Call(rule) => Some(rule),
+            Kind::PosPred(_) => None,
+            Kind::NegPred(_) => None,
+            Kind::Opt(_) => None,
+            Kind::Push(_) => None,
+            Kind::Tag(_) => None,
+            Kind::Repeat(_, _, _, _) => None,
+            Kind::Seq(_, _) => None,
+            Kind::Choice(_, _) => None,
+            Kind::Still => None,
+            Kind::Leaf => None,
+            Kind::Peek => None,
+            Kind::Pop => None,
+            Kind::Drop => None,
+            Kind::PeekAll => None,
+            Kind::PopAll => None,
+            Kind::PushLiteral(_) => None,
+        }
+    }
+
+    /// The operands, as they are visited.
+    pub(crate) fn parts(self) -> Parts
+        ensures { result ≡ parts_of self }
+    {
+        match self {
+            Kind::PosPred(body) => Parts::Inside(body, 1, 0, false),
+            Kind::NegPred(body) => Parts::Inside(body, 1, 0, false),
+            Kind::Opt(body) => Parts::Inside(body, 1, 0, false),
+            Kind::Push(body) => Parts::Inside(body, 1, 0, false),
+            Kind::Tag(body) => Parts::Inside(body, 1, 0, false),
+            Kind::Repeat(body, required, optional, endless) => {
+                Parts::Inside(body, required, optional, endless)
+            }
+            Kind::Seq(first, second) => Parts::Both(first, second, false),
+            Kind::Choice(first, second) => Parts::Both(first, second, true),
+            Kind::Still => Parts::Nothing,
+            Kind::Leaf => Parts::Nothing,
+            Kind::Peek => Parts::Nothing,
+            Kind::Pop => Parts::Nothing,
+            Kind::Drop => Parts::Nothing,
+            Kind::PeekAll => Parts::Nothing,
+            Kind::PopAll => Parts::Nothing,
+            Kind::PushLiteral(_) => Parts::Nothing,
+            Kind::Call(_) => Parts::Nothing,
+        }
+    }
+}
+
+/// A node.
+#[derive(Clone, Copy)]
+pub struct Node<'n, 'i> {
+    pub kind: Kind,
+    /// The number of the rule that it stands in.
+    pub rule: usize,
+    pub span: &'n Span<'i>,
+}
+
+/// The nodes of all rules, each behind those inside it.
+#[derive(Drop)]
+pub struct Table<'n, 'i> {
+    pub nodes: Vec<Node<'n, 'i>>,
+    /// The number of each rule's body.
+    pub roots: Vec<usize>,
+    /// Which rules reach themselves: calls of them are not followed.
+    pub recursive: Vec<bool>,
+    /// For each node a number: not below those of its operands, and above that of a body that it calls, where
+    /// the call is followed.
+    pub ranks: Vec<usize>,
+    /// Which nodes may succeed without taking anything.
+    pub nullable: Vec<bool>,
+    /// Whether something is skipped between the parts of a sequence.
+    pub skips: bool,
+    /// How many turns of a repetition are followed at most.
+    pub limit: usize,
+    /// How many turns the loop search follows.
+    pub turns: usize,
+}
+
+impl<'n, 'i> Table<'n, 'i> {
+    ghost use Rattle.meta_stack_loops.specs.Table.{IsMeaning, IsOrdered, Lies, HasParts, PartsLie, node_reading, nodes_of, followed_at, rank_at};
+
+    /// The rank of a node.
+    pub(crate) fn rank_of(&self, node: usize) -> usize
+        ensures { result ≡ rank_at self.now node }
+    {
+        match self.ranks.get(node) {
+            Some(rank) => *rank,
+            None => 0,
+        }
+    }
+
+    /// What the node of a number does.
+    pub fn kind_at(&self, node: usize) -> Kind
+        requires inside { node < self.now.nodes.len }
+        ensures means { (meaning : ℕ → is.AbstractStack → says.Reading) → IsMeaning self.now meaning
+            → (a : is.AbstractStack) → meaning node a ≡ node_reading self.now meaning result a }
+        ensures ordered { IsOrdered self.now → Lies self.now node result }
+    {
+        self.nodes[node].kind
+    }
+
+    /// The node of a number.
+    pub fn node_at(&self, node: usize) -> Node<'n, 'i>
+        requires inside { node < self.now.nodes.len }
+        ensures { slice_get (nodes_of self.now) node ≡ Some result }
+    {
+        self.nodes[node]
+    }
+
+    /// The operands of the node of a number.
+    pub fn parts_at(&self, node: usize) -> Parts
+        requires inside { node < self.now.nodes.len }
+        ensures parts { HasParts self.now node result }
+        ensures ordered { IsOrdered self.now → PartsLie self.now node result }
+    {
+        self.node_at(node).kind.parts()
+    }
+
+    /// The rank of a rule's body.
+    pub(crate) fn rank_of_rule(&self, rule: usize) -> usize {
+        match self.roots.get(rule) {
+            Some(body) => self.rank_of(*body),
+            None => 0,
+        }
+    }
+
+    /// The number of a rule's body, where calls of the rule are followed.
+    pub fn followed(&self, rule: usize) -> Option<usize>
+        ensures { result ≡ followed_at self.now rule }
+    {
+        if is_set(self.recursive.as_slice(), rule) {
+            return None;
+        }
+        self.roots.get(rule).copied()
+    }
+}

@@ -1,0 +1,137 @@
+//! Nodes that wait for the reading of an operand, and what they make of it.
+ghost use Rattle.std.specs.Prelude.{◌≡◌, [], ◌∷◌, ◌++◌, IfOk};
+ghost use Rattle.meta_stack_loops.specs.Waiting.{ReadsOn, IsPut, whole_of};
+ghost use Rattle.meta_stack_domain.specs.Views.{reading_of, stack_of};
+
+use crate::copies::{Begun, Copies, LastCopy, LastTurn, Turns, copied, turned};
+use crate::memory::Memory;
+use crate::table::Table;
+use meta_stack_domain::{Reading, Stack};
+use std::alloc::AllocError;
+
+/// How the reading of a node comes from that of its last operand.
+#[derive(Clone, Copy)]
+pub enum How {
+    Same,
+    Ahead,
+    NotAhead,
+    Optional,
+    Pushed,
+    /// By the reading of the first operand, which was read before; whether it is a choice.
+    Both(Reading, bool),
+}
+
+/// Which operand is waited for.
+#[derive(Drop)]
+pub enum Awaited {
+    /// The first of two: the second one, and whether it is a choice.
+    First(usize, bool),
+    Last(How),
+    /// What is repeated, once more: what is left behind that copy, whether it is required, and the stack from
+    /// which it is read.
+    Copy(Copies, bool, Stack),
+    /// What is repeated, for one of the turns without end: what is left behind it, and the stack from which
+    /// it is read.
+    Turn(Turns, Stack),
+}
+
+/// A node that waits, and the stack from which it is read.
+#[derive(Drop)]
+pub struct Waiting {
+    pub node: usize,
+    pub stack: Stack,
+    pub awaited: Awaited,
+}
+
+/// What is done next.
+#[derive(Clone, Copy)]
+pub enum Next {
+    /// A node is read from a stack.
+    Read(usize, Stack),
+    /// The reading of what was to be read is there.
+    Done(Reading),
+}
+
+impl How {
+    /// The reading of the node.
+    fn whole(self, reading: Reading, stack: Stack, skips: bool) -> Reading
+        ensures { reading_of result ≡ whole_of self skips (stack_of stack) (reading_of reading) }
+    {
+        match self {
+            How::Same => reading,
+            How::Ahead => reading.ahead(stack),
+            How::NotAhead => reading.not_ahead(stack),
+            How::Optional => reading.optional(stack),
+            How::Pushed => reading.pushed(),
+            How::Both(before, true) => before.or(reading, stack),
+            How::Both(before, false) => before.then(reading, stack, skips),
+        }
+    }
+}
+
+/// A node waits for an operand, which is read next.
+pub fn wait(
+    waiting: &mut Vec<Waiting>,
+    node: usize,
+    stack: Stack,
+    awaited: Awaited,
+    operand: usize,
+) -> Result<Next, AllocError>
+    ensures { IfOk result (IsPut waiting.old.items waiting.new.items node stack awaited operand) }
+{
+    waiting.push(Waiting {
+        node,
+        stack,
+        awaited,
+    })?;
+    Ok(Next::Read(operand, stack))
+}
+
+/// What is done once the operand is read that the last of the nodes was waiting for. The reading of a node is
+/// remembered.
+pub fn go_on(
+    table: &Table,
+    memory: &mut Memory,
+    waiting: &mut Vec<Waiting>,
+    last: Waiting,
+    reading: Reading,
+) -> Result<Next, AllocError>
+    ensures { IfOk result (ReadsOn table.now memory.old memory.new (Next.Done reading)
+        (waiting.old.items ++ last ∷ []) waiting.new.items) }
+{
+    let Waiting {
+        node,
+        stack,
+        awaited,
+    } = last;
+    match awaited {
+        Awaited::First(second, choice) => {
+            waiting.push(Waiting {
+                node,
+                stack,
+                awaited: Awaited::Last(How::Both(reading, choice)),
+            })?;
+            match reading.next_after(choice, stack) {
+                Some(after) => Ok(Next::Read(second, after)),
+                None => Ok(Next::Done(Reading::impossible())),
+            }
+        }
+        Awaited::Last(how) => {
+            let whole = how.whole(reading, stack, table.skips);
+            memory.remember(node, stack, whole)?;
+            Ok(Next::Done(whole))
+        }
+        Awaited::Copy(copies, required, from) => {
+            let copy = LastCopy {
+                copies,
+                required,
+                from,
+            };
+            copied(table, memory, waiting, Begun { node, stack }, copy, reading)
+        }
+        Awaited::Turn(turns, from) => {
+            let turn = LastTurn { turns, from };
+            turned(table, memory, waiting, Begun { node, stack }, turn, reading)
+        }
+    }
+}

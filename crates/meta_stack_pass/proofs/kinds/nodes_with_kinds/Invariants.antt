@@ -1,8 +1,0 @@
-use Rattle.std.proofs.Common.{◌≡◌, map, take}
-use Rattle.meta_table.specs.Names.{grammar_of}
-use Rattle.meta_stack_pass.specs.Names.{kind_in}
-use Rattle.meta_stack_pass.proofs.KindLemmas.{node_of}
-use Rattle.meta_stack_pass.proofs.kinds.nodes_with_kinds.Given as goal
-
-abbrev pub invariant-loop-place : goal.invariant-loop-place
-invariant-loop-place l = l.nodes.items ≡ map (node_of (kind_in (grammar_of l.rules))) (take l.place l.table.nodes.items)

@@ -1,5 +1,0 @@
-use Rattle.meta_stack_pass.specs.Leading.{AreOwned}
-use Rattle.meta_stack_pass.proofs.owners.own_all.Given as goal
-
-abbrev pub invariant-loop-done : goal.invariant-loop-done
-invariant-loop-done l = AreOwned l.nodes l.roots l.owners.items

@@ -1,6 +1,0 @@
-use Rattle.std.proofs.Common.{◌∙◌, ap, is_some}
-use Rattle.meta_table.proofs.NameLemmas.{ascii_place}
-use Rattle.meta_stack_pass.proofs.repetitions.is_defined.Goals as goal
-
-pub returns : goal.returns
-returns c = c.is_some.ensures ∙ ap is_some (c.place_of.ensures ∙ ascii_place c.args.rules.now c.args.names.now c.args.name.now c.requires.known c.requires.ascii)

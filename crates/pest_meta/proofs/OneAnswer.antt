@@ -1,0 +1,23 @@
+-- A text has one answer at most.
+use Rattle.std.proofs.Common.{◌≡◌, ℕ, List, sym, ◌∙◌, subst, map}
+use Rattle.std.specs.Borrow.{Bor}
+use Rattle.meta_ast.specs.Optimized.{optimized_rules_of}
+use Rattle.meta_ast.specs.declared.optimized.OptimizedRule.{OptimizedRule}
+use Rattle.meta_names.specs.GrammarNames.{AreWrittenAt, calls, definitions, first_calls}
+use Rattle.meta_optimizer.specs.Passes.{IsOptimized}
+use Rattle.meta_optimizer.proofs.OneResult.{optimized_once}
+use Rattle.pest_meta.specs.Spelling.{IsAnswer, SpellsGrammar}
+use Rattle.pest_meta.proofs.Spelled.{spells_once, trees_once}
+
+spelled : (text : List ℕ) (builtins : List (Bor (List ℕ))) (answer : List OptimizedRule) → (a : IsAnswer text builtins answer) → SpellsGrammar text a.spelled
+spelled text builtins answer a = record { trees = a.trees; of_text = a.of_text; give = a.accepted.give }
+
+pub one_list_of_builtins : (text : List ℕ) (builtins others : List (Bor (List ℕ))) (answer rules : List OptimizedRule) → IsAnswer text builtins answer → IsAnswer text others rules → map (λ t. t.now) builtins ≡ map (λ t. t.now) others
+one_list_of_builtins text builtins others answer rules a b =
+    let same = trees_once text a.trees b.trees a.of_text b.of_text in
+    subst (λ us. AreWrittenAt (first_calls (definitions text us) (calls text us)) builtins) same a.uses ∙ sym b.uses
+
+pub one_list_of_rules : (text : List ℕ) (builtins others : List (Bor (List ℕ))) (answer rules : List OptimizedRule) → IsAnswer text builtins answer → IsAnswer text others rules → optimized_rules_of answer ≡ optimized_rules_of rules
+one_list_of_rules text builtins others answer rules a b =
+    let same = spells_once text a.spelled b.spelled (spelled text builtins answer a) (spelled text others rules b) in
+    optimized_once (subst (λ g. IsOptimized g (optimized_rules_of answer)) same a.optimized) b.optimized
