@@ -28,20 +28,6 @@ pub fn read_rules(alloc: Global, text: &str) -> Result<Vec<Rule>, Refusal>
     meta_json::read_rules(alloc, text)
 }
 
-/// The optimized rules that a text says.
-pub fn read_optimized_rules(alloc: Global, text: &str) -> Result<Vec<OptimizedRule>, Refusal>
-    ensures { IfOk result (λ rules. AreOptimizedRules text.now rules.items) }
-{
-    meta_json::read_optimized_rules(alloc, text)
-}
-
-/// Names as a text.
-pub fn names_text(alloc: Global, names: &[&str]) -> Result<String, AllocError>
-    ensures { IfOk result (λ text. string_bytes text ≡ compact_text (names_data names.now)) }
-{
-    meta_json::names_text(alloc, names)
-}
-
 /// Errors as a text.
 pub fn errors_text(
     alloc: Global,

@@ -16,33 +16,12 @@ use meta_reader::rules::PestParser;
 use meta_spanned::ParserRule;
 use std::alloc::{AllocError, Global};
 
-/// The pairs that a text spells for a rule.
-pub fn parse(alloc: Global, rule: Rule, text: &str) -> Result<Pairs<'_, Rule>, Fault>
-    ensures text { IfOk result (λ pairs. pairs_text pairs ≡ text.entry.now) }
-    ensures spelled { MatchResult result (AreSpelled rule) (ParseRefuses rule text.entry.now) }
-{
-    PestParser::parse(alloc, rule, text)
-}
-
 /// The rules that are expected where a text fails.
 pub fn expected(alloc: Global, rule: Rule, text: &str) -> Result<Vec<Rule>, AllocError>
     ensures nothing { IfOk result (λ rules. ExpectsNothing rule text.now rules.items) }
     ensures expected { IfOk result (λ rules. AreExpected rule text.now rules.items) }
 {
     PestParser::expected(alloc, rule, text)
-}
-
-/// The rules that the pairs of a grammar spell.
-pub fn consume_rules_with_spans<'i>(
-    alloc: Global,
-    pairs: Pairs<'i, Rule>,
-) -> Result<Vec<ParserRule<'i>>, Fault>
-    requires { AreOfAGrammar pairs }
-    ensures rules { IfOk result (λ rules. AreReadAs pairs.entry (rule_views rules.items)) }
-    ensures flawless { OnOk result (first_flaw_of pairs.entry ≡ None) }
-    ensures refused { IfErr result (IsReadRefusal (first_flaw_of pairs.entry)) }
-{
-    meta_reader::rules::consume_rules_with_spans(alloc, pairs)
 }
 
 /// What errors call a rule of the meta-grammar.

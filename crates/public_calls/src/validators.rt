@@ -13,19 +13,6 @@ use meta_base::runtime::{Error, Fault, Span};
 use meta_spanned::{ParserExpr, ParserRule};
 use std::alloc::{AllocError, Global};
 
-/// Whether an expression may take nothing.
-pub fn is_non_progressing<'i>(
-    alloc: Global,
-    expr: &ParserExpr<'i>,
-    rules: &Vec<ParserRule<'i>>,
-) -> Result<bool, Fault>
-    ensures exact { IfOk result (λ yes. IsTrue yes
-        ↔ IsNullable (rules_without_spans (rule_views rules.now.items)) (without_spans (unplaced expr.now))) }
-    ensures memory { IfErr result (λ fault. fault ≡ Fault.Memory alloc_error) }
-{
-    meta_validator::validator::is_non_progressing(alloc, expr, rules)
-}
-
 /// Whether an expression cannot fail.
 pub fn is_non_failing<'i>(
     alloc: Global,
@@ -54,17 +41,6 @@ pub fn validate_rules<'i>(
     meta_validator::validator::validate_rules(alloc, rules, endless)
 }
 
-/// The errors of the stack pass.
-pub fn validate_stack_repetition<'i>(
-    alloc: Global,
-    rules: &Vec<ParserRule<'i>>,
-) -> Result<Vec<Error<Rule>>, Fault>
-    ensures exact { IfOk result (λ errors. TellReports (rule_views rules.now.items) errors.items) }
-    ensures memory { IfErr result (λ fault. fault ≡ Fault.Memory alloc_error) }
-{
-    meta_stack_loops::validate_stack_repetition(alloc, rules)
-}
-
 /// All errors of rules.
 pub fn validate_ast<'i>(
     alloc: Global,
@@ -84,4 +60,15 @@ pub fn rule_number(names: &Vec<&str>, name: &str) -> Option<usize>
     ensures { result ≡ last_name names.now.items name.now }
 {
     meta_analysis::rule_number(names, name)
+}
+
+/// The errors of the stack pass.
+pub fn validate_stack_repetition<'i>(
+    alloc: Global,
+    rules: &Vec<ParserRule<'i>>,
+) -> Result<Vec<Error<Rule>>, Fault>
+    ensures exact { IfOk result (λ errors. TellReports (rule_views rules.now.items) errors.items) }
+    ensures memory { IfErr result (λ fault. fault ≡ Fault.Memory alloc_error) }
+{
+    meta_stack_loops::validate_stack_repetition(alloc, rules)
 }
