@@ -1,0 +1,45 @@
+//! Rules and expressions as values.
+ghost use Rattle.std.specs.Prelude.{◌≡◌, ◌↔◌, IfOk, IsTrue, encode_utf8_all, string_bytes};
+ghost use Rattle.meta_ast.specs.Ast.{expression_of, rule_of_code};
+ghost use Rattle.meta_ast.specs.Optimized.{optimized_expression_of, optimized_rule_of};
+ghost use Rattle.meta_ast.specs.Printing.{printed};
+
+use meta_ast::ast::{Expr, Rule};
+use meta_ast::optimized::{OptimizedExpr, OptimizedRule};
+use std::alloc::{AllocError, Global};
+
+/// Whether two rules are equal.
+pub fn are_same_rules(one: &Rule, other: &Rule) -> bool
+    ensures { IsTrue result ↔ (rule_of_code one.now ≡ rule_of_code other.now) }
+{
+    *one == *other
+}
+
+/// Whether two optimized rules are equal.
+pub fn are_same_optimized_rules(first: &OptimizedRule, second: &OptimizedRule) -> bool
+    ensures { IsTrue result ↔ (optimized_rule_of first.now ≡ optimized_rule_of second.now) }
+{
+    *first == *second
+}
+
+/// A copy of a rule.
+pub fn copied_rule(rule: &Rule) -> Result<Rule, AllocError>
+    ensures { IfOk result (λ copy. rule_of_code copy ≡ rule_of_code rule.now) }
+{
+    rule.clone()
+}
+
+/// A copy of an optimized expression.
+pub fn copied_optimized(expr: &OptimizedExpr) -> Result<OptimizedExpr, AllocError>
+    ensures { IfOk result (λ copy. optimized_expression_of copy ≡ optimized_expression_of expr.now) }
+{
+    expr.clone()
+}
+
+/// An expression as it is printed.
+pub fn printed_expression(alloc: Global, expr: &Expr) -> Result<String, AllocError>
+    ensures { IfOk result
+        (λ text. string_bytes text ≡ encode_utf8_all (printed (expression_of expr.now))) }
+{
+    format!(in alloc; "{expr}")
+}
