@@ -1,4 +1,5 @@
 -- The rules that are answered call rules and builtins alone.
+use Prim.Native.Nat.{zero}
 use Rattle.std.proofs.Common.{◌≡◌, ℕ, suc, ◌<◌, List, [], ◌∷◌, Option, Some, None, Bool, true, false, if◌then◌else◌, ◌||◌, map, refl, sym, subst, ap, ◌∙◌, bytes_eq, chars, arith}
 use Rattle.std.proofs.lemmas.Bool.{ltb-true}
 use Rattle.std.proofs.lemmas.List.Elements.{All-nil, All-cons, All-head, All-tail, All-contains}
@@ -32,7 +33,7 @@ is_plain (c ∷ cs) = nat_lt c 128 && is_plain cs
 
 plain_at : (cs : List ℕ) → is_plain cs ≡ true → (i : ℕ) → slice_index cs i < 128
 plain_at [] h i = omega arith
-plain_at (c ∷ cs) h 0 = ltb-true c 128 (first_of_both (nat_lt c 128) (is_plain cs) h)
+plain_at (c ∷ cs) h zero = ltb-true c 128 (first_of_both (nat_lt c 128) (is_plain cs) h)
 plain_at (c ∷ cs) h (suc i) = plain_at cs (second_of_both (nat_lt c 128) (is_plain cs) h) i
 
 plain_characters : (cs : List ℕ) → is_plain cs ≡ true → chars cs ≡ cs
