@@ -30,30 +30,6 @@ pub fn validate_rust_keywords(
     meta_names::validate_rust_keywords(alloc, definitions)
 }
 
-/// The definitions that are keywords of pest.
-pub fn validate_pest_keywords(
-    alloc: Global,
-    definitions: &Vec<Span<'_>>,
-) -> Result<Vec<Error<Rule>>, Fault>
-    ensures told { let places = map piece_of definitions.now.items in
-        IfOk result (λ errors. Tell (pest_keyword_complaints places) errors.items) }
-    ensures memory { IfErr result (λ fault. fault ≡ Fault.Memory alloc_error) }
-{
-    meta_names::validate_pest_keywords(alloc, definitions)
-}
-
-/// The definitions of names that are defined before them.
-pub fn validate_already_defined(
-    alloc: Global,
-    definitions: &Vec<Span<'_>>,
-) -> Result<Vec<Error<Rule>>, Fault>
-    ensures told { let places = map piece_of definitions.now.items in
-        IfOk result (λ errors. Tell (duplicate_complaints places) errors.items) }
-    ensures memory { IfErr result (λ fault. fault ≡ Fault.Memory alloc_error) }
-{
-    meta_names::validate_already_defined(alloc, definitions)
-}
-
 /// The calls of names that nothing defines.
 pub fn validate_undefined<'i>(
     alloc: Global,
@@ -66,11 +42,4 @@ pub fn validate_undefined<'i>(
     ensures memory { IfErr result (λ fault. fault ≡ Fault.Memory alloc_error) }
 {
     meta_names::validate_undefined(alloc, definitions, called)
-}
-
-/// The names of the properties of characters.
-pub fn unicode_property_names() -> &'static [&'static str]
-    ensures { map (λ name. name.now) result.now ≡ property_names }
-{
-    meta_names::unicode_property_names()
 }

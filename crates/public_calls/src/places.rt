@@ -32,14 +32,6 @@ pub fn line_col(position: &Position<'_>) -> (usize, usize)
     position.line_col()
 }
 
-/// The position at which a span ends.
-pub fn end_pos<'i>(span: &Span<'i>) -> Position<'i>
-    ensures text { position_text result ≡ span_text span.now }
-    ensures place { position_offset result ≡ span_end span.now }
-{
-    span.end_pos()
-}
-
 /// An error at a span.
 pub fn error_at_span(
     alloc: Global,
@@ -59,16 +51,6 @@ pub fn error_at_span(
     Error::new_from_span(alloc, variant, span)
 }
 
-/// The pairs inside a pair.
-pub fn inner_pairs<'i>(pair: Pair<'i, grammar::Rule>) -> Pairs<'i, grammar::Rule>
-    ensures text { pairs_text result ≡ pair_text pair.entry }
-    ensures trees { pairs_trees result ≡ pair_inner pair.entry }
-    ensures nested { AreNested (pairs_text result) (pairs_trees result)
-        (pair_start pair.entry) (pair_end pair.entry) }
-{
-    pair.into_inner()
-}
-
 /// All pairs in one list.
 pub fn flat_pairs_of<'i>(
     pairs: Pairs<'i, grammar::Rule>,
@@ -79,11 +61,4 @@ pub fn flat_pairs_of<'i>(
     ensures memory { IfErr result (λ fault. fault ≡ Fault.Memory alloc_error) }
 {
     pairs.flatten(alloc)
-}
-
-/// All rules of the meta-grammar.
-pub fn all_rules() -> &'static [grammar::Rule]
-    ensures { result.now ≡ meta_rules }
-{
-    grammar::Rule::all_rules()
 }

@@ -15,25 +15,11 @@ pub fn are_same_rules(one: &Rule, other: &Rule) -> bool
     *one == *other
 }
 
-/// Whether two optimized rules are equal.
-pub fn are_same_optimized_rules(first: &OptimizedRule, second: &OptimizedRule) -> bool
-    ensures { IsTrue result ↔ (optimized_rule_of first.now ≡ optimized_rule_of second.now) }
-{
-    *first == *second
-}
-
 /// A copy of a rule.
 pub fn copied_rule(rule: &Rule) -> Result<Rule, AllocError>
     ensures { IfOk result (λ copy. rule_of_code copy ≡ rule_of_code rule.now) }
 {
     rule.clone()
-}
-
-/// A copy of an optimized expression.
-pub fn copied_optimized(expr: &OptimizedExpr) -> Result<OptimizedExpr, AllocError>
-    ensures { IfOk result (λ copy. optimized_expression_of copy ≡ optimized_expression_of expr.now) }
-{
-    expr.clone()
 }
 
 /// An expression as it is printed.

@@ -17,17 +17,6 @@ pub fn never_taken<'i>(alloc: Global, rules: &[ParserRule<'i>]) -> Result<Vec<Sp
     meta_warnings::unreachable_alternatives(alloc, rules)
 }
 
-/// The ranges that match nothing.
-pub fn empty_ranges<'i>(
-    alloc: Global,
-    rules: &[ParserRule<'i>],
-) -> Result<Vec<Span<'i>>, AllocError>
-    ensures { IfOk result (λ places.
-        map piece_of places.items ≡ reversed_ranges (rule_views rules.now)) }
-{
-    meta_warnings::reversed_ranges(alloc, rules)
-}
-
 /// The rules that no other rule calls.
 pub fn never_called<'i>(
     alloc: Global,
