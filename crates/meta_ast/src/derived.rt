@@ -1,9 +1,15 @@
-//! What the derived `==` of `RuleType` answers: a law on the ghost member of the derived impl, which the
-//! derived method is proved to answer. `==` of the other types of this crate is written by hand, with a
-//! contract.
+//! What the derived clone and `==` of `RuleType` answer: laws on the ghost members of the derived impls,
+//! which the derived methods are proved to answer. Those of the other types of this crate are written by
+//! hand, with a contract.
 ghost use Rattle.std.specs.Prelude.{◌≡◌, ◌↔◌, IsTrue};
 
 use crate::ast::RuleType;
+
+/// A clone of a type of rules is that type, and is never refused.
+pub fn clones_of_rule_types()
+    ensures copies { (a b : RuleType) → ⟦<RuleType as Clone>⟧.is_clone a b → b ≡ a }
+    ensures infallible { (ty : RuleType) → ⟦<RuleType as Clone>⟧.is_infallible ty }
+{}
 
 /// Two types of rules are equal where they are one variant.
 pub fn equality_of_rule_types()

@@ -4,6 +4,7 @@ pub mod Expected
 pub mod Expression
 pub mod FurthestFailure
 pub mod Grammar
+pub mod KnownNames
 pub mod LooseMeaning
 pub mod Matching
 pub mod Meaning

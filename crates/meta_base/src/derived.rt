@@ -1,5 +1,5 @@
-//! What the derived `==`, order and hash of this crate's types answer: laws on the ghost members of the
-//! derived impls, which the derived methods are proved to answer.
+//! What the derived clone, `==`, order and hash of this crate's types answer: laws on the ghost members of
+//! the derived impls, which the derived methods are proved to answer.
 ghost use Rattle.std.specs.Prelude.{◌≡◌, ◌↔◌, ℕ, Some, IsTrue, Contains, slice_get};
 ghost use Rattle.std.specs.Ordering.{nat_cmp};
 ghost use Rattle.std.specs.Hash as fed;
@@ -30,6 +30,36 @@ pub fn order_of_rules()
 pub fn hash_of_rules()
     ensures { (rule : Rule) (i : ℕ) → slice_get ascending_rules i ≡ Some rule
         → ⟦<Rule as Hash>⟧.hash_input rule ≡ fed.usize i }
+{}
+
+/// A clone of a rule is that rule, and is never refused.
+pub fn clones_of_rules()
+    ensures copies { (a b : Rule) → ⟦<Rule as Clone>⟧.is_clone a b → b ≡ a }
+    ensures infallible { (rule : Rule) → ⟦<Rule as Clone>⟧.is_infallible rule }
+{}
+
+/// A clone of a span is that span, and is never refused.
+pub fn clones_of_spans()
+    ensures copies { (a b : Span) → ⟦<Span<'static> as Clone>⟧.is_clone a b → b ≡ a }
+    ensures infallible { (span : Span) → ⟦<Span<'static> as Clone>⟧.is_infallible span }
+{}
+
+/// A clone of a position is that position, and is never refused.
+pub fn clones_of_positions()
+    ensures copies { (a b : Position) → ⟦<Position<'static> as Clone>⟧.is_clone a b → b ≡ a }
+    ensures infallible { (position : Position) → ⟦<Position<'static> as Clone>⟧.is_infallible position }
+{}
+
+/// A clone of a location in bytes is that location, and is never refused.
+pub fn clones_of_locations()
+    ensures copies { (a b : InputLocation) → ⟦<InputLocation as Clone>⟧.is_clone a b → b ≡ a }
+    ensures infallible { (location : InputLocation) → ⟦<InputLocation as Clone>⟧.is_infallible location }
+{}
+
+/// A clone of a location by line and column is that location, and is never refused.
+pub fn clones_of_lines_and_columns()
+    ensures copies { (a b : LineColLocation) → ⟦<LineColLocation as Clone>⟧.is_clone a b → b ≡ a }
+    ensures infallible { (location : LineColLocation) → ⟦<LineColLocation as Clone>⟧.is_infallible location }
 {}
 
 /// Two spans are equal where they go from one byte to one byte of texts that are equal.

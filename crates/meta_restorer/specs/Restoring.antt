@@ -1,13 +1,21 @@
 -- What the restorer makes of rules.
 use Rattle.std.specs.Prelude.{◌≡◌, List, Bool, false, map}
+use Rattle.std.specs.Bool.{Decides}
+use Rattle.std.specs.HashMap.{HashMap}
 use Rattle.std.specs.List.{All}
+use Rattle.std.specs.declared.alloc.Global.{Global}
+use Rattle.std.specs.declared.string.String.{String}
 use Rattle.meta_base.specs.Language.Text.{Text}
-use Rattle.meta_base.specs.Language.Expression.{Expression, RestoreOnErr, Rule, Grammar}
+use Rattle.meta_base.specs.Language.Expression.{Expression, Ident, RestoreOnErr, Rule, Grammar}
 use Rattle.meta_base.specs.Rewritings.Erased.{erased}
 use Rattle.meta_base.specs.Rewritings.Rewriting.{EachBody}
+use Rattle.meta_base.specs.Rewritings.Wrapping.{ChangesStack}
 use Rattle.meta_base.specs.Language.WellFormed.{InSomeRule}
+use Rattle.meta_ast.specs.Ast.{text_of}
 use Rattle.meta_ast.specs.Optimized.{optimized_expression_of}
 use Rattle.meta_ast.specs.declared.optimized.OptimizedRule.{OptimizedRule}
+use Rattle.meta_ast.specs.declared.optimized.OptimizedExpr.{OptimizedExpr}
+use Rattle.meta_restorer.specs.Bodies.{HoldsOptimizedBodies}
 use Rattle.meta_restorer.specs.Changing.{changes_by, is_changer, restored_by}
 
 -- no wrapper stands in a rule of the list
@@ -30,3 +38,12 @@ restored_rule_by p r = record r { body = restored_by p r.body }
 
 abbrev pub restored_rules_by : (Text → Bool) → Grammar → Grammar
 restored_rules_by p g = map (restored_rule_by p) g
+
+-- b is a with wrappers, put from the inside out round what changes the stack; a may have some of its own. A
+-- name changes the stack just where the rules of the map have it do so
+pub record IsRestored {S : Type 0} (rules : HashMap (String Global) OptimizedExpr S) (a b : Expression)
+    : Type 0 where
+  pub changes : Text → Bool
+  pub decides : (g : Grammar) → HoldsOptimizedBodies rules g → (n : String Global)
+      → Decides (changes (text_of n)) (ChangesStack g (Ident (text_of n)))
+  pub is_restored : b ≡ restored_by changes a

@@ -10,7 +10,7 @@ ghost use Rattle.meta_restorer.specs.Bodies.{HoldsOptimizedBodies, named_body};
 ghost use Rattle.meta_restorer.specs.Changing.{HasNoWrappers, KeepsWrappers, changes_by};
 ghost use Rattle.meta_base.specs.Pieces.Faults.{IsMemory};
 ghost use Rattle.meta_restorer.specs.Noted.{AreNotedOf, IsNotedAs};
-ghost use Rattle.meta_restorer.specs.Restoring.{AreQuiet, AreSameErased, HaveNoWrappers, restored_rule_by, restored_rules_by};
+ghost use Rattle.meta_restorer.specs.Restoring.{AreQuiet, AreSameErased, HaveNoWrappers, IsRestored, restored_rule_by, restored_rules_by};
 ghost use Rattle.meta_restorer.specs.Telling.{Tells, told};
 
 use crate::bodies::{bodies_of_map, bodies_of_rules};
@@ -53,6 +53,8 @@ pub fn restore_on_err(
     ensures restores { IfOk result (λ r. (g : Grammar) → HoldsOptimizedBodies rules.now g
         → HasNoWrappers (optimized_expression_of rule.expr)
         → RestoresTo g (optimized_expression_of rule.expr) (optimized_expression_of r.expr)) }
+    ensures whole { IfOk result (λ r.
+        IsRestored rules.now (optimized_expression_of rule.expr) (optimized_expression_of r.expr)) }
     ensures erased { IfOk result
         (λ r. erased (optimized_expression_of r.expr) ≡ erased (optimized_expression_of rule.expr)) }
     ensures wrappers { IfOk result

@@ -1,3 +1,4 @@
+pub mod Meeting
 pub mod NodeTests
 pub mod Walks
 pub mod Sameness

@@ -31,6 +31,11 @@ module _ {F T : Type 0} (step : F → ParserNode → Option T → F → Type 0) 
       (r : Option T) × (g : F) × (others : List T) × AnsweredAt f x r g × Answered g xs last others
       × (answers ≡ option_to_list r ++ others)
 
+  -- such calls at the first of a node and all below it, and at no others
+  abbrev pub AnsweredFirst : F → Spanned → F → Type 0
+  AnsweredFirst f x last = (met others : List Spanned) × (answers : List T) × (met ++ others ≡ preorder x)
+      × Answered f met last answers
+
   -- such calls at a node and all below it, and their answers follow those that were there
   abbrev pub Appended : F → Spanned → F → List T → List T → Type 0
   Appended f x last before after = (answers : List T) × Answered f (preorder x) last answers

@@ -1,7 +1,7 @@
 //! Walks over nodes.
 ghost use Rattle.std.specs.Prelude.{◌≡◌, ◌∷◌, ◌++◌, alloc_error, IfErr, IfOk, OnErr, OnOk};
 ghost use Rattle.meta_spanned.specs.Nodes.{view};
-ghost use Rattle.meta_spanned.specs.Walk.{preorder, waiting, Answered, Appended};
+ghost use Rattle.meta_spanned.specs.Walk.{preorder, waiting, Answered, AnsweredFirst, Appended};
 
 use crate::node::{ParserExpr, ParserNode};
 use meta_ast::deep::Deep;
@@ -34,7 +34,7 @@ impl<'i> ParserNode<'i> {
 ///
 /// A node comes before those inside it, and a left one before the right. `f` is called once at each, with a
 /// copy of the node, and may be called again afterwards. The only fault is a want of memory, and then
-/// `answers` is as it was.
+/// `answers` is as it was, and `f` is as the calls at the first nodes left it.
 pub fn filter_internal<'i, T, F>(
     alloc: Global,
     node: ParserNode<'i>,
@@ -48,6 +48,7 @@ where
     ensures appended { OnOk result
         (Appended F.step f.old (view node.entry) f.new answers.old.items answers.new.items) }
     ensures unchanged { OnErr result (answers.new.items ≡ answers.old.items) }
+    ensures interrupted { OnErr result (AnsweredFirst F.step f.old (view node.entry) f.new) }
     ensures fault { IfErr result (λ fault. fault ≡ Fault.Memory alloc_error) }
     ensures callable { F.IsAlwaysCallable f.new }
 {
@@ -58,7 +59,7 @@ where
 }
 
 /// Appends the answers of `f` at a node and at all below it. The only fault is a want of memory, and then
-/// some of them are appended.
+/// some of them are appended, and `f` is as the calls at the first nodes left it.
 fn walk<'i, T: Drop, F: FnMut(ParserNode<'i>) -> Option<T>>(
     alloc: Global,
     node: &ParserNode<'i>,
@@ -68,6 +69,7 @@ fn walk<'i, T: Drop, F: FnMut(ParserNode<'i>) -> Option<T>>(
     requires { F.IsAlwaysCallable f.old }
     ensures appended { OnOk result
         (Appended F.step f.old (view node.now) f.new answers.old.items answers.new.items) }
+    ensures interrupted { OnErr result (AnsweredFirst F.step f.old (view node.now) f.new) }
     ensures callable { F.IsAlwaysCallable f.new }
 {
     let mut stack = Vec::new(alloc);

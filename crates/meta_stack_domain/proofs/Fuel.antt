@@ -5,8 +5,11 @@ use Rattle.std.proofs.lemmas.Slice.Eq.{bytes_eq-Decides}
 use mathlib.Core.Path.{fun_ext}
 use Rattle.meta_base.specs.Language.Text.{Text}
 use Rattle.meta_base.specs.Language.Expression.{Expression, Str, Insens, Range, Ident, PeekSlice, PosPred, NegPred, Seq, Choice, Opt, Rep, RepOnce, RepExact, RepMin, RepMax, RepMinMax, Skip, Push, RestoreOnErr, Rule, Grammar, or_else, rule_of, Part, whole, of_pos_pred, of_neg_pred, of_seq_left, of_seq_right, of_choice_left, of_choice_right, of_opt, of_rep, of_rep_once, of_rep_exact, of_rep_min, of_rep_max, of_rep_min_max, of_push, of_restore, PushLiteral, NodeTag, of_tag}
-use Rattle.meta_stack_domain.specs.Stack.{In, AbstractStack, failed}
+use Rattle.meta_stack_domain.specs.Stack.{In, AbstractStack, entry, failed}
 use Rattle.meta_stack_domain.specs.Recursion.{ReachesByCalls, by_call, by_calls, LeavesOutRecursion}
+use Rattle.meta_spanned.specs.Erasure.{without_spans}
+use Rattle.meta_spanned.specs.Spanned.{Spanned, Span}
+use Rattle.meta_stack_domain.specs.Reported.{ReportedIn, ReportedToDepth}
 use Rattle.meta_stack_domain.specs.Reports.{skips_in, reading_to_depth, reading_in}
 use Rattle.meta_stack_domain.specs.Reading.{Reading, anything, from, ahead_reading, not_ahead_reading, seq_reading, choice_reading, opt_reading, pushed_reading, Copy, Required, Optional, Endless, at_least_copies, from_to_copies, walked, reading, rule_reading, name_reading}
 
@@ -181,3 +184,12 @@ module _ (recursive : Text → Bool) (g : Grammar) where
         let skips = skips_in g in
         ap (λ f. f a) (reading_same limit skips (At limit skips depth) (At limit skips (length g)) e
         (λ n p. deep_enough limit skips (all_shallow n) depth (length g) h (omega arith)))
+
+    -- so bodies have the same reports
+    pub reports_agree : (limit depth other turns : ℕ) → length g ≤ depth → length g ≤ other → (nullable : Spanned → Bool) (x : Spanned) (ts : List Span)
+        → ReportedToDepth depth limit turns recursive g nullable x ts → ReportedToDepth other limit turns recursive g nullable x ts
+    reports_agree limit depth other turns h i nullable x ts r =
+        let same : (λ (y : Spanned). reading_to_depth depth limit recursive g (without_spans y)) ≡ (λ y. reading_to_depth other limit recursive g (without_spans y)) =
+        fun_ext (λ y. fun_ext (λ a. depths_agree limit depth (without_spans y) a h ∙ sym (depths_agree limit other (without_spans y) a i))) in
+        let P : (Spanned → AbstractStack → Reading) → Type 0 = λ read. ReportedIn limit turns read nullable (λ a. a ≡ entry) x ts in
+        subst P same r

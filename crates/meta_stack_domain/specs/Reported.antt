@@ -1,5 +1,5 @@
 -- Which repetitions are reported in a body: the direct reading, node by node.
-use Rattle.std.specs.Prelude.{◌≡◌, ℕ, zero, suc, List, [], ◌∷◌, ◌++◌, replicate, Option, Some, None, Bool, true, false, if◌then◌else◌, ◌⊎◌}
+use Rattle.std.specs.Prelude.{◌≡◌, ℕ, zero, suc, List, [], ◌∷◌, ◌++◌, replicate, length, Option, Some, None, Bool, true, false, if◌then◌else◌, ◌⊎◌}
 use Rattle.meta_base.specs.Language.Text.{Text}
 use Rattle.meta_base.specs.Language.Expression.{Grammar}
 use Rattle.meta_base.specs.Language.WellFormed.{IsNullable}
@@ -8,7 +8,7 @@ use Rattle.meta_spanned.specs.Spanned.{span_of, Span, Spanned, Leaf, One, Two, U
 use Rattle.meta_stack_domain.specs.Stack.{AbstractStack, In, entry, is_among}
 use Rattle.meta_stack_domain.specs.Reading as says
 use Rattle.meta_stack_domain.specs.Reading.{loops, tried, Copy, Required, Optional, Endless, at_least_copies, from_to_copies}
-use Rattle.meta_stack_domain.specs.Reports.{Route, Here, First, Second, Inner, Turn, reading_in, IsReport, IsCertain, NeverEnds}
+use Rattle.meta_stack_domain.specs.Reports.{Route, Here, First, Second, Inner, Turn, reading_to_depth, IsReport, IsCertain, NeverEnds}
 use Rattle.meta_stack_domain.specs.Walks.{next_after}
 
 -- what is inside is visited as the copies of a repetition are; once where it is none
@@ -97,11 +97,17 @@ node_at _ _ = None
 abbrev pub KnowsNullable : Grammar → (Spanned → Bool) → Type 0
 KnowsNullable g nullable = (x : Spanned) → nullable x ≡ false → IsNullable g (without_spans x) → ⊥
 
--- the reports in the body x of a rule
+-- the reports in the body x of a rule, where calls are followed so deep
+abbrev pub ReportedToDepth :
+    ℕ → ℕ → ℕ → (Text → Bool) → Grammar → (Spanned → Bool) → Spanned → List Span → Type 0
+ReportedToDepth depth limit turns recursive g nullable x ts =
+    ReportedIn limit turns (λ y. reading_to_depth depth limit recursive g (without_spans y)) nullable
+    (λ a. a ≡ entry) x ts
+
+-- the same, where calls are followed as deep as there are rules
 abbrev pub ReportedFrom : ℕ → ℕ → (Text → Bool) → Grammar → (Spanned → Bool) → Spanned → List Span → Type 0
 ReportedFrom limit turns recursive g nullable x ts =
-    ReportedIn limit turns (λ y. reading_in limit recursive g (without_spans y)) nullable
-    (λ a. a ≡ entry) x ts
+    ReportedToDepth (length g) limit turns recursive g nullable x ts
 
 -- at this place of a rule's body stands a repetition that is reported on a route, and that certainly has no
 -- outcome where it is reached on that route; so what reaches it there has none

@@ -7,7 +7,7 @@ ghost use Rattle.meta_base.specs.Language.Meaning.{Matches};
 ghost use Rattle.meta_spanned.specs.Spanned.{Spanned, Span};
 ghost use Rattle.meta_stack_domain.specs.Stack.{AbstractStack, In};
 ghost use Rattle.meta_stack_domain.specs.Reading.{Reading, Walk, turns, reading, name_reading};
-ghost use Rattle.meta_stack_domain.specs.Reported.{KnowsNullable, ReportedFrom, IsCertainAt, turn_starts};
+ghost use Rattle.meta_stack_domain.specs.Reported.{KnowsNullable, ReportedToDepth, ReportedFrom, IsCertainAt, turn_starts};
 ghost use Rattle.meta_stack_domain.specs.Recursion.{LeavesOutRecursion};
 ghost use Rattle.meta_stack_domain.specs.Refuted.{peeked, peeked_twice, top, top_of_none, alone};
 ghost use Rattle.meta_stack_domain.specs.Reports.{Route, StandsAt, ReachesRoute, IsReport, IsCertain, NeverEnds, SkippingAltersStack, reading_in, reading_to_depth};
@@ -75,16 +75,21 @@ pub fn limits_agree()
 {}
 
 /// Where no rule that reaches itself is followed, the depth of calls is never met: expressions have the same
-/// readings with any depth from the number of rules on.
+/// readings, and bodies the same reports, with any depth from the number of rules on.
 pub fn depths_agree()
-    ensures { (limit depth : ℕ) (recursive : Text → Bool) (g : Grammar) (e : Expression) (a : AbstractStack)
+    ensures readings { (limit depth : ℕ) (recursive : Text → Bool) (g : Grammar) (e : Expression) (a : AbstractStack)
         → LeavesOutRecursion recursive g → length g ≤ depth
         → reading_to_depth depth limit recursive g e a ≡ reading_in limit recursive g e a }
+    ensures reports { (limit depth other turns : ℕ) (recursive : Text → Bool) (g : Grammar)
+        → (nullable : Spanned → Bool) (x : Spanned) (ts : List Span)
+        → LeavesOutRecursion recursive g → length g ≤ depth → length g ≤ other
+        → ReportedToDepth depth limit turns recursive g nullable x ts
+        → ReportedToDepth other limit turns recursive g nullable x ts }
 {}
 
 /// What may end is not certain, whatever the route and the stack: in `a = { (PEEK_ALL*){2} }` the inner
-/// repetition, of which there is no third turn, and some start that reaches it has an outcome. Nor is what is no repetition: in `a = { POP_ALL ~ PEEK }` the
-/// `PEEK`, although it has no outcome there.
+/// repetition, of which there is no third turn; and some start that reaches it has an outcome. Nor is what is
+/// no repetition: in `a = { POP_ALL ~ PEEK }` the `PEEK`, although it has no outcome there.
 pub fn others_are_not_certain()
     ensures ends { (r : Route) (a : AbstractStack)
         → IsCertain (alone peeked_twice) peeked_twice peeked r a → ⊥ }

@@ -18,7 +18,7 @@ use Rattle.meta_validator.specs.Findings.{is_skipped_name}
 use Rattle.meta_analysis.specs.declared.facts.Facts.{Facts}
 use Rattle.meta_analysis.specs.declared.kinds.Wrap.TheVariants as wraps
 use Rattle.meta_validator.specs.Reports.{Reported, endless, bad_skipped, recursive, Repeats, repeats_any, repeats_once, repeats_min}
-use Rattle.meta_validator.proofs.Certain.{sure_null}
+use Rattle.meta_base.proofs.CannotFailIsNullable.{nullable_of}
 use Rattle.meta_analysis.proofs.Tying.{says}
 use Rattle.meta_analysis.proofs.Resolved.{Named, absent, named, resolved}
 use Rattle.meta_analysis.proofs.Answering.{same_rule, no_rule}
@@ -108,8 +108,8 @@ module _ (rules : List ParserRule) (facts : Facts) (right : AreFacts rules facts
       again x e (repeats_min {i = n}) h d = let (k, s) = in_lies x h in clash _ (null_at s.0 e s.3 d) (repeated_takes s.0 n (takes k _ s.2))
 
       none : Reported G → ⊥
-      none (endless {x = x} {e = e} r h (inl d)) = again x e r h (sure_null G e d)
+      none (endless {x = x} {e = e} r h (inl d)) = again x e r h (nullable_of G d)
       none (endless {x = x} {e = e} r h (inr d)) = again x e r h d
-      none (bad_skipped {n = n} {r = r} s e (inl d)) = skipped_rule n r s e (sure_null G r.body d) (roots n r e)
+      none (bad_skipped {n = n} {r = r} s e (inl d)) = skipped_rule n r s e (nullable_of G d) (roots n r e)
       none (bad_skipped {n = n} {r = r} s e (inr d)) = skipped_rule n r s e d (roots n r e)
       none (recursive {n = n} e w) = no_walk G fall n w

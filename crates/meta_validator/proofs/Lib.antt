@@ -1,5 +1,4 @@
 pub mod FlagLemmas
-pub mod Certain
 pub mod Walk
 pub mod Reports
 pub mod ReportingLemmas

@@ -28,7 +28,7 @@ use Rattle.meta_analysis.specs.declared.kinds.Wrap.TheVariants as wraps
 use Rattle.meta_validator.specs.declared.recursions.Task.{Task}
 use Rattle.meta_validator.specs.declared.recursions.Task.TheVariants.{Visit, Leave}
 use Rattle.meta_analysis.specs.declared.kind_table.Kind.{Kind}
-use Rattle.meta_validator.proofs.Certain.{sure_null}
+use Rattle.meta_base.proofs.CannotFailIsNullable.{nullable_of}
 use Rattle.meta_analysis.proofs.LayoutLemmas.{some_size}
 use Rattle.meta_validator.proofs.NoneWalks.{at_end, in_rules, sort, Sort, of_name, of_no_name}
 use Rattle.meta_validator.proofs.RegionLemmas.{node_inside, node_first, node_second}
@@ -148,7 +148,7 @@ module _ (rules : List ParserRule) (facts : Facts) (right : AreFacts rules facts
 
         stops : is_set_at passing j ≡ false → Passes V (last_name rules roots start (k ∷ path)) x → ⊥
         stops h (inl p) = let e = sym (d.1 p) ∙ h in cc
-        stops h (inr p) = let e = sym (d.1 (sure_null (without (last_name rules roots start (k ∷ path)) (said V)) (without_spans x) p)) ∙ h in cc
+        stops h (inr p) = let e = sym (d.1 (nullable_of (without (last_name rules roots start (k ∷ path)) (said V)) p)) ∙ h in cc
 
         go : (b : Bool) → is_set_at passing j ≡ b → At (Some (both_kind joints.Sequence j l))
         go true h = two_in (Two s Seq x y) x y j l here first.node second.node (omega arith) (Some (both_kind joints.Sequence j l)) refl (ap (λ b. if b then Visit l ∷ Visit j ∷ [] else Visit j ∷ []) h)

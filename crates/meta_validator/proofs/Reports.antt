@@ -5,7 +5,7 @@ use Rattle.meta_base.specs.Language.Expression.{Expression, Ident, Rule, Grammar
 use Rattle.meta_base.specs.Language.WellFormed.{IsNullable, nullable_soi, nullable_eoi, nullable_call, CannotFail, IsSkipped, is_whitespace, is_comment, IsWellFormed}
 use Rattle.meta_validator.specs.Walk.{WalkLeads, w_at_once, w_by_way}
 use Rattle.meta_validator.specs.Reports.{repeats_any, repeats_once, repeats_min, Reported, endless, bad_skipped, recursive}
-use Rattle.meta_validator.proofs.Certain.{sure_null}
+use Rattle.meta_base.proofs.CannotFailIsNullable.{nullable_of}
 use Rattle.meta_validator.proofs.Walk.{no_cycle, no_walk}
 
 data NullName (g : Grammar) (n : Text) : Type 0 where
@@ -52,7 +52,7 @@ module _ (g : Grammar) where
   }
 
   one_null : {e : Expression} → CannotFail g e ⊎ IsNullable g e → IsNullable g e
-  one_null (inl d) = sure_null g _ d
+  one_null (inl d) = nullable_of g d
   one_null (inr d) = d
 
   pub refused : IsWellFormed g → Reported g → ⊥

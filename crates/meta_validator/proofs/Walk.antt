@@ -5,7 +5,7 @@ use Rattle.meta_base.specs.Language.Text.{Text}
 use Rattle.meta_base.specs.Language.Expression.{Expression, Ident, Seq, Rule, Grammar, rule_of, or_else}
 use Rattle.meta_base.specs.Language.WellFormed.{IsNullable, nullable_str, nullable_insens, nullable_soi, nullable_eoi, nullable_call, nullable_pos_pred, nullable_neg_pred, nullable_opt, nullable_rep, nullable_rep_max, nullable_seq, nullable_left, nullable_right, nullable_rep_once, nullable_push, nullable_exact_zero, nullable_exact, nullable_min_zero, nullable_min, nullable_min_max_zero, nullable_min_max, nullable_skip, nullable_restore, CannotFail, LeftCalls, left_name, left_first, left_second, left_pos_pred, left_neg_pred, left_left, left_right, left_opt, left_rep, left_rep_once, left_rep_exact, left_rep_min, left_rep_max, left_rep_min_max, left_push, left_restore, Leads, at_once, by_way, nullable_push_literal, nullable_tag, left_tag}
 use Rattle.meta_validator.specs.Walk.{without, Walked, w_name, w_first, w_second, w_pos_pred, w_neg_pred, w_left, w_right, w_opt, w_rep, w_rep_once, w_rep_exact, w_rep_min, w_rep_max, w_rep_min_max, w_push, w_restore, WalkLeads, w_at_once, w_by_way, w_tag}
-use Rattle.meta_validator.proofs.Certain.{sure_null}
+use Rattle.meta_base.proofs.CannotFailIsNullable.{nullable_of}
 
 -- 1. the rules without those of a name
 differ : (n k : Text) → bytes_eq n k ≡ false → n ≡ k → ⊥
@@ -88,7 +88,7 @@ module _ (g : Grammar) where
   -- 2. what is walked is left-called
   pub passed : (v : Text) {a : Expression} → IsNullable (without v g) a ⊎ CannotFail (without v g) a → IsNullable g a
   passed v (inl d) = null_more v d
-  passed v {a} (inr d) = null_more v (sure_null (without v g) a d)
+  passed v {a} (inr d) = null_more v (nullable_of (without v g) d)
 
   pub left_called : {v : Text} {e : Expression} {n : Text} → Walked g v e n → LeftCalls g e n
   left_called w_name = left_name

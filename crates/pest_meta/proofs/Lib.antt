@@ -1,6 +1,7 @@
 pub mod Builtins
 pub mod Called
 pub mod Fitting
+pub mod KnownNames
 pub mod NothingNew
 pub mod Promised
 pub mod Reporting

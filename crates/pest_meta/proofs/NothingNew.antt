@@ -14,7 +14,7 @@ use Rattle.meta_restorer.specs.Agreeing.{WrappersSuffice}
 
 -- 1. at the root: what is so of every name before is so of every name behind
 module _ (N : Text → Type 0) where
-  step_here : {g : Grammar} {y : RuleType} {a b : Expression} → Rewrites g y a b → Everywhere (naming N) a → Everywhere (naming N) b
+  pub step_here : {g : Grammar} {y : RuleType} {a b : Expression} → Rewrites g y a b → Everywhere (naming N) a → Everywhere (naming N) b
   step_here (by_rotating rotate_sequence) h = (h.0.0, (h.0.1, h.1))
   step_here (by_rotating rotate_choice) h = (h.0.0, (h.0.1, h.1))
   step_here (by_unrolling (unroll_exact {i = i})) h = in_sequence_too (naming N) tt (each_copy _ i h.1)
@@ -29,12 +29,12 @@ module _ (N : Text → Type 0) where
   step_here (by_factoring factor_optional_compound) h = (h.0.0, h.0.1)
   step_here (by_factoring factor_absorbed) h = h.0
 
-  finish_here : {a b : Expression} → Finishes a b → Everywhere (naming N) a → Everywhere (naming N) b
+  pub finish_here : {a b : Expression} → Finishes a b → Everywhere (naming N) a → Everywhere (naming N) b
   finish_here lists h = (h.1, (tt, (h.0.1.1, h.1)))
   finish_here wraps h = h
 
 -- 2. along changes of a body, in a rule of whatever type: it names nothing new
-abbrev NamesNothingNew : RuleType → Expression → Expression → Type 0
+abbrev pub NamesNothingNew : RuleType → Expression → Expression → Type 0
 NamesNothingNew y a b = (n : Text) → Part b (Ident n) → Part a (Ident n)
 
 module _ (R : Expression → Expression → Type 0) (here : (N : Text → Type 0) (a b : Expression) → R a b → Everywhere (naming N) a → Everywhere (naming N) b) where
@@ -43,7 +43,7 @@ module _ (R : Expression → Expression → Type 0) (here : (N : Text → Type 0
   own_names a (RepMin e j) i = (tt, tt)
   own_names a _ i = tt
 
-  names_along : (y : RuleType) (a b : Expression) → Many R a b → NamesNothingNew y a b
+  pub names_along : (y : RuleType) (a b : Expression) → Many R a b → NamesNothingNew y a b
   names_along y a b m n i =
       let own = naming (λ k. Part a (Ident k)) in
       at_part own (kept_along R own (here (λ k. Part a (Ident k))) (λ c d w h x. tt) m (everywhere own a (own_names a))) i

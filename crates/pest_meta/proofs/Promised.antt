@@ -6,6 +6,7 @@ use Rattle.meta_ast.specs.Optimized.{optimized_rules_of}
 use Rattle.meta_ast.specs.declared.optimized.OptimizedRule.{OptimizedRule}
 use Rattle.meta_base.specs.Language.Expression.{Expression, Grammar}
 use Rattle.meta_base.specs.Language.Grammar.{FitsItsTypes, IsGrammar}
+use Rattle.meta_base.specs.Language.KnownNames.{HasKnownNames}
 use Rattle.meta_base.specs.Language.State.{Trees}
 use Rattle.meta_base.specs.Language.WellFormed.{InSomeRule, IsPlain}
 use Rattle.meta_base.proofs.OneOutcome.{same}
@@ -23,6 +24,7 @@ use Rattle.meta_restorer.specs.Agreeing.{WrappersSuffice}
 use Rattle.pest_meta.proofs.Builtins.{builtins_outside}
 use Rattle.pest_meta.proofs.Called.{each_is_called}
 use Rattle.pest_meta.proofs.Fitting.{AreSound, fits_given, handed_down}
+use Rattle.pest_meta.proofs.KnownNames.{answer_known, spelled_known}
 use Rattle.pest_meta.proofs.NothingNew.{finished_suffice, steps_suffice}
 use Rattle.pest_meta.proofs.Spelled.{spells_once}
 use Rattle.pest_meta.proofs.WellNamed.{defined_texts, distinct_read, keeps_any, names_are_texts, no_keyword_read}
@@ -70,6 +72,13 @@ module _ (text : List ℕ) (utf8 : IsUtf8 text) (builtins : List (Bor (List ℕ)
 
   pub spells_grammar : OfSpelled text IsWellFormedGrammar
   spells_grammar g s = subst IsWellFormedGrammar (the_same g s) (accepted_is_grammar, a.accepted.well_formed)
+
+  -- the rules that are answered call rules and builtins alone
+  pub answers_known : HasKnownNames (optimized_rules_of answer)
+  answers_known =
+      let o = a.optimized in
+      answer_known a.spelled o.reached (optimized_rules_of answer) o.chain
+      (wrapped_listing_finishes o.reached (optimized_rules_of answer) o.lists) (spelled_known a.spelled builtins accepted_builtins)
 
   optimized_outcomes : HasOutcomesOf a.spelled (optimized_rules_of answer)
   optimized_outcomes =

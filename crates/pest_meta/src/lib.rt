@@ -9,6 +9,7 @@ pub mod validator;
 
 ghost use Rattle.std.specs.Prelude.{[], IfErr, IfOk};
 ghost use Rattle.meta_ast.specs.Optimized.{optimized_rules_of};
+ghost use Rattle.meta_base.specs.Language.KnownNames.{HasKnownNames};
 ghost use Rattle.meta_base.specs.Language.WellFormed.{IsPlain};
 ghost use Rattle.meta_stack_loops.specs.Certain.{AreReports};
 ghost use Rattle.pest_meta.specs.Promises.{AreBuiltinsOf, EndsFromEverywhere, HasOutcomesOf, IsWellFormedGrammar};
@@ -33,7 +34,7 @@ use validator::validate_pairs;
 /// each as it is written there; each is one of pest's own, or the name of a Unicode property. The rules are
 /// those that the text spells, in order, with their names and types. Their bodies are rewritten, by steps
 /// that keep what they do from every start, then listed, which may change what some of them match, and then
-/// given wrappers. If the text's grammar is plain, each rule has exactly one outcome from every start. Where
+/// given wrappers. They call nothing but rules and builtins. If the text's grammar is plain, each rule has exactly one outcome from every start. Where
 /// the text's `WHITESPACE` and `COMMENT` reach no `POP` and no `POP_ALL`, it does not matter for the answered
 /// rules what a failed `POP` or `POP_ALL` leaves of the stack. Of an accepted text the stack pass reports
 /// nothing.
@@ -53,6 +54,7 @@ pub fn parse_and_optimize<'i>(
     ensures sound { IfOk result (λ answer. OfSpelled grammar.entry.now IsWellFormedGrammar) }
     ensures outcomes { IfOk result (λ answer. OfSpelled grammar.entry.now
         (λ rules. HasOutcomesOf rules (optimized_rules_of answer.1.items))) }
+    ensures known_names { IfOk result (λ answer. HasKnownNames (optimized_rules_of answer.1.items)) }
     ensures ends { IfOk result (λ answer. OfSpelled grammar.entry.now
         (λ rules. IsPlain rules → EndsFromEverywhere rules)) }
     ensures answer_ends { IfOk result (λ answer. OfSpelled grammar.entry.now

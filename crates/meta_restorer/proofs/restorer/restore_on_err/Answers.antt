@@ -15,6 +15,13 @@ returns-clause-restores c = λ g h k.
     let body : optimized_expression_of c.in_ok-noted_rule.field-0.expr ≡ restored_by p (optimized_expression_of x) = ap (λ (r : Rule). r.body) c.in_ok-noted_rule.ensures.whole in
     subst (RestoresTo g (optimized_expression_of x)) (sym body) (restores p g (c.in_ok-changes.ensures g h) x k)
 
+pub returns-clause-whole : goal.returns-clause-whole
+returns-clause-whole c = record {
+  changes = told c.in_ok-changes.changes;
+  decides = λ g h. c.in_ok-changes.ensures g h;
+  is_restored = ap (λ (r : Rule). r.body) c.in_ok-noted_rule.ensures.whole;
+}
+
 pub returns-clause-erased : goal.returns-clause-erased
 returns-clause-erased c =
     ap (λ (r : Rule). erased r.body) c.in_ok-noted_rule.ensures.whole ∙ restored_same (told c.in_ok-changes.changes) (optimized_expression_of c.args.rule.expr)

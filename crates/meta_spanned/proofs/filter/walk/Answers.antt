@@ -2,6 +2,7 @@ use Rattle.std.proofs.Common.{◌≡◌, ◌++◌, [], option_to_list, refl, sym
 use denote.Param.Always.{mut_next}
 use Rattle.meta_spanned.specs.Walk.{waiting}
 use Rattle.meta_spanned.proofs.Walks.{waiting_on, waits_less, answered_on, appended_on}
+use Rattle.meta_spanned.proofs.Meeting.{on_err, met_next, stops_after}
 use Rattle.meta_spanned.proofs.filter.walk.Goals as goal
 use Rattle.meta_spanned.proofs.filter.walk.Goals.{in-Some-call_mut+in_ok-push-2, in_default-call_mut}
 
@@ -21,6 +22,7 @@ loop-next-preserved g c =
       λ last found h.
           appended_on (goal.F-step g) _ _ _ _ _ _ _ found kept
           (c.loop-next.invariant.1 last _ (answered_on (goal.F-step g) _ _ _ c.in_ok-clone.field-0 _ _ _ _ found c.in_ok-clone.ensures.cases c.call_mut.ensures waits h)),
+      met_next (goal.F-step g) _ _ _ _ c.in_ok-clone.field-0 _ _ _ _ c.in_ok-clone.ensures.cases c.call_mut.ensures waits c.loop-next.invariant.2,
     )
 
 pub returns-clause-appended : goal.returns-clause-appended
@@ -29,3 +31,11 @@ returns-clause-appended g c =
     let empty : waiting c.loop-next.stack.items ≡ [] = ap waiting (c.in_default.ensures.items ∙ (append-nil c.pop.new.self.items ∙ none_left)) in
     let h = c.loop-next.invariant.1 c.loop-next.f [] (rw empty (refl, refl)) in
     rw append-nil at h
+
+pub returns-in_err-push-2-clause-interrupted : goal.returns-in_err-push-2-clause-interrupted
+returns-in_err-push-2-clause-interrupted g c =
+    on_err c.from_residual-in_err-push-2.result (stops_after (goal.F-step g) _ _ _ _ c.in_ok-clone.field-0 _ _ _ c.in-Some.next c.in_ok-clone.ensures.cases c.call_mut.ensures c.in-Some.ensures.items c.loop-next.invariant.2)
+
+pub returns-in_err-push_operands-clause-interrupted : goal.returns-in_err-push_operands-clause-interrupted
+returns-in_err-push_operands-clause-interrupted g c =
+    on_err c.from_residual-in_err-push_operands.result (stops_after (goal.F-step g) _ _ _ _ c.in_ok-clone.field-0 _ _ _ c.in-Some.next c.in_ok-clone.ensures.cases c.call_mut.ensures c.in-Some.ensures.items c.loop-next.invariant.2)
