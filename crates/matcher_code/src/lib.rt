@@ -3,4 +3,5 @@
 
 pub mod code;
 pub mod reading;
+pub mod sets;
 pub mod state;
