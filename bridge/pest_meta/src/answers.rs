@@ -90,9 +90,9 @@ impl fmt::Display for Unanswered {
 
 /// The trees that a text has by a rule.
 pub(crate) fn tokens(text: &str, rule: Rule) -> Result<Vec<Entry>, Error<Rule>> {
-    ask(text.len(), |out, needed| library::tokens(text, rule.name(), out, needed))
-        .and_then(|entries| Ok(json::read(&entries, |reader| reader.list(entry))?))
-        .map_err(|why| errors_of(whole(text), why).swap_remove(0))
+    let function = |out: &mut [u8], needed: &mut usize| library::tokens(text, rule.name(), out, needed);
+    let entries = ask(text.len(), function, |reader| reader.list(entry));
+    entries.map_err(|why| errors_of(whole(text), why).swap_remove(0))
 }
 
 /// The names of the builtins that a grammar uses.
@@ -155,17 +155,24 @@ fn call<T>(
     text: &str,
     value: impl FnOnce(&mut Reader<'_>) -> Reading<T>,
 ) -> Result<T, Unanswered> {
-    let answer = ask(text.len(), |out, needed| library::over_text(function, text, out, needed))?;
-    Ok(json::read(&answer, value)?)
+    ask(text.len(), |out, needed| library::over_text(function, text, out, needed), value)
 }
 
-/// The library's answer, which is JSON, if it is of the format that is read here.
-fn ask(len: usize, call: impl FnMut(&mut [u8], &mut usize) -> u8) -> Result<String, Unanswered> {
+/// What the library answers about a text of some length, read by `value`, if it is of the format that is read
+/// here.
+fn ask<T>(
+    len: usize,
+    call: impl FnMut(&mut [u8], &mut usize) -> u8,
+    value: impl FnOnce(&mut Reader<'_>) -> Reading<T>,
+) -> Result<T, Unanswered> {
     let format = versions().format;
     if format != FORMAT {
         return Err(Malformed::Unknown { what: "format", name: format.to_string() }.into());
     }
-    in_room(len.saturating_mul(64).clamp(4096, 1 << 26), call).map_err(Unanswered::Refused)
+    in_room(len.saturating_mul(64).clamp(LEAST_ROOM, 1 << 26), call, |answer| match answer {
+        Ok(json) => Ok(json::read(json, value)?),
+        Err(json) => Err(Unanswered::Refused(json.to_owned())),
+    })
 }
 
 /// What the library says of itself.
@@ -178,25 +185,34 @@ struct Versions {
 fn versions() -> &'static Versions {
     static VERSIONS: OnceLock<Versions> = OnceLock::new();
     VERSIONS.get_or_init(|| {
-        let mut versions = Versions { crate_version: String::new(), format: 0 };
-        let answer = in_room(4096, library::version).unwrap_or_default();
-        let read = json::read(&answer, |reader| {
-            reader.object(|reader, member| match member {
-                "format" => reader.number().map(|number| versions.format = number),
-                "version" => reader.text().map(|text| versions.crate_version = text),
-                _ => reader.pass(),
+        let versions = in_room(LEAST_ROOM, library::version, |answer| {
+            json::read(answer.unwrap_or_default(), |reader| {
+                let mut versions = Versions { crate_version: String::new(), format: 0 };
+                reader.object(|reader, member| match member {
+                    "format" => reader.number().map(|number| versions.format = number),
+                    "version" => reader.text().map(|text| versions.crate_version = text),
+                    _ => reader.pass(),
+                })?;
+                Ok(versions)
             })
         });
-        read.map_or(Versions { crate_version: "unknown".to_owned(), format: 0 }, |()| versions)
+        versions.unwrap_or(Versions { crate_version: "unknown".to_owned(), format: 0 })
     })
 }
 
-/// Calls with that much room, and again with the room that is wanted where it was too small. A refusal is
-/// the error.
+/// So much room a call gets at least, in bytes.
+const LEAST_ROOM: usize = 1 << 12;
+
+/// Calls with that much room, and again with the room that is wanted where it was too small. What is
+/// answered is read by `read`; a refusal is the error.
 ///
 /// # Panics
 /// Where the library has no memory.
-fn in_room(room: usize, mut call: impl FnMut(&mut [u8], &mut usize) -> u8) -> Result<String, String> {
+fn in_room<T>(
+    room: usize,
+    mut call: impl FnMut(&mut [u8], &mut usize) -> u8,
+    read: impl FnOnce(Result<&str, &str>) -> T,
+) -> T {
     let mut out = vec![0; room];
     let mut needed = 0;
     let mut status = call(&mut out, &mut needed);
@@ -204,11 +220,10 @@ fn in_room(room: usize, mut call: impl FnMut(&mut [u8], &mut usize) -> u8) -> Re
         out = vec![0; needed];
         status = call(&mut out, &mut needed);
     }
-    out.truncate(needed);
-    let text = String::from_utf8(out).expect("the library answers UTF-8");
+    let text = std::str::from_utf8(&out[..needed]).expect("the library answers UTF-8");
     match status {
-        0 => Ok(text),
-        1 => Err(text),
+        0 => read(Ok(text)),
+        1 => read(Err(text)),
         2 => panic!("pest_meta: there is no memory for this grammar"),
         _ => panic!("pest_meta: the library answered with status {status}, which is none for a text"),
     }

@@ -123,7 +123,7 @@ impl<'a> Reader<'a> {
     pub(crate) fn number(&mut self) -> Reading<i64> {
         self.peek();
         let rest = &self.text[self.at..];
-        let len = rest.find(|c: char| c != '-' && !c.is_ascii_digit()).unwrap_or(rest.len());
+        let len = rest.bytes().take_while(|byte| *byte == b'-' || byte.is_ascii_digit()).count();
         match rest[..len].parse() {
             Ok(number) => {
                 self.at += len;

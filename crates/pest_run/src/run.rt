@@ -164,11 +164,23 @@ fn unreadable<E: Write>(source: &Source<'_>, err: &mut Output<E>) -> Exit
         Some(why) => why.as_str(),
         None => "it is not UTF-8",
     };
-    let told = err.write_line(&["cannot read ", source.name, ": ", why]);
+    let told = unread(err, source.name, why);
     Exit {
         status: UNREADABLE,
         told,
     }
+}
+
+/// Writes that a file can't be read, and why.
+fn unread<'t, E: Write>(
+    err: &mut Output<E>,
+    name: &'t str,
+    why: &'t str,
+) -> Result<(), RefusedWrite>
+    ensures told { IsOk result → err.new.refused ≡ err.old.refused }
+    ensures refused_line { IsErr result → err.new.refused ≡ true }
+{
+    err.write_line(&["cannot read ", name, ": ", why])
 }
 
 /// Prints what comes of a rule, or tells why there are no trees.

@@ -2,6 +2,7 @@
 ghost use Rattle.std.specs.Prelude.{IfErr, IfOk, IsErrAnd, [], ◌≡◌};
 ghost use Rattle.meta_ast.specs.Ast.{rules_of};
 ghost use Rattle.meta_ast.specs.Optimized.{optimized_rules_of};
+ghost use Rattle.meta_base.specs.Language.KnownNames.{HasKnownNames};
 ghost use Rattle.meta_base.specs.Language.WellFormed.{HasReadableCounts, IsPlain};
 ghost use Rattle.meta_base.specs.Pieces.NamedTrees.{named};
 ghost use Rattle.meta_base.specs.Pieces.Pairs.{pairs_text, pairs_trees};
@@ -42,6 +43,7 @@ pub fn parse_and_optimize<'i>(
     ensures sound { IfOk result (λ answer. OfSpelled grammar.entry.now IsWellFormedGrammar) }
     ensures outcomes { IfOk result (λ answer. OfSpelled grammar.entry.now
         (λ rules. HasOutcomesOf rules (optimized_rules_of answer.1.items))) }
+    ensures known_names { IfOk result (λ answer. HasKnownNames (optimized_rules_of answer.1.items)) }
     ensures ends { IfOk result (λ answer. OfSpelled grammar.entry.now
         (λ rules. IsPlain rules → EndsFromEverywhere rules)) }
     ensures answer_ends { IfOk result (λ answer. OfSpelled grammar.entry.now

@@ -1,14 +1,13 @@
 //! Rules as JSON.
 ghost use Rattle.std.specs.Prelude.{IfNone, IfOk, IfSome, string_bytes, ◌≡◌};
 ghost use Rattle.meta_base.specs.Pieces.MetaRules.{name_of};
-ghost use Rattle.meta_json.specs.Errors.{errors_data, names_data};
+ghost use Rattle.meta_json.specs.Errors.{errors_data};
 ghost use Rattle.meta_json.specs.Format.{rules_data};
-ghost use Rattle.meta_json.specs.Reading.{AreOptimizedRules, AreRules};
+ghost use Rattle.meta_json.specs.Reading.{AreRules};
 ghost use Rattle.meta_json.specs.RuleNames.{IsOfNoRule};
 ghost use Rattle.serde_json.specs.Written.{compact_text};
 
 use meta_ast::ast::Rule;
-use meta_ast::optimized::OptimizedRule;
 use meta_base::grammar;
 use meta_base::runtime::Error;
 use meta_json::Refusal;

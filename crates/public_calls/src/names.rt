@@ -1,9 +1,8 @@
 //! The names of a grammar.
 ghost use Rattle.std.specs.Prelude.{IfErr, IfOk, OnOk, [], alloc_error, map, ◌≡◌};
-ghost use Rattle.meta_base.specs.Language.Builtins.{property_names};
 ghost use Rattle.meta_base.specs.Pieces.Saying.{Tell, piece_of};
 ghost use Rattle.meta_names.specs.GrammarNames.{AreWrittenAt, IsNameRefusal, complaints_of, first_calls_of};
-ghost use Rattle.meta_names.specs.Names.{duplicate_complaints, pest_keyword_complaints, rust_keyword_complaints, undefined_complaints};
+ghost use Rattle.meta_names.specs.Names.{rust_keyword_complaints, undefined_complaints};
 
 use meta_base::grammar::Rule;
 use meta_base::runtime::{Error, Fault, Pairs, Span};

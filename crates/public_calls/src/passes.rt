@@ -1,27 +1,18 @@
 //! The passes, all of them, and the restorer.
 ghost use Rattle.std.specs.Bool.{Decides};
 ghost use Rattle.std.specs.Prelude.{IfErr, IfOk, ◌≡◌};
-ghost use Rattle.meta_ast.specs.Ast.{expression_of, rule_of_code, rule_type_of, rules_of, text_of};
-ghost use Rattle.meta_ast.specs.Optimized.{optimized_expression_of, optimized_rules_of};
+ghost use Rattle.meta_ast.specs.Ast.{expression_of, rule_of_code, text_of};
+ghost use Rattle.meta_ast.specs.Optimized.{optimized_expression_of};
 ghost use Rattle.meta_base.specs.Language.Expression.{Grammar};
 ghost use Rattle.meta_base.specs.Pieces.Faults.{IsMemory};
-ghost use Rattle.meta_base.specs.Rewritings.Erased.{erased};
-ghost use Rattle.meta_base.specs.Rewritings.Listing.{listed};
 ghost use Rattle.meta_base.specs.Rewritings.Replacing.{IsChained, KeepsOutcomes};
-ghost use Rattle.meta_base.specs.Rewritings.Rewriting.{Factors, IsDone, Joins, Many, Rotates, Unrolls};
-ghost use Rattle.meta_base.specs.Rewritings.Wrapping.{ChangesStack, EachRestored, RestoresTo};
-ghost use Rattle.meta_optimizer.specs.Here.{factored_here};
-ghost use Rattle.meta_optimizer.specs.Listed.{KeepsMatches};
-ghost use Rattle.meta_optimizer.specs.Passes.{IsOptimized};
-ghost use Rattle.meta_optimizer.specs.Traversals.{TopDown};
+ghost use Rattle.meta_base.specs.Rewritings.Rewriting.{Many, Unrolls};
+ghost use Rattle.meta_base.specs.Rewritings.Wrapping.{ChangesStack};
 ghost use Rattle.meta_optimizer.specs.Unrolled.{IsUnrolled};
-ghost use Rattle.meta_restorer.specs.Agreeing.{AgreesLoosely, WrappersSuffice};
 ghost use Rattle.meta_restorer.specs.Bodies.{HoldsOptimizedBodies};
-ghost use Rattle.meta_restorer.specs.Changing.{HasNoWrappers, KeepsWrappers};
-ghost use Rattle.meta_restorer.specs.Restoring.{AreSameErased, HaveNoWrappers};
 
 use meta_ast::ast::Rule;
-use meta_ast::optimized::{OptimizedExpr, OptimizedRule};
+use meta_ast::optimized::OptimizedExpr;
 use meta_base::runtime::Fault;
 use std::alloc::Global;
 use std::collections::HashMap;

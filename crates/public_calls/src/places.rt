@@ -4,14 +4,13 @@ ghost use Rattle.std.specs.Str.{IsCharBoundary};
 ghost use Rattle.meta_base.specs.declared.runtime.errors.InputLocation.TheVariants as InputLocation;
 ghost use Rattle.meta_base.specs.declared.runtime.errors.LineColLocation.TheVariants as LineColLocation;
 ghost use Rattle.meta_base.specs.Pieces.LineColumn.{line_column};
-ghost use Rattle.meta_base.specs.Pieces.MetaRules.{meta_rules};
-ghost use Rattle.meta_base.specs.Pieces.Pairs.{flat_pairs, flat_text, pair_end, pair_inner, pair_start, pair_text, pairs_text, pairs_trees};
+ghost use Rattle.meta_base.specs.Pieces.Pairs.{flat_pairs, flat_text, pairs_text, pairs_trees};
 ghost use Rattle.meta_base.specs.Pieces.PrintedError.{error_line, printed_line};
 ghost use Rattle.meta_base.specs.Pieces.Span.{position_offset, position_text, span_end, span_start, span_text};
-ghost use Rattle.meta_base.specs.Pieces.TokenTrees.{AreNested, preorder};
+ghost use Rattle.meta_base.specs.Pieces.TokenTrees.{preorder};
 
 use meta_base::grammar;
-use meta_base::runtime::{Error, ErrorVariant, Fault, FlatPairs, Pair, Pairs, Position, Span};
+use meta_base::runtime::{Error, ErrorVariant, Fault, FlatPairs, Pairs, Position, Span};
 use std::alloc::Global;
 
 /// The span of two places in a text.

@@ -1,17 +1,14 @@
 //! From a text to its rules.
-ghost use Rattle.std.specs.Prelude.{IfErr, IfOk, MatchResult, OnOk, alloc_error, string_bytes, ◌≡◌};
+ghost use Rattle.std.specs.Prelude.{IfOk, MatchResult, alloc_error, string_bytes, ◌≡◌};
 ghost use Rattle.meta_ast.specs.Ast.{rules_of};
-ghost use Rattle.meta_base.specs.Pieces.Pairs.{pairs_text};
-ghost use Rattle.meta_reader.specs.Refusals.{AreReadAs, IsReadRefusal, first_flaw_of};
 ghost use Rattle.meta_reader.specs.ShownNames.{shown_name};
 ghost use Rattle.meta_spanned.specs.Erasure.{rules_without_spans};
 ghost use Rattle.meta_spanned.specs.Nodes.{rule_views};
 ghost use Rattle.meta_syntax.specs.ExpectedRules.{AreExpected, ExpectsNothing};
-ghost use Rattle.meta_syntax.specs.Parses.{AreOfAGrammar, AreSpelled, ParseRefuses};
 
 use meta_ast::ast::Rule as PlainRule;
 use meta_base::grammar::Rule;
-use meta_base::runtime::{Fault, Pairs};
+use meta_base::runtime::Fault;
 use meta_reader::rules::PestParser;
 use meta_spanned::ParserRule;
 use std::alloc::{AllocError, Global};

@@ -1,7 +1,7 @@
 //! What is wrong with rules.
 ghost use Rattle.std.specs.Prelude.{IfErr, IfOk, IsTrue, [], alloc_error, map, ◌↔◌, ◌≡◌};
 ghost use Rattle.meta_analysis.specs.NamedPlaces.{last_name};
-ghost use Rattle.meta_base.specs.Language.WellFormed.{CannotFail, IsNullable, IsWellFormed};
+ghost use Rattle.meta_base.specs.Language.WellFormed.{CannotFail, IsWellFormed};
 ghost use Rattle.meta_spanned.specs.Erasure.{rules_without_spans, without_spans};
 ghost use Rattle.meta_spanned.specs.Nodes.{piece_of, rule_views, unplaced};
 ghost use Rattle.meta_stack_loops.specs.Certain.{AreReports, TellReports};
@@ -11,7 +11,7 @@ ghost use Rattle.pest_meta.specs.Findings.{TellFindings};
 use meta_base::grammar::Rule;
 use meta_base::runtime::{Error, Fault, Span};
 use meta_spanned::{ParserExpr, ParserRule};
-use std::alloc::{AllocError, Global};
+use std::alloc::Global;
 
 /// Whether an expression cannot fail.
 pub fn is_non_failing<'i>(

@@ -1,11 +1,9 @@
 //! Rules and expressions as values.
 ghost use Rattle.std.specs.Prelude.{◌≡◌, ◌↔◌, IfOk, IsTrue, encode_utf8_all, string_bytes};
 ghost use Rattle.meta_ast.specs.Ast.{expression_of, rule_of_code};
-ghost use Rattle.meta_ast.specs.Optimized.{optimized_expression_of, optimized_rule_of};
 ghost use Rattle.meta_ast.specs.Printing.{printed};
 
 use meta_ast::ast::{Expr, Rule};
-use meta_ast::optimized::{OptimizedExpr, OptimizedRule};
 use std::alloc::{AllocError, Global};
 
 /// Whether two rules are equal.

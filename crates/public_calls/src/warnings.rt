@@ -2,7 +2,6 @@
 ghost use Rattle.std.specs.Prelude.{◌≡◌, IfOk, map};
 ghost use Rattle.meta_spanned.specs.Nodes.{piece_of, rule_views};
 ghost use Rattle.meta_warnings.specs.Choices.{unreachable_alternatives};
-ghost use Rattle.meta_warnings.specs.Ranges.{reversed_ranges};
 ghost use Rattle.meta_warnings.specs.Rules.{uncalled_rules};
 
 use meta_base::runtime::Span;
