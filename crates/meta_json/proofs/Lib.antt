@@ -3,3 +3,4 @@ pub mod Lists
 pub mod PlacedFloats
 pub mod RuleNames
 pub mod Turns
+pub mod Refused

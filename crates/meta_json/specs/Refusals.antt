@@ -1,9 +1,15 @@
 -- Why a text is not read as rules, as a JSON value.
-use Rattle.std.specs.Prelude.{ℕ, List, codes}
+use Rattle.std.specs.Prelude.{◌≡◌, ℕ, List, None, Some, codes, ⊤}
 use Rattle.serde_json.specs.Data.{Data, member, no_members, object, string}
+use Rattle.serde_json.specs.Find.{as_array}
+use Rattle.serde_json.specs.Read.{read}
 use Rattle.meta_json.specs.Errors.{size_data}
 use Rattle.meta_json.specs.declared.refusal.Place.{Place}
 use Rattle.meta_json.specs.declared.refusal.Place.TheVariants as place
+use Rattle.meta_json.specs.declared.refusal.Refusal.{Refusal}
+use Rattle.meta_json.specs.declared.refusal.Refusal.TheVariants as refusal
+use Rattle.meta_json.specs.declared.refusal.Unread.{Unread}
+use Rattle.meta_json.specs.declared.refusal.Unread.TheVariants as unread
 use Rattle.meta_json.specs.declared.refusal.Why.{Why}
 use Rattle.meta_json.specs.declared.refusal.Why.TheVariants as is
 
@@ -33,3 +39,33 @@ said_at (place.Node rule node) message = object (member (codes "message") (strin
 -- a refusal: its place, and what is wrong there
 abbrev pub refusal_data : Place → Why → Data
 refusal_data p w = said_at p (message_of w)
+
+-- a part that is refused, in the rule of that number
+abbrev pub in_rule : Unread → ℕ → Refusal
+in_rule unread.Memory rule = refusal.Memory
+in_rule (unread.Why why) rule = refusal.Text (place.Rule rule) why
+in_rule (unread.At node why) rule = refusal.Text (place.Node rule node) why
+
+-- the same at the node of that number
+abbrev pub at_node : Unread → ℕ → Unread
+at_node unread.Memory node = unread.Memory
+at_node (unread.Why why) node = unread.At node why
+at_node (unread.At other why) node = unread.At other why
+
+-- why a text is refused: memory was wanting; it is no JSON, of which a line and a column are told; it is no
+-- list; or something is wrong in a rule of it, of which nothing is said here
+abbrev pub IsRefusedText : List ℕ → Refusal → Type 0
+IsRefusedText text refusal.Memory = ⊤
+IsRefusedText text (refusal.Text (place.Text line column) why) = (why ≡ is.Json) × (read text ≡ None)
+IsRefusedText text (refusal.Text place.Whole why) =
+    (why ≡ is.NoList) × ((d : Data) × (read text ≡ Some d) × (as_array d ≡ None))
+IsRefusedText text (refusal.Text (place.Rule rule) why) = ⊤
+IsRefusedText text (refusal.Text (place.Node rule node) why) = ⊤
+
+-- memory was wanting, or something is wrong in the rule of that number
+abbrev pub IsInRule : ℕ → Refusal → Type 0
+IsInRule rule refusal.Memory = ⊤
+IsInRule rule (refusal.Text (place.Text line column) why) = ⊥
+IsInRule rule (refusal.Text place.Whole why) = ⊥
+IsInRule rule (refusal.Text (place.Rule n) why) = n ≡ rule
+IsInRule rule (refusal.Text (place.Node n node) why) = n ≡ rule

@@ -2,7 +2,8 @@
 ghost use Rattle.std.specs.Prelude.{◌≡◌, IfOk, string_bytes};
 ghost use Rattle.serde_json.specs.View.{view};
 ghost use Rattle.serde_json.specs.Written.{compact_text};
-ghost use Rattle.meta_json.specs.Refusals.{message_of, refusal_data, said_at};
+ghost use Rattle.meta_json.specs.declared.refusal.Refusal.TheVariants.{Memory};
+ghost use Rattle.meta_json.specs.Refusals.{at_node, in_rule, message_of, refusal_data, said_at};
 
 use serde_json::{Value, json};
 use std::alloc::{AllocError, AllocFailed, Global};
@@ -75,6 +76,8 @@ pub enum Refusal {
 }
 
 impl From<AllocError> for Refusal {
+    ghost from_gives = { λ _ refusal. refusal ≡ Memory };
+
     fn from(_refused: AllocError) -> Refusal {
         Refusal::Memory
     }
@@ -103,7 +106,9 @@ impl<T: Drop> From<AllocFailed<T>> for Unread {
 
 impl Unread {
     /// The same of a node.
-    pub(crate) fn at_node(self, node: usize) -> Unread {
+    pub(crate) fn at_node(self, node: usize) -> Unread
+        ensures { result ≡ at_node self node }
+    {
         match self {
             Unread::Why(why) => Unread::At(node, why),
             other => other,
@@ -111,7 +116,9 @@ impl Unread {
     }
 
     /// The same of a rule.
-    pub(crate) fn in_rule(self, rule: usize) -> Refusal {
+    pub(crate) fn in_rule(self, rule: usize) -> Refusal
+        ensures { result ≡ in_rule self rule }
+    {
         match self {
             Unread::Memory => Refusal::Memory,
             Unread::Why(why) => Refusal::Text(Place::Rule(rule), why),

@@ -1,11 +1,13 @@
 //! Lists of rules as JSON, and read back.
-ghost use Rattle.std.specs.Prelude.{◌≡◌, IfOk, Some, codes, string_bytes};
+ghost use Rattle.std.specs.Prelude.{◌≡◌, ◌≢◌, IfErr, IfOk, None, Some, codes, option_and_then, string_bytes};
 ghost use Rattle.serde_json.specs.Data.{array, string};
-ghost use Rattle.serde_json.specs.Find.{get};
+ghost use Rattle.serde_json.specs.Find.{as_array, as_str, get};
 ghost use Rattle.serde_json.specs.Read.{read};
 ghost use Rattle.serde_json.specs.View.{items_view, view};
 ghost use Rattle.serde_json.specs.Written.{compact_text};
 ghost use Rattle.meta_json.specs.Format.{optimized_rules_data, rule_data, rules_data, type_name};
+ghost use Rattle.meta_ast.specs.declared.ast.RuleType.{RuleType};
+ghost use Rattle.meta_json.specs.Refusals.{IsInRule, IsRefusedText};
 ghost use Rattle.meta_json.specs.Reading.{AreOptimizedRules, AreRules, members_of, members_of_optimized, members_of_rule, rule_members};
 
 use crate::expressions::{AsNodes, FromNodes, expression_of, nodes_of};
@@ -85,8 +87,10 @@ pub(crate) fn name_of_type(ty: RuleType) -> &'static str
 
 /// The rules that a text in JSON has. Refused for want of memory; where the text is no JSON, or no list; and
 /// at the first object that is no rule.
+#[tactic(auto, using(crate::proofs::Refused::of_rule))]
 pub fn read_rules(alloc: Global, text: &str) -> Result<Vec<Rule>, Refusal>
-    ensures { IfOk result (λ rules. AreRules text.now rules.items) }
+    ensures rules { IfOk result (λ rules. AreRules text.now rules.items) }
+    ensures refused { IfErr result (IsRefusedText text.now) }
 {
     let value = value_of(alloc, text)?;
     let values = values_of(&value)?;
@@ -103,8 +107,10 @@ pub fn read_rules(alloc: Global, text: &str) -> Result<Vec<Rule>, Refusal>
 }
 
 /// The optimized rules that a text in JSON has. It is refused as by `read_rules`.
+#[tactic(auto, using(crate::proofs::Refused::of_rule))]
 pub fn read_optimized_rules(alloc: Global, text: &str) -> Result<Vec<OptimizedRule>, Refusal>
-    ensures { IfOk result (λ rules. AreOptimizedRules text.now rules.items) }
+    ensures rules { IfOk result (λ rules. AreOptimizedRules text.now rules.items) }
+    ensures refused { IfErr result (IsRefusedText text.now) }
 {
     let value = value_of(alloc, text)?;
     let values = values_of(&value)?;
@@ -122,7 +128,8 @@ pub fn read_optimized_rules(alloc: Global, text: &str) -> Result<Vec<OptimizedRu
 
 /// The value of a text in JSON.
 fn value_of(alloc: Global, text: &str) -> Result<Value, Refusal>
-    ensures { IfOk result (λ value. read text.now ≡ Some (view value)) }
+    ensures value { IfOk result (λ value. read text.now ≡ Some (view value)) }
+    ensures refused { IfErr result (IsRefusedText text.now) }
 {
     match Value::from_str(alloc, text) {
         Ok(value) => Ok(value),
@@ -133,7 +140,9 @@ fn value_of(alloc: Global, text: &str) -> Result<Value, Refusal>
 
 /// The values of a list.
 fn values_of(value: &Value) -> Result<&Vec<Value>, Refusal>
-    ensures { IfOk result (λ values. view value.now ≡ array (items_view values.now.items)) }
+    ensures list { IfOk result (λ values. view value.now ≡ array (items_view values.now.items)) }
+    ensures refused { IfErr result (λ refusal. (refusal ≡ Refusal.Text Place.Whole Why.NoList)
+        × (as_array (view value.now) ≡ None)) }
 {
     match value {
         Value::Array(values) => Ok(values),
@@ -142,8 +151,10 @@ fn values_of(value: &Value) -> Result<&Vec<Value>, Refusal>
 }
 
 /// The rule that a value is, the one of that number.
+#[tactic(auto, using(crate::proofs::Refused::in_its_rule))]
 fn rule_of(alloc: Global, value: &Value, place: usize) -> Result<Rule, Refusal>
-    ensures { IfOk result (λ rule. members_of (view value.now) ≡ members_of_rule rule) }
+    ensures members { IfOk result (λ rule. members_of (view value.now) ≡ members_of_rule rule) }
+    ensures refused { IfErr result (IsInRule place) }
 {
     match parts_of(alloc, value) {
         Ok((name, ty, expr)) => Ok(Rule { name, ty, expr }),
@@ -152,8 +163,10 @@ fn rule_of(alloc: Global, value: &Value, place: usize) -> Result<Rule, Refusal>
 }
 
 /// The optimized rule that a value is, the one of that number.
+#[tactic(auto, using(crate::proofs::Refused::in_its_rule))]
 fn optimized_rule_of(alloc: Global, value: &Value, place: usize) -> Result<OptimizedRule, Refusal>
-    ensures { IfOk result (λ rule. members_of (view value.now) ≡ members_of_optimized rule) }
+    ensures members { IfOk result (λ rule. members_of (view value.now) ≡ members_of_optimized rule) }
+    ensures refused { IfErr result (IsInRule place) }
 {
     match parts_of(alloc, value) {
         Ok((name, ty, expr)) => Ok(OptimizedRule { name, ty, expr }),
@@ -175,7 +188,9 @@ fn parts_of<E: FromNodes>(alloc: Global, value: &Value) -> Result<(String, RuleT
 
 /// A rule's name.
 fn name_in(value: &Value) -> Result<&str, Unread>
-    ensures { IfOk result (λ name. get (codes "name") (view value.now) ≡ Some (string name.now)) }
+    ensures name { IfOk result (λ name. get (codes "name") (view value.now) ≡ Some (string name.now)) }
+    ensures refused { IfErr result (λ unread. (unread ≡ Unread.Why Why.Name)
+        × (option_and_then as_str (get (codes "name") (view value.now)) ≡ None)) }
 {
     match value.get("name") {
         Some(Value::String(name)) => Ok(name.as_str()),
@@ -185,7 +200,9 @@ fn name_in(value: &Value) -> Result<&str, Unread>
 
 /// A rule's type.
 fn type_in(value: &Value) -> Result<RuleType, Unread>
-    ensures { IfOk result (λ ty. get (codes "type") (view value.now) ≡ Some (string (type_name ty))) }
+    ensures ty { IfOk result (λ ty. get (codes "type") (view value.now) ≡ Some (string (type_name ty))) }
+    ensures refused { IfErr result (λ unread. (unread ≡ Unread.Why Why.Type)
+        × ((ty : RuleType) → get (codes "type") (view value.now) ≡ Some (string (type_name ty)) → ⊥)) }
 {
     match value.get("type") {
         Some(Value::String(name)) => type_named(name.as_str()),
@@ -195,8 +212,10 @@ fn type_in(value: &Value) -> Result<RuleType, Unread>
 
 /// A rule's nodes.
 fn nodes_in(value: &Value) -> Result<&Vec<Value>, Unread>
-    ensures { IfOk result (λ nodes. get (codes "expr") (view value.now)
+    ensures nodes { IfOk result (λ nodes. get (codes "expr") (view value.now)
         ≡ Some (array (items_view nodes.now.items))) }
+    ensures refused { IfErr result (λ unread. (unread ≡ Unread.Why Why.Body)
+        × (option_and_then as_array (get (codes "expr") (view value.now)) ≡ None)) }
 {
     match value.get("expr") {
         Some(Value::Array(nodes)) => Ok(nodes),
@@ -206,7 +225,9 @@ fn nodes_in(value: &Value) -> Result<&Vec<Value>, Unread>
 
 /// The type of that name.
 fn type_named(name: &str) -> Result<RuleType, Unread>
-    ensures { IfOk result (λ ty. name.now ≡ type_name ty) }
+    ensures ty { IfOk result (λ ty. name.now ≡ type_name ty) }
+    ensures refused { IfErr result (λ unread. (unread ≡ Unread.Why Why.Type)
+        × ((ty : RuleType) → name.now ≡ type_name ty → ⊥)) }
 {
     match name {
         "normal" => Ok(RuleType::Normal),

@@ -21,6 +21,8 @@ use Rattle.meta_syntax.specs.Parses.{AreOfAGrammar, ParseRefuses}
 use Rattle.pest_meta.proofs.Spelled.{fails_so, flawed}
 use Rattle.pest_meta.specs.Spelling.{AreFlawed, AreRejected, HaveFindings, IsMisnamed, IsNoGrammar, IsRefusal, IsRefusedWith}
 use Rattle.pest_meta_c.specs.Outcomes.{IsRefusalOf, IsTold, Says}
+use Rattle.meta_json.specs.Refusals.{IsRefusedText}
+use Rattle.meta_json.specs.declared.refusal.Refusal.TheVariants as refusal_is
 use Rattle.pest_meta_c.specs.Refusals.{HasNoTokens, IsNoJson, OfTrees, TellSuch}
 use Rattle.pest_meta_c.specs.declared.outcome.Unanswered as why
 use Rattle.pest_meta_c.specs.declared.outcome.Unanswered.TheVariants as why_is
@@ -93,6 +95,6 @@ unknown text name why_is.Memory none t = tt
 unknown text name (why_is.Refused json) none t = inl (record { none = none; written = t })
 
 -- JSON that has no rules
-pub no_json : (place : Place) (reason : Why) (told : why.Unanswered) → IsRefusalOf place reason told → Says IsNoJson told
-no_json place reason why_is.Memory t = tt
-no_json place reason (why_is.Refused json) t = (place, reason, t)
+pub no_json : (text : List ℕ) (place : Place) (reason : Why) (told : why.Unanswered) → IsRefusedText text (refusal_is.Text place reason) → IsRefusalOf place reason told → Says (IsNoJson text) told
+no_json text place reason why_is.Memory r t = tt
+no_json text place reason (why_is.Refused json) r t = (place, reason, r, t)

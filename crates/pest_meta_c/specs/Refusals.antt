@@ -6,10 +6,11 @@ use Rattle.meta_base.specs.Pieces.MetaRules.{name_of}
 use Rattle.meta_base.specs.declared.grammar.Rule.{Rule}
 use Rattle.meta_base.specs.declared.grammar.Rule.TheVariants as rule_is
 use Rattle.meta_base.specs.declared.runtime.errors.Error.{Error}
-use Rattle.meta_json.specs.Refusals.{refusal_data}
+use Rattle.meta_json.specs.Refusals.{IsRefusedText, refusal_data}
 use Rattle.meta_json.specs.RuleNames.{IsOfNoRule}
 use Rattle.meta_json.specs.declared.refusal.Place.{Place}
 use Rattle.meta_json.specs.declared.refusal.Place.TheVariants as place_is
+use Rattle.meta_json.specs.declared.refusal.Refusal.TheVariants as refusal_is
 use Rattle.meta_json.specs.declared.refusal.Why.{Why}
 use Rattle.meta_json.specs.declared.refusal.Why.TheVariants as why_is
 use Rattle.meta_syntax.specs.Parses as parsed
@@ -62,9 +63,10 @@ HasNoRules text json = TellSuch text
 abbrev pub IsRefused : List ℕ → List ℕ → Type 0
 IsRefused text json = TellSuch text (IsRefusedWith text) json
 
--- the bytes say why JSON has no rules, and where
-abbrev pub IsNoJson : List ℕ → Type 0
-IsNoJson json = (place : Place) × (why : Why) × (json ≡ compact_text (refusal_data place why))
+-- the bytes say why a text has no rules, and where: it is no JSON, or no list, or something is wrong in a rule
+abbrev pub IsNoJson : List ℕ → List ℕ → Type 0
+IsNoJson text json = (place : Place) × (why : Why) × IsRefusedText text (refusal_is.Text place why)
+    × (json ≡ compact_text (refusal_data place why))
 
 -- nothing is refused
 abbrev pub Never : List ℕ → Type 0

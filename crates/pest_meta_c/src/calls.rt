@@ -95,7 +95,7 @@ pub(crate) fn nodes(alloc: Global, text: &str) -> Outcome
 /// Rules in JSON, optimized.
 pub(crate) fn optimize(alloc: Global, json: &str) -> Outcome
     ensures answered { IfOk result (λ answer. AreOptimized json.now (string_bytes answer)) }
-    ensures refused { IfErr result (Says IsNoJson) }
+    ensures refused { IfErr result (Says (IsNoJson json.now)) }
 {
     let rules = match read_rules(alloc, json) {
         Ok(rules) => rules,

@@ -122,7 +122,7 @@ pub extern "C" fn pest_meta_optimize(
     out: &mut [u8],
     needed: &mut usize,
 ) -> u8
-    ensures hands { Hands (AreOptimized rules.now) IsNoJson out.old out.new needed.new result }
+    ensures hands { Hands (AreOptimized rules.now) (IsNoJson rules.now) out.old out.new needed.new result }
     ensures text { result ≢ 3 → IsUtf8 rules.now }
     ensures no_text { result ≡ 3 → IsUtf8 rules.now → ⊥ }
 {

@@ -3,6 +3,7 @@ use Rattle.serde_json.specs.Written.{compact_text}
 use Rattle.meta_json.specs.Format.{optimized_rules_data}
 use Rattle.pest_meta_c.specs.Answers.{AreOptimized}
 use Rattle.pest_meta_c.proofs.Answering.{answered_from}
+use Rattle.pest_meta_c.proofs.Telling.{no_json}
 use Rattle.pest_meta_c.proofs.calls.optimize.Goals as goal
 
 pub returns-in-Ok-optimize-clause-answered : goal.returns-in-Ok-optimize-clause-answered
@@ -10,10 +11,15 @@ returns-in-Ok-optimize-clause-answered c =
     answered_from (AreOptimized c.args.json.now) (optimized_rules_data c.deref.result.now) c.optimized_rules_text-json.result c.answered.result c.optimized_rules_text-json.ensures
     (λ bytes e. record {
       rules = c.in-Ok.rules.items;
-      read = c.in-Ok.ensures;
+      read = c.in-Ok.ensures.rules;
       answer = c.in-Ok-optimize.rules.items;
       optimized = c.in-Ok-optimize.ensures.rules;
       agrees = c.in-Ok-optimize.ensures.agrees;
       written = e ∙ ap (λ rules. compact_text (optimized_rules_data rules)) c.deref.ensures.value;
     })
     c.answered.ensures.answered
+
+pub returns-in-Err-Text-clause-refused : goal.returns-in-Err-Text-clause-refused
+returns-in-Err-Text-clause-refused c =
+    let why = rw c.in-Err-Text.field-0-is at c.in-Err-Text.ensures.refused in
+    no_json c.args.json.now c.in-Err-Text.place c.in-Err-Text.why c.refused.result why c.refused.ensures
