@@ -13,13 +13,14 @@ use Rattle.std.proofs.lemmas.Bool.{false_from_ne_true, and_parts}
 use Rattle.meta_ast.specs.Ast.{text_of}
 use Rattle.meta_base.specs.Language.Builtins.{Named, Property as PropertyOf, builtin_of, builtins, is_one_of, looked_up, property_names}
 use Rattle.meta_base.specs.Language.Expression.{Expression, Grammar, Ident, Part, Range, rule_of, whole}
+use Rattle.meta_base.specs.Language.KnownNames.{HasKnownNames}
 use Rattle.meta_base.specs.Language.Text.{Text}
 use Rattle.meta_base.specs.Language.WellFormed.{InSomeRule}
 use Rattle.meta_base.specs.Rewritings.Equality.{text_eq-Decides}
 use Rattle.meta_syntax.specs.Forms.{decoded}
 use Rattle.meta_syntax.proofs.LeafLemmas.{decoded_chars}
 use Rattle.matcher_program.proofs.Compiling.{each, each_of, is_property_of}
-use Rattle.matcher_program.specs.Refusals.{IsNoBuiltin, IsNoCharacter, IsReason, IsUnknown, IsWithin, IsWrong, IsWrongBound, IsWrongIn, class_names, has_property, sign_names, stack_names}
+use Rattle.matcher_program.specs.Refusals.{IsNoBuiltin, IsNoCharacter, IsReason, IsUnknown, IsWithin, KnowsProperties, IsWrong, IsWrongBound, IsWrongIn, class_names, has_property, sign_names, stack_names}
 use Rattle.matcher_program.specs.declared.compile.Unfit.{Unfit}
 use Rattle.matcher_program.specs.declared.compile.Unfit.TheVariants as unfit
 use Rattle.meta_ast.specs.Optimized.{optimized_expression_of, optimized_rule_of, optimized_rules_of}
@@ -212,3 +213,8 @@ program_refused knows ps qs rules others r u e p o f h =
     let P : List Property → List OptimizedRule → Type 0 = λ ps rs. IsReason (has_property ps) (optimized_rules_of rs) u in
     let h' : P ps rules = subst (λ rs. P ps rs) o (subst (λ ps. P ps others) p h) in
     rw e (reason_known knows ps (optimized_rules_of rules) f u h')
+
+-- rules that call rules and builtins alone have no unknown name
+pub no_unknown : (knows : Text → Bool) (g : Grammar) → HasKnownNames g → KnowsProperties knows → (n : Text) → InSomeRule g (Ident n) → IsUnknown knows g n → ⊥
+no_unknown knows g k p n i (none, inl e) = k n i none e
+no_unknown knows g k p n i (none, inr (e, f)) = true_is_false (sym (p n e) ∙ f)

@@ -17,6 +17,10 @@ IsNoBuiltin knows n = (builtin_of n ≡ None) ⊎ ((builtin_of n ≡ Some (Prope
 abbrev pub IsUnknown : (Text → Bool) → Grammar → Text → Type 0
 IsUnknown knows g n = (rule_of g n ≡ None) × IsNoBuiltin knows n
 
+-- each property is known
+abbrev pub KnowsProperties : (Text → Bool) → Type 0
+KnowsProperties knows = (n : Text) → builtin_of n ≡ Some (PropertyOf n) → knows n ≡ true
+
 -- a text that is not one character
 abbrev pub IsNoCharacter : Text → Type 0
 IsNoCharacter t = length t ≢ 1

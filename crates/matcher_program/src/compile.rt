@@ -149,7 +149,7 @@ fn of_stack(name: &str) -> Option<Form>
 }
 
 /// Whether a name is a property's.
-fn is_property(name: &str) -> bool
+pub fn is_property(name: &str) -> bool
     ensures { result ≡ is_one_of property_names (chars name.now) }
 {
     let names = unicode_property_names();

@@ -5,8 +5,8 @@ use Rattle.matcher_support.proofs.unicode_properties.ranges_of.Goals as goal
 use Rattle.ucd_sets.specs.Lookup.{by_name}
 use Rattle.ucd_sets.specs.Loose.{normalize}
 
-pub returns-in-Ok : goal.returns-in-Ok
-returns-in-Ok c =
+pub returns-in-Ok-clause-ranges : goal.returns-in-Ok-clause-ranges
+returns-in-Ok-clause-ranges c =
     let letters : c.deref.result.now ≡ chars c.args.name.now = search (rules, chars_from_encodes) in
     let same : c.deref-2.result.now ≡ normalize (chars c.args.name.now) =
     c.deref-2.ensures.value ∙ (c.in_ok-plain.ensures ∙ ap normalize letters) in
