@@ -22,8 +22,7 @@ steps-smaller c =
 pub steps-preserved : goal.steps-preserved
 steps-preserved c =
     let g = optimized_rules_of c.args.rules.now.rules.now in
-    let ps = c.args.properties.now in
-    (
+    let ps = c.args.properties.now in (
       gone_outside g ps _ c.steps.step c.in_ok-step-in-Some.step c.steps.outside.items c.pop.new.self.items c.in-Some.around c.in-Made.form c.in-Made.is c.in-Some.ensures.items (c.in_ok-step-in-Some.ensures.says g ps) (c.in_ok-step-in-Some.ensures.sound g ps) c.steps.invariant.0,
       within_outside _ _ _ _ _ _ c.in-Some.ensures.items (c.in_ok-step-in-Some.ensures.within _) c.steps.invariant.1,
     )

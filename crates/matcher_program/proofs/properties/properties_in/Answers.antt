@@ -12,7 +12,7 @@ loop-name-preserved g c =
     let known = g.P.Properties.knows in (
       c.in_ok-add_property.ensures.fits,
       names_more (λ t. known t ≡ true → has_property c.loop-name.found.items t ≡ true) (λ t. known t ≡ true → has_property c.add_property.new.found.items t ≡ true) c.deref-name-items.result.now c.loop-name.name-index _
-      c.loop-name-test.true (λ t f k. c.in_ok-add_property.ensures.others t (f k)) c.in_ok-add_property.ensures.known c.loop-name.invariant.1,
+          c.loop-name-test.true (λ t f k. c.in_ok-add_property.ensures.others t (f k)) c.in_ok-add_property.ensures.known c.loop-name.invariant.1,
     )
 
 pub returns-clause-complete : goal.returns-clause-complete
