@@ -1,7 +1,10 @@
-/* Calls each function of the library once on a grammar, and one with too little room.
+/* Calls each function of the library once on a grammar, one with too little
+ * room, and one that asks how much room is wanted. After bridge/build:
  *
- *   cc bridge/example.c -Icrates/pest_meta_c/include \
- *      crates/pest_meta_c/out/libpest_meta_c.a KIT/c/liblibc_c.a -o example
+ *   export PKG_CONFIG_PATH=bridge/lib/pkgconfig
+ *   cc bridge/example.c $(pkg-config --cflags --libs pest_meta_c) -o example
+ *
+ * bridge/example.out has what it prints.
  */
 #include <pest_meta.h>
 
@@ -58,5 +61,9 @@ int main(void)
     status = pest_meta_parse_and_optimize(text, length, out, 8, &needed);
     show("parse_and_optimize with too little room", status, needed);
     printf("  %.10s\n", (const char *)out);
+    status = pest_meta_version(NULL, 0, &needed);
+    show("version without room", status, needed);
+    status = pest_meta_names(NULL, 0, out, sizeof out, &needed);
+    show("names of an empty text", status, needed);
     return 0;
 }

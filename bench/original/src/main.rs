@@ -1,4 +1,4 @@
-//! How long the original crate `pest_meta` takes on the shapes of grammars that crates/meta_bench has: original
+//! How long the original crate `pest_meta` takes on the shapes of grammars that bench/src/meta_bench has: original
 //! CALL SHAPE:SIZE. It prints the milliseconds, the least of several turns.
 use pest_meta::parser::{self, Rule};
 use pest_meta::{optimizer, validator};
@@ -20,7 +20,7 @@ const fn plain(name: &'static str, begin: &'static str, line: &'static str, end:
     Shape { name, begin, line, end, other: "", last: "" }
 }
 
-/// The same texts as in crates/meta_bench/src/shapes.rt.
+/// The same texts as in bench/src/meta_bench/src/shapes.rt.txt.
 const SHAPES: [Shape; 12] = [
     plain("chain", "", "r№ = { r↑ }\n", "r№ = { \"x\" }\n"),
     plain("cycle", "", "r№ = { r↻ }\n", ""),

@@ -1,4 +1,6 @@
 //! Rules and expressions as they stand in a grammar, without their places.
+#![forbid(unsafe_code)]
+
 use std::fmt;
 
 use crate::nodes::{flat, Node, Operands, Tree};
@@ -139,32 +141,33 @@ impl Expr {
 impl Tree for Expr {
     type Known = ();
 
-    fn joined(node: Node, (): (), over: &mut Operands<Expr>) -> Expr {
-        match node {
+    fn joined(node: Node, (): (), over: &mut Operands<Expr>) -> Option<Expr> {
+        let expr = match node {
             Node::Str(text) => Expr::Str(text),
             Node::Insens(text) => Expr::Insens(text),
             Node::Range(low, high) => Expr::Range(low, high),
             Node::Ident(name) => Expr::Ident(name),
             Node::PeekSlice(start, end) => Expr::PeekSlice(start, end),
-            Node::PosPred => Expr::PosPred(over.next()),
-            Node::NegPred => Expr::NegPred(over.next()),
-            Node::Seq => Expr::Seq(over.next(), over.next()),
-            Node::Choice => Expr::Choice(over.next(), over.next()),
-            Node::Opt => Expr::Opt(over.next()),
-            Node::Rep => Expr::Rep(over.next()),
-            Node::RepOnce => Expr::RepOnce(over.next()),
-            Node::RepExact(count) => Expr::RepExact(over.next(), count),
-            Node::RepMin(least) => Expr::RepMin(over.next(), least),
-            Node::RepMax(most) => Expr::RepMax(over.next(), most),
-            Node::RepMinMax(least, most) => Expr::RepMinMax(over.next(), least, most),
+            Node::PosPred => Expr::PosPred(over.next()?),
+            Node::NegPred => Expr::NegPred(over.next()?),
+            Node::Seq => Expr::Seq(over.next()?, over.next()?),
+            Node::Choice => Expr::Choice(over.next()?, over.next()?),
+            Node::Opt => Expr::Opt(over.next()?),
+            Node::Rep => Expr::Rep(over.next()?),
+            Node::RepOnce => Expr::RepOnce(over.next()?),
+            Node::RepExact(count) => Expr::RepExact(over.next()?, count),
+            Node::RepMin(least) => Expr::RepMin(over.next()?, least),
+            Node::RepMax(most) => Expr::RepMax(over.next()?, most),
+            Node::RepMinMax(least, most) => Expr::RepMinMax(over.next()?, least, most),
             Node::Skip(texts) => Expr::Skip(texts),
-            Node::Push => Expr::Push(over.next()),
+            Node::Push => Expr::Push(over.next()?),
             #[cfg(feature = "grammar-extras")]
             Node::PushLiteral(text) => Expr::PushLiteral(text),
             #[cfg(feature = "grammar-extras")]
-            Node::Tag(tag) => Expr::NodeTag(over.next(), tag),
-            other => unreachable!("the library tells no {other:?} of a grammar"),
-        }
+            Node::Tag(tag) => Expr::NodeTag(over.next()?, tag),
+            _ => return None,
+        };
+        Some(expr)
     }
 
     fn parted(&self) -> (Node, [Option<&Expr>; 2]) {

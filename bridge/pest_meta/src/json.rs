@@ -1,40 +1,36 @@
 //! JSON as the library writes and reads it: read from left to right, straight into what it says, and written
 //! by appending. No value of a general kind stands between.
+#![forbid(unsafe_code)]
+
+use std::borrow::Cow;
 use std::fmt::{self, Write};
 
-/// What stands in JSON that is not of the expected form, and where.
-#[derive(Debug)]
-pub(crate) struct Malformed {
-    wanted: &'static str,
-    at: usize,
+/// Why an answer can't be read.
+#[derive(Debug, PartialEq)]
+pub(crate) enum Malformed {
+    /// Something else has to stand at a byte.
+    Wanted { what: &'static str, at: usize },
+    /// A name that this version does not know. The format may get more of them.
+    Unknown { what: &'static str, name: String },
 }
 
 impl fmt::Display for Malformed {
     fn fmt(&self, f: &mut fmt::Formatter<'_>) -> fmt::Result {
-        write!(f, "{} is wanted at byte {}", self.wanted, self.at)
+        match self {
+            Malformed::Wanted { what, at } => write!(f, "{what} is wanted at byte {at}"),
+            Malformed::Unknown { what, name } => write!(f, "the {what} `{name}` is not known"),
+        }
     }
 }
 
 pub(crate) type Reading<T> = Result<T, Malformed>;
 
 /// Reads the whole of an answer.
-///
-/// # Panics
-/// Where the answer is not of the format: then the archive is not of this crate.
-pub(crate) fn read<T>(text: &str, value: impl FnOnce(&mut Reader<'_>) -> Reading<T>) -> T {
+pub(crate) fn read<T>(text: &str, value: impl FnOnce(&mut Reader<'_>) -> Reading<T>) -> Reading<T> {
     let mut reader = Reader { text, at: 0 };
-    let told = value(&mut reader).and_then(|told| reader.end().map(|()| told));
-    told.unwrap_or_else(|why| panic!("pest_meta: the library's answer is not of its format: {why}"))
-}
-
-/// The number of the format, from an answer that tells versions.
-pub(crate) fn format(reader: &mut Reader<'_>) -> Reading<i64> {
-    let mut format = 0;
-    reader.object(|reader, member| match member {
-        "format" => reader.number().map(|number| format = number),
-        _ => reader.pass(),
-    })?;
-    Ok(format)
+    let value = value(&mut reader)?;
+    reader.end()?;
+    Ok(value)
 }
 
 /// A text of JSON, read up to a byte of it.
@@ -43,9 +39,9 @@ pub(crate) struct Reader<'a> {
     at: usize,
 }
 
-impl Reader<'_> {
-    pub(crate) fn wanted<T>(&self, wanted: &'static str) -> Reading<T> {
-        Err(Malformed { wanted, at: self.at })
+impl<'a> Reader<'a> {
+    pub(crate) fn wanted<T>(&self, what: &'static str) -> Reading<T> {
+        Err(Malformed::Wanted { what, at: self.at })
     }
 
     /// The next byte that is no blank.
@@ -113,7 +109,7 @@ impl Reader<'_> {
             return Ok(());
         }
         loop {
-            let name = self.text()?;
+            let name = self.borrowed_text()?;
             self.sign(b':', "a colon")?;
             member(self, &name)?;
             if self.takes(b'}') {
@@ -127,7 +123,7 @@ impl Reader<'_> {
     pub(crate) fn number(&mut self) -> Reading<i64> {
         self.peek();
         let rest = &self.text[self.at..];
-        let len = rest.find(|c: char| c != '-' && !c.is_ascii_digit()).unwrap_or(rest.len());
+        let len = rest.bytes().take_while(|byte| *byte == b'-' || byte.is_ascii_digit()).count();
         match rest[..len].parse() {
             Ok(number) => {
                 self.at += len;
@@ -159,7 +155,24 @@ impl Reader<'_> {
 
     /// A text.
     pub(crate) fn text(&mut self) -> Reading<String> {
+        self.borrowed_text().map(Cow::into_owned)
+    }
+
+    /// A text, which is a piece of the JSON where nothing in it is escaped.
+    pub(crate) fn borrowed_text(&mut self) -> Reading<Cow<'a, str>> {
         self.sign(b'"', "a text")?;
+        let rest = &self.text[self.at..];
+        match rest.bytes().position(|byte| matches!(byte, b'"' | b'\\')) {
+            Some(len) if rest.as_bytes()[len] == b'"' => {
+                self.at += len + 1;
+                Ok(Cow::Borrowed(&rest[..len]))
+            }
+            _ => self.escaped_text().map(Cow::Owned),
+        }
+    }
+
+    /// The rest of a text, in which something is escaped.
+    fn escaped_text(&mut self) -> Reading<String> {
         let mut text = String::new();
         loop {
             let rest = &self.text[self.at..];
@@ -222,7 +235,7 @@ impl Reader<'_> {
         let mut depth = 0;
         loop {
             match self.peek() {
-                Some(b'"') => drop(self.text()?),
+                Some(b'"') => drop(self.borrowed_text()?),
                 Some(b'[' | b'{') => {
                     depth += 1;
                     self.at += 1;

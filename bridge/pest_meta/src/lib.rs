@@ -26,17 +26,24 @@
 //! - `library`: the calls over C, the only `unsafe` code;
 //! - `json`, `nodes`, `answers`: answers in JSON, read into rules, errors and entries of trees;
 //! - `parser`: the entries are replayed through [`pest::state`], which makes the pairs;
-//! - `printing`: expressions as text, for `Display` and for [`validator::validate_ast`];
-//! - maps and iterators over expressions, `e+` as `e ~ e*`, and the words that are Rust's keywords.
+//! - `validator`: [`validator::validate_ast`] and the checks of names write what they are handed as a grammar
+//!   and report at the spans they were handed what the library says of it; `printing` writes it, and `Display`;
+//! - maps and iterators over expressions.
+//!
+//! Without the feature `grammar-extras` three steps more are taken here: `e+` is written as `e ~ e*` in
+//! optimized rules, tags are left out of rules, and `PUSH_LITERAL` is refused.
 //!
 //! The crate `pest`, the code that `pest_generator` makes of optimized rules, and the compilers are trusted
 //! as before.
 //!
 //! # Limits
 //!
-//! A call panics where the library has no memory. An expression of great depth takes stack in the library, in
-//! pest's parser state and in what Rust derives for trees, as it does in the original crate.
+//! A call panics where the library has no memory: in a derive, that is an error at the grammar. Where the
+//! library is of a later release and answers what this crate doesn't know, a call that returns errors returns
+//! one which says so, and [`optimizer::optimize`] panics. pest's parser state and what Rust derives for trees
+//! take stack by the depth of an expression, as in the original crate; the library takes none.
 #![warn(missing_docs, rust_2018_idioms, unused_qualifications)]
+// Each file but that of the library forbids it.
 #![deny(unsafe_code)]
 // The signatures are those of the original, and the errors pest's.
 #![allow(clippy::result_large_err)]
@@ -51,6 +58,7 @@ mod answers;
 pub mod ast;
 mod json;
 #[allow(unsafe_code)]
+#[cfg_attr(pest_meta_unlinked, path = "unlinked.rs")]
 mod library;
 mod nodes;
 pub mod optimizer;
@@ -88,9 +96,8 @@ pub fn parse_and_optimize(grammar: &str) -> Result<UsedBuiltinAndOptimized<'_>, 
     if cfg!(not(feature = "grammar-extras")) && grammar.contains("PUSH_LITERAL") {
         return step_by_step(grammar);
     }
-    let (builtins, rules) = answers::parse_and_optimize(grammar)?;
-    let builtins = validator::in_text(grammar, &builtins);
-    Ok((builtins, rules.into_iter().map(optimizer::OptimizedRule::from).collect()))
+    let (builtins, rules) = answers::parse_and_optimize(grammar, optimizer::OptimizedRule::try_from)?;
+    Ok((validator::in_text(grammar, &builtins), rules))
 }
 
 /// The same by a call a step, where a step may refuse what the library takes.

@@ -3,6 +3,7 @@
 //! A function is handed texts and room for its answer, as a pointer and a length each, and keeps none of
 //! them. It answers a status, and leaves in `needed` how many bytes it wrote or, where the room was too
 //! small, wants to write.
+use crate::answers::Call;
 
 extern "C" {
     fn pest_meta_tokens(
@@ -33,23 +34,6 @@ extern "C" {
         needed: *mut usize,
     ) -> u8;
     fn pest_meta_version(out: *mut u8, out_len: usize, needed: *mut usize) -> u8;
-}
-
-/// A function over one text.
-#[derive(Clone, Copy)]
-pub(crate) enum Call {
-    /// The builtins that a grammar uses, or the errors of its names.
-    Names,
-    /// The errors of a name as a keyword of Rust.
-    RustKeyword,
-    /// The rules of a grammar, or its errors.
-    Rules,
-    /// The rules of a grammar with their places, or why they can't be read.
-    Nodes,
-    /// The optimized rules of rules in JSON.
-    Optimize,
-    /// The used builtins and the optimized rules of a grammar, or its errors.
-    ParseAndOptimize,
 }
 
 /// Calls a function over one text.

@@ -1,6 +1,8 @@
 //! Expressions as flat lists of nodes, each before its operands, and trees of them. All ways between the two
 //! are loops, so that no depth of an expression takes stack.
-use crate::json::{write_list, write_text, Reader, Reading};
+#![forbid(unsafe_code)]
+
+use crate::json::{write_list, write_text, Malformed, Reader, Reading};
 
 /// A form of an expression, without its operands.
 #[derive(Clone, Debug, PartialEq)]
@@ -38,14 +40,41 @@ impl Node {
             _ => 1,
         }
     }
+
+    /// Its form's name.
+    fn form(&self) -> &'static str {
+        match self {
+            Node::Str(_) => "str",
+            Node::Insens(_) => "insens",
+            Node::Range(..) => "range",
+            Node::Ident(_) => "ident",
+            Node::PeekSlice(..) => "peek_slice",
+            Node::PosPred => "pos_pred",
+            Node::NegPred => "neg_pred",
+            Node::Seq => "seq",
+            Node::Choice => "choice",
+            Node::Opt => "opt",
+            Node::Rep => "rep",
+            Node::RepOnce => "rep_once",
+            Node::RepExact(_) => "rep_exact",
+            Node::RepMin(_) => "rep_min",
+            Node::RepMax(_) => "rep_max",
+            Node::RepMinMax(..) => "rep_min_max",
+            Node::Skip(_) => "skip",
+            Node::Push => "push",
+            Node::PushLiteral(_) => "push_literal",
+            Node::Tag(_) => "node_tag",
+            Node::RestoreOnErr => "restore_on_err",
+        }
+    }
 }
 
 /// Trees of nodes, with something that is known of each node.
 pub(crate) trait Tree: Sized {
     type Known;
 
-    /// The tree of a node over its operands.
-    fn joined(node: Node, known: Self::Known, operands: &mut Operands<Self>) -> Self;
+    /// The tree of a node over its operands, if these trees have nodes of its form and no operand is missing.
+    fn joined(node: Node, known: Self::Known, operands: &mut Operands<Self>) -> Option<Self>;
 
     /// The node at the root, and what it is over.
     fn parted(&self) -> (Node, [Option<&Self>; 2]);
@@ -56,19 +85,25 @@ pub(crate) struct Operands<T>(Vec<T>);
 
 impl<T> Operands<T> {
     /// The next operand.
-    pub(crate) fn next(&mut self) -> Box<T> {
-        Box::new(self.0.pop().expect("the library tells each operand"))
+    pub(crate) fn next(&mut self) -> Option<Box<T>> {
+        self.0.pop().map(Box::new)
     }
 }
 
 /// The tree of a list of nodes.
-pub(crate) fn tree<T: Tree>(nodes: impl DoubleEndedIterator<Item = (Node, T::Known)>) -> T {
+pub(crate) fn tree<T: Tree>(nodes: impl DoubleEndedIterator<Item = (Node, T::Known)>) -> Reading<T> {
     let mut operands = Operands(Vec::new());
     for (node, known) in nodes.rev() {
-        let joined = T::joined(node, known, &mut operands);
-        operands.0.push(joined);
+        let form = node.form();
+        match T::joined(node, known, &mut operands) {
+            Some(joined) => operands.0.push(joined),
+            None => return Err(Malformed::Unknown { what: "form", name: form.to_owned() }),
+        }
     }
-    *operands.next()
+    match (operands.0.pop(), operands.0.pop()) {
+        (Some(tree), None) => Ok(tree),
+        _ => Err(Malformed::Wanted { what: "one expression", at: 0 }),
+    }
 }
 
 /// The nodes of a tree.
@@ -97,11 +132,13 @@ pub(crate) fn sizes(nodes: &[Node]) -> Vec<usize> {
 /// Writes `e ~ e*` for each `e+`. The nodes are copied, from the last one to the first, to a list that grows
 /// by the tree of each node; what is inside a tree stands at its end.
 #[cfg(not(feature = "grammar-extras"))]
-pub(crate) fn written_out(nodes: Vec<Node>) -> Vec<Node> {
+pub(crate) fn written_out(nodes: Vec<Node>) -> Reading<Vec<Node>> {
     let mut reversed: Vec<Node> = Vec::with_capacity(nodes.len());
-    let mut starts = Vec::new();
+    let mut starts: Vec<usize> = Vec::new();
     for node in nodes.into_iter().rev() {
-        let over = starts.len() - node.operands();
+        let Some(over) = starts.len().checked_sub(node.operands()) else {
+            return Err(Malformed::Wanted { what: "an operand", at: 0 });
+        };
         let start = starts.drain(over..).next().unwrap_or(reversed.len());
         if node == Node::RepOnce {
             let end = reversed.len();
@@ -114,14 +151,14 @@ pub(crate) fn written_out(nodes: Vec<Node>) -> Vec<Node> {
         starts.push(start);
     }
     reversed.reverse();
-    reversed
+    Ok(reversed)
 }
 
 /// Reads a node: a list of its form's name and its arguments.
 pub(crate) fn read(reader: &mut Reader<'_>) -> Reading<Node> {
     reader.open_list()?;
-    let form = reader.text()?;
-    let node = match form.as_str() {
+    let form = reader.borrowed_text()?;
+    let node = match &form[..] {
         "str" => Node::Str(next_text(reader)?),
         "insens" => Node::Insens(next_text(reader)?),
         "range" => Node::Range(next_text(reader)?, next_text(reader)?),
@@ -146,7 +183,7 @@ pub(crate) fn read(reader: &mut Reader<'_>) -> Reading<Node> {
         "push_literal" => Node::PushLiteral(next_text(reader)?),
         "node_tag" => Node::Tag(next_text(reader)?),
         "restore_on_err" => Node::RestoreOnErr,
-        _ => return reader.wanted("a form of expressions"),
+        other => return Err(Malformed::Unknown { what: "form", name: other.to_owned() }),
     };
     reader.close_list()?;
     Ok(node)
@@ -177,43 +214,35 @@ fn next_end(reader: &mut Reader<'_>) -> Reading<Option<i32>> {
 
 /// Writes a node.
 pub(crate) fn write(out: &mut String, node: &Node) {
-    let (form, texts, numbers): (_, &[&String], &[i64]) = match node {
-        Node::Str(text) => ("str", &[text], &[]),
-        Node::Insens(text) => ("insens", &[text], &[]),
-        Node::Range(low, high) => ("range", &[low, high], &[]),
-        Node::Ident(name) => ("ident", &[name], &[]),
-        Node::PeekSlice(start, Some(end)) => ("peek_slice", &[], &[i64::from(*start), i64::from(*end)]),
-        Node::PeekSlice(start, None) => return out.push_str(&format!("[\"peek_slice\",{start},null]")),
-        Node::PosPred => ("pos_pred", &[], &[]),
-        Node::NegPred => ("neg_pred", &[], &[]),
-        Node::Seq => ("seq", &[], &[]),
-        Node::Choice => ("choice", &[], &[]),
-        Node::Opt => ("opt", &[], &[]),
-        Node::Rep => ("rep", &[], &[]),
-        Node::RepOnce => ("rep_once", &[], &[]),
-        Node::RepExact(count) => ("rep_exact", &[], &[i64::from(*count)]),
-        Node::RepMin(count) => ("rep_min", &[], &[i64::from(*count)]),
-        Node::RepMax(count) => ("rep_max", &[], &[i64::from(*count)]),
-        Node::RepMinMax(least, most) => ("rep_min_max", &[], &[i64::from(*least), i64::from(*most)]),
-        Node::Skip(texts) => {
-            out.push_str("[\"skip\",");
-            write_list(out, texts, |out, text| write_text(out, text));
-            return out.push(']');
+    out.push_str("[\"");
+    out.push_str(node.form());
+    out.push('"');
+    match node {
+        Node::Str(text) | Node::Insens(text) | Node::Ident(text) => write_argument(out, text),
+        Node::PushLiteral(text) | Node::Tag(text) => write_argument(out, text),
+        Node::Range(low, high) => {
+            write_argument(out, low);
+            write_argument(out, high);
         }
-        Node::Push => ("push", &[], &[]),
-        Node::PushLiteral(text) => ("push_literal", &[text], &[]),
-        Node::Tag(tag) => ("node_tag", &[tag], &[]),
-        Node::RestoreOnErr => ("restore_on_err", &[], &[]),
-    };
-    out.push_str(&format!("[\"{form}\""));
-    for text in texts {
-        out.push(',');
-        write_text(out, text);
-    }
-    for number in numbers {
-        out.push_str(&format!(",{number}"));
+        Node::PeekSlice(start, Some(end)) => out.push_str(&format!(",{start},{end}")),
+        Node::PeekSlice(start, None) => out.push_str(&format!(",{start},null")),
+        Node::RepExact(count) | Node::RepMin(count) | Node::RepMax(count) => {
+            out.push_str(&format!(",{count}"));
+        }
+        Node::RepMinMax(least, most) => out.push_str(&format!(",{least},{most}")),
+        Node::Skip(texts) => {
+            out.push(',');
+            write_list(out, texts, |out, text| write_text(out, text));
+        }
+        Node::PosPred | Node::NegPred | Node::Seq | Node::Choice | Node::Opt | Node::Rep => {}
+        Node::RepOnce | Node::Push | Node::RestoreOnErr => {}
     }
     out.push(']');
+}
+
+fn write_argument(out: &mut String, text: &str) {
+    out.push(',');
+    write_text(out, text);
 }
 
 #[cfg(all(test, not(feature = "grammar-extras")))]
@@ -231,6 +260,6 @@ mod tests {
         wanted.push(Node::Rep);
         wanted.extend_from_slice(&inner);
         wanted.extend([Node::Opt, b()]);
-        assert_eq!(written_out(nodes), wanted);
+        assert_eq!(written_out(nodes), Ok(wanted));
     }
 }

@@ -1,20 +1,24 @@
 //! Optimized rules, as a code generator wants them.
+#![forbid(unsafe_code)]
+
 use std::fmt;
 
 use crate::answers::{self, FlatRule};
 use crate::ast::{Rule, RuleType};
-use crate::json::{write_list, write_text};
+use crate::json::{write_list, write_text, Malformed, Reading};
 use crate::nodes::{self, flat, tree, Node, Operands, Tree};
 use crate::printing::{spelled, BareSide};
 
 /// Rules optimized by the proved passes.
 ///
 /// # Panics
-/// Where there is no memory for what the rules are written out to.
+/// Where there is no memory for what the rules are written out to, and where the library is of a release whose
+/// rules this crate does not know.
 pub fn optimize(rules: Vec<Rule>) -> Vec<OptimizedRule> {
     let mut json = String::new();
     write_list(&mut json, &rules, write_rule);
-    answers::optimize(&json).into_iter().map(OptimizedRule::from).collect()
+    let optimized = answers::optimize(&json, OptimizedRule::try_from);
+    optimized.unwrap_or_else(|why| panic!("pest_meta: {why}"))
 }
 
 /// Writes a rule as JSON.
@@ -44,16 +48,15 @@ pub struct OptimizedRule {
     pub expr: OptimizedExpr,
 }
 
-impl From<FlatRule> for OptimizedRule {
-    fn from(rule: FlatRule) -> OptimizedRule {
+impl TryFrom<FlatRule> for OptimizedRule {
+    type Error = Malformed;
+
+    fn try_from(rule: FlatRule) -> Reading<OptimizedRule> {
         let nodes = rule.nodes;
         #[cfg(not(feature = "grammar-extras"))]
-        let nodes = nodes::written_out(nodes);
-        OptimizedRule {
-            name: rule.name,
-            ty: rule.ty.expect("the library tells the type of each rule"),
-            expr: tree(nodes.into_iter().map(|node| (node, ()))),
-        }
+        let nodes = nodes::written_out(nodes)?;
+        let expr = tree(nodes.into_iter().map(|node| (node, ())))?;
+        Ok(OptimizedRule { name: rule.name, ty: rule.ty, expr })
     }
 }
 
@@ -160,30 +163,31 @@ impl OptimizedExpr {
 impl Tree for OptimizedExpr {
     type Known = ();
 
-    fn joined(node: Node, (): (), over: &mut Operands<OptimizedExpr>) -> OptimizedExpr {
-        match node {
+    fn joined(node: Node, (): (), over: &mut Operands<OptimizedExpr>) -> Option<OptimizedExpr> {
+        let expr = match node {
             Node::Str(text) => OptimizedExpr::Str(text),
             Node::Insens(text) => OptimizedExpr::Insens(text),
             Node::Range(low, high) => OptimizedExpr::Range(low, high),
             Node::Ident(name) => OptimizedExpr::Ident(name),
             Node::PeekSlice(start, end) => OptimizedExpr::PeekSlice(start, end),
-            Node::PosPred => OptimizedExpr::PosPred(over.next()),
-            Node::NegPred => OptimizedExpr::NegPred(over.next()),
-            Node::Seq => OptimizedExpr::Seq(over.next(), over.next()),
-            Node::Choice => OptimizedExpr::Choice(over.next(), over.next()),
-            Node::Opt => OptimizedExpr::Opt(over.next()),
-            Node::Rep => OptimizedExpr::Rep(over.next()),
+            Node::PosPred => OptimizedExpr::PosPred(over.next()?),
+            Node::NegPred => OptimizedExpr::NegPred(over.next()?),
+            Node::Seq => OptimizedExpr::Seq(over.next()?, over.next()?),
+            Node::Choice => OptimizedExpr::Choice(over.next()?, over.next()?),
+            Node::Opt => OptimizedExpr::Opt(over.next()?),
+            Node::Rep => OptimizedExpr::Rep(over.next()?),
             #[cfg(feature = "grammar-extras")]
-            Node::RepOnce => OptimizedExpr::RepOnce(over.next()),
+            Node::RepOnce => OptimizedExpr::RepOnce(over.next()?),
             Node::Skip(texts) => OptimizedExpr::Skip(texts),
-            Node::Push => OptimizedExpr::Push(over.next()),
+            Node::Push => OptimizedExpr::Push(over.next()?),
             #[cfg(feature = "grammar-extras")]
             Node::PushLiteral(text) => OptimizedExpr::PushLiteral(text),
             #[cfg(feature = "grammar-extras")]
-            Node::Tag(tag) => OptimizedExpr::NodeTag(over.next(), tag),
-            Node::RestoreOnErr => OptimizedExpr::RestoreOnErr(over.next()),
-            other => unreachable!("the library tells no {other:?} of optimized rules"),
-        }
+            Node::Tag(tag) => OptimizedExpr::NodeTag(over.next()?, tag),
+            Node::RestoreOnErr => OptimizedExpr::RestoreOnErr(over.next()?),
+            _ => return None,
+        };
+        Some(expr)
     }
 
     fn parted(&self) -> (Node, [Option<&OptimizedExpr>; 2]) {

@@ -1,12 +1,15 @@
 //! Grammars as token trees, and as rules with the place of each node.
+#![forbid(unsafe_code)]
+
 use pest::error::Error;
 #[cfg(not(feature = "grammar-extras"))]
 use pest::error::ErrorVariant;
 use pest::iterators::Pairs;
 use pest::{ParseResult, ParserState, Span};
 
-use crate::answers::{self, part, Entry, FlatRule};
+use crate::answers::{self, part, Call, Entry, FlatRule};
 use crate::ast::{Rule as AstRule, RuleType};
+use crate::json::{Malformed, Reading};
 use crate::nodes::{tree, Node, Operands, Tree};
 
 mod rules;
@@ -150,32 +153,32 @@ pub enum ParserExpr<'i> {
 impl<'i> Tree for ParserNode<'i> {
     type Known = Span<'i>;
 
-    fn joined(node: Node, span: Span<'i>, over: &mut Operands<ParserNode<'i>>) -> ParserNode<'i> {
+    fn joined(node: Node, span: Span<'i>, over: &mut Operands<ParserNode<'i>>) -> Option<Self> {
         let expr = match node {
             Node::Str(text) => ParserExpr::Str(text),
             Node::Insens(text) => ParserExpr::Insens(text),
             Node::Range(low, high) => ParserExpr::Range(low, high),
             Node::Ident(name) => ParserExpr::Ident(name),
             Node::PeekSlice(start, end) => ParserExpr::PeekSlice(start, end),
-            Node::PosPred => ParserExpr::PosPred(over.next()),
-            Node::NegPred => ParserExpr::NegPred(over.next()),
-            Node::Seq => ParserExpr::Seq(over.next(), over.next()),
-            Node::Choice => ParserExpr::Choice(over.next(), over.next()),
-            Node::Opt => ParserExpr::Opt(over.next()),
-            Node::Rep => ParserExpr::Rep(over.next()),
-            Node::RepOnce => ParserExpr::RepOnce(over.next()),
-            Node::RepExact(count) => ParserExpr::RepExact(over.next(), count),
-            Node::RepMin(least) => ParserExpr::RepMin(over.next(), least),
-            Node::RepMax(most) => ParserExpr::RepMax(over.next(), most),
-            Node::RepMinMax(least, most) => ParserExpr::RepMinMax(over.next(), least, most),
-            Node::Push => ParserExpr::Push(over.next()),
+            Node::PosPred => ParserExpr::PosPred(over.next()?),
+            Node::NegPred => ParserExpr::NegPred(over.next()?),
+            Node::Seq => ParserExpr::Seq(over.next()?, over.next()?),
+            Node::Choice => ParserExpr::Choice(over.next()?, over.next()?),
+            Node::Opt => ParserExpr::Opt(over.next()?),
+            Node::Rep => ParserExpr::Rep(over.next()?),
+            Node::RepOnce => ParserExpr::RepOnce(over.next()?),
+            Node::RepExact(count) => ParserExpr::RepExact(over.next()?, count),
+            Node::RepMin(least) => ParserExpr::RepMin(over.next()?, least),
+            Node::RepMax(most) => ParserExpr::RepMax(over.next()?, most),
+            Node::RepMinMax(least, most) => ParserExpr::RepMinMax(over.next()?, least, most),
+            Node::Push => ParserExpr::Push(over.next()?),
             #[cfg(feature = "grammar-extras")]
             Node::PushLiteral(text) => ParserExpr::PushLiteral(text),
             #[cfg(feature = "grammar-extras")]
-            Node::Tag(tag) => ParserExpr::NodeTag(over.next(), tag),
-            other => unreachable!("the library tells no {other:?} of a grammar's text"),
+            Node::Tag(tag) => ParserExpr::NodeTag(over.next()?, tag),
+            _ => return None,
         };
-        ParserNode { expr, span }
+        Some(ParserNode { expr, span })
     }
 
     fn parted(&self) -> (Node, [Option<&ParserNode<'i>>; 2]) {
@@ -212,7 +215,7 @@ pub fn consume_rules(pairs: Pairs<'_, Rule>) -> Result<Vec<AstRule>, Vec<Error<R
     let Some(grammar) = readable(pairs)? else {
         return Ok(Vec::new());
     };
-    Ok(answers::rules(grammar)?.into_iter().map(AstRule::from).collect())
+    answers::rules(Call::Rules, grammar, AstRule::try_from)
 }
 
 /// The rules of a grammar's pairs with the place of each node, or the first flaw for which they can't be
@@ -221,30 +224,27 @@ pub fn consume_rules_with_spans(pairs: Pairs<'_, Rule>) -> Result<Vec<ParserRule
     let Some(grammar) = readable(pairs)? else {
         return Ok(Vec::new());
     };
-    let rules = answers::nodes(grammar)?;
-    Ok(rules.into_iter().map(|rule| placed(grammar, rule)).collect())
+    answers::rules(Call::Nodes, grammar, |rule| placed(grammar, rule))
 }
 
-impl From<FlatRule> for AstRule {
-    fn from(rule: FlatRule) -> AstRule {
-        AstRule {
-            name: rule.name,
-            ty: rule.ty.expect("the library tells the type of each rule"),
-            expr: tree(rule.nodes.into_iter().map(|node| (node, ()))),
-        }
+impl TryFrom<FlatRule> for AstRule {
+    type Error = Malformed;
+
+    fn try_from(rule: FlatRule) -> Reading<AstRule> {
+        let expr = tree(rule.nodes.into_iter().map(|node| (node, ())))?;
+        Ok(AstRule { name: rule.name, ty: rule.ty, expr })
     }
 }
 
 /// A rule with its places, which are told within a piece of a text.
-fn placed(grammar: Span<'_>, rule: FlatRule) -> ParserRule<'_> {
-    assert_eq!(rule.nodes.len(), rule.spans.len(), "the library tells a span for each node");
-    let spans = rule.spans.into_iter().map(|span| part(grammar, span));
-    ParserRule {
-        name: rule.name,
-        span: part(grammar, rule.name_span),
-        ty: rule.ty.expect("the library tells the type of each rule"),
-        node: tree(rule.nodes.into_iter().zip(spans)),
+fn placed(grammar: Span<'_>, rule: FlatRule) -> Reading<ParserRule<'_>> {
+    if rule.nodes.len() != rule.spans.len() {
+        return Err(Malformed::Wanted { what: "a span for each node", at: 0 });
     }
+    let spans = rule.spans.into_iter().map(|span| part(grammar, span)).collect::<Reading<Vec<_>>>()?;
+    let span = part(grammar, rule.name_span)?;
+    let node = tree(rule.nodes.into_iter().zip(spans))?;
+    Ok(ParserRule { name: rule.name, span, ty: rule.ty, node })
 }
 
 /// The grammar behind pairs: the text from the start of the first pair to the end of the last one. So what

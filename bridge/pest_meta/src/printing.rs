@@ -1,4 +1,6 @@
 //! Expressions as the text of a grammar.
+#![forbid(unsafe_code)]
+
 use std::borrow::Cow;
 use std::fmt::Write;
 

@@ -3,13 +3,15 @@
 //! Each call asks the proved front end. The calls over spans and over rules write what they are handed as a
 //! grammar, ask about that, and tell what is said of its pieces where the pieces stand. So they speak of what
 //! they are handed, and of nothing else in the text.
+#![forbid(unsafe_code)]
+
 use std::ops::Range;
 
 use pest::error::{Error, ErrorVariant, InputLocation};
 use pest::iterators::Pairs;
 use pest::Span;
 
-use crate::answers::{self, whole, Entry};
+use crate::answers::{self, whole, Call, Entry};
 use crate::ast::RuleType;
 use crate::nodes::{flat, Node, Tree};
 use crate::parser::{grammar_of, ParserNode, ParserRule, Rule};
@@ -125,10 +127,10 @@ pub fn validate_ast<'a, 'i: 'a>(rules: &'a Vec<ParserRule<'i>>) -> Vec<Error<Rul
         return Vec::new();
     }
     let (text, pieces) = spelled_rules(rules);
-    let Err(errors) = answers::rules(whole(&text)) else {
+    let Err(errors) = answers::rules(Call::Rules, whole(&text), Ok) else {
         return Vec::new();
     };
-    let read = answers::nodes(whole(&text)).unwrap_or_default();
+    let read = answers::rules(Call::Nodes, whole(&text), Ok).unwrap_or_default();
     let mut told = Vec::new();
     for error in errors {
         let span = span_of(&error);
@@ -217,10 +219,10 @@ mod tests {
         for grammar in grammars {
             let rules = consume_rules_with_spans(parse(Rule::grammar_rules, &grammar).unwrap()).unwrap();
             let (text, pieces) = spelled_rules(&rules);
-            let read = answers::nodes(whole(&text)).unwrap();
+            let read = answers::rules(Call::Nodes, whole(&text), Ok).unwrap();
             assert_eq!(read.len(), rules.len());
             for ((read, rule), piece) in read.iter().zip(&rules).zip(pieces) {
-                assert_eq!((&read.name, read.ty), (&rule.name, Some(rule.ty)));
+                assert_eq!((&read.name, read.ty), (&rule.name, rule.ty));
                 assert_eq!(read.nodes, flat(&rule.node), "{grammar} is spelled {text}");
                 assert!(piece.start == read.name_span.0 && read.spans[0].1 < piece.end);
             }

@@ -1,21 +1,51 @@
 //! Prints how long it takes to read and optimize each of the given grammars, by this crate and by the
-//! original.
+//! original: by the four calls that a derive makes, and by `parse_and_optimize`.
 //!
 //! A figure is the shortest of 51 runs: what else is at work on the machine makes runs longer, and none
-//! shorter.
+//! shorter. Both crates run in turn.
 use std::time::{Duration, Instant};
 use std::{env, fs, hint};
 
 const RUNS: usize = 51;
 
+/// The calls of a derive: whether the crate of that name accepts a grammar by them.
+macro_rules! by_steps {
+    ($meta:ident, $text:expr) => {{
+        let pairs = $meta::parser::parse($meta::parser::Rule::grammar_rules, $text).expect("a grammar");
+        let builtins = $meta::validator::validate_pairs(pairs.clone());
+        let rules = $meta::parser::consume_rules(pairs).expect("rules");
+        builtins.is_ok() && !$meta::optimizer::optimize(rules).is_empty()
+    }};
+}
+
 fn main() {
     let mut grammars: Vec<(String, String)> = env::args().skip(1).map(read).collect();
     grammars.sort_by_key(|(_, text)| text.len());
-    println!("{:40} {:>8} {:>12} {:>12} {:>6}", "grammar", "bytes", "here", "original", "ratio");
+    print_rows(
+        "by the calls of a derive",
+        &grammars,
+        |text| by_steps!(pest_meta, text),
+        |text| by_steps!(original, text),
+    );
+    print_rows(
+        "by parse_and_optimize",
+        &grammars,
+        |text| pest_meta::parse_and_optimize(text).is_ok(),
+        |text| original::parse_and_optimize(text).is_ok(),
+    );
+}
+
+/// Prints a row for each grammar, and one for all, of two ways to read it.
+fn print_rows(
+    heading: &str,
+    grammars: &[(String, String)],
+    here: impl Fn(&str) -> bool,
+    original: impl Fn(&str) -> bool,
+) {
+    println!("{heading:40} {:>8} {:>12} {:>12} {:>6}", "bytes", "here", "original", "ratio");
     let (mut bytes, mut here_in_all, mut original_in_all) = (0, Duration::ZERO, Duration::ZERO);
-    for (name, text) in &grammars {
-        let here = shortest(|| pest_meta::parse_and_optimize(text).is_ok());
-        let original = shortest(|| original::parse_and_optimize(text).is_ok());
+    for (name, text) in grammars {
+        let [here, original] = shortest([&|| here(text), &|| original(text)]);
         print_row(name, text.len(), here, original);
         bytes += text.len();
         here_in_all += here;
@@ -29,14 +59,17 @@ fn read(file: String) -> (String, String) {
     (file.rsplit('/').next().unwrap_or(&file).to_owned(), text)
 }
 
-/// The shortest time of a run, which answers whether the grammar was accepted.
-fn shortest(run: impl Fn() -> bool) -> Duration {
-    let time = |_| {
-        let start = Instant::now();
-        assert!(hint::black_box(run()), "the grammar is accepted");
-        start.elapsed()
-    };
-    (0..RUNS).map(time).min().expect("there are runs")
+/// The shortest time of a run of each of two ways, which answer whether the grammar was accepted.
+fn shortest(ways: [&dyn Fn() -> bool; 2]) -> [Duration; 2] {
+    let mut least = [Duration::MAX; 2];
+    for _ in 0..RUNS {
+        for (least, way) in least.iter_mut().zip(ways) {
+            let start = Instant::now();
+            assert!(hint::black_box(way()), "the grammar is accepted");
+            *least = start.elapsed().min(*least);
+        }
+    }
+    least
 }
 
 fn print_row(name: &str, bytes: usize, here: Duration, original: Duration) {

@@ -44,7 +44,7 @@ abbrev pub FitsI32 : Option ℤ → Type 0
 FitsI32 None = Unit {0}
 FitsI32 (Some i) = fits_i32 i ≡ true
 
--- what the text of a grammar can say: strings of scalar values, bounds of one character, names, numbers
+-- what the text of a grammar can say: strings of scalar values, bounds of one character, names, tags, numbers
 -- within their types, and no count of at most 0; forward searches and wrappers are the optimizer's alone
 abbrev pub IsWritable : Expression → Type 0
 IsWritable (Str t) = IsText t

@@ -8,9 +8,10 @@ ghost use Rattle.meta_roundtrip.specs.ReadsBack.{ReadsBack, TagsAreTagIds, Texts
 /// What is printed as a rule's body is read as the same expression, once sequences and choices are
 /// nested to the right in both.
 ///
-/// The expression is one that the text of a grammar can say: its names are identifiers, its strings
-/// texts, the bounds of its ranges single characters, its numbers within their types, no count is at
-/// most 0, and it has no forward search and no wrapper.
+/// The expression is one that the text of a grammar can say: its names are identifiers, its tags what
+/// the rule `tag_id` takes behind `#`, its strings (those of literal pushes too) texts, the bounds of
+/// its ranges single characters, its numbers within their types, no count is at most 0, and it has no
+/// forward search and no wrapper.
 pub fn reads_back()
     ensures { ReadsBack }
 {}

@@ -1,5 +1,5 @@
 //! What the program does once its input is read.
-ghost use Rattle.std.specs.Prelude.{◌≡◌, ◌≢◌, ◌≤◌, ◌⊎◌, ◌↔◌, IfNone, IfOk, IfSome, IsErr, IsOk, IsUtf8, OnOk, codes, encode_utf8_all, string_bytes};
+ghost use Rattle.std.specs.Prelude.{◌≡◌, ◌≢◌, ◌≤◌, ◌⊎◌, ◌↔◌, IfNone, IfOk, IfSome, IsErr, IsOk, IsUtf8, codes, encode_utf8_all, string_bytes, true};
 ghost use Rattle.std.specs.Io.KnownBytes.{Appends};
 ghost use Rattle.meta_ast.specs.Ast.{rule_type_of};
 ghost use Rattle.meta_ast.specs.Optimized.{optimized_rules_of};
@@ -12,7 +12,8 @@ use pest_meta::ast::RuleType;
 use pest_meta::optimizer::OptimizedRule;
 use pest_meta::{Report, parse_and_optimize, unwrap_or_report};
 use std::alloc::{AllocError, Global};
-use std::io::{self, Write};
+use std::io::Write;
+use tool_support::output::{Output, RefusedWrite};
 
 /// The grammar was read, and its rules were printed.
 const PRINTED: u8 = 0;
@@ -31,7 +32,7 @@ pub struct Exit {
     /// The status that the program ends with.
     pub status: u8,
     /// Whether `err` took the line that it was given: an error where it refused a write.
-    pub told: io::Result<()>,
+    pub told: Result<(), RefusedWrite>,
 }
 
 /// Prints the rules of a grammar to `out`, a line each as `name = modifier{ expr }`, and answers 0.
@@ -43,29 +44,37 @@ pub struct Exit {
 pub fn run<W: Write, E: Write>(
     alloc: Global,
     input: Option<&[u8]>,
-    out: &mut W,
-    err: &mut E,
+    out: &mut Output<W>,
+    err: &mut Output<E>,
 ) -> Exit
     ensures known { result.status ≤ 4 }
     ensures unread { IfNone input.entry (result.status ≡ 3) }
     ensures decoded { IfSome input.entry (λ bytes. result.status ≡ 3 ↔ ¬ (IsUtf8 bytes.now)) }
     ensures unwritten { IfSome input.entry (λ bytes. result.status ≡ 4 → HasAnswer bytes.now) }
 
-    // What goes to `out`.
+    // What goes to `out`, and whether it refused a write.
     ensures printed { IfSome input.entry (λ bytes. result.status ≡ 0
-        → PrintsAnswer bytes.now (W.contents out.old) (W.contents out.new)) }
+        → PrintsAnswer bytes.now (W.contents out.old.writer) (W.contents out.new.writer)) }
     ensures unprinted { result.status ≢ 0 → result.status ≢ 4 → out.new ≡ out.old }
+    ensures taken { result.status ≡ 0 → out.new.refused ≡ out.old.refused }
+    ensures refused_write { result.status ≡ 4 → out.new.refused ≡ true }
 
-    // What goes to `err`.
+    // What goes to `err`, and whether it refused a write.
     ensures silent { result.status ≡ 0 → err.new ≡ err.old }
     ensures refused { IfSome input.entry (λ bytes. result.status ≡ 1
-        → TellsRefusal bytes.now result.told (E.contents err.old) (E.contents err.new)) }
+        → TellsRefusal bytes.now result.told
+        (E.contents err.old.writer) (E.contents err.new.writer)) }
     ensures tells_memory { result.status ≡ 2
-        → TellsLine (codes "out of memory") result.told (E.contents err.old) (E.contents err.new) }
+        → TellsLine (codes "out of memory") result.told
+        (E.contents err.old.writer) (E.contents err.new.writer) }
     ensures tells_unread { result.status ≡ 3
-        → TellsLine (codes "cannot read") result.told (E.contents err.old) (E.contents err.new) }
+        → TellsLine (codes "cannot read") result.told
+        (E.contents err.old.writer) (E.contents err.new.writer) }
     ensures tells_unwritten { result.status ≡ 4
-        → TellsLine (codes "cannot write") result.told (E.contents err.old) (E.contents err.new) }
+        → TellsLine (codes "cannot write") result.told
+        (E.contents err.old.writer) (E.contents err.new.writer) }
+    ensures told { IsOk result.told → err.new.refused ≡ err.old.refused }
+    ensures refused_line { IsErr result.told → err.new.refused ≡ true }
 {
     let Some(bytes) = input else {
         return told(err, "cannot read", UNREADABLE);
@@ -85,33 +94,42 @@ pub fn run<W: Write, E: Write>(
 fn answered<W: Write, E: Write>(
     alloc: Global,
     rules: Vec<OptimizedRule>,
-    out: &mut W,
-    err: &mut E,
+    out: &mut Output<W>,
+    err: &mut Output<E>,
 ) -> Exit
     ensures known { (result.status ≡ 0) ⊎ (result.status ≡ 2) ⊎ (result.status ≡ 4) }
-    ensures printed { result.status ≡ 0 → Appends (W.contents out.old) (W.contents out.new)
+    ensures printed { result.status ≡ 0 → Appends (W.contents out.old.writer) (W.contents out.new.writer)
         (encode_utf8_all (grammar_text (optimized_rules_of rules.items))) }
     ensures unprinted { result.status ≢ 0 → result.status ≢ 4 → out.new ≡ out.old }
+    ensures taken { result.status ≡ 0 → out.new.refused ≡ out.old.refused }
+    ensures refused_write { result.status ≡ 4 → out.new.refused ≡ true }
     ensures silent { result.status ≡ 0 → err.new ≡ err.old }
     ensures tells_memory { result.status ≡ 2
-        → TellsLine (codes "out of memory") result.told (E.contents err.old) (E.contents err.new) }
+        → TellsLine (codes "out of memory") result.told
+        (E.contents err.old.writer) (E.contents err.new.writer) }
     ensures tells_unwritten { result.status ≡ 4
-        → TellsLine (codes "cannot write") result.told (E.contents err.old) (E.contents err.new) }
+        → TellsLine (codes "cannot write") result.told
+        (E.contents err.old.writer) (E.contents err.new.writer) }
+    ensures told { IsOk result.told → err.new.refused ≡ err.old.refused }
+    ensures refused_line { IsErr result.told → err.new.refused ≡ true }
 {
     match printed(alloc, rules) {
-        Ok(text) => written(err, write_text(out, text.as_str())),
+        Ok(text) => written(err, out.write_text(text.as_str())),
         Err(_) => told(err, "out of memory", OUT_OF_MEMORY),
     }
 }
 
 /// How a run ends where the rules were printed or a write of them was refused, which is told.
-fn written<E: Write>(err: &mut E, outcome: io::Result<()>) -> Exit
+fn written<E: Write>(err: &mut Output<E>, outcome: Result<(), RefusedWrite>) -> Exit
     ensures known { (result.status ≡ 0) ⊎ (result.status ≡ 4) }
     ensures printed { IsOk outcome → result.status ≡ 0 }
     ensures silent { IsOk outcome → err.new ≡ err.old }
     ensures unwritten { IsErr outcome → result.status ≡ 4 }
     ensures tells { IsErr outcome
-        → TellsLine (codes "cannot write") result.told (E.contents err.old) (E.contents err.new) }
+        → TellsLine (codes "cannot write") result.told
+        (E.contents err.old.writer) (E.contents err.new.writer) }
+    ensures told { IsOk result.told → err.new.refused ≡ err.old.refused }
+    ensures refused_line { IsErr result.told → err.new.refused ≡ true }
 {
     match outcome {
         Ok(()) => Exit {
@@ -123,11 +141,14 @@ fn written<E: Write>(err: &mut E, outcome: io::Result<()>) -> Exit
 }
 
 /// Writes a message and a line break to `err`, whatever comes of it.
-fn told<E: Write>(err: &mut E, message: &str, status: u8) -> Exit
+fn told<E: Write>(err: &mut Output<E>, message: &str, status: u8) -> Exit
     ensures status { result.status ≡ status }
-    ensures tells { TellsLine message.now result.told (E.contents err.old) (E.contents err.new) }
+    ensures tells { TellsLine message.now result.told
+        (E.contents err.old.writer) (E.contents err.new.writer) }
+    ensures told { IsOk result.told → err.new.refused ≡ err.old.refused }
+    ensures refused_line { IsErr result.told → err.new.refused ≡ true }
 {
-    let told = writeln!(err, "{message}");
+    let told = err.write_line(&[message]);
     Exit { status, told }
 }
 
@@ -153,14 +174,6 @@ fn lines_of(alloc: Global, rules: &[OptimizedRule]) -> Result<String, AllocError
         writeln!(text, "{} = {modifier}{{ {} }}", rule.name, rule.expr)?;
     }
     Ok(text)
-}
-
-/// Writes a text, all of it.
-fn write_text<W: Write>(out: &mut W, text: &str) -> io::Result<()>
-    ensures { OnOk result (Appends (W.contents out.old) (W.contents out.new) text.now) }
-{
-    out.write_all(text.as_bytes())?;
-    out.flush()
 }
 
 /// The sign of a rule's type before its brace.

@@ -1,11 +1,17 @@
 //! Reads a grammar and prints its rules.
 #![tactic(auto)]
 
+ghost use Rattle.std.specs.Prelude.{◌≡◌, ◌≤◌, ◌↔◌, IfNone, IfSome, IsUtf8};
+ghost use Rattle.std.specs.Process.{exit_status};
+ghost use Rattle.pest_meta.specs.Spelling.{HasAnswer, HasRefusal};
+
 mod checks;
 
+use checks::run;
 use std::io::Read;
 use std::process::ExitCode;
 use std::{env, fs};
+use tool_support::output::Output;
 
 /// The grammar's bytes: those of the file that the one argument names, or of standard input where there is
 /// none. None where they can't be read, or where a second argument stands.
@@ -23,9 +29,21 @@ fn input(rt: &HostRuntime) -> Option<Vec<u8>> {
     }
 }
 
+/// Runs the program on its input, over the process's own output, and hands on the status.
+fn check(rt: &HostRuntime, grammar: Option<&[u8]>) -> ExitCode
+    ensures known { exit_status result ≤ 4 }
+    ensures unread { IfNone grammar.entry (exit_status result ≡ 3) }
+    ensures decoded { IfSome grammar.entry (λ bytes. exit_status result ≡ 3 ↔ ¬ (IsUtf8 bytes.now)) }
+    ensures answer { IfSome grammar.entry (λ bytes. exit_status result ≡ 0 → HasAnswer bytes.now) }
+    ensures refusal { IfSome grammar.entry (λ bytes. exit_status result ≡ 1 → HasRefusal bytes.now) }
+{
+    let mut out = Output::new(rt.stdout());
+    let mut err = Output::new(rt.stderr());
+    let exit = run(rt.alloc(), grammar, &mut out, &mut err);
+    ExitCode::from(exit.status)
+}
+
 fn main(rt: HostRuntime) -> ExitCode {
     let grammar = input(&rt);
-    let bytes = grammar.as_ref().map(|bytes| bytes.as_slice());
-    let exit = checks::run(rt.alloc(), bytes, &mut rt.stdout(), &mut rt.stderr());
-    ExitCode::from(exit.status)
+    check(&rt, grammar.as_ref().map(|bytes| bytes.as_slice()))
 }

@@ -14,10 +14,11 @@
  *   4  the room is too small; nothing is written, and `*needed` is the length
  *      that is wanted: call again with so much room
  *
- * What lies in `out` behind what is written stays as it was. No pointer is
- * null, not even one to 0 bytes; `out` and `needed` overlap with nothing else
- * that is handed in; and nothing of it is changed by others while the call
- * runs. Memory is taken by malloc, realloc and free and given back before the
+ * What lies in `out` behind what is written stays as it was. A pointer to 0
+ * bytes may be null, so NULL and 0 for `out` ask how much room is wanted; no
+ * other pointer may be, `needed` neither. `out` and `needed` overlap with
+ * nothing else that is handed in; and nothing of it is changed by others while
+ * the call runs. Memory is taken by malloc, realloc and free and given back before the
  * call returns. The calls keep nothing, so they may run in several threads at
  * once; call them from no signal handler.
  */

@@ -1,5 +1,5 @@
 -- How a run ends, by what comes of the rule.
-use Rattle.std.proofs.Common.{◌≡◌, ℕ, ◌+◌, ◌≤◌, List, ◌++◌, Option, Result, Ok, Err, IfOk, IfErr, codes, string_bytes, arith, subst}
+use Rattle.std.proofs.Common.{◌≡◌, ◌≢◌, ◌⊎◌, inl, inr, sym, ◌∙◌, ℕ, ◌+◌, ◌≤◌, List, ◌++◌, Option, Result, Ok, Err, IfOk, IfErr, codes, string_bytes, arith, subst}
 use Rattle.std.specs.Prelude.{IsErrAnd}
 use Rattle.std.specs.Borrow.{Bor}
 use Rattle.std.specs.declared.alloc.Global.{Global}
@@ -14,7 +14,7 @@ use Rattle.pest_meta.specs.declared.report.Report.{Report}
 use Rattle.pest_meta.specs.declared.report.Report.TheVariants as report_is
 use Rattle.pest_run.specs.Ends.{EndsAs}
 use Rattle.pest_run.specs.Outcomes.{IsOutcome}
-use Rattle.pest_run.specs.Written.{PrintsTrees, TellsLine, TellsReason, refused, no_rule, no_match}
+use Rattle.pest_run.specs.Written.{PrintsTrees, TellsLine, TellsReason, TellsStop, empty_stack, no_match, no_rule, refused, too_many_steps, unknown_name, wide_bound}
 use Rattle.pest_run.specs.declared.arguments.Format.{Format}
 use Rattle.pest_run.specs.declared.outcomes.Outcome.{Outcome}
 use Rattle.pest_run.specs.declared.outcomes.Outcome.TheVariants as is
@@ -23,28 +23,51 @@ use Rattle.pest_run.specs.declared.outcomes.Outcome.TheVariants as is
 apart : (n a b : ℕ) → n ≡ a → n ≡ b → a + 1 ≤ b → ⊥
 apart n a b e f h = omega (arith, e, f, h)
 
+neither : (n k : ℕ) → (n ≡ 0) ⊎ (n ≡ 4) → n ≡ k → k ≢ 0 → k ≢ 4 → ⊥
+neither n k (inl z) e f h = f (sym e ∙ z)
+neither n k (inr z) e f h = h (sym e ∙ z)
+
 -- where the status is 0, trees were printed
 pub prints : {X E : Type 0} (o : Outcome) (grammar rule text : List ℕ) (format : Format) (builtins : List (Bor (List ℕ))) (rules : List OptimizedRule) (told : Result X E) (status : ℕ)
     (old_out new_out old new : Option (List ℕ)) → IsAnswer grammar builtins rules → IsOutcome (optimized_rules_of rules) rule text format o
     → EndsAs o rule status told old_out new_out old new → status ≡ 0 → PrintsTrees grammar rule text format old_out new_out
 prints (is.Shown lines) grammar rule text format builtins rules told status old_out new_out old new a i e zero =
-    record { builtins = builtins; rules = rules; answers = a; lines = string_bytes lines; shows = i; gained = e.0 zero }
+    record { builtins = builtins; rules = rules; answers = a; lines = string_bytes lines; shows = i; gained = e.1 zero }
 prints (is.Failed report) grammar rule text format builtins rules told status old_out new_out old new a i e zero = absurd (apart status 0 1 zero e.0 (omega arith))
 prints is.NoRule grammar rule text format builtins rules told status old_out new_out old new a i e zero = absurd (apart status 0 1 zero e.0 (omega arith))
-prints (is.Stopped why) grammar rule text format builtins rules told status old_out new_out old new a i e zero = absurd (apart status 0 5 zero e (omega arith))
+prints is.OutOfSteps grammar rule text format builtins rules told status old_out new_out old new a i e zero = absurd (apart status 0 5 zero e.0 (omega arith))
+prints is.EmptyStack grammar rule text format builtins rules told status old_out new_out old new a i e zero = absurd (apart status 0 5 zero e.0 (omega arith))
+prints is.UnknownName grammar rule text format builtins rules told status old_out new_out old new a i e zero = absurd (apart status 0 5 zero e.0 (omega arith))
+prints is.Bound grammar rule text format builtins rules told status old_out new_out old new a i e zero = absurd (apart status 0 5 zero e.0 (omega arith))
 prints is.Memory grammar rule text format builtins rules told status old_out new_out old new a i e zero = absurd (apart status 0 2 zero e (omega arith))
 
 -- where it is 1, a reason was told
 pub tells : {X E : Type 0} (o : Outcome) (grammar rule text : List ℕ) (format : Format) (builtins : List (Bor (List ℕ))) (rules : List OptimizedRule) (told : Result X E) (status : ℕ)
     (old_out new_out old new : Option (List ℕ)) → IsAnswer grammar builtins rules → IsOutcome (optimized_rules_of rules) rule text format o
     → EndsAs o rule status told old_out new_out old new → status ≡ 1 → TellsReason grammar rule text told old new
-tells (is.Shown lines) grammar rule text format builtins rules told status old_out new_out old new a i e one = absurd (e.1 one)
+tells (is.Shown lines) grammar rule text format builtins rules told status old_out new_out old new a i e one = absurd (neither status 1 e.0 one (omega arith) (omega arith))
 tells (is.Failed report) grammar rule text format builtins rules told status old_out new_out old new a i e one =
     record { message = string_bytes report; reason = no_match builtins rules (string_bytes report) a i; line = e.1 }
 tells is.NoRule grammar rule text format builtins rules told status old_out new_out old new a i e one =
     record { message = codes "the grammar has no rule " ++ rule; reason = no_rule builtins rules a i; line = e.1 }
-tells (is.Stopped why) grammar rule text format builtins rules told status old_out new_out old new a i e one = absurd (apart status 1 5 one e (omega arith))
+tells is.OutOfSteps grammar rule text format builtins rules told status old_out new_out old new a i e one = absurd (apart status 1 5 one e.0 (omega arith))
+tells is.EmptyStack grammar rule text format builtins rules told status old_out new_out old new a i e one = absurd (apart status 1 5 one e.0 (omega arith))
+tells is.UnknownName grammar rule text format builtins rules told status old_out new_out old new a i e one = absurd (apart status 1 5 one e.0 (omega arith))
+tells is.Bound grammar rule text format builtins rules told status old_out new_out old new a i e one = absurd (apart status 1 5 one e.0 (omega arith))
 tells is.Memory grammar rule text format builtins rules told status old_out new_out old new a i e one = absurd (apart status 1 2 one e (omega arith))
+
+-- where it is 5, why the matcher was stopped was told
+pub stops : {X E : Type 0} (o : Outcome) (grammar rule text : List ℕ) (format : Format) (builtins : List (Bor (List ℕ))) (rules : List OptimizedRule) (told : Result X E) (status : ℕ)
+    (old_out new_out old new : Option (List ℕ)) → IsAnswer grammar builtins rules → IsOutcome (optimized_rules_of rules) rule text format o
+    → EndsAs o rule status told old_out new_out old new → status ≡ 5 → TellsStop grammar rule text told old new
+stops (is.Shown lines) grammar rule text format builtins rules told status old_out new_out old new a i e five = absurd (neither status 5 e.0 five (omega arith) (omega arith))
+stops (is.Failed report) grammar rule text format builtins rules told status old_out new_out old new a i e five = absurd (apart status 1 5 e.0 five (omega arith))
+stops is.NoRule grammar rule text format builtins rules told status old_out new_out old new a i e five = absurd (apart status 1 5 e.0 five (omega arith))
+stops is.OutOfSteps grammar rule text format builtins rules told status old_out new_out old new a i e five = record { builtins = builtins; rules = rules; answers = a; message = codes "the text takes too many steps"; stop = too_many_steps i; line = e.1 }
+stops is.EmptyStack grammar rule text format builtins rules told status old_out new_out old new a i e five = record { builtins = builtins; rules = rules; answers = a; message = codes "PEEK or POP found nothing on the stack"; stop = empty_stack i; line = e.1 }
+stops is.UnknownName grammar rule text format builtins rules told status old_out new_out old new a i e five = record { builtins = builtins; rules = rules; answers = a; message = codes "the grammar calls a rule that is not known"; stop = unknown_name; line = e.1 }
+stops is.Bound grammar rule text format builtins rules told status old_out new_out old new a i e five = record { builtins = builtins; rules = rules; answers = a; message = codes "a range of the grammar has a bound that is no character"; stop = wide_bound; line = e.1 }
+stops is.Memory grammar rule text format builtins rules told status old_out new_out old new a i e five = absurd (apart status 2 5 e five (omega arith))
 
 -- where there is a text, the outcome was a refusal, there is a reason for it, and the text reports it
 pub refusal : {X Y E : Type 0} (grammar rule text : List ℕ) (outcome : Result X Fault) (answer : Result X Report) (message : String Global) (told : Result Y E) (old new : Option (List ℕ))

@@ -1,16 +1,21 @@
 -- What comes of a rule on a text.
-use Rattle.std.specs.Prelude.{◌≡◌, ℕ, List, ◌++◌, None, codes, string_bytes, ⊤}
+use Rattle.std.specs.Prelude.{◌≡◌, ◌<◌, ◌-◌, ◌^◌, ℕ, List, ◌++◌, None, codes, string_bytes, ⊤}
 use Rattle.std.specs.Str.{chars}
 use Rattle.meta_base.specs.Language.Expression.{Grammar, rule_of}
 use Rattle.meta_base.specs.Language.Expected.{expected}
 use Rattle.meta_base.specs.Language.FurthestFailure.{furthest}
-use Rattle.meta_base.specs.Language.State.{State, Trees, Success, Failure}
+use Rattle.meta_base.specs.Language.State.{State, Trees, Outcome as Result, Success, Failure}
 use Rattle.meta_base.specs.Language.Text.{Text}
 use Rattle.meta_base.specs.Pieces.LineColumn.{line_column}
 use Rattle.meta_base.specs.Pieces.PrintedError.{printed_error, printed_line}
 use Rattle.meta_base.specs.declared.runtime.errors.LineColLocation.TheVariants.{Pos}
+use Rattle.matcher_program.specs.declared.compile.Unfit.{Unfit}
+use Rattle.matcher_program.specs.declared.compile.Unfit.TheVariants as unfit
 use Rattle.meta_matcher.specs.Answers.{Has}
+use Rattle.meta_matcher.specs.Sizes.{most_steps}
 use Rattle.meta_matcher.specs.Told.{each_once}
+use Rattle.meta_matcher.specs.declared.machine.Stop.{Stop}
+use Rattle.meta_matcher.specs.declared.machine.Stop.TheVariants as stop
 use Rattle.matcher_support.specs.Sets.{is_in_property}
 use Rattle.matcher_support.specs.Shown.{shown}
 use Rattle.matcher_support.specs.Values.{answer_data}
@@ -48,21 +53,40 @@ pub record HasFailed (g : Grammar) (rule text report : List ℕ) : Type 0 where
 abbrev pub HasNoRule : Grammar → List ℕ → Type 0
 HasNoRule g rule = rule_of g (chars rule) ≡ None
 
--- the run was stopped, of which nothing is said, or memory was wanting
-abbrev pub IsNoAnswer : Outcome → Type 0
-IsNoAnswer (is.Stopped why) = ⊤
-IsNoAnswer is.Memory = ⊤
-IsNoAnswer _ = ⊥
+-- the rule, called at the start of the text, has no outcome
+abbrev pub HasNoOutcome : Grammar → List ℕ → List ℕ → Type 0
+HasNoOutcome g rule text = (o : Result) → Has g (chars rule) text is_in_property o → ⊥
 
--- what is told of a failure at a place, unless memory was wanting or the place is none of the text
+-- for each outcome of the rule the matcher may take more than 2^64 - 1 steps
+abbrev pub TakesTooManySteps : Grammar → List ℕ → List ℕ → Type 0
+TakesTooManySteps g rule text = (o : Result) (found : Has g (chars rule) text is_in_property o)
+    → 2 ^ 64 - 1 < most_steps found
+
+-- what comes of a run that the matcher stopped
+abbrev pub stopped_outcome : Stop → Outcome
+stopped_outcome stop.Memory = is.Memory
+stopped_outcome stop.OutOfSteps = is.OutOfSteps
+stopped_outcome stop.EmptyStack = is.EmptyStack
+
+-- what comes of rules that can't be run
+abbrev pub unfit_outcome : Unfit → Outcome
+unfit_outcome unfit.Memory = is.Memory
+unfit_outcome (unfit.UnknownName name) = is.UnknownName
+unfit_outcome (unfit.Bound text) = is.Bound
+
+-- what is told of a failure at a place, unless memory was wanting
 abbrev pub TellsOf : List ℕ → ℕ → List Text → Outcome → Type 0
 TellsOf text place names (is.Failed report) = string_bytes report ≡ failure_text text place names
-TellsOf text place names o = IsNoAnswer o
+TellsOf text place names is.Memory = ⊤
+TellsOf text place names _ = ⊥
 
--- what comes of the rule on the text; of a run that was stopped nothing is said
+-- what comes of the rule on the text; of rules that can't be run, and of want of memory, nothing is said
 abbrev pub IsOutcome : Grammar → List ℕ → List ℕ → Format → Outcome → Type 0
 IsOutcome g rule text format (is.Shown lines) = IsShown g rule text format (string_bytes lines)
 IsOutcome g rule text format (is.Failed report) = HasFailed g rule text (string_bytes report)
 IsOutcome g rule text format is.NoRule = HasNoRule g rule
-IsOutcome g rule text format (is.Stopped why) = ⊤
+IsOutcome g rule text format is.OutOfSteps = TakesTooManySteps g rule text
+IsOutcome g rule text format is.EmptyStack = HasNoOutcome g rule text
+IsOutcome g rule text format is.UnknownName = ⊤
+IsOutcome g rule text format is.Bound = ⊤
 IsOutcome g rule text format is.Memory = ⊤

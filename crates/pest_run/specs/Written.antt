@@ -4,11 +4,12 @@ use Rattle.std.specs.Borrow.{Bor}
 use Rattle.std.specs.Io.KnownBytes.{Appends}
 use Rattle.meta_ast.specs.Optimized.{optimized_rules_of}
 use Rattle.meta_ast.specs.declared.optimized.OptimizedRule.{OptimizedRule}
+use Rattle.meta_base.specs.Language.Expression.{Grammar}
 use Rattle.meta_base.specs.declared.grammar.Rule.{Rule}
 use Rattle.meta_base.specs.declared.runtime.errors.Error.{Error}
 use Rattle.pest_meta.specs.Reports.{report_text}
 use Rattle.pest_meta.specs.Spelling.{IsAnswer, IsRefusedWith}
-use Rattle.pest_run.specs.Outcomes.{HasFailed, HasNoRule, IsShown}
+use Rattle.pest_run.specs.Outcomes.{HasFailed, HasNoOutcome, HasNoRule, IsShown, TakesTooManySteps}
 use Rattle.pest_run.specs.declared.arguments.Format.{Format}
 use Rattle.pest_run.specs.declared.run.Source.{Source}
 
@@ -48,4 +49,22 @@ pub record TellsReason {X E : Type 0} (grammar rule text : List ℕ) (written : 
     (old new : Option (List ℕ)) : Type 0 where
   pub message : List ℕ
   pub reason : IsReason grammar rule text message
+  pub line : TellsLine message written old new
+
+-- why the matcher was stopped on the text, and what says so: it takes too many steps, or it has no outcome and
+-- `PEEK` or `POP` met the empty stack, or the rules can't be run, of which nothing else is said
+pub data IsStop (g : Grammar) (rule text : List ℕ) : List ℕ → Type 0 where
+  too_many_steps : TakesTooManySteps g rule text → IsStop g rule text (codes "the text takes too many steps")
+  empty_stack : HasNoOutcome g rule text → IsStop g rule text (codes "PEEK or POP found nothing on the stack")
+  unknown_name : IsStop g rule text (codes "the grammar calls a rule that is not known")
+  wide_bound : IsStop g rule text (codes "a range of the grammar has a bound that is no character")
+
+-- there is an answer for the grammar, the matcher was stopped on the text, and the reason is the line
+pub record TellsStop {X E : Type 0} (grammar rule text : List ℕ) (written : Result X E)
+    (old new : Option (List ℕ)) : Type 0 where
+  pub builtins : List (Bor (List ℕ))
+  pub rules : List OptimizedRule
+  pub answers : IsAnswer grammar builtins rules
+  pub message : List ℕ
+  pub stop : IsStop (optimized_rules_of rules) rule text message
   pub line : TellsLine message written old new

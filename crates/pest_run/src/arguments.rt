@@ -1,4 +1,7 @@
 //! The command line.
+ghost use Rattle.std.specs.Prelude.{◌≡◌, Some, codes};
+ghost use Rattle.clap.specs.Matches.{first_value, found_of};
+
 use clap::{Arg, ArgMatches, Command};
 use std::alloc::{AllocError, Global};
 
@@ -40,7 +43,12 @@ pub fn command<'a>(alloc: Global) -> Result<Command<'a>, AllocError> {
 }
 
 /// The format that a command line asks for.
-pub fn format_of(matches: &ArgMatches<'_>) -> Format {
+pub fn format_of(matches: &ArgMatches<'_>) -> Format
+    ensures json { first_value (found_of matches.now) (codes "format") ≡ Some (codes "json")
+        → result ≡ Format.Json }
+    ensures json_only { result ≡ Format.Json
+        → first_value (found_of matches.now) (codes "format") ≡ Some (codes "json") }
+{
     match matches.get_str("format") {
         Some("json") => Format::Json,
         _ => Format::Text,

@@ -1,6 +1,9 @@
 //! Matches a text by a rule of a grammar, and prints the trees.
 #![tactic(auto)]
 
+ghost use Rattle.std.specs.Prelude.{◌≡◌, ◌≢◌, ◌≤◌, None};
+ghost use Rattle.pest_run.specs.Written.{IsReadable, PrintsTrees};
+
 mod arguments;
 mod messages;
 mod outcomes;
@@ -12,6 +15,7 @@ use std::alloc::AllocError;
 use std::io::Read;
 use std::process::ExitCode;
 use std::{env, fs};
+use tool_support::output::Output;
 
 /// The bytes of the file of a name, or of standard input for `-`; or why they can't be read.
 fn source<'a>(rt: &HostRuntime, name: &'a str) -> Result<Source<'a>, AllocError> {
@@ -27,6 +31,26 @@ fn source<'a>(rt: &HostRuntime, name: &'a str) -> Result<Source<'a>, AllocError>
         Err(error) => Some(format!(in alloc; "{error}")?),
     };
     Ok(Source { name, bytes, why })
+}
+
+/// Runs the program on two files, over the process's own output, and hands on the status.
+fn match_files(
+    rt: &HostRuntime,
+    grammar: &Source<'_>,
+    text: &Source<'_>,
+    request: Request<'_>,
+) -> u8
+    ensures known { result ≤ 5 }
+    ensures read { result ≢ 3 → IsReadable grammar.now × IsReadable text.now }
+    ensures unread { IsReadable grammar.now → IsReadable text.now → result ≢ 3 }
+    ensures matched { result ≡ 0
+        → PrintsTrees grammar.now.bytes.items request.entry.rule.now text.now.bytes.items
+        request.entry.format None None }
+{
+    let mut out = Output::new(rt.stdout());
+    let mut err = Output::new(rt.stderr());
+    let exit = run_files(rt.alloc(), grammar, text, request, &mut out, &mut err);
+    exit.status
 }
 
 /// The status for the words of the command line.
@@ -49,15 +73,7 @@ fn answer(rt: &HostRuntime) -> Result<u8, clap::Error> {
         rule: matches.get_str("RULE").unwrap_or(""),
         format: format_of(&matches),
     };
-    let exit = run_files(
-        alloc,
-        &grammar,
-        &text,
-        request,
-        &mut rt.stdout(),
-        &mut rt.stderr(),
-    );
-    Ok(exit.status)
+    Ok(match_files(rt, &grammar, &text, request))
 }
 
 fn main(rt: HostRuntime) -> ExitCode {

@@ -6,7 +6,8 @@ ghost use Rattle.meta_base.specs.Pieces.Span.{position_offset, position_text};
 ghost use Rattle.meta_matcher.specs.Told.{told_of};
 ghost use Rattle.meta_matcher.specs.Written.{seen};
 ghost use Rattle.meta_syntax.specs.Entries.{entries_of};
-ghost use Rattle.pest_run.specs.Outcomes.{IsNoAnswer, IsOutcome, TellsOf, failure_text, trees_text};
+ghost use Rattle.std.specs.Str.{IsCharBoundary};
+ghost use Rattle.pest_run.specs.Outcomes.{IsOutcome, TellsOf, failure_text, stopped_outcome, trees_text, unfit_outcome};
 
 use crate::arguments::Format;
 use crate::messages::failure_message;
@@ -34,8 +35,14 @@ pub enum Outcome {
     Failed(String),
     /// The grammar has no rule of that name.
     NoRule,
-    /// The rules can't be run on the text, for that reason.
-    Stopped(&'static str),
+    /// The run takes more steps than the matcher may take.
+    OutOfSteps,
+    /// `PEEK` or `POP` met the empty stack, and the rule has no outcome on the text.
+    EmptyStack,
+    /// The rules call a name that is neither a rule's nor a builtin's.
+    UnknownName,
+    /// A bound of a range is not one character.
+    Bound,
     /// Memory was wanting.
     Memory,
 }
@@ -104,13 +111,14 @@ fn json_line(
     Ok(line)
 }
 
-/// What comes of a text on which the rule fails, where that is the place of the failure, and these names are
-/// expected there.
+/// What comes of a text on which the rule fails at a place between two characters, where these names are
+/// expected.
 fn failed_outcome(alloc: Global, text: &str, place: usize, names: &[&str]) -> Outcome
+    requires { IsCharBoundary text.now place }
     ensures { TellsOf text.now place (told_of names.now) result }
 {
     let Some(position) = Position::new(text, place) else {
-        return Outcome::Stopped("the place of the failure is no place of the text");
+        unreachable!()
     };
     match report_at(alloc, position, names) {
         Ok(report) => Outcome::Failed(report),
@@ -135,24 +143,22 @@ fn report_at(alloc: Global, place: Position<'_>, names: &[&str]) -> Result<Strin
 
 /// What comes of a run that was stopped.
 fn stopped_outcome(stop: Stop) -> Outcome
-    ensures { IsNoAnswer result }
+    ensures { result ≡ stopped_outcome stop }
 {
     match stop {
         Stop::Memory => Outcome::Memory,
-        Stop::OutOfSteps => Outcome::Stopped("the text takes too many steps"),
-        Stop::EmptyStack => Outcome::Stopped("PEEK or POP found nothing on the stack"),
+        Stop::OutOfSteps => Outcome::OutOfSteps,
+        Stop::EmptyStack => Outcome::EmptyStack,
     }
 }
 
 /// What comes of rules that can't be run. Rules of a grammar that is accepted can.
 fn unfit_outcome(unfit: Unfit) -> Outcome
-    ensures { IsNoAnswer result }
+    ensures { result ≡ unfit_outcome unfit }
 {
     match unfit {
         Unfit::Memory => Outcome::Memory,
-        Unfit::UnknownName(_) => Outcome::Stopped("the grammar calls a rule that is not known"),
-        Unfit::Bound(_) => Outcome::Stopped(
-            "a range of the grammar has a bound that is no character",
-        ),
+        Unfit::UnknownName(_) => Outcome::UnknownName,
+        Unfit::Bound(_) => Outcome::Bound,
     }
 }

@@ -1,15 +1,15 @@
 //! What the program does once its files are read.
-ghost use Rattle.std.specs.Prelude.{◌≡◌, ◌≢◌, ◌≤◌, ◌⊎◌, ◌↔◌, ◌++◌, IfSome, IsErr, IsOk, IsSome, OnOk, codes};
-ghost use Rattle.std.specs.Io.KnownBytes.{Appends};
+ghost use Rattle.std.specs.Prelude.{◌≡◌, ◌≢◌, ◌≤◌, ◌⊎◌, ◌↔◌, ◌++◌, IfSome, IsErr, IsOk, IsSome, codes, true};
 ghost use Rattle.pest_run.specs.Ends.{EndsAs, IsStatus};
-ghost use Rattle.pest_run.specs.Written.{IsReadable, PrintsTrees, TellsLine, TellsReason};
+ghost use Rattle.pest_run.specs.Written.{IsReadable, PrintsTrees, TellsLine, TellsReason, TellsStop};
 
 use crate::arguments::Format;
 use crate::outcomes::{Outcome, outcome_of};
 use meta_ast::optimized::release;
 use pest_meta::{Report, parse_and_optimize, unwrap_or_report};
 use std::alloc::Global;
-use std::io::{self, Write};
+use std::io::Write;
+use tool_support::output::{Output, RefusedWrite};
 
 /// The trees were printed.
 const PRINTED: u8 = 0;
@@ -47,7 +47,7 @@ pub struct Exit {
     /// The status that the program ends with.
     pub status: u8,
     /// Whether `err` took the line that it was given: an error where it refused a write.
-    pub told: io::Result<()>,
+    pub told: Result<(), RefusedWrite>,
 }
 
 /// Matches a text by the rule of a grammar that is asked for, both as their files hold them, and prints the
@@ -58,24 +58,33 @@ pub fn run_files<W: Write, E: Write>(
     grammar: &Source<'_>,
     text: &Source<'_>,
     request: Request<'_>,
-    out: &mut W,
-    err: &mut E,
+    out: &mut Output<W>,
+    err: &mut Output<E>,
 ) -> Exit
     ensures known { result.status ≤ 5 }
     ensures read { result.status ≢ 3 → IsReadable grammar.now × IsReadable text.now }
     ensures unread { IsReadable grammar.now → IsReadable text.now → result.status ≢ 3 }
     ensures printed { result.status ≡ 0
         → PrintsTrees grammar.now.bytes.items request.entry.rule.now text.now.bytes.items request.entry.format
-        (W.contents out.old) (W.contents out.new) }
+        (W.contents out.old.writer) (W.contents out.new.writer) }
     ensures unprinted { result.status ≢ 0 → result.status ≢ 4 → out.new ≡ out.old }
+    ensures taken { result.status ≡ 0 → out.new.refused ≡ out.old.refused }
+    ensures refused_write { result.status ≡ 4 → out.new.refused ≡ true }
     ensures silent { result.status ≡ 0 → err.new ≡ err.old }
     ensures reason { result.status ≡ 1
         → TellsReason grammar.now.bytes.items request.entry.rule.now text.now.bytes.items result.told
-        (E.contents err.old) (E.contents err.new) }
+        (E.contents err.old.writer) (E.contents err.new.writer) }
     ensures tells_memory { result.status ≡ 2
-        → TellsLine (codes "out of memory") result.told (E.contents err.old) (E.contents err.new) }
+        → TellsLine (codes "out of memory") result.told
+        (E.contents err.old.writer) (E.contents err.new.writer) }
     ensures tells_unwritten { result.status ≡ 4
-        → TellsLine (codes "cannot write") result.told (E.contents err.old) (E.contents err.new) }
+        → TellsLine (codes "cannot write") result.told
+        (E.contents err.old.writer) (E.contents err.new.writer) }
+    ensures stopped { result.status ≡ 5
+        → TellsStop grammar.now.bytes.items request.entry.rule.now text.now.bytes.items result.told
+        (E.contents err.old.writer) (E.contents err.new.writer) }
+    ensures told { IsOk result.told → err.new.refused ≡ err.old.refused }
+    ensures refused_line { IsErr result.told → err.new.refused ≡ true }
 {
     let Some(rules) = text_of(grammar) else {
         return unreadable(grammar, err);
@@ -97,22 +106,31 @@ pub fn run<W: Write, E: Write>(
     grammar: &str,
     text: &str,
     request: Request<'_>,
-    out: &mut W,
-    err: &mut E,
+    out: &mut Output<W>,
+    err: &mut Output<E>,
 ) -> Exit
     ensures known { IsStatus result.status }
     ensures printed { result.status ≡ 0
         → PrintsTrees grammar.now request.entry.rule.now text.now request.entry.format
-        (W.contents out.old) (W.contents out.new) }
+        (W.contents out.old.writer) (W.contents out.new.writer) }
     ensures unprinted { result.status ≢ 0 → result.status ≢ 4 → out.new ≡ out.old }
+    ensures taken { result.status ≡ 0 → out.new.refused ≡ out.old.refused }
+    ensures refused_write { result.status ≡ 4 → out.new.refused ≡ true }
     ensures silent { result.status ≡ 0 → err.new ≡ err.old }
     ensures reason { result.status ≡ 1
         → TellsReason grammar.now request.entry.rule.now text.now result.told
-        (E.contents err.old) (E.contents err.new) }
+        (E.contents err.old.writer) (E.contents err.new.writer) }
     ensures tells_memory { result.status ≡ 2
-        → TellsLine (codes "out of memory") result.told (E.contents err.old) (E.contents err.new) }
+        → TellsLine (codes "out of memory") result.told
+        (E.contents err.old.writer) (E.contents err.new.writer) }
     ensures tells_unwritten { result.status ≡ 4
-        → TellsLine (codes "cannot write") result.told (E.contents err.old) (E.contents err.new) }
+        → TellsLine (codes "cannot write") result.told
+        (E.contents err.old.writer) (E.contents err.new.writer) }
+    ensures stopped { result.status ≡ 5
+        → TellsStop grammar.now request.entry.rule.now text.now result.told
+        (E.contents err.old.writer) (E.contents err.new.writer) }
+    ensures told { IsOk result.told → err.new.refused ≡ err.old.refused }
+    ensures refused_line { IsErr result.told → err.new.refused ≡ true }
 {
     match unwrap_or_report(alloc, parse_and_optimize(alloc, grammar)) {
         Ok((_, rules)) => {
@@ -137,49 +155,85 @@ fn text_of<'s>(source: &'s Source<'_>) -> Option<&'s str>
 }
 
 /// Tells of a file that can't be read.
-fn unreadable<E: Write>(source: &Source<'_>, err: &mut E) -> Exit
-    ensures { result.status ≡ 3 }
+fn unreadable<E: Write>(source: &Source<'_>, err: &mut Output<E>) -> Exit
+    ensures status { result.status ≡ 3 }
+    ensures told { IsOk result.told → err.new.refused ≡ err.old.refused }
+    ensures refused_line { IsErr result.told → err.new.refused ≡ true }
 {
     let why = match &source.why {
         Some(why) => why.as_str(),
         None => "it is not UTF-8",
     };
-    let told = writeln!(err, "cannot read {}: {why}", source.name);
+    let told = unread(err, source.name, why);
     Exit {
         status: UNREADABLE,
         told,
     }
 }
 
+/// Writes that a file can't be read, and why.
+fn unread<'t, E: Write>(
+    err: &mut Output<E>,
+    name: &'t str,
+    why: &'t str,
+) -> Result<(), RefusedWrite>
+    ensures told { IsOk result → err.new.refused ≡ err.old.refused }
+    ensures refused_line { IsErr result → err.new.refused ≡ true }
+{
+    err.write_line(&["cannot read ", name, ": ", why])
+}
+
 /// Prints what comes of a rule, or tells why there are no trees.
-fn shown<W: Write, E: Write>(outcome: Outcome, rule: &str, out: &mut W, err: &mut E) -> Exit
+fn shown<W: Write, E: Write>(
+    outcome: Outcome,
+    rule: &str,
+    out: &mut Output<W>,
+    err: &mut Output<E>,
+) -> Exit
     ensures known { IsStatus result.status }
     ensures ends { EndsAs outcome rule.now result.status result.told
-        (W.contents out.old) (W.contents out.new) (E.contents err.old) (E.contents err.new) }
+        (W.contents out.old.writer) (W.contents out.new.writer)
+        (E.contents err.old.writer) (E.contents err.new.writer) }
     ensures unprinted { result.status ≢ 0 → result.status ≢ 4 → out.new ≡ out.old }
+    ensures taken { result.status ≡ 0 → out.new.refused ≡ out.old.refused }
+    ensures refused_write { result.status ≡ 4 → out.new.refused ≡ true }
     ensures silent { result.status ≡ 0 → err.new ≡ err.old }
     ensures tells_memory { result.status ≡ 2
-        → TellsLine (codes "out of memory") result.told (E.contents err.old) (E.contents err.new) }
+        → TellsLine (codes "out of memory") result.told
+        (E.contents err.old.writer) (E.contents err.new.writer) }
     ensures tells_unwritten { result.status ≡ 4
-        → TellsLine (codes "cannot write") result.told (E.contents err.old) (E.contents err.new) }
+        → TellsLine (codes "cannot write") result.told
+        (E.contents err.old.writer) (E.contents err.new.writer) }
+    ensures told { IsOk result.told → err.new.refused ≡ err.old.refused }
+    ensures refused_line { IsErr result.told → err.new.refused ≡ true }
 {
     match outcome {
-        Outcome::Shown(lines) => written(err, write_text(out, lines.as_str())),
+        Outcome::Shown(lines) => written(err, out.write_text(lines.as_str())),
         Outcome::Failed(report) => told(err, report.as_str(), REFUSED),
         Outcome::NoRule => no_rule(err, rule),
-        Outcome::Stopped(why) => told(err, why, STOPPED),
+        Outcome::OutOfSteps => told(err, "the text takes too many steps", STOPPED),
+        Outcome::EmptyStack => told(err, "PEEK or POP found nothing on the stack", STOPPED),
+        Outcome::UnknownName => told(err, "the grammar calls a rule that is not known", STOPPED),
+        Outcome::Bound => told(
+            err,
+            "a range of the grammar has a bound that is no character",
+            STOPPED,
+        ),
         Outcome::Memory => told(err, "out of memory", MEMORY),
     }
 }
 
 /// How a run ends where the trees were printed or a write of them was refused, which is told.
-fn written<E: Write>(err: &mut E, outcome: io::Result<()>) -> Exit
+fn written<E: Write>(err: &mut Output<E>, outcome: Result<(), RefusedWrite>) -> Exit
     ensures known { (result.status ≡ 0) ⊎ (result.status ≡ 4) }
     ensures printed { IsOk outcome → result.status ≡ 0 }
     ensures silent { IsOk outcome → err.new ≡ err.old }
     ensures unwritten { IsErr outcome → result.status ≡ 4 }
     ensures tells { IsErr outcome
-        → TellsLine (codes "cannot write") result.told (E.contents err.old) (E.contents err.new) }
+        → TellsLine (codes "cannot write") result.told
+        (E.contents err.old.writer) (E.contents err.new.writer) }
+    ensures told { IsOk result.told → err.new.refused ≡ err.old.refused }
+    ensures refused_line { IsErr result.told → err.new.refused ≡ true }
 {
     match outcome {
         Ok(()) => Exit {
@@ -191,12 +245,14 @@ fn written<E: Write>(err: &mut E, outcome: io::Result<()>) -> Exit
 }
 
 /// Tells that the grammar has no rule of a name.
-fn no_rule<E: Write>(err: &mut E, rule: &str) -> Exit
+fn no_rule<E: Write>(err: &mut Output<E>, rule: &str) -> Exit
     ensures status { result.status ≡ 1 }
     ensures tells { TellsLine (codes "the grammar has no rule " ++ rule.now) result.told
-        (E.contents err.old) (E.contents err.new) }
+        (E.contents err.old.writer) (E.contents err.new.writer) }
+    ensures told { IsOk result.told → err.new.refused ≡ err.old.refused }
+    ensures refused_line { IsErr result.told → err.new.refused ≡ true }
 {
-    let told = writeln!(err, "the grammar has no rule {rule}");
+    let told = err.write_line(&["the grammar has no rule ", rule]);
     Exit {
         status: REFUSED,
         told,
@@ -204,18 +260,13 @@ fn no_rule<E: Write>(err: &mut E, rule: &str) -> Exit
 }
 
 /// Writes a message and a line break to `err`, whatever comes of it.
-fn told<E: Write>(err: &mut E, message: &str, status: u8) -> Exit
+fn told<E: Write>(err: &mut Output<E>, message: &str, status: u8) -> Exit
     ensures status { result.status ≡ status }
-    ensures tells { TellsLine message.now result.told (E.contents err.old) (E.contents err.new) }
+    ensures tells { TellsLine message.now result.told
+        (E.contents err.old.writer) (E.contents err.new.writer) }
+    ensures told { IsOk result.told → err.new.refused ≡ err.old.refused }
+    ensures refused_line { IsErr result.told → err.new.refused ≡ true }
 {
-    let told = writeln!(err, "{message}");
+    let told = err.write_line(&[message]);
     Exit { status, told }
-}
-
-/// Writes a text, all of it.
-fn write_text<W: Write>(out: &mut W, text: &str) -> io::Result<()>
-    ensures { OnOk result (Appends (W.contents out.old) (W.contents out.new) text.now) }
-{
-    out.write_all(text.as_bytes())?;
-    out.flush()
 }

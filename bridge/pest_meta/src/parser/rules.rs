@@ -1,4 +1,5 @@
 //! The rules of the meta-grammar.
+#![forbid(unsafe_code)]
 
 /// Declares the enum, the list of all rules but `EOI`, and their names.
 macro_rules! rules {

@@ -1,16 +1,17 @@
 use super::run;
 use std::alloc::{AllocError, Global};
 use std::io::{self, ErrorKind, Write};
+use tool_support::output::Output;
 
 /// Whether the program answers this status on an input, prints this, and reports this.
 fn is_answer(alloc: Global, input: Option<&[u8]>, status: u8, printed: &str, told: &str) -> bool {
-    let mut out = Vec::new(alloc);
-    let mut err = Vec::new(alloc);
+    let mut out = Output::new(Vec::new(alloc));
+    let mut err = Output::new(Vec::new(alloc));
     let exit = run(alloc, input, &mut out, &mut err);
     exit.status == status
         && exit.told.is_ok()
-        && out.as_slice() == printed.as_bytes()
-        && err.as_slice() == told.as_bytes()
+        && out.writer.as_slice() == printed.as_bytes()
+        && err.writer.as_slice() == told.as_bytes()
 }
 
 /// Texts with what is printed for them.
@@ -378,10 +379,10 @@ fn what_is_no_text_can_not_be_read(rt: HostRuntime) {
 
 /// The status that the program answers on a text, whether it prints nothing, and whether it reports nothing.
 fn answered(alloc: Global, text: &[u8]) -> (u8, bool, bool) {
-    let mut out = Vec::new(alloc);
-    let mut err = Vec::new(alloc);
+    let mut out = Output::new(Vec::new(alloc));
+    let mut err = Output::new(Vec::new(alloc));
     let exit = run(alloc, Some(text), &mut out, &mut err);
-    (exit.status, out.is_empty(), err.is_empty())
+    (exit.status, out.writer.is_empty(), err.writer.is_empty())
 }
 
 #[test]
@@ -437,25 +438,26 @@ impl Write for Narrow {
 /// Whether a write was refused to the program on a text, where so many are taken and so many bytes of each;
 /// nothing where it answers otherwise than it should: what is held then is a beginning of the lines.
 fn was_refused(alloc: Global, text: &str, left: usize, width: usize, lines: &[u8]) -> Option<bool> {
-    let mut out = Narrow::new(alloc, left, width);
-    let mut err = Vec::new(alloc);
+    let mut out = Output::new(Narrow::new(alloc, left, width));
+    let mut err = Output::new(Vec::new(alloc));
     let exit = run(alloc, Some(text.as_bytes()), &mut out, &mut err);
-    let is_right = if out.refused || width == 0 {
+    let narrow = out.writer;
+    let is_right = if narrow.refused || width == 0 {
         exit.status == 4
-            && err.as_slice() == "cannot write\n".as_bytes()
-            && lines.starts_with(out.held.as_slice())
+            && err.writer.as_slice() == "cannot write\n".as_bytes()
+            && lines.starts_with(narrow.held.as_slice())
     } else {
-        exit.status == 0 && out.held.as_slice() == lines
+        exit.status == 0 && narrow.held.as_slice() == lines
     };
-    is_right.then_some(out.refused)
+    is_right.then_some(narrow.refused)
 }
 
 /// What the program prints for a text.
 fn printed_lines(alloc: Global, text: &str) -> Vec<u8> {
-    let mut out = Vec::new(alloc);
-    let mut err = Vec::new(alloc);
+    let mut out = Output::new(Vec::new(alloc));
+    let mut err = Output::new(Vec::new(alloc));
     run(alloc, Some(text.as_bytes()), &mut out, &mut err);
-    out
+    out.writer
 }
 
 /// The Nth write is refused, for each N, where writes are taken whole, three bytes at a time, and one.
@@ -486,10 +488,10 @@ fn a_write_that_takes_nothing_is_told(rt: HostRuntime) {
 /// Whether the program answers that a text is refused, and prints nothing, where the report is refused after
 /// so many writes.
 fn is_refused_untold(alloc: Global, text: &str, left: usize) -> bool {
-    let mut out = Vec::new(alloc);
-    let mut err = Narrow::new(alloc, left, 5);
+    let mut out = Output::new(Vec::new(alloc));
+    let mut err = Output::new(Narrow::new(alloc, left, 5));
     let exit = run(alloc, Some(text.as_bytes()), &mut out, &mut err);
-    exit.status == 1 && exit.told.is_err() && err.refused && out.is_empty()
+    exit.status == 1 && exit.told.is_err() && err.writer.refused && out.writer.is_empty()
 }
 
 #[test]

@@ -1,8 +1,10 @@
-use Rattle.std.proofs.Common.{subst}
+use Rattle.std.proofs.Common.{◌≡◌, subst, sym}
+use Rattle.meta_ast.specs.Optimized.{optimized_rules_of}
 use Rattle.meta_base.specs.Language.Expression.{Grammar}
 use Rattle.matcher_program.specs.Programs.{grammar_of}
-use Rattle.pest_run.specs.Outcomes.{IsOutcome}
-use Rattle.pest_run.proofs.Came.{failed}
+use Rattle.pest_run.specs.Outcomes.{IsOutcome, stopped_outcome}
+use Rattle.pest_run.specs.declared.outcomes.Outcome.{Outcome}
+use Rattle.pest_run.proofs.Came.{at_character, failed, stopped}
 use Rattle.pest_run.proofs.outcomes.outcome_of.Goals as goal
 
 pub returns-in-Ok-expected_at : goal.returns-in-Ok-expected_at
@@ -14,3 +16,32 @@ returns-in-Ok-expected_at c =
     let P : Grammar → Type 0 = λ g. IsOutcome g c.args.rule.now c.args.text.now c.args.format c.failed_outcome.result in
     subst P c.in-Ok.ensures.means
     (failed (grammar_of program.rows.items) program.properties.items c.args.rule.now c.args.text.now c.args.format c.in-Err-NoMatch.place c.in-Ok-expected_at.names.items c.failed_outcome.result c.in-Ok.ensures.fits refused names told)
+
+pub failed_outcome-requires : goal.failed_outcome-requires
+failed_outcome-requires c =
+    let program = c.in-Ok.matcher.program in
+    let refused = rw c.in-Err-NoMatch.field-0-is at c.in-Err-NoMatch.ensures.refused in
+    let here = at_character (grammar_of program.rows.items) program.properties.items _ c.args.text.now c.in-Err-NoMatch.place c.utf8.text c.in-Ok.ensures.fits refused in
+    rw c.in-Err-NoMatch.field-0-is here
+
+-- a run that was stopped while names were looked for
+pub returns-in-Err-NoMatch : goal.returns-in-Err-NoMatch
+returns-in-Err-NoMatch c =
+    let program = c.in-Ok.matcher.program in
+    let why = c.in-Err-Stopped-expected_at.stop in
+    let says = rw c.in-Err-Stopped-expected_at.field-0-is at c.in-Err-Stopped-expected_at.ensures.refused in
+    let same : c.stopped_outcome.result ≡ stopped_outcome why = rw c.in-Err-Stopped-expected_at.field-0-is at c.stopped_outcome.ensures in
+    let P : Outcome → Type 0 = λ o. IsOutcome (optimized_rules_of c.args.rules.now) c.args.rule.now c.args.text.now c.args.format o in
+    let Q : Grammar → Type 0 = λ g. IsOutcome g c.args.rule.now c.args.text.now c.args.format (stopped_outcome why) in
+    subst P (sym same) (subst Q c.in-Ok.ensures.means (stopped (grammar_of program.rows.items) program.properties.items c.args.rule.now c.args.text.now c.args.format why c.in-Ok.ensures.fits says))
+
+-- the same of the match
+pub returns : goal.returns
+returns c =
+    let program = c.in-Ok.matcher.program in
+    let why = c.in-Err-Stopped.stop in
+    let says = rw c.in-Err-Stopped.field-0-is at c.in-Err-Stopped.ensures.refused in
+    let same : c.stopped_outcome-in-Err-Stopped.result ≡ stopped_outcome why = rw c.in-Err-Stopped.field-0-is at c.stopped_outcome-in-Err-Stopped.ensures in
+    let P : Outcome → Type 0 = λ o. IsOutcome (optimized_rules_of c.args.rules.now) c.args.rule.now c.args.text.now c.args.format o in
+    let Q : Grammar → Type 0 = λ g. IsOutcome g c.args.rule.now c.args.text.now c.args.format (stopped_outcome why) in
+    subst P (sym same) (subst Q c.in-Ok.ensures.means (stopped (grammar_of program.rows.items) program.properties.items c.args.rule.now c.args.text.now c.args.format why c.in-Ok.ensures.fits says))

@@ -1,6 +1,6 @@
 use Rattle.std.proofs.Common.{ℕ, List, Err, ap, ◌∙◌, string_bytes, subst}
 use Rattle.pest_run.specs.Written.{TellsLine}
-use Rattle.pest_run.proofs.Ended.{prints, refusal, tells, value}
+use Rattle.pest_run.proofs.Ended.{prints, refusal, stops, tells, value}
 use Rattle.pest_run.proofs.run.run.Goals as goal
 
 pub returns-in-Ok-clause-printed : goal.returns-in-Ok-clause-printed
@@ -19,14 +19,22 @@ returns-in-Ok-clause-reason g c =
     let comes = rw c.deref.ensures.value at c.outcome_of-outcome.ensures in
     tells c.outcome_of-outcome.result c.args.grammar.now c.args.request.rule.now c.args.text.now c.args.request.format _ c.in-Ok.rules.items c.shown.result.told c.shown.result.status _ _ _ _ answers comes c.shown.ensures.ends
 
+pub returns-in-Ok-clause-stopped : goal.returns-in-Ok-clause-stopped
+returns-in-Ok-clause-stopped g c =
+    let parsed = c.parse_and_optimize in
+    let reported = c.unwrap_or_report in
+    let answers = value parsed.result reported.result _ _ parsed.ensures.answer reported.ensures.value reported.ensures.report c.in-Ok.is in
+    let comes = rw c.deref.ensures.value at c.outcome_of-outcome.ensures in
+    stops c.outcome_of-outcome.result c.args.grammar.now c.args.request.rule.now c.args.text.now c.args.request.format _ c.in-Ok.rules.items c.shown.result.told c.shown.result.status _ _ _ _ answers comes c.shown.ensures.ends
+
 pub returns-clause-reason : goal.returns-clause-reason
 returns-clause-reason g c =
     let parsed = c.parse_and_optimize in
     let reported = c.unwrap_or_report in
     let told = c.told-in-Err-Text in
     let said = c.in-Err-Text.is ∙ ap Err c.in-Err-Text.field-0-is in
-    let old = g.E.Write.contents c.args.err.now in
-    let new = g.E.Write.contents told.new.err in
+    let old = g.E.Write.contents c.args.err.now.writer in
+    let new = g.E.Write.contents told.new.err.writer in
     let P : List ℕ → Type 0 = λ t. TellsLine t told.result.told old new in
     let value = rw c.in-Err-Text.field-0-is at c.as_str.ensures.value in
     let line : TellsLine (string_bytes c.in-Err-Text.report) told.result.told old new = subst P value told.ensures.tells in

@@ -1,0 +1,315 @@
+"""Grammars of pest (https://pest.rs), read, validated and optimized by a proved library.
+
+    >>> import pest_meta
+    >>> pest_meta.check('a = { b ~ ANY } b = { "x" }')
+    ['ANY']
+    >>> [rule] = pest_meta.rules('a = @{ "x"? }')
+    >>> rule.name, rule.type, str(rule.expr)
+    ('a', 'atomic', '(opt (str "x"))')
+
+A refused grammar raises GrammarError, which has all that is wrong with it. Positions are bytes of the grammar's UTF-8,
+counted from 0, as in docs/FORMAT.md; lines and columns count from 1, and a column is a character.
+
+This file needs Python 3.8 and nothing else but the shared library. It looks for that in the folder that the variable
+PEST_META_LIB names, then beside this file, in ../lib, as bridge/build leaves it, in the folders of a release, and
+where the system keeps libraries. Calls may run in several threads at once.
+"""
+import ctypes
+import json
+import os
+from typing import Any, Iterator, List, NamedTuple, Optional, Sequence, Tuple, Union
+
+__all__ = [
+    "Expr",
+    "GrammarError",
+    "LibraryError",
+    "Optimized",
+    "Problem",
+    "Rule",
+    "Token",
+    "check",
+    "optimize",
+    "optimize_rules",
+    "rules",
+    "tokens",
+    "versions",
+]
+
+_LIBRARY = "libpest_meta_c.so.1"
+_FORMAT = 1
+_ANSWERED, _REFUSED, _MEMORY, _NO_TEXT, _NO_ROOM = range(5)
+# How many operands the nodes of a form have (docs/FORMAT.md).
+_OPERANDS = {
+    **dict.fromkeys(["str", "insens", "range", "ident", "peek_slice", "skip", "push_literal"], 0),
+    **dict.fromkeys(["pos_pred", "neg_pred", "opt", "rep", "rep_once", "rep_exact", "rep_min", "rep_max"], 1),
+    **dict.fromkeys(["rep_min_max", "push", "node_tag", "restore_on_err"], 1),
+    **dict.fromkeys(["seq", "choice"], 2),
+}
+
+
+class LibraryError(Exception):
+    """The library is missing, or is not of this file's release."""
+
+
+class Problem(NamedTuple):
+    """Something that is wrong with a grammar."""
+
+    message: str
+    """What is wrong."""
+    start: int
+    """The byte at which it starts."""
+    end: int
+    """The byte behind its end; start, where it is a position and no span."""
+    line: int
+    """The line on which it starts."""
+    column: int
+    """The column at which it starts."""
+    source: str
+    """That line of the grammar, without its line break."""
+    expected: Tuple[str, ...]
+    """The rules of the meta-grammar that would have let a syntax error's text get further."""
+
+    def __str__(self) -> str:
+        return f"{self.line}:{self.column}: {self.message}"
+
+
+class GrammarError(ValueError):
+    """A grammar is refused."""
+
+    def __init__(self, problems: Sequence[Problem]) -> None:
+        super().__init__("\n".join(map(str, problems)))
+        self.problems = tuple(problems)
+        """All that is wrong, in the order in which the front end reports it: one at least."""
+
+
+class Expr:
+    """An expression: the name of its form, its arguments and its operands, as docs/FORMAT.md names them.
+
+    `Expr("rep_exact", (2,), (Expr("str", ("x",)),))` is `"x"{2}`. Nothing here recurses, so depth is no matter.
+    """
+
+    __slots__ = ("form", "arguments", "operands")
+
+    def __init__(self, form: str, arguments: Sequence[Any] = (), operands: Sequence["Expr"] = ()) -> None:
+        if _OPERANDS.get(form, len(operands)) != len(operands):
+            raise ValueError(f"{form} has {_OPERANDS[form]} operands, and not {len(operands)}")
+        self.form = form
+        self.arguments = tuple(arguments)
+        self.operands = tuple(operands)
+
+    def walk(self) -> Iterator["Expr"]:
+        """The expression and all that stands in it, each before its operands."""
+        left = [self]
+        while left:
+            expr = left.pop()
+            yield expr
+            left.extend(reversed(expr.operands))
+
+    def _nodes(self) -> List[List[Any]]:
+        return [[expr.form, *expr.arguments] for expr in self.walk()]
+
+    def __eq__(self, other: object) -> bool:
+        return isinstance(other, Expr) and self._nodes() == other._nodes()
+
+    def __hash__(self) -> int:
+        return hash(json.dumps(self._nodes()))
+
+    def __repr__(self) -> str:
+        return f"<Expr {self}>"
+
+    def __str__(self) -> str:
+        """The forms in prefix notation."""
+        words: List[str] = []
+        left: List[Union[Expr, str]] = [self]
+        while left:
+            item = left.pop()
+            if isinstance(item, str):
+                words[-1] += item
+                continue
+            words.append("(" + " ".join([item.form, *(json.dumps(it, ensure_ascii=False) for it in item.arguments)]))
+            left += [")", *reversed(item.operands)]
+        return " ".join(words)
+
+
+class Rule(NamedTuple):
+    """A rule."""
+
+    name: str
+    type: str
+    """`normal`, `silent`, `atomic`, `compound_atomic` or `non_atomic`."""
+    expr: Expr
+
+
+class Optimized(NamedTuple):
+    """What a grammar gives as a whole."""
+
+    builtins: List[str]
+    """The builtins that it uses, in the order of their first calls."""
+    rules: List[Rule]
+    """Its optimized rules."""
+
+
+class Token(NamedTuple):
+    """The start or the end of a tree of the meta-grammar."""
+
+    rule: Optional[str]
+    """The rule of a tree that starts, and None at an end."""
+    position: int
+    partner: int
+    """The number of the tree's other token."""
+
+
+def check(grammar: str) -> List[str]:
+    """The builtins that a grammar uses. Raises GrammarError where anything is wrong with the grammar."""
+    return optimize(grammar).builtins
+
+
+def rules(grammar: str) -> List[Rule]:
+    """The rules that a grammar spells. Its names are not looked at: see check."""
+    return [_rule(rule) for rule in _ask("pest_meta_rules", grammar)]
+
+
+def optimize(grammar: str) -> Optimized:
+    """The builtins that a grammar uses, and its optimized rules."""
+    answer = _ask("pest_meta_parse_and_optimize", grammar)
+    return Optimized(answer["builtins"], [_rule(rule) for rule in answer["rules"]])
+
+
+def optimize_rules(rules: Sequence[Rule]) -> List[Rule]:
+    """Rules that a program has made or changed, optimized. Nothing about them is checked but their form.
+
+    Raises ValueError where a rule or a node is of no form that docs/FORMAT.md has, and says which.
+    """
+    written = [{"name": rule.name, "type": rule.type, "expr": rule.expr._nodes()} for rule in rules]
+    return [_rule(rule) for rule in _ask("pest_meta_optimize", json.dumps(written))]
+
+
+def tokens(text: str, rule: str = "grammar_rules") -> List[Token]:
+    """The tokens that a rule of the meta-grammar gives for a text, from its start on."""
+    entries = _ask("pest_meta_tokens", text, rule)
+    return [Token(*entry) if len(entry) == 3 else Token(None, *entry) for entry in entries]
+
+
+def versions() -> Tuple[str, int]:
+    """The version of the crate pest_meta that the library ports, and the number of its JSON format."""
+    answer = _call(_library(), "pest_meta_version")
+    return answer["version"], answer["format"]
+
+
+def _rule(rule: Any) -> Rule:
+    """A rule of JSON. Its nodes are joined from the last one to the first."""
+    operands: List[Expr] = []
+    for form, *arguments in reversed(rule["expr"]):
+        count = _OPERANDS.get(form)
+        if count is None:
+            raise LibraryError(f"the library knows a form {form!r} that this file does not: use that of its release")
+        taken = [operands.pop() for _ in range(count)]
+        operands.append(Expr(form, arguments, taken))
+    [expr] = operands
+    return Rule(rule["name"], rule["type"], expr)
+
+
+def _ask(function: str, *texts: str) -> Any:
+    """What a function answers about texts, once the library is known to speak this file's format."""
+    return _call(_library(), function, *texts)
+
+
+def _call(library: Any, function: str, *texts: str) -> Any:
+    """Calls the library, and once more where the room was too small for the answer."""
+    words: List[Any] = []
+    for text in texts:
+        if not isinstance(text, str):
+            raise TypeError(f"a text is wanted, and not {type(text).__name__}")
+        encoded = text.encode()
+        words += [encoded, len(encoded)]
+    needed = ctypes.c_size_t(4096 + 16 * sum(map(len, texts)))
+    status = _NO_ROOM
+    while status == _NO_ROOM:
+        room = ctypes.create_string_buffer(needed.value)
+        status = getattr(library, function)(*words, room, len(room), ctypes.byref(needed))
+    if status == _MEMORY:
+        raise MemoryError(f"{function}: there is no memory for this text")
+    if status not in (_ANSWERED, _REFUSED):
+        raise LibraryError(f"{function}: status {status} is none of this file's release")
+    answer = json.loads(room.raw[: needed.value])
+    if status == _REFUSED:
+        raise _refusal(answer)
+    return answer
+
+
+def _refusal(answer: Any) -> Exception:
+    """The exception for what the library says of a text that it refuses."""
+    if isinstance(answer, list):
+        return GrammarError([_problem(problem) for problem in answer])
+    at = [f"{name} {answer[name]}" for name in ("rule", "node", "line", "column") if name in answer]
+    return ValueError(", ".join([answer["message"], *at]))
+
+
+def _problem(problem: Any) -> Problem:
+    places = problem["location"]
+    line, column = problem["line_col"][0]
+    expected = tuple(problem.get("expected", ()))
+    return Problem(problem["message"], places[0], places[-1], line, column, problem["line"], expected)
+
+
+def _folders() -> Iterator[str]:
+    """The folders that may have the library, in the order in which they are tried."""
+    named = os.environ.get("PEST_META_LIB")
+    if named:
+        yield named
+        return
+    here = os.path.dirname(os.path.realpath(__file__))
+    yield here
+    yield os.path.join(here, "..", "lib")
+    # A release: share/kingorewa/python beside lib, and /usr/lib/python3/dist-packages beside /usr/lib/x86_64-linux-gnu.
+    yield os.path.join(here, "..", "..", "..", "lib")
+    yield os.path.join(here, "..", "..", "x86_64-linux-gnu")
+
+
+# How many texts each function takes.
+_FUNCTIONS = {
+    "pest_meta_version": 0,
+    "pest_meta_rules": 1,
+    "pest_meta_optimize": 1,
+    "pest_meta_parse_and_optimize": 1,
+    "pest_meta_tokens": 2,
+}
+
+
+def _declare(function: Any, texts: int) -> None:
+    """Declares what pest_meta.h says: each text, then the room, as a pointer and a length; then where a length goes."""
+    room = [ctypes.c_char_p, ctypes.c_size_t]
+    function.argtypes = [*(texts * room), *room, ctypes.POINTER(ctypes.c_size_t)]
+    function.restype = ctypes.c_uint8
+
+
+_loaded: Any = None
+
+
+def _library() -> Any:
+    """The library, which is loaded at the first call."""
+    global _loaded
+    if _loaded is None:
+        _loaded = _load()
+    return _loaded
+
+
+def _load() -> Any:
+    paths = [os.path.join(folder, _LIBRARY) for folder in _folders()]
+    found = [path for path in paths if os.path.isfile(path)]
+    # The system's own folders are searched for a bare name, and only where no folder is named.
+    fallback = paths[0] if os.environ.get("PEST_META_LIB") else _LIBRARY
+    try:
+        library = ctypes.CDLL(found[0] if found else fallback)
+        for function, texts in _FUNCTIONS.items():
+            _declare(getattr(library, function), texts)
+        answer = _call(library, "pest_meta_version")
+    except (OSError, AttributeError) as error:
+        looked = ", ".join(os.path.normpath(os.path.dirname(path)) for path in paths)
+        raise LibraryError(
+            f"{_LIBRARY} is not to be had ({error}): it was looked for in {looked}. `bridge/build` makes it, and the"
+            " variable PEST_META_LIB names a folder that has it"
+        ) from error
+    if answer["format"] != _FORMAT:
+        raise LibraryError(f"the library speaks format {answer['format']}, and this file {_FORMAT}: use one release")
+    return library

@@ -1,0 +1,144 @@
+"""Tests of pest_meta.py over the library: python3 -m unittest, in this folder."""
+import doctest
+import os
+import subprocess
+import sys
+import threading
+import unittest
+
+import pest_meta
+from pest_meta import Expr, GrammarError, LibraryError, Problem, Rule
+
+HERE = os.path.dirname(os.path.realpath(__file__))
+
+
+def load_tests(loader, tests, pattern):
+    tests.addTests(doctest.DocTestSuite(pest_meta))
+    return tests
+
+
+def string(text):
+    return Expr("str", [text])
+
+
+class Calls(unittest.TestCase):
+    def test_a_grammar_is_checked(self):
+        self.assertEqual(pest_meta.check("a = { SOI ~ b ~ ANY ~ EOI } b = { HAN | ANY }"), ["SOI", "ANY", "EOI", "HAN"])
+        self.assertEqual(pest_meta.check(""), [])
+
+    def test_a_syntax_error_has_its_position_and_what_was_expected(self):
+        with self.assertRaises(GrammarError) as caught:
+            pest_meta.check('a = { "x" }\nb = { "x" "ä" }')
+        [problem] = caught.exception.problems
+        self.assertEqual((problem.start, problem.end, problem.line, problem.column), (22, 22, 2, 11))
+        self.assertEqual(problem.source, 'b = { "x" "ä" }')
+        self.assertIn("sequence_operator", problem.expected)
+        self.assertEqual(str(caught.exception), "2:11: unknown parsing error")
+
+    def test_errors_come_all_at_once(self):
+        with self.assertRaises(GrammarError) as caught:
+            pest_meta.check('ANY = { x } x = { "" } x = { y }')
+        found = [(problem.message, problem.start, problem.end) for problem in caught.exception.problems]
+        wanted = [("ANY is a pest keyword", 0, 3), ("rule x already defined", 23, 24), ("rule y is undefined", 29, 30)]
+        self.assertEqual(found, wanted)
+        self.assertTrue(all(isinstance(problem, Problem) for problem in caught.exception.problems))
+        self.assertIsInstance(caught.exception, ValueError)
+
+    def test_rules_are_trees(self):
+        first, second = pest_meta.rules('a = _{ "x"{2,3} | ^"y" ~ \'a\'..\'z\' } b = ${ PEEK[-1..] ~ !a }')
+        times = Expr("rep_min_max", [2, 3], [string("x")])
+        pair = Expr("seq", [], [Expr("insens", ["y"]), Expr("range", ["a", "z"])])
+        self.assertEqual(first, Rule("a", "silent", Expr("choice", [], [times, pair])))
+        self.assertEqual((second.name, second.type), ("b", "compound_atomic"))
+        forms = [expr.form for expr in second.expr.walk()]
+        self.assertEqual(forms, ["seq", "peek_slice", "neg_pred", "ident"])
+        self.assertEqual(second.expr.operands[0].arguments, (-1, None))
+        self.assertNotEqual(first.expr, second.expr)
+        self.assertEqual(hash(times), hash(Expr("rep_min_max", (2, 3), (string("x"),))))
+
+    def test_rules_of_unknown_names_are_read(self):
+        self.assertEqual(str(pest_meta.rules("a = { b+ }")[0].expr), '(rep_once (ident "b"))')
+        with self.assertRaises(GrammarError):
+            pest_meta.rules("a = { a }")
+
+    def test_grammars_and_rules_are_optimized(self):
+        builtins, rules = pest_meta.optimize('a = @{ ANY ~ "x" ~ "y" }')
+        wanted = Expr("seq", [], [Expr("ident", ["ANY"]), string("xy")])
+        self.assertEqual((builtins, rules), (["ANY"], [Rule("a", "atomic", wanted)]))
+        three = Expr("rep_exact", [3], [string("é\"\n")])
+        self.assertEqual(pest_meta.optimize_rules([Rule("a", "atomic", three)])[0].expr, string("é\"\n" * 3))
+        self.assertEqual(pest_meta.optimize_rules([]), [])
+
+    def test_rules_of_no_form_are_refused(self):
+        with self.assertRaisesRegex(ValueError, "rule 1, node 0"):
+            pest_meta.optimize_rules([Rule("a", "normal", string("x")), Rule("b", "normal", Expr("strong", ["x"]))])
+        with self.assertRaises(ValueError):
+            pest_meta.optimize_rules([Rule("a", "loud", string("x"))])
+        with self.assertRaises(ValueError):
+            Expr("seq", [], [string("x")])
+
+    def test_tokens_pair_up(self):
+        tokens = pest_meta.tokens('"x"', "string")
+        self.assertEqual((tokens[0].rule, tokens[0].position), ("string", 0))
+        for number, token in enumerate(tokens):
+            self.assertEqual(tokens[token.partner].partner, number)
+            self.assertEqual(token.rule is None, token.partner < number)
+        with self.assertRaises(ValueError):
+            pest_meta.tokens("x", "no_rule")
+
+    def test_texts_are_texts(self):
+        with self.assertRaises(TypeError):
+            pest_meta.check(b"a = { b }")
+        with self.assertRaises(ValueError):
+            pest_meta.check('a = { "\ud800" }')
+        self.assertEqual(pest_meta.rules('a = { "\0" }')[0].expr, string("\0"))
+
+    def test_versions_are_numbers(self):
+        version, number = pest_meta.versions()
+        self.assertRegex(version, r"^\d+\.\d+\.\d+$")
+        self.assertEqual(number, 1)
+
+
+class Limits(unittest.TestCase):
+    def test_depth_is_no_matter(self):
+        depth = 50_000
+        [rule] = pest_meta.rules("a = { " + "(" * depth + '"x"' + ")?" * depth + " }")
+        self.assertEqual(sum(1 for _ in rule.expr.walk()), depth + 1)
+        self.assertEqual(rule.expr, rule.expr)
+        self.assertTrue(str(rule.expr).endswith(")" * 10))
+        self.assertIsInstance(hash(rule.expr), int)
+
+    def test_long_answers_get_their_room(self):
+        [rule] = pest_meta.optimize_rules([Rule("a", "normal", Expr("rep_exact", [20_000], [Expr("ident", ["b"])]))])
+        self.assertEqual(sum(expr.form == "ident" for expr in rule.expr.walk()), 20_000)
+
+    def test_threads_get_their_own_answers(self):
+        found = {}
+
+        def work(number):
+            text = f'r{number} = {{ "{number}" }}'
+            found[number] = all(pest_meta.rules(text)[0].expr == string(str(number)) for _ in range(50))
+
+        threads = [threading.Thread(target=work, args=[number]) for number in range(8)]
+        for thread in threads:
+            thread.start()
+        for thread in threads:
+            thread.join()
+        self.assertEqual(found, dict.fromkeys(range(8), True))
+
+    def test_a_missing_library_is_reported(self):
+        program = "import pest_meta\ntry: pest_meta.versions()\nexcept pest_meta.LibraryError as error: print(error)"
+        run = subprocess.run(
+            [sys.executable, "-c", program],
+            cwd=HERE,
+            env={"PEST_META_LIB": "/nowhere"},
+            stdout=subprocess.PIPE,
+            text=True,
+            check=True,
+        )
+        self.assertIn("it was looked for in /nowhere", run.stdout)
+        self.assertTrue(issubclass(LibraryError, Exception))
+
+
+if __name__ == "__main__":
+    unittest.main()

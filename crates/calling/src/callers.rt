@@ -1,0 +1,46 @@
+//! What a program does with the front end, as CALLING.md tells it: two callers, each proved.
+ghost use Rattle.std.specs.Prelude.{◌≡◌, IfOk, map};
+ghost use Rattle.calling.specs.NamedPlaces.{AreNamedPlaces, named_place, named_place_of};
+ghost use Rattle.meta_spanned.specs.Nodes.{rule_views};
+ghost use Rattle.pest_meta.specs.Spelling.{IsAnswer};
+
+use pest_meta::optimizer::OptimizedRule;
+use pest_meta::parser::{ParserRule, Rule, consume_rules_with_spans, parse};
+use pest_meta::runtime::Fault;
+use pest_meta::{Report, parse_and_optimize, unwrap_or_report};
+use std::alloc::{AllocError, Global};
+
+/// The builtins that a grammar uses and its optimized rules, or what is said of its faults.
+pub fn optimized_rules<'i>(
+    alloc: Global,
+    grammar: &'i str,
+) -> Result<(Vec<&'i str>, Vec<OptimizedRule>), Report>
+    ensures { IfOk result (λ answer. IsAnswer grammar.entry.now answer.0.items answer.1.items) }
+{
+    unwrap_or_report(alloc, parse_and_optimize(alloc, grammar))
+}
+
+/// The names of a grammar's rules, in order, each with the line and the column at which it stands.
+pub fn named_places(alloc: Global, grammar: &str) -> Result<Vec<(String, (usize, usize))>, Fault>
+    ensures { IfOk result (λ places. AreNamedPlaces grammar.now places.items) }
+{
+    let pairs = parse(alloc, Rule::grammar_rules, grammar)?;
+    let rules = consume_rules_with_spans(alloc, pairs)?;
+    Ok(places(alloc, rules)?)
+}
+
+/// The names of rules, each with the line and the column at which it stands.
+fn places(
+    alloc: Global,
+    rules: Vec<ParserRule<'_>>,
+) -> Result<Vec<(String, (usize, usize))>, AllocError>
+    ensures { IfOk result
+        (λ places. map named_place_of places.items ≡ map named_place (rule_views rules.entry.items)) }
+{
+    let mut places = Vec::new(alloc);
+    for rule in rules {
+        let place = rule.span.start_pos().line_col();
+        places.push((rule.name, place))?;
+    }
+    Ok(places)
+}

@@ -1,0 +1,36 @@
+//! Prints the optimized rules of the grammar on standard input, and the builtins that it uses.
+#![tactic(auto)]
+
+pub mod callers;
+pub mod mapped;
+
+use pest_meta::optimizer::release;
+use pest_meta::{Report, parse_and_optimize, unwrap_or_report};
+use std::io;
+use std::process::ExitCode;
+
+fn main(rt: HostRuntime) -> io::Result<ExitCode> {
+    let alloc = rt.alloc();
+    let grammar = io::read_to_string(alloc, rt.stdin())?;
+    match unwrap_or_report(alloc, parse_and_optimize(alloc, grammar.as_str())) {
+        Ok((builtins, rules)) => {
+            for builtin in &builtins {
+                println!(rt; "uses {builtin}")?;
+            }
+            for rule in &rules {
+                println!(rt; "{}: {}", rule.name, rule.expr)?;
+            }
+            // A wide rule of a stranger is let go by a loop, where leaving the scope takes a call a level.
+            release(rules);
+            Ok(ExitCode::from(0))
+        }
+        Err(Report::Text(report)) => {
+            eprintln!(rt; "{report}")?;
+            Ok(ExitCode::from(1))
+        }
+        Err(Report::Memory) => {
+            eprintln!(rt; "out of memory")?;
+            Ok(ExitCode::from(2))
+        }
+    }
+}

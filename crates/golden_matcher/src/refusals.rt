@@ -1,0 +1,36 @@
+//! What is said of errors.
+use meta_base::grammar::Rule;
+use meta_base::runtime::{Error, InputLocation, LineColLocation};
+use std::alloc::{AllocError, Global};
+
+/// What is said of the errors of a refusal.
+pub(crate) fn refusal(alloc: Global, errors: &[Error<Rule>]) -> Result<String, AllocError> {
+    let mut out = String::new(alloc);
+    write_errors(&mut out, "refused: ", errors)?;
+    Ok(out)
+}
+
+/// Writes each error as `write_error` does, behind a word.
+pub(crate) fn write_errors(
+    out: &mut String,
+    word: &str,
+    errors: &[Error<Rule>],
+) -> Result<(), AllocError> {
+    for error in errors {
+        write_error(out, word, error)?;
+    }
+    Ok(())
+}
+
+/// Writes a word, the place of an error in bytes, where it begins as line and column, and what it says.
+fn write_error(out: &mut String, word: &str, error: &Error<Rule>) -> Result<(), AllocError> {
+    match error.location {
+        InputLocation::Pos(place) => write!(out, "{word}{place}")?,
+        InputLocation::Span((start, end)) => write!(out, "{word}{start}-{end}")?,
+    }
+    let (line, column) = match error.line_col {
+        LineColLocation::Pos(place) => place,
+        LineColLocation::Span(start, _) => start,
+    };
+    write!(out, " at {line}:{column}: {}\n", error.variant)
+}

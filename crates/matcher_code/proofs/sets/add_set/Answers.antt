@@ -1,0 +1,24 @@
+use Rattle.std.proofs.Common.{rules, arith, ◌≡◌, ◌++◌, ◌∷◌, [], ◌*◌, length}
+use Rattle.std.proofs.lemmas.Grind.{common_steps}
+use Rattle.matcher_code.specs.declared.code.Code.{Code}
+use Rattle.matcher_code.specs.Sets.{IsRowOf}
+use Rattle.matcher_code.proofs.SetLemmas.{last_mapped, set_added}
+use Rattle.matcher_code.proofs.sets.add_set.Goals as goal
+
+pub returns-clause-means : goal.returns-clause-means
+returns-clause-means c =
+    let rows : c.extend_from_slice.new.self.items ≡ c.args.code.now.rows.items ++ c.in_ok-row.row.items = grind (arith, common_steps) in
+    let sets : c.push.new.self.items ≡ c.args.code.now.ranges.items ++ c.args.ranges ∷ [] = grind (arith, common_steps) in
+    let number : c.len-set.result ≡ length c.args.code.now.ranges.items = grind (arith, common_steps) in
+    let long : length c.args.code.now.rows.items ≡ c.len-set.result * 256 = grind (arith, common_steps) in
+    let told : IsRowOf c.args.ranges.items c.in_ok-row.row.items = search rules in
+    let new : Code = record {
+      ops = c.args.code.now.ops;
+      rows = c.extend_from_slice.new.self;
+      ranges = c.push.new.self;
+      tables = c.args.code.now.tables;
+      texts = c.args.code.now.texts;
+      lists = c.args.code.now.lists;
+    } in
+    set_added new c.args.code.now.rows.items c.in_ok-row.row.items c.args.ranges.items c.len-set.result rows long told
+    (last_mapped (λ v. v.items) c.args.code.now.ranges.items c.push.new.self.items c.args.ranges c.len-set.result sets number)

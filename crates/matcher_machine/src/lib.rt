@@ -1,0 +1,6 @@
+//! Programs of operations, run on texts.
+#![tactic(auto)]
+
+pub mod machine;
+mod operations;
+mod running;

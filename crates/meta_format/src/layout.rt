@@ -1,0 +1,319 @@
+//! Printing: which groups fit on their lines, and the text of the pieces.
+use crate::pieces::{Item, Piece};
+use crate::spacing::space_items;
+use std::alloc::{AllocError, Global};
+
+/// What is known of each piece before it is printed.
+#[derive(Drop)]
+struct Measures {
+    /// How many columns all pieces before it take in one line.
+    columns: Vec<usize>,
+    /// How many line ends that cannot be left out are before it.
+    line_ends: Vec<usize>,
+    /// Of the start of a group the number of its end.
+    closing: Vec<usize>,
+    /// How many columns are before the next place where a line may end, from it on.
+    next_line: Vec<usize>,
+}
+
+/// How many columns a piece takes in one line.
+fn columns_of(text: &str, piece: Piece) -> usize {
+    match piece {
+        Piece::Text { start, end } | Piece::Comment { start, end } => {
+            text.get(start..end).map_or(0, |part| part.chars().count())
+        }
+        Piece::Word(word) => word.len(),
+        Piece::Blank | Piece::Line { is_blank: true, .. } => 1,
+        _ => 0,
+    }
+}
+
+/// Measures all pieces.
+fn measure(alloc: Global, text: &str, pieces: &[Piece]) -> Result<Measures, AllocError> {
+    let mut columns = Vec::new(alloc);
+    let mut line_ends = Vec::new(alloc);
+    let mut closing = vec![in alloc; 0usize; pieces.len()]?;
+    let mut open: Vec<usize> = Vec::new(alloc);
+    let mut all = 0usize;
+    let mut ends = 0usize;
+    for i in 0..pieces.len() {
+        columns.push(all)?;
+        line_ends.push(ends)?;
+        let piece = pieces[i];
+        all = all.saturating_add(columns_of(text, piece));
+        match piece {
+            Piece::LineEnd { .. } | Piece::CommentLineEnd => ends = ends.saturating_add(1),
+            Piece::Open => open.push(i)?,
+            Piece::Close => close(&mut open, &mut closing, i),
+            _ => {}
+        }
+    }
+    columns.push(all)?;
+    line_ends.push(ends)?;
+    let next_line = find_next_lines(alloc, pieces, &columns)?;
+    Ok(Measures {
+        columns,
+        line_ends,
+        closing,
+        next_line,
+    })
+}
+
+/// Notes that the innermost group ends with the piece of a number.
+fn close(open: &mut Vec<usize>, closing: &mut [usize], last: usize) {
+    if let Some(first) = open.pop() {
+        if let Some(end) = closing.get_mut(first) {
+            *end = last;
+        }
+    }
+}
+
+/// How many columns are before the next place where a line may end, from each piece on.
+fn find_next_lines(
+    alloc: Global,
+    pieces: &[Piece],
+    columns: &[usize],
+) -> Result<Vec<usize>, AllocError> {
+    let mut next_line = vec![in alloc; 0usize; pieces.len()]?;
+    let mut next = columns.last().copied().unwrap_or(0);
+    for i in (0..pieces.len()).rev() {
+        match pieces[i] {
+            Piece::Line { .. }
+            | Piece::LineEnd { .. }
+            | Piece::CommentLineEnd
+            | Piece::Comment { .. } => next = columns.get(i).copied().unwrap_or(0),
+            _ => {}
+        }
+        if let Some(slot) = next_line.get_mut(i) {
+            *slot = next;
+        }
+    }
+    Ok(next_line)
+}
+
+/// The number at a place of a list, or 0.
+fn at(list: &[usize], i: usize) -> usize {
+    list.get(i).copied().unwrap_or(0)
+}
+
+impl Measures {
+    /// Whether the pieces `first..end` have a line end that cannot be left out.
+    fn has_line_end(&self, first: usize, end: usize) -> bool {
+        at(&self.line_ends, first) < at(&self.line_ends, end)
+    }
+
+    /// How many columns the group that starts with a piece takes in one line, and what follows up to the
+    /// next place where the line may end.
+    fn columns_of_group(&self, first: usize) -> usize {
+        at(&self.next_line, at(&self.closing, first)).saturating_sub(at(&self.columns, first))
+    }
+
+    /// Whether an item takes more than one line of a width.
+    fn is_broken(&self, item: &Item, width: usize) -> bool {
+        let columns = at(&self.columns, item.end).saturating_sub(at(&self.columns, item.first));
+        self.has_line_end(item.first, item.end) || columns > width
+    }
+}
+
+/// How pieces are printed.
+#[derive(Clone, Copy)]
+pub struct Style {
+    /// How many columns a line has at most, where it can be broken.
+    pub width: usize,
+    /// How many columns a step of indentation has.
+    pub indent: usize,
+    pub line_end: &'static str,
+}
+
+/// What is printed so far.
+#[derive(Drop)]
+struct Printer<'t> {
+    text: &'t str,
+    out: String,
+    style: Style,
+    /// How many steps lines are indented by.
+    depth: usize,
+    column: usize,
+    /// How many line ends are to be written before the next word.
+    line_ends: usize,
+    /// How many columns the next word is indented by, where line ends are before it.
+    start_column: usize,
+    has_blank: bool,
+    /// Of the groups around it, whether they are broken.
+    groups: Vec<bool>,
+}
+
+impl<'t> Printer<'t> {
+    /// Prints a word.
+    fn word(&mut self, word: &str) -> Result<(), AllocError> {
+        if word.is_empty() {
+            return Ok(());
+        }
+        if self.line_ends > 0 {
+            if !self.out.is_empty() {
+                self.line_feeds()?;
+            }
+            for _ in 0..self.start_column {
+                self.out.push(' ')?;
+            }
+            self.column = self.start_column;
+        } else if self.has_blank {
+            self.out.push(' ')?;
+            self.column = self.column.saturating_add(1);
+        }
+        self.line_ends = 0;
+        self.has_blank = false;
+        self.out.push_str(word)?;
+        self.column = self.column.saturating_add(word.chars().count());
+        Ok(())
+    }
+
+    /// Prints the line feeds before a word.
+    fn line_feeds(&mut self) -> Result<(), AllocError> {
+        for _ in 0..self.line_ends {
+            self.out.push_str(self.style.line_end)?;
+        }
+        Ok(())
+    }
+
+    /// Has a line end printed before the next word, and an empty line where one is to be.
+    fn end_line(&mut self, count: usize, column: usize) {
+        self.line_ends = self.line_ends.max(count);
+        self.start_column = column;
+        self.has_blank = false;
+    }
+
+    /// How many columns lines are indented by.
+    fn indentation(&self) -> usize {
+        self.depth.saturating_mul(self.style.indent)
+    }
+
+    /// The column at which the next word starts.
+    fn next_column(&self) -> usize {
+        if self.line_ends > 0 {
+            self.start_column
+        } else if self.has_blank {
+            self.column.saturating_add(1)
+        } else {
+            self.column
+        }
+    }
+
+    /// Starts the group that begins with the piece of a number.
+    fn open(&mut self, measures: &Measures, i: usize) -> Result<(), AllocError> {
+        let is_inner = match self.groups.last() {
+            Some(is_broken) => *is_broken,
+            None => true,
+        };
+        let end = at(&measures.closing, i);
+        let columns = self
+            .next_column()
+            .saturating_add(measures.columns_of_group(i));
+        self.groups.push(
+            is_inner && (measures.has_line_end(i, end) || columns > self.style.width),
+        )?;
+        Ok(())
+    }
+
+    /// Prints what a line end is in the group around it.
+    fn line(&mut self, is_blank: bool, is_operator: bool) {
+        let is_broken = self.groups.last().copied().unwrap_or(false);
+        if is_broken {
+            let back = if is_operator {
+                self.style.indent / 2
+            } else {
+                0
+            };
+            self.end_line(1, self.indentation().saturating_sub(back));
+        } else if is_blank {
+            self.has_blank = true;
+        }
+    }
+
+    /// Prints a piece.
+    fn piece(&mut self, measures: &Measures, i: usize, piece: Piece) -> Result<(), AllocError> {
+        match piece {
+            Piece::Text { start, end } | Piece::Comment { start, end } => {
+                let text = self.text;
+                self.word(text.get(start..end).unwrap_or(""))?;
+            }
+            Piece::Word(word) => self.word(word)?,
+            Piece::Blank => self.has_blank = self.line_ends == 0,
+            Piece::Line {
+                is_blank,
+                is_operator,
+            } => self.line(is_blank, is_operator),
+            Piece::LineEnd { has_empty_line } => {
+                self.end_line(if has_empty_line { 2 } else { 1 }, self.indentation());
+            }
+            Piece::CommentLineEnd => {
+                self.out.push_str(self.style.line_end)?;
+                self.column = 0;
+            }
+            Piece::Open => self.open(measures, i)?,
+            Piece::Close => {
+                self.groups.pop();
+            }
+            Piece::Indent => self.depth = self.depth.saturating_add(1),
+            Piece::Dedent => self.depth = self.depth.saturating_sub(1),
+        }
+        Ok(())
+    }
+}
+
+/// The text of items and their pieces.
+pub fn print(
+    alloc: Global,
+    text: &str,
+    pieces: &[Piece],
+    items: &mut [Item],
+    style: Style,
+) -> Result<String, AllocError> {
+    let measures = measure(alloc, text, pieces)?;
+    let mut broken = Vec::new(alloc);
+    for item in items.iter() {
+        broken.push(measures.is_broken(item, style.width))?;
+    }
+    space_items(items, &broken);
+    let mut printer = Printer {
+        text,
+        out: String::new(alloc),
+        style,
+        depth: 0,
+        column: 0,
+        line_ends: 0,
+        start_column: 0,
+        has_blank: false,
+        groups: Vec::new(alloc),
+    };
+    for k in 0..items.len() {
+        let item = items[k];
+        printer.end_line(if item.after_empty_line { 2 } else { 1 }, 0);
+        let end = match items.get(k + 1) {
+            Some(next) => next.first,
+            None => pieces.len(),
+        };
+        print_pieces(&mut printer, &measures, pieces, item.first, end)?;
+    }
+    let Printer { mut out, .. } = printer;
+    if !out.is_empty() {
+        out.push_str(style.line_end)?;
+    }
+    Ok(out)
+}
+
+/// Prints the pieces of an item.
+fn print_pieces(
+    printer: &mut Printer<'_>,
+    measures: &Measures,
+    pieces: &[Piece],
+    first: usize,
+    end: usize,
+) -> Result<(), AllocError> {
+    for i in first..end {
+        if let Some(piece) = pieces.get(i) {
+            printer.piece(measures, i, *piece)?;
+        }
+    }
+    Ok(())
+}

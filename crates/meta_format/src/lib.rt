@@ -1,0 +1,147 @@
+//! The formatter of grammars.
+#![tactic(auto)]
+
+ghost use Rattle.std.specs.Prelude.{◌≡◌, IfOk, MatchResult, true};
+ghost use Rattle.meta_base.specs.declared.grammar.Rule.TheVariants.{grammar_rules};
+ghost use Rattle.meta_syntax.specs.Parses.{ParseRefuses};
+ghost use Rattle.meta_syntax.specs.declared.entries.Entry.TheVariants.{End};
+ghost use Rattle.meta_format.specs.Formatting.{AreTokens, IsAnswer, IsFormatted};
+ghost use Rattle.meta_format.specs.Tokens as token;
+ghost use Rattle.meta_format.specs.declared.LineEnds.TheVariants.{LineFeed};
+
+mod builder;
+mod comparison;
+mod contents;
+mod gaps;
+mod layout;
+mod pieces;
+mod spacing;
+
+use crate::builder::{Builder, build};
+use crate::comparison::{ends_once, has_clean_lines, is_same};
+use crate::layout::{Style, print};
+use meta_base::grammar::Rule;
+use meta_base::runtime::Fault;
+use meta_syntax::entries::Entry;
+use meta_syntax::grammar::PestParser;
+use std::alloc::{AllocError, Global};
+
+/// How lines end.
+#[derive(Clone, Copy, PartialEq, Eq)]
+pub enum LineEnds {
+    /// By a line feed.
+    LineFeed,
+    /// As the first line of the text ends: by a line feed, or by a carriage return and a line feed.
+    OfFirstLine,
+}
+
+/// How grammars are formatted.
+#[derive(Clone, Copy)]
+pub struct Options {
+    /// How many columns a line has at most, where it can be broken.
+    pub width: usize,
+    /// How many columns a step of indentation has.
+    pub indent: usize,
+    pub line_ends: LineEnds,
+}
+
+impl Default for Options {
+    /// 100 columns, four for each step, and line feeds.
+    fn default() -> Options {
+        Options {
+            width: 100,
+            indent: 4,
+            line_ends: LineEnds::LineFeed,
+        }
+    }
+}
+
+/// What the formatter answers.
+#[derive(Drop)]
+pub enum Formatted {
+    /// The formatted text.
+    Text(String),
+    /// The text was formatted to another grammar, or other comments, and is to stay as it is.
+    Unchanged,
+}
+
+/// The formatted text of a grammar. It has the same tokens and the same comments, each between the same two
+/// tokens; only blanks at the ends of lines of comments are gone. Where lines end with line feeds, no line
+/// outside of literals ends with a blank. The text is empty, or ends with one line feed.
+///
+/// All texts that `PestParser::parse` takes for `grammar_rules` are formatted, also where names are undefined.
+/// Where the text is refused, so is it here, with the same error. Any other fault is a want of memory.
+pub fn format(alloc: Global, text: &str, options: Options) -> Result<Formatted, Fault>
+    ensures { MatchResult result (IsAnswer options.line_ends text.now)
+        (ParseRefuses grammar_rules text.now) }
+{
+    let entries = PestParser::tokens(alloc, Rule::grammar_rules, text)?;
+    let candidate = print_grammar(alloc, text, &entries, options)?;
+    if is_formatted(alloc, text, &entries, candidate.as_str(), options.line_ends)? {
+        Ok(Formatted::Text(candidate))
+    } else {
+        Ok(Formatted::Unchanged)
+    }
+}
+
+/// A grammar of these tokens in its style; what it is to have is checked afterwards.
+fn print_grammar(
+    alloc: Global,
+    text: &str,
+    entries: &[Entry],
+    options: Options,
+) -> Result<String, AllocError> {
+    let Builder {
+        pieces,
+        mut items,
+        ..
+    } = build(alloc, text, entries)?;
+    let style = Style {
+        width: options.width,
+        indent: options.indent,
+        line_end: line_end_of(text, options.line_ends),
+    };
+    print(alloc, text, &pieces, &mut items, style)
+}
+
+/// The line end that is asked for.
+fn line_end_of(text: &str, line_ends: LineEnds) -> &'static str {
+    match (line_ends, text.split_once('\n')) {
+        (LineEnds::OfFirstLine, Some((line, _))) if line.ends_with('\r') => "\r\n",
+        _ => "\n",
+    }
+}
+
+/// Whether a text is the formatted text of a grammar with these tokens.
+fn is_formatted(
+    alloc: Global,
+    text: &str,
+    entries: &[Entry],
+    candidate: &str,
+    line_ends: LineEnds,
+) -> Result<bool, AllocError>
+    requires { AreTokens text.now entries.now }
+    ensures { IfOk result (λ answer. answer ≡ true → IsFormatted line_ends text.now candidate.now) }
+{
+    let others = match PestParser::tokens(alloc, Rule::grammar_rules, candidate) {
+        Ok(others) => others,
+        Err(Fault::Grammar(_)) => return Ok(false),
+        Err(Fault::Memory(error)) => return Err(error),
+    };
+    let bytes = candidate.as_bytes();
+    if !has_lines(bytes, &others, line_ends) || !ends_once(bytes) {
+        return Ok(false);
+    }
+    is_same(alloc, text.as_bytes(), entries, bytes, &others)
+}
+
+/// Whether no line outside of literals ends with a blank, where lines are to end with line feeds.
+fn has_lines(text: &[u8], entries: &[Entry], line_ends: LineEnds) -> bool
+    ensures { result ≡ true → line_ends ≡ LineFeed
+        → token.has_clean_lines text.now (End 0 0) entries.now ≡ true }
+{
+    match line_ends {
+        LineEnds::LineFeed => has_clean_lines(text, entries),
+        LineEnds::OfFirstLine => true,
+    }
+}

@@ -1,0 +1,86 @@
+//! What a grammar is printed from: pieces of its text, and where lines may be broken between them.
+
+/// A piece of what is printed.
+#[derive(Clone, Copy)]
+pub enum Piece {
+    /// Bytes of the text, as they are.
+    Text { start: usize, end: usize },
+    /// Bytes of a line of a comment.
+    Comment { start: usize, end: usize },
+    /// A word that has no token of its own.
+    Word(&'static str),
+    /// A blank between two pieces of one line.
+    Blank,
+    /// A line end where its group is broken, and else a blank or nothing. What follows is an operator, which
+    /// is two columns before its operand, or an operand.
+    Line { is_blank: bool, is_operator: bool },
+    /// A line end, or one and an empty line: all groups around it are broken.
+    LineEnd { has_empty_line: bool },
+    /// A line end within a comment.
+    CommentLineEnd,
+    /// A group starts: its lines are broken all, or none.
+    Open,
+    /// A group ends.
+    Close,
+    /// Lines are indented by one step more.
+    Indent,
+    /// Lines are indented by one step less.
+    Dedent,
+}
+
+/// What an item of a grammar is.
+#[derive(Clone, Copy, PartialEq, Eq)]
+pub enum ItemKind {
+    Rule,
+    /// A line that documents a rule.
+    RuleDoc,
+    /// A line that documents the grammar.
+    GrammarDoc,
+    Comment,
+}
+
+/// An item of a grammar, which begins a line.
+#[derive(Clone, Copy)]
+pub struct Item {
+    pub kind: ItemKind,
+    /// The number of its first piece.
+    pub first: usize,
+    /// The number of the piece after its own ones; what is between that and the next item is comments that
+    /// follow on its last line.
+    pub end: usize,
+    /// Whether an empty line is before it.
+    pub after_empty_line: bool,
+}
+
+/// What stands between two words where no comment does.
+#[derive(Clone, Copy)]
+pub enum Separator {
+    Nothing,
+    Blank,
+    Line { is_blank: bool, is_operator: bool },
+}
+
+impl Separator {
+    /// What serves both, of two that meet between two words.
+    pub fn join(self, other: Separator) -> Separator {
+        match (self, other) {
+            (
+                Separator::Line {
+                    is_blank: first_blank,
+                    is_operator: first_operator,
+                },
+                Separator::Line {
+                    is_blank,
+                    is_operator,
+                },
+            ) => Separator::Line {
+                is_blank: first_blank || is_blank,
+                is_operator: first_operator || is_operator,
+            },
+            (Separator::Line { .. }, _) => self,
+            (_, Separator::Line { .. }) => other,
+            (Separator::Nothing, Separator::Nothing) => Separator::Nothing,
+            _ => Separator::Blank,
+        }
+    }
+}

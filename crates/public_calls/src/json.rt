@@ -1,0 +1,47 @@
+//! Rules as JSON.
+ghost use Rattle.std.specs.Prelude.{IfNone, IfOk, IfSome, string_bytes, ◌≡◌};
+ghost use Rattle.meta_base.specs.Pieces.MetaRules.{name_of};
+ghost use Rattle.meta_json.specs.Errors.{errors_data};
+ghost use Rattle.meta_json.specs.Format.{rules_data};
+ghost use Rattle.meta_json.specs.Reading.{AreRules};
+ghost use Rattle.meta_json.specs.RuleNames.{IsOfNoRule};
+ghost use Rattle.serde_json.specs.Written.{compact_text};
+
+use meta_ast::ast::Rule;
+use meta_base::grammar;
+use meta_base::runtime::Error;
+use meta_json::Refusal;
+use std::alloc::{AllocError, Global};
+
+/// Rules as a text.
+pub fn rules_text(alloc: Global, rules: &[Rule]) -> Result<String, AllocError>
+    ensures { IfOk result (λ text. string_bytes text ≡ compact_text (rules_data rules.now)) }
+{
+    meta_json::rules_text(alloc, rules)
+}
+
+/// The rules that a text says.
+pub fn read_rules(alloc: Global, text: &str) -> Result<Vec<Rule>, Refusal>
+    ensures { IfOk result (λ rules. AreRules text.now rules.items) }
+{
+    meta_json::read_rules(alloc, text)
+}
+
+/// Errors as a text.
+pub fn errors_text(
+    alloc: Global,
+    errors: &[Error<grammar::Rule>],
+    expected: &[grammar::Rule],
+) -> Result<String, AllocError>
+    ensures { IfOk result (λ text. string_bytes text ≡ compact_text (errors_data expected.now errors.now)) }
+{
+    meta_json::errors_text(alloc, errors, expected)
+}
+
+/// The rule of the meta-grammar that has a name.
+pub fn rule_named(name: &str) -> Option<grammar::Rule>
+    ensures found { IfSome result (λ rule. name_of rule ≡ name.now) }
+    ensures none { IfNone result (IsOfNoRule name.now) }
+{
+    meta_json::rule_named(name)
+}

@@ -1,0 +1,14 @@
+//! The public calls of the crates below with what they promise. Each function calls one of them and repeats its
+//! clauses, so that edits which turn the meaning of a call are refused here, in one crate that is proved fast.
+#![tactic(auto)]
+
+pub mod front_end;
+pub mod json;
+pub mod matcher;
+pub mod names;
+pub mod passes;
+pub mod places;
+pub mod reader;
+pub mod validators;
+pub mod values;
+pub mod warnings;

@@ -1,0 +1,4 @@
+//! What the programs share.
+#![tactic(auto)]
+
+pub mod output;
