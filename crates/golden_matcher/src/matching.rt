@@ -1,6 +1,6 @@
 //! What rules match: the matcher over the front end.
 ghost use Rattle.meta_matcher.specs.Answers.{IsSoundMatcher};
-ghost use Rattle.std.specs.Prelude.{◌∷◌, []};
+ghost use Rattle.std.specs.Prelude.{◌∷◌, [], true};
 ghost use Rattle.matcher_program.specs.Programs.{is_in_ranges};
 
 use matcher_program::compile::Unfit;
@@ -20,6 +20,8 @@ const STEPS: u64 = 1_000_000;
 struct Greek;
 
 impl Properties for Greek {
+    ghost knows = { λ n. true };
+
     ghost classes = { λ n c. is_in_ranges ((945, 969) ∷ []) c };
 
     fn ranges(&self, alloc: Global, _name: &str) -> Result<Option<Vec<(u32, u32)>>, AllocError> {

@@ -131,11 +131,11 @@ abbrev no_builtin : List Named → Text → Bool
 no_builtin [] n = true
 no_builtin (b ∷ bs) n = if bytes_eq b.name n then false else no_builtin bs n
 
-abbrev each : (Text → Bool) → List Text → Bool
+abbrev pub each : (Text → Bool) → List Text → Bool
 each f [] = true
 each f (t ∷ ts) = f t && each f ts
 
-each_of : (f : Text → Bool) (ts : List Text) (n : Text) → each f ts ≡ true → is_one_of ts n ≡ true → f n ≡ true
+pub each_of : (f : Text → Bool) (ts : List Text) (n : Text) → each f ts ≡ true → is_one_of ts n ≡ true → f n ≡ true
 each_of f [] n h e = cc
 each_of f (t ∷ ts) n h e = go (bytes_eq t n) refl e (λ k. each_of f ts n (and_parts (f t) (each f ts) h).1 k)
   where

@@ -3,3 +3,5 @@ pub mod Compiling
 pub mod Indexing
 pub mod Forming
 pub mod TextLemmas
+pub mod Refusing
+pub mod Gathering

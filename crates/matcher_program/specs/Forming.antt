@@ -1,18 +1,19 @@
 -- What stands around an operand while its form is made.
-use Rattle.std.specs.Prelude.{ℕ, ◌+◌, ◌*◌, List, [], ◌∷◌, ⊤}
+use Rattle.std.specs.Prelude.{ℕ, ◌+◌, ◌*◌, List, [], ◌∷◌, ◌++◌, ⊤}
 use Rattle.std.specs.Borrow.{Bor}
 use Rattle.meta_base.specs.Language.Text.{Text}
 use Rattle.meta_base.specs.Language.Expression as spec
 use Rattle.meta_base.specs.Language.Expression.{Expression, Grammar}
 use Rattle.meta_ast.specs.Ast.{text_of}
 use Rattle.meta_ast.specs.Optimized.{optimized_expression_of}
-use Rattle.meta_ast.specs.Rebuilding.{meaning_of, work_of}
+use Rattle.meta_ast.specs.Rebuilding.{GoesOn, meaning_of, work_of}
 use Rattle.meta_ast.specs.Weight.{weight}
 use Rattle.meta_ast.specs.declared.optimized.OptimizedExpr.{OptimizedExpr}
 use Rattle.meta_ast.specs.declared.rebuilt.Step.{Step}
 use Rattle.meta_ast.specs.declared.rebuilt.Step.TheVariants as is
 use Rattle.matcher_program.specs.Compiled.{names_in}
 use Rattle.matcher_program.specs.Programs.{IsBound, expression_of}
+use Rattle.matcher_program.specs.Refusals.{IsWithin}
 use Rattle.matcher_program.specs.declared.form.Form.{Form}
 use Rattle.matcher_program.specs.declared.form.Property.{Property}
 use Rattle.matcher_program.specs.declared.forms.Around.{Around}
@@ -69,3 +70,43 @@ module _ (g : Grammar) (ps : List Property) where
   abbrev pub IsSoundStep : Step (Bor OptimizedExpr) Around Form → Type 0
   IsSoundStep (is.Made f) = IsBound g (names_in g) ps f
   IsSoundStep (is.Inside a e) = IsReady a
+
+module _ (whole : Expression) where
+  -- the operand that waits stands in the whole
+  abbrev pub IsAroundWithin : Around → Type 0
+  IsAroundWithin (around.FirstOfSeq right) = IsWithin whole (optimized_expression_of right.now.value)
+  IsAroundWithin (around.FirstOfChoice right) = IsWithin whole (optimized_expression_of right.now.value)
+  IsAroundWithin _ = ⊤
+
+  -- so do those in what comes of a step
+  abbrev pub IsStepWithin : Step (Bor OptimizedExpr) Around Form → Type 0
+  IsStepWithin step = GoesOn (λ e. IsWithin whole (said e)) IsAroundWithin step
+
+-- the names that an expression calls, from the left to the right
+abbrev pub calls_of : Expression → List Text
+calls_of (spec.Ident n) = n ∷ []
+calls_of (spec.PosPred e) = calls_of e
+calls_of (spec.NegPred e) = calls_of e
+calls_of (spec.Seq a b) = calls_of a ++ calls_of b
+calls_of (spec.Choice a b) = calls_of a ++ calls_of b
+calls_of (spec.Opt e) = calls_of e
+calls_of (spec.Rep e) = calls_of e
+calls_of (spec.RepOnce e) = calls_of e
+calls_of (spec.RepExact e i) = calls_of e
+calls_of (spec.RepMin e i) = calls_of e
+calls_of (spec.RepMax e i) = calls_of e
+calls_of (spec.RepMinMax e i j) = calls_of e
+calls_of (spec.Push e) = calls_of e
+calls_of (spec.NodeTag e t) = calls_of e
+calls_of (spec.RestoreOnErr e) = calls_of e
+calls_of _ = []
+
+-- the names that expressions call that wait, the last one first
+abbrev pub calls_waiting : List (Bor OptimizedExpr) → List Text
+calls_waiting [] = []
+calls_waiting (e ∷ es) = calls_waiting es ++ calls_of (said e)
+
+-- the name that an expression is, if it is one
+abbrev pub own_call : Expression → List Text
+own_call (spec.Ident n) = n ∷ []
+own_call _ = []

@@ -4,3 +4,4 @@ pub mod Compiled
 pub mod Indexed
 pub mod Forming
 pub mod FormWeight
+pub mod Refusals

@@ -1,19 +1,21 @@
 //! From optimized rules to rules as they are run.
-ghost use Rattle.std.specs.Prelude.{◌≡◌, ℕ, List, Option, IfOk, IfSome, None, bytes_eq, chars, map, codes, ◌∷◌, [], ◌||◌};
+ghost use Rattle.std.specs.Prelude.{◌≡◌, ℕ, List, false, Option, IfErr, IfNone, IfOk, IfSome, None, bytes_eq, chars, map, codes, ◌∷◌, [], ◌||◌};
 ghost use Rattle.meta_base.specs.Language.Text.{Text};
 ghost use Rattle.meta_base.specs.Language.Expression.{Grammar, Ident, rule_of, whitespace, comment};
 ghost use Rattle.meta_ast.specs.Optimized.{optimized_expression_of, optimized_rule_of, optimized_rules_of};
 ghost use Rattle.meta_base.specs.Language.Builtins.{is_one_of, property_names};
+ghost use Rattle.matcher_program.specs.declared.compile.Unfit.TheVariants.{Memory};
 ghost use Rattle.matcher_program.specs.declared.form.Property.{Property};
-ghost use Rattle.matcher_program.specs.Programs.{Fits, IsNumberOf, IsRow, IsSkippedRule, IsSound, class_name, grammar_of, rule_of_row};
+ghost use Rattle.matcher_program.specs.Programs.{Fits, IsRow, IsSkippedRule, IsSound, class_name, grammar_of, rule_of_row};
 ghost use Rattle.matcher_program.specs.Compiled.{Compiles, names_in};
 ghost use Rattle.matcher_program.specs.Indexed.{KnowsLast};
+ghost use Rattle.matcher_program.specs.Refusals.{IsNoBuiltin, IsNoCharacter, IsReason, IsWrongBound, IsWrongIn, class_names, has_property, sign_names, stack_names};
 ghost use Rattle.meta_ast.specs.Ast.{text_of};
 
 use crate::form::{Class, Form, Program, Property, Row};
 use crate::forms::form_of;
 use crate::indexed::{Indexed, numbered};
-use crate::properties::{Properties, properties_in};
+use crate::properties::{Properties, find_property, properties_in};
 use crate::sets::{firsts_of, gathered};
 use crate::texts::same;
 use meta_ast::optimized::OptimizedRule;
@@ -32,6 +34,8 @@ pub enum Unfit {
 }
 
 impl From<AllocError> for Unfit {
+    ghost from_gives = { λ _ unfit. unfit ≡ Memory };
+
     fn from(_error: AllocError) -> Unfit {
         Unfit::Memory
     }
@@ -58,7 +62,8 @@ fn name_of(class: Class) -> &'static str
 
 /// The class of a name.
 fn class_of(name: &str) -> Option<Class>
-    ensures { IfSome result (λ class. chars name.now ≡ class_name class) }
+    ensures none { IfNone result (is_one_of class_names (chars name.now) ≡ false) }
+    ensures some { IfSome result (λ class. chars name.now ≡ class_name class) }
 {
     for class in [
         Class::Any,
@@ -82,7 +87,8 @@ fn class_of(name: &str) -> Option<Class>
 
 /// The one character of a text.
 fn single(text: &str) -> Option<char>
-    ensures { IfSome result (λ c. chars text.now ≡ c ∷ []) }
+    ensures none { IfNone result (IsNoCharacter (chars text.now)) }
+    ensures some { IfSome result (λ c. chars text.now ≡ c ∷ []) }
 {
     let mut characters = text.chars();
     let c = characters.next()?;
@@ -95,7 +101,8 @@ fn single(text: &str) -> Option<char>
 
 /// The one character of a range's bound.
 pub(crate) fn bound(text: &String) -> Result<char, Unfit>
-    ensures { IfOk result (λ c. text_of text.now ≡ c ∷ []) }
+    ensures refused { IfErr result (IsWrongBound (text_of text.now)) }
+    ensures character { IfOk result (λ c. text_of text.now ≡ c ∷ []) }
 {
     match single(text.as_str()) {
         Some(c) => Ok(c),
@@ -105,7 +112,8 @@ pub(crate) fn bound(text: &String) -> Result<char, Unfit>
 
 /// What the name of a builtin that matches no set of characters stands for.
 fn sign(name: &str) -> Option<Form>
-    ensures { IfSome result (λ form. (g : Grammar) (ps : List Property) → rule_of g (chars name.now) ≡ None
+    ensures none { IfNone result (is_one_of sign_names (chars name.now) ≡ false) }
+    ensures some { IfSome result (λ form. (g : Grammar) (ps : List Property) → rule_of g (chars name.now) ≡ None
         → Compiles g ps (Ident (chars name.now)) form) }
 {
     if same(name, "SOI") {
@@ -121,7 +129,8 @@ fn sign(name: &str) -> Option<Form>
 
 /// What the name of a builtin of the stack stands for.
 fn of_stack(name: &str) -> Option<Form>
-    ensures { IfSome result (λ form. (g : Grammar) (ps : List Property) → rule_of g (chars name.now) ≡ None
+    ensures none { IfNone result (is_one_of stack_names (chars name.now) ≡ false) }
+    ensures some { IfSome result (λ form. (g : Grammar) (ps : List Property) → rule_of g (chars name.now) ≡ None
         → Compiles g ps (Ident (chars name.now)) form) }
 {
     if same(name, "PEEK") {
@@ -140,7 +149,7 @@ fn of_stack(name: &str) -> Option<Form>
 }
 
 /// Whether a name is a property's.
-fn is_property(name: &str) -> bool
+pub fn is_property(name: &str) -> bool
     ensures { result ≡ is_one_of property_names (chars name.now) }
 {
     let names = unicode_property_names();
@@ -152,22 +161,13 @@ fn is_property(name: &str) -> bool
     false
 }
 
-/// The number of a property of a name.
-fn find_property(properties: &[Property], name: &str) -> Option<usize>
-    ensures { IfSome result (λ i. IsNumberOf properties.now (chars name.now) i) }
-{
-    for (number, property) in properties.iter().enumerate() {
-        if same(property.name.as_str(), name) {
-            return Some(number);
-        }
-    }
-    None
-}
-
 /// What a name stands for that is no rule's, or `None` where it stands for nothing.
 fn builtin(properties: &[Property], name: &String) -> Result<Option<Form>, AllocError>
-    ensures { IfOk result (λ found. IfSome found (λ form. (g : Grammar) → rule_of g (text_of name.now) ≡ None
+    ensures some { IfOk result (λ found. IfSome found (λ form. (g : Grammar)
+        → rule_of g (text_of name.now) ≡ None
         → Compiles g properties.now (Ident (text_of name.now)) form)) }
+    ensures none { IfOk result (λ found. IfNone found
+        (IsNoBuiltin (has_property properties.now) (text_of name.now))) }
 {
     if let Some(class) = class_of(name.as_str()) {
         return Ok(Some(Form::One(class)));
@@ -194,7 +194,9 @@ pub(crate) fn named(
     name: &String,
 ) -> Result<Form, Unfit>
     requires { KnowsLast (optimized_rules_of rules.now.rules.now) rules.now.numbers }
-    ensures { IfOk result (Compiles (optimized_rules_of rules.now.rules.now) properties.now
+    ensures compiles { IfOk result (Compiles (optimized_rules_of rules.now.rules.now) properties.now
+        (Ident (text_of name.now))) }
+    ensures refused { IfErr result (IsWrongIn properties.now (optimized_rules_of rules.now.rules.now)
         (Ident (text_of name.now))) }
 {
     match rules.number_of(name.as_str()) {
@@ -229,6 +231,8 @@ fn row_of(
         ≡ optimized_rule_of rule.now) }
     ensures sound { IfOk result (IsRow (optimized_rules_of rules.now.rules.now)
         (names_in (optimized_rules_of rules.now.rules.now)) properties.now) }
+    ensures refused { IfErr result (IsWrongIn properties.now (optimized_rules_of rules.now.rules.now)
+        (optimized_expression_of rule.now.expr)) }
 {
     let name = rule.name.clone()?;
     let blank = is_blank(name.as_str());
@@ -251,6 +255,8 @@ fn rows_of(alloc: Global, rules: &Indexed<'_>, properties: &[Property]) -> Resul
         → IsSkippedRule (optimized_rules_of rules.now.rules.now) comment note
         → IsSound rows.items properties.now white note) }
     ensures means { IfOk result (λ rows. grammar_of rows.items ≡ optimized_rules_of rules.now.rules.now) }
+    ensures refused { IfErr result (IsReason (has_property properties.now)
+        (optimized_rules_of rules.now.rules.now)) }
 {
     let mut rows = Vec::new(alloc);
     for rule in rules.rules {
@@ -262,7 +268,9 @@ fn rows_of(alloc: Global, rules: &Indexed<'_>, properties: &[Property]) -> Resul
     Ok(rows)
 }
 
-/// The rules as they are run, with the sets of the property names that they name.
+/// The rules as they are run, with the sets of the property names that they name. Refused for want of memory;
+/// for a name in a body that is neither a rule's nor a builtin's, or a property's that `properties` does not
+/// know; and for a bound of a range that is not one character.
 pub fn program_of<P: Properties>(
     alloc: Global,
     rules: &[OptimizedRule],
@@ -272,6 +280,7 @@ pub fn program_of<P: Properties>(
         IsSound program.rows.items program.properties.items program.whitespace program.comment) }
     ensures means { IfOk result (λ program. grammar_of program.rows.items ≡ optimized_rules_of rules.now) }
     ensures fits { IfOk result (λ program. Fits program.properties.items P.classes) }
+    ensures refused { IfErr result (IsReason P.knows (optimized_rules_of rules.now)) }
 {
     let properties = properties_in(alloc, rules, properties)?;
     let rules = numbered(alloc, rules)?;

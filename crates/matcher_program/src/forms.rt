@@ -1,14 +1,16 @@
 //! The forms of expressions. They are made by a loop with a list of what stands around an operand, so no
 //! nesting of a grammar takes the machine's stack.
-ghost use Rattle.std.specs.Prelude.{◌≡◌, ◌<◌, ◌≤◌, ◌*◌, IfOk, List};
+ghost use Rattle.std.specs.Prelude.{◌≡◌, ◌<◌, ◌≤◌, ◌*◌, IfErr, IfOk, List};
 ghost use Rattle.meta_base.specs.Language.Expression.{Expression, Grammar};
 ghost use Rattle.meta_base.specs.Language.Text.{Text};
 ghost use Rattle.meta_ast.specs.Optimized.{optimized_expression_of, optimized_rules_of};
 ghost use Rattle.meta_ast.specs.Weight.{weight};
 ghost use Rattle.matcher_program.specs.Compiled.{Compiles, names_in};
-ghost use Rattle.matcher_program.specs.Forming.{IsReady, IsSoundStep, comes_of, effort, waits_of, with_operand};
+ghost use Rattle.matcher_program.specs.Forming.{IsAroundWithin, IsReady, IsSoundStep, IsStepWithin, comes_of, effort, waits_of, with_operand};
 ghost use Rattle.matcher_program.specs.Indexed.{KnowsLast};
 ghost use Rattle.matcher_program.specs.Programs.{IsBound, expression_of};
+ghost use Rattle.matcher_program.specs.Refusals.{IsWrongIn};
+ghost use Rattle.matcher_program.specs.declared.compile.Unfit.TheVariants.{Memory};
 ghost use Rattle.matcher_program.specs.declared.form.Property.{Property};
 
 use crate::compile::{Unfit, bound, named};
@@ -54,6 +56,9 @@ fn begun<'e>(
         ≡ optimized_expression_of expr.entry.now) }
     ensures work { IfOk result (λ step. effort step ≤ 4 * weight (optimized_expression_of expr.entry.now)) }
     ensures sound { IfOk result (IsSoundStep (optimized_rules_of rules.now.rules.now) properties.now) }
+    ensures within { IfOk result (IsStepWithin (optimized_expression_of expr.entry.now)) }
+    ensures refused { IfErr result (IsWrongIn properties.now (optimized_rules_of rules.now.rules.now)
+        (optimized_expression_of expr.entry.now)) }
 {
     use OptimizedExpr as E;
     let (around, operand) = match expr {
@@ -84,7 +89,8 @@ fn begun<'e>(
 
 /// An operand's form in a box: a set where it is one, but in a choice, which may be one as a whole.
 fn in_place(alloc: Global, around: &Around<'_>, form: Form) -> Result<Deep<Box<Form>>, Unfit>
-    ensures { IfOk result (λ made. (g : Grammar) (ps : List Property) (e : Expression)
+    ensures memory { IfErr result (λ unfit. unfit ≡ Memory) }
+    ensures same { IfOk result (λ made. (g : Grammar) (ps : List Property) (e : Expression)
         → Compiles g ps e form → Compiles g ps e made.value.value) }
 {
     match around {
@@ -108,6 +114,7 @@ fn closed<'e>(
     ensures work { effort result < waits_of around.entry }
     ensures sound { (g : Grammar) (ps : List Property) → IsReady g ps around.entry
         → IsBound g (names_in g) ps form.value.value → IsSoundStep g ps result }
+    ensures within { (whole : Expression) → IsAroundWithin whole around.entry → IsStepWithin whole result }
 {
     match around {
         Around::FirstOfSeq(right) => Step::Inside(Around::SecondOfSeq(form), right),
@@ -139,6 +146,9 @@ fn ended<'e>(
     ensures work { IfOk result (λ step. effort step < waits_of around.entry) }
     ensures sound { IfOk result (λ step. (g : Grammar) (ps : List Property) → IsReady g ps around.entry
         → IsBound g (names_in g) ps operand → IsSoundStep g ps step) }
+    ensures within { IfOk result (λ step. (whole : Expression) → IsAroundWithin whole around.entry
+        → IsStepWithin whole step) }
+    ensures memory { IfErr result (λ unfit. unfit ≡ Memory) }
 {
     let form = in_place(alloc, &around, operand)?;
     Ok(closed(around, form))
@@ -153,7 +163,9 @@ pub(crate) fn form_of(
     expr: &OptimizedExpr,
 ) -> Result<Form, Unfit>
     requires { KnowsLast (optimized_rules_of rules.now.rules.now) rules.now.numbers }
-    ensures { IfOk result (Compiles (optimized_rules_of rules.now.rules.now) properties.now
+    ensures compiles { IfOk result (Compiles (optimized_rules_of rules.now.rules.now) properties.now
+        (optimized_expression_of expr.now)) }
+    ensures refused { IfErr result (IsWrongIn properties.now (optimized_rules_of rules.now.rules.now)
         (optimized_expression_of expr.now)) }
 {
     let mut outside = Vec::new(alloc);

@@ -5,6 +5,7 @@ pub mod compile;
 pub mod form;
 pub mod forms;
 mod indexed;
+pub mod laws;
 pub mod leaves;
 pub mod properties;
 mod released;

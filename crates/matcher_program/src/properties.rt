@@ -1,24 +1,32 @@
 //! The sets of characters of property names.
-ghost use Rattle.std.specs.Prelude.{◌≡◌, ◌<◌, ◌+◌, ℕ, Bool, false, IfOk, IfSome, OnOk, chars};
-ghost use Rattle.meta_ast.specs.Optimized.{optimized_expression_of};
+ghost use Rattle.std.specs.Prelude.{◌≡◌, ◌<◌, ◌+◌, ◌++◌, ℕ, Bool, true, false, IfNone, IfOk, IfSome, OnOk, chars, is_some, map};
+ghost use Rattle.meta_ast.specs.Optimized.{optimized_expression_of, optimized_rules_of};
 ghost use Rattle.meta_ast.specs.Weight.{weight};
+ghost use Rattle.meta_base.specs.Language.Expression.{Ident};
 ghost use Rattle.meta_base.specs.Language.Text.{Text};
-ghost use Rattle.matcher_program.specs.Forming.{heft};
-ghost use Rattle.matcher_program.specs.Programs.{Fits, is_in_ranges};
+ghost use Rattle.meta_base.specs.Language.WellFormed.{InSomeRule};
+ghost use Rattle.matcher_program.specs.Forming.{calls_of, calls_waiting, heft, own_call};
+ghost use Rattle.matcher_program.specs.Programs.{Fits, IsNumberOf, is_in_ranges};
+ghost use Rattle.matcher_program.specs.Refusals.{has_property};
 
 use crate::form::Property;
+use crate::texts::same;
 use meta_ast::optimized::{OptimizedExpr, OptimizedRule};
 use std::alloc::{AllocError, Global};
 
 /// What the names of Unicode's properties stand for.
 pub trait Properties {
+    /// Whether the set of a name is known.
+    ghost knows: { Text → Bool };
+
     /// The set of each name.
     ghost classes: { Text → ℕ → Bool };
 
     /// The set of a name as ranges of code points, both ends among them, or `None` where it is not known.
     /// The only fault is a want of memory.
     fn ranges(&self, alloc: Global, name: &str) -> Result<Option<Vec<(u32, u32)>>, AllocError>
-        ensures { IfOk result (λ found. IfSome found (λ ranges. (c : ℕ) → c < 1114112
+        ensures known { IfOk result (λ found. is_some found ≡ knows (chars name.now)) }
+        ensures ranges { IfOk result (λ found. IfSome found (λ ranges. (c : ℕ) → c < 1114112
             → is_in_ranges ranges.items c ≡ classes (chars name.now) c)) };
 }
 
@@ -27,6 +35,8 @@ pub trait Properties {
 pub struct NoProperties;
 
 impl Properties for NoProperties {
+    ghost knows = { λ n. false };
+
     ghost classes = { λ n c. false };
 
     fn ranges(&self, _alloc: Global, _name: &str) -> Result<Option<Vec<(u32, u32)>>, AllocError> {
@@ -41,9 +51,11 @@ fn put_both<'a>(
     left: &'a OptimizedExpr,
     right: &'a OptimizedExpr,
 ) -> Result<(), AllocError>
-    ensures { OnOk result (heft waiting.new.items ≡ heft waiting.old.items
+    ensures heft { OnOk result (heft waiting.new.items ≡ heft waiting.old.items
         + (weight (optimized_expression_of left.entry.now)
         + weight (optimized_expression_of right.entry.now))) }
+    ensures calls { OnOk result (calls_waiting waiting.new.items ≡ (calls_of (optimized_expression_of left.entry.now)
+        ++ calls_of (optimized_expression_of right.entry.now)) ++ calls_waiting waiting.old.items) }
 {
     waiting.push(right)?;
     waiting.push(left)?;
@@ -51,13 +63,15 @@ fn put_both<'a>(
 }
 
 /// Puts the operands of an expression on a list.
-#[tactic(auto, using(crate::proofs::Forming::heavier))]
+#[tactic(auto, using(crate::proofs::Forming::heavier, crate::proofs::Forming::calls_more))]
 fn put_operands<'a>(
     waiting: &mut Vec<&'a OptimizedExpr>,
     expr: &'a OptimizedExpr,
 ) -> Result<(), AllocError>
-    ensures { OnOk result (heft waiting.new.items
+    ensures heft { OnOk result (heft waiting.new.items
         < heft waiting.old.items + weight (optimized_expression_of expr.entry.now)) }
+    ensures calls { OnOk result (own_call (optimized_expression_of expr.entry.now) ++ calls_waiting waiting.new.items
+        ≡ calls_of (optimized_expression_of expr.entry.now) ++ calls_waiting waiting.old.items) }
 {
     match expr {
         OptimizedExpr::Str(_)
@@ -88,7 +102,10 @@ fn add_names<'a>(
     alloc: Global,
     names: &mut Vec<&'a str>,
     expr: &'a OptimizedExpr,
-) -> Result<(), AllocError> {
+) -> Result<(), AllocError>
+    ensures { OnOk result (map (λ name. chars name.now) names.new.items
+        ≡ map (λ name. chars name.now) names.old.items ++ calls_of (optimized_expression_of expr.entry.now)) }
+{
     let mut waiting = Vec::new(alloc);
     waiting.push(expr)?;
     'parts: while let Some(part) = waiting.pop() {
@@ -100,11 +117,17 @@ fn add_names<'a>(
     Ok(())
 }
 
-/// Whether a property of a name is there.
-fn is_there(properties: &[Property], name: &str) -> bool {
-    properties
-        .iter()
-        .any(|property| property.name.as_str() == name)
+/// The number of a property of a name.
+pub(crate) fn find_property(properties: &[Property], name: &str) -> Option<usize>
+    ensures none { IfNone result (has_property properties.now (chars name.now) ≡ false) }
+    ensures some { IfSome result (λ i. IsNumberOf properties.now (chars name.now) i) }
+{
+    for (number, property) in properties.iter().enumerate() {
+        if same(property.name.as_str(), name) {
+            return Some(number);
+        }
+    }
+    None
 }
 
 /// Adds the property of a name, where it is known and not there yet.
@@ -116,8 +139,11 @@ fn add_property<P: Properties>(
 ) -> Result<(), AllocError>
     requires fits { Fits found.old.items P.classes }
     ensures fits { Fits found.new.items P.classes }
+    ensures known { OnOk result (P.knows (chars name.now) ≡ true
+        → has_property found.new.items (chars name.now) ≡ true) }
+    ensures others { (n : Text) → has_property found.old.items n ≡ true → has_property found.new.items n ≡ true }
 {
-    if is_there(found, name) {
+    if find_property(found, name).is_some() {
         return Ok(());
     }
     match properties.ranges(alloc, name)? {
@@ -136,6 +162,8 @@ pub(crate) fn properties_in<P: Properties>(
     properties: &P,
 ) -> Result<Vec<Property>, AllocError>
     ensures fits { IfOk result (λ found. Fits found.items P.classes) }
+    ensures complete { IfOk result (λ found. (n : Text) → InSomeRule (optimized_rules_of rules.now) (Ident n)
+        → P.knows n ≡ true → has_property found.items n ≡ true) }
 {
     let mut names = Vec::new(alloc);
     for rule in rules {

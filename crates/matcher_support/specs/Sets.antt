@@ -1,5 +1,6 @@
 -- The sets of property names.
-use Rattle.std.specs.Prelude.{ℕ, Bool, false, Option, Some, None}
+use Rattle.std.specs.Prelude.{ℕ, Bool, false, ◌&&◌, Option, Some, None, is_some}
+use Rattle.meta_base.specs.Language.Builtins.{is_one_of, property_names}
 use Rattle.meta_base.specs.Language.Text.{Text}
 use Rattle.ucd_sets.specs.Lookup.{by_name}
 use Rattle.ucd_sets.specs.Loose.{normalize}
@@ -15,3 +16,7 @@ is_in (Some set) c = in_set set c
 -- and with no low lines
 abbrev pub is_in_property : Text → ℕ → Bool
 is_in_property name c = is_in (by_name (normalize name)) c
+
+-- the name is one of the 115, and the tables have a set for it
+abbrev pub has_set : Text → Bool
+has_set name = is_one_of property_names name && is_some (by_name (normalize name))

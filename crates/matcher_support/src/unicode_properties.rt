@@ -1,10 +1,12 @@
 //! The sets of the property names of a grammar, by the kit's tables of Unicode.
-ghost use Rattle.std.specs.Prelude.{◌≡◌, ◌<◌, ℕ, IfOk, IfSome, chars};
+ghost use Rattle.std.specs.Prelude.{◌≡◌, ◌<◌, ℕ, IfOk, IfSome, chars, is_some};
 ghost use Rattle.matcher_program.specs.Programs.{is_in_ranges};
-ghost use Rattle.matcher_support.specs.Sets.{is_in_property};
+ghost use Rattle.matcher_support.specs.Sets.{has_set, is_in_property};
+ghost use Rattle.ucd_sets.specs.Lookup.{by_name};
+ghost use Rattle.ucd_sets.specs.Loose.{normalize};
 
+use matcher_program::compile::is_property;
 use matcher_program::properties::Properties;
-use meta_names::unicode_property_names;
 use std::alloc::{AllocError, Global};
 use ucd_sets::{by_name, normalize};
 
@@ -14,12 +16,14 @@ use ucd_sets::{by_name, normalize};
 pub struct UnicodeProperties;
 
 impl Properties for UnicodeProperties {
+    ghost knows = { has_set };
+
     ghost classes = { is_in_property };
 
     /// The set of a property's name as ranges of code points, both ends among them. `None` for a name that is
     /// none of the 115. The only fault is a want of memory.
     fn ranges(&self, alloc: Global, name: &str) -> Result<Option<Vec<(u32, u32)>>, AllocError> {
-        if unicode_property_names().iter().any(|known| *known == name) {
+        if is_property(name) {
             ranges_of(alloc, name)
         } else {
             Ok(None)
@@ -29,7 +33,8 @@ impl Properties for UnicodeProperties {
 
 /// The set of a name as ranges, or `None` where the tables don't have the name.
 fn ranges_of(alloc: Global, name: &str) -> Result<Option<Vec<(u32, u32)>>, AllocError>
-    ensures { IfOk result (λ found. IfSome found (λ ranges. (c : ℕ) → c < 1114112
+    ensures known { IfOk result (λ found. is_some found ≡ is_some (by_name (normalize (chars name.now)))) }
+    ensures ranges { IfOk result (λ found. IfSome found (λ ranges. (c : ℕ) → c < 1114112
         → is_in_ranges ranges.items c ≡ is_in_property (chars name.now) c)) }
 {
     let letters: Vec<char> = name.chars().collect(alloc)?;

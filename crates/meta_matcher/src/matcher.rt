@@ -4,6 +4,7 @@ ghost use Rattle.meta_ast.specs.Optimized.{optimized_rules_of};
 ghost use Rattle.meta_base.specs.Language.Expression.{rule_of};
 ghost use Rattle.meta_base.specs.Language.State.{Classes};
 ghost use Rattle.matcher_program.specs.Programs.{Fits, IsSkippedRule, grammar_of};
+ghost use Rattle.matcher_program.specs.Refusals.{IsReason};
 
 use crate::ending::Ending;
 use crate::entries::Entry;
@@ -64,8 +65,8 @@ impl Matcher {
     ghost use Rattle.meta_matcher.specs.Machines.{IsSceneOf};
 
     /// The rules, with each name resolved once: to the last rule of that name, or to a builtin where no rule
-    /// has it. A name that is neither, and a bound of a range that is not one character, are refused; so is
-    /// want of memory.
+    /// has it. Refused are a name in a body that is neither, or a property's that `properties` does not know,
+    /// and a bound of a range that is not one character; so is want of memory.
     pub fn new<P: Properties>(
         alloc: Global,
         rules: &[OptimizedRule],
@@ -75,6 +76,7 @@ impl Matcher {
         ensures means { IfOk result (λ matcher.
             grammar_of matcher.program.rows.items ≡ optimized_rules_of rules.now) }
         ensures fits { IfOk result (λ matcher. Fits matcher.program.properties.items P.classes) }
+        ensures refused { IfErr result (IsReason P.knows (optimized_rules_of rules.now)) }
     {
         let program = program_of(alloc, rules, properties)?;
         Ok(Matcher { program })

@@ -7,7 +7,7 @@ pub returns-clause-says : goal.returns-clause-says
 returns-clause-says c =
     let g = optimized_rules_of c.args.rules.now.rules.now in
     let made : Compiles g c.args.properties.now (optimized_expression_of c.args.rule.now.expr) c.in_ok-body.body
-    = c.in_ok-body.ensures g c.args.properties.now _ c.in_ok-form_of.ensures in
+    = c.in_ok-body.ensures g c.args.properties.now _ c.in_ok-form_of.ensures.compiles in
     let says = made.says in
     search rules
 
@@ -15,6 +15,6 @@ pub returns-clause-sound : goal.returns-clause-sound
 returns-clause-sound c =
     let g = optimized_rules_of c.args.rules.now.rules.now in
     let made : Compiles g c.args.properties.now (optimized_expression_of c.args.rule.now.expr) c.in_ok-body.body
-    = c.in_ok-body.ensures g c.args.properties.now _ c.in_ok-form_of.ensures in
+    = c.in_ok-body.ensures g c.args.properties.now _ c.in_ok-form_of.ensures.compiles in
     let bound = made.bound in
     search rules

@@ -1,5 +1,7 @@
-use Rattle.std.proofs.Common.{◌≤◌, length}
+use Rattle.std.proofs.Common.{◌≤◌, Err, ap, length, ◌∙◌}
+use Rattle.std.proofs.lemmas.Result.{err_from_is_err_and}
 use Rattle.matcher_program.proofs.Compiling.{all_rows, program_sound, rows_mean}
+use Rattle.matcher_program.proofs.Refusing.{row_refused}
 use Rattle.matcher_program.proofs.compile.rows_of.Goals as goal
 
 pub returns-clause-sound : goal.returns-clause-sound
@@ -11,3 +13,8 @@ pub returns-clause-means : goal.returns-clause-means
 returns-clause-means c =
     let l : length c.args.rules.now.rules.now ≤ c.loop-rule.rule-index = c.loop-rule-test.false in
     rows_mean _ _ (all_rows _ _ _ l c.loop-rule.invariant.says)
+
+pub returns-in_err-row-clause-refused : goal.returns-in_err-row-clause-refused
+returns-in_err-row-clause-refused c =
+    let p = err_from_is_err_and c.from_residual.result c.from_residual.ensures.1 in
+    row_refused c.args.properties.now c.args.rules.now.rules.now c.loop-rule.rule-index c.rule-item.result c.from_residual.result c.in_err-row.field-0.0 (p.1 ∙ ap (λ e. Err e) p.2) c.loop-rule-test.true c.rule-item.is c.in_err-row.ensures.refused

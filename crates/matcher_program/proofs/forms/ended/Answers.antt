@@ -6,10 +6,10 @@ use Rattle.matcher_program.proofs.forms.ended.Goals as goal
 
 pub returns-clause-says : goal.returns-clause-says
 returns-clause-says c = λ g ps bound.
-    let same = c.in_ok-form.ensures g ps (expression_of (names_in g) c.args.operand) (record { says = refl; bound = bound }) in
+    let same = c.in_ok-form.ensures.same g ps (expression_of (names_in g) c.args.operand) (record { says = refl; bound = bound }) in
     c.closed.ensures.says (names_in g) ∙ ap (with_operand (names_in g) c.args.around) same.says
 
 pub returns-clause-sound : goal.returns-clause-sound
 returns-clause-sound c = λ g ps ready bound.
-    let same = c.in_ok-form.ensures g ps (expression_of (names_in g) c.args.operand) (record { says = refl; bound = bound }) in
+    let same = c.in_ok-form.ensures.same g ps (expression_of (names_in g) c.args.operand) (record { says = refl; bound = bound }) in
     c.closed.ensures.sound g ps ready same.bound

@@ -1,0 +1,14 @@
+//! Laws over the definitions alone.
+ghost use Rattle.std.specs.Prelude.{Bool};
+ghost use Rattle.meta_base.specs.Language.Expression.{Grammar, Ident};
+ghost use Rattle.meta_base.specs.Language.KnownNames.{HasKnownNames};
+ghost use Rattle.meta_base.specs.Language.Text.{Text};
+ghost use Rattle.meta_base.specs.Language.WellFormed.{InSomeRule};
+ghost use Rattle.matcher_program.specs.Refusals.{IsUnknown, KnowsProperties};
+
+/// Where rules call rules and builtins alone, as those of each accepted text do, and each property is known, no
+/// name is unknown: so no such rules are refused for a name.
+pub fn known_names_are_taken()
+    ensures { (knows : Text → Bool) (g : Grammar) → HasKnownNames g → KnowsProperties knows
+        → (n : Text) → InSomeRule g (Ident n) → IsUnknown knows g n → ⊥ }
+{}
