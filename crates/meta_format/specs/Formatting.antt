@@ -5,6 +5,7 @@ use Rattle.meta_base.specs.declared.grammar.Rule.TheVariants.{grammar_rules}
 use Rattle.meta_syntax.specs.declared.entries.Entry.{Entry}
 use Rattle.meta_syntax.specs.declared.entries.Entry.TheVariants.{End}
 use Rattle.meta_syntax.specs.Parses.{TokensGive}
+use Rattle.meta_format.specs.Reading.{SameRules}
 use Rattle.meta_format.specs.Tokens.{tokens_after, comments_after, has_clean_lines}
 use Rattle.meta_format.specs.declared.Formatted.{Formatted}
 use Rattle.meta_format.specs.declared.LineEnds.{LineEnds}
@@ -46,6 +47,7 @@ pub record IsFormatted (line_ends : LineEnds) (text formatted : List ℕ) : Type
   pub comments : SameComments text entries formatted others
   pub lines : line_ends ≡ LineFeed → has_clean_lines formatted start others ≡ true
   pub last_line : EndsOnce formatted
+  pub rules : SameRules text formatted
 
 -- the formatted text of a grammar, or nothing, where a text is one
 abbrev pub IsAnswer : LineEnds → List ℕ → Formatted → Type 0

@@ -1,3 +1,4 @@
 pub mod Comments
 pub mod Formatting
+pub mod Reading
 pub mod Tokens

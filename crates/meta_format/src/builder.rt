@@ -296,8 +296,9 @@ impl<'t> Builder<'t> {
             return self.separate(separator);
         };
         if self.is_opening && is_after_line(&gap, first) {
-            self.separate(separator)?;
-            self.comments(&gap)
+            self.separate(separator.before_operand())?;
+            self.comments(&gap)?;
+            self.separate(separator.before_operator())
         } else {
             self.comments(&gap)?;
             self.separate(separator)
@@ -481,10 +482,10 @@ impl<'t> Builder<'t> {
         let is_group = !self.holds_literal;
         self.holds_literal = false;
         self.parentheses.push(is_group)?;
-        self.before_word(alloc, pos, Separator::Nothing)?;
         if !is_group {
             return self.text(alloc, pos, end, Separator::Nothing);
         }
+        self.before_word(alloc, pos, Separator::Nothing)?;
         self.pieces.push(Piece::Open)?;
         self.pieces.push(Piece::Text { start: pos, end })?;
         self.pieces.push(Piece::Indent)?;

@@ -183,9 +183,11 @@ impl<'t> Printer<'t> {
         self.has_blank = false;
     }
 
-    /// How many columns lines are indented by.
+    /// How many columns lines are indented by: half of the width at most, so that lines of deep parentheses
+    /// take no more than that each.
     fn indentation(&self) -> usize {
-        self.depth.saturating_mul(self.style.indent)
+        let columns = self.depth.saturating_mul(self.style.indent);
+        columns.min(self.style.width / 2)
     }
 
     /// The column at which the next word starts.

@@ -15,11 +15,13 @@ mod contents;
 mod gaps;
 mod layout;
 mod pieces;
+mod reading;
 mod spacing;
 
 use crate::builder::{Builder, build};
 use crate::comparison::{ends_once, has_clean_lines, is_same};
 use crate::layout::{Style, print};
+use crate::reading::has_same_rules;
 use meta_base::grammar::Rule;
 use meta_base::runtime::Fault;
 use meta_syntax::entries::Entry;
@@ -130,6 +132,9 @@ fn is_formatted(
     };
     let bytes = candidate.as_bytes();
     if !has_lines(bytes, &others, line_ends) || !ends_once(bytes) {
+        return Ok(false);
+    }
+    if !has_same_rules(alloc, text, entries, candidate, &others)? {
         return Ok(false);
     }
     is_same(alloc, text.as_bytes(), entries, bytes, &others)

@@ -61,6 +61,28 @@ pub enum Separator {
 }
 
 impl Separator {
+    /// What stands before comments that lead an operand or an operator.
+    pub fn before_operand(self) -> Separator {
+        match self {
+            Separator::Line { is_blank, .. } => Separator::Line {
+                is_blank,
+                is_operator: false,
+            },
+            _ => self,
+        }
+    }
+
+    /// What stands between such comments and an operator; nothing before an operand.
+    pub fn before_operator(self) -> Separator {
+        match self {
+            Separator::Line {
+                is_operator: true,
+                ..
+            } => self,
+            _ => Separator::Nothing,
+        }
+    }
+
     /// What serves both, of two that meet between two words.
     pub fn join(self, other: Separator) -> Separator {
         match (self, other) {

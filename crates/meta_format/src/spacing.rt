@@ -1,14 +1,10 @@
 //! Where empty lines are between the items of a grammar.
 use crate::pieces::{Item, ItemKind};
 
-/// Whether an empty line is to be before and after an item: it is a rule of more than one line, or one that is
-/// documented.
-fn is_apart(items: &[Item], broken: &[bool], i: usize) -> bool {
-    let Some(item) = items.get(i) else {
-        return false;
-    };
-    item.kind == ItemKind::Rule
-        && (broken.get(i).copied().unwrap_or(false) || has_kind_before(items, i, ItemKind::RuleDoc))
+/// Whether an item is a rule of more than one line.
+fn is_broken_rule(items: &[Item], broken: &[bool], i: usize) -> bool {
+    items.get(i).is_some_and(|item| item.kind == ItemKind::Rule)
+        && broken.get(i).copied().unwrap_or(false)
 }
 
 /// Whether the item before one is of a kind.
@@ -19,7 +15,7 @@ fn has_kind_before(items: &[Item], i: usize, kind: ItemKind) -> bool {
 /// Sets which items an empty line is before, by what the text has and by the rules that have more than one line.
 pub fn space_items(items: &mut [Item], broken: &[bool]) {
     for i in 0..items.len() {
-        let is_after_apart = i > 0 && is_apart(items, broken, i - 1);
+        let is_after_broken = i > 0 && is_broken_rule(items, broken, i - 1);
         let is_after_grammar_doc = has_kind_before(items, i, ItemKind::GrammarDoc);
         let is_after_doc = has_kind_before(items, i, ItemKind::RuleDoc);
         let item = &mut items[i];
@@ -27,7 +23,7 @@ pub fn space_items(items: &mut [Item], broken: &[bool]) {
             ItemKind::GrammarDoc => {}
             ItemKind::Rule | ItemKind::RuleDoc if is_after_doc => item.after_empty_line = false,
             _ => {
-                if is_after_apart || is_after_grammar_doc {
+                if is_after_broken || is_after_grammar_doc {
                     item.after_empty_line = true;
                 }
             }
@@ -36,11 +32,14 @@ pub fn space_items(items: &mut [Item], broken: &[bool]) {
     space_before(items, broken);
 }
 
-/// Sets an empty line before each item that is to be apart, and before the comments that lead it.
+/// Sets an empty line before each rule of more than one line and each documentation of a rule, or before the
+/// comments that lead it.
 fn space_before(items: &mut [Item], broken: &[bool]) {
     let mut is_wanted = false;
     for i in (0..items.len()).rev() {
-        is_wanted = is_wanted || is_apart(items, broken, i) || items[i].kind == ItemKind::RuleDoc;
+        is_wanted = is_wanted
+            || is_broken_rule(items, broken, i)
+            || items[i].kind == ItemKind::RuleDoc;
         if items[i].after_empty_line {
             is_wanted = false;
         }

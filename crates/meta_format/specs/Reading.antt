@@ -1,0 +1,32 @@
+-- The rules that a grammar's text is read as.
+use Rattle.std.specs.Prelude.{◌≡◌, ℕ, List, None}
+use Rattle.meta_base.specs.Language.Expression.{Grammar}
+use Rattle.meta_base.specs.Language.State.{Trees}
+use Rattle.meta_base.specs.declared.grammar.Rule.TheVariants.{grammar_rules}
+use Rattle.meta_reader.specs.Flaws.{first_flaw}
+use Rattle.meta_reader.specs.Reading.{ReadsRules}
+use Rattle.meta_spanned.specs.Erasure.{rules_without_spans}
+use Rattle.meta_spanned.specs.Spanned.{SpannedRule}
+use Rattle.meta_syntax.specs.Parses.{Spells}
+
+-- a text is read as these rules, with spans or without them
+pub record IsReadAs (text : List ℕ) (rules : Grammar) : Type 0 where
+  pub trees : Trees
+  pub spelled : Spells grammar_rules text trees
+  pub spanned : List SpannedRule
+  pub read : ReadsRules text trees spanned
+  pub flawless : first_flaw text trees ≡ None
+  pub same : rules ≡ rules_without_spans spanned
+
+-- a text is read as these rules alone
+pub record IsReadOnlyAs (text : List ℕ) (rules : Grammar) : Type 0 where
+  pub read : IsReadAs text rules
+  pub only : (others : Grammar) → IsReadAs text others → others ≡ rules
+
+-- a text is read as no rules
+abbrev pub IsNotRead : List ℕ → Type 0
+IsNotRead text = (rules : Grammar) → ¬ (IsReadAs text rules)
+
+-- what one text is read as, so is another
+pub record SameRules (text other : List ℕ) : Type 0 where
+  pub kept : (rules : Grammar) → IsReadAs text rules → IsReadAs other rules
