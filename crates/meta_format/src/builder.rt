@@ -573,8 +573,8 @@ impl<'t> Builder<'t> {
     }
 }
 
-/// Whether the first comment after an opening brace or parenthesis begins a line where the group is broken: it
-/// does in the text, or what follows it is on its line.
+/// Whether the first comment after an opening brace or parenthesis begins a line where the group is broken:
+/// it does in the text, or what follows it is on its line.
 fn is_after_line(gap: &Gap, first: Comment) -> bool {
     if first.line_ends > 0 {
         return true;

@@ -108,7 +108,7 @@ fn is_kept(place: Place, byte: u8) -> bool
     }
 }
 
-/// The lines of a piece that a line end follows, without the blanks at their ends and with the last byte first.
+/// The lines of a piece that a line end follows, without the blanks at their ends, and the last byte first.
 pub fn trim_lines(alloc: Global, text: &[u8]) -> Result<Vec<u8>, AllocError>
     ensures { IfOk result (λ bytes. reverse bytes.items ≡ spec.trimmed_line text.now) }
 {

@@ -71,7 +71,7 @@ pub enum Formatted {
 /// tokens; only blanks at the ends of lines of comments are gone. Where lines end with line feeds, no line
 /// outside of literals ends with a blank. The text is empty, or ends with one line feed.
 ///
-/// All texts that `PestParser::parse` takes for `grammar_rules` are formatted, also where names are undefined.
+/// All texts that `PestParser::parse` takes for `grammar_rules` are formatted, also with undefined names.
 /// Where the text is refused, so is it here, with the same error. Any other fault is a want of memory.
 pub fn format(alloc: Global, text: &str, options: Options) -> Result<Formatted, Fault>
     ensures { MatchResult result (IsAnswer options.line_ends text.now)

@@ -9,8 +9,8 @@ use Rattle.pest_run.specs.declared.outcomes.Outcome.TheVariants as is
 abbrev pub IsStatus : ℕ → Type 0
 IsStatus status = (status ≡ 0) ⊎ (status ≡ 1) ⊎ (status ≡ 2) ⊎ (status ≡ 4) ⊎ (status ≡ 5)
 
--- 0 where the lines were written, 1 where the reason was told, 2 where memory was wanting, and 5 where the run
--- was stopped, of which the reason was told
+-- 0 where the lines were written, 1 where the reason was told, 2 where memory was wanting, and 5 where the
+-- run was stopped, of which the reason was told
 abbrev pub EndsAs : {X E : Type 0} → Outcome → List ℕ → ℕ → Result X E
     → Option (List ℕ) → Option (List ℕ) → Option (List ℕ) → Option (List ℕ) → Type 0
 EndsAs (is.Shown lines) rule status told old_out new_out old new =

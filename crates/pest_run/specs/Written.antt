@@ -51,8 +51,8 @@ pub record TellsReason {X E : Type 0} (grammar rule text : List ℕ) (written : 
   pub reason : IsReason grammar rule text message
   pub line : TellsLine message written old new
 
--- why the matcher was stopped on the text, and what says so: it takes too many steps, or it has no outcome and
--- `PEEK` or `POP` met the empty stack, or the rules can't be run, of which nothing else is said
+-- why the matcher was stopped on the text, and what says so: it takes too many steps, or it has no outcome
+-- and `PEEK` or `POP` met the empty stack, or the rules can't be run, of which nothing else is said
 pub data IsStop (g : Grammar) (rule text : List ℕ) : List ℕ → Type 0 where
   too_many_steps : TakesTooManySteps g rule text → IsStop g rule text (codes "the text takes too many steps")
   empty_stack : HasNoOutcome g rule text → IsStop g rule text (codes "PEEK or POP found nothing on the stack")
