@@ -1,0 +1,82 @@
+//! The command line.
+use clap::{Arg, ArgAction, ArgMatches, Command};
+use meta_format::{LineEnds, Options};
+use std::alloc::{AllocError, Global};
+
+/// Where a formatted text goes.
+#[derive(Clone, Copy)]
+pub enum Target {
+    /// To the place of the file, or to standard output where the text came from standard input.
+    File,
+    /// To standard output.
+    Output,
+    /// Only what differs goes to standard output.
+    Difference,
+}
+
+/// What is done with formatted texts.
+#[derive(Clone, Copy)]
+pub struct Delivery {
+    pub target: Target,
+    /// Whether standard output is a terminal, where control characters are shown as escapes.
+    pub is_to_terminal: bool,
+}
+
+/// The arguments that the program takes.
+pub fn command<'a>(alloc: Global) -> Result<Command<'a>, AllocError> {
+    let check = Arg::new(alloc, "check")
+        .long("check")
+        .action(ArgAction::SetTrue)
+        .help("Change nothing, show what would change, and end with status 1 if anything would");
+    let stdout = Arg::new(alloc, "stdout")
+        .long("stdout")
+        .action(ArgAction::SetTrue)
+        .help("Write to standard output, and leave the files alone");
+    let keep = Arg::new(alloc, "keep-line-ends")
+        .long("keep-line-ends")
+        .action(ArgAction::SetTrue)
+        .help("End lines as the first line of each file ends, and not by a line feed alone");
+    let files = Arg::new(alloc, "FILE")
+        .action(ArgAction::Append)
+        .num_args(1..)
+        .help("A grammar; - or none is standard input, which goes to standard output");
+    Command::new(alloc, "pest-fmt")
+        .version("2.9.5")
+        .about("Formats pest grammars")
+        .after_help(
+            "status: 0 done, 1 something would change or is no grammar, 2 out of memory, \
+             3 a file or the command line can't be read, 4 a file or standard output can't be written",
+        )
+        .arg(check)?
+        .arg(stdout)?
+        .arg(keep)?
+        .arg(files)
+}
+
+/// What a command line asks to be done with formatted texts.
+pub fn delivery_of(matches: &ArgMatches<'_>, is_to_terminal: bool) -> Delivery {
+    let target = if matches.get_flag("check") {
+        Target::Difference
+    } else if matches.get_flag("stdout") {
+        Target::Output
+    } else {
+        Target::File
+    };
+    Delivery {
+        target,
+        is_to_terminal,
+    }
+}
+
+/// How a command line asks texts to be formatted.
+pub fn options_of(matches: &ArgMatches<'_>) -> Options {
+    let line_ends = if matches.get_flag("keep-line-ends") {
+        LineEnds::OfFirstLine
+    } else {
+        LineEnds::LineFeed
+    };
+    Options {
+        line_ends,
+        ..Options::default()
+    }
+}

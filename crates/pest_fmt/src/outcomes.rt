@@ -1,0 +1,39 @@
+//! What becomes of a text.
+ghost use Rattle.std.specs.Prelude.{IfOk};
+ghost use Rattle.pest_fmt.specs.Outcomes.{IsFileChange};
+
+use meta_base::grammar::Rule;
+use meta_base::runtime::{Error, Fault};
+use meta_format::{Formatted, Options, format};
+use std::alloc::{AllocError, Global};
+
+/// What becomes of a text.
+#[derive(Drop)]
+pub enum FileChange {
+    /// It is formatted.
+    Same,
+    /// Its formatted text is another one.
+    Changed(String),
+    /// It is no grammar.
+    Refused(Vec<Error<Rule>>),
+    /// Its formatted text would have other tokens or comments.
+    LeftAlone,
+}
+
+/// What becomes of a text. The only error is a want of memory.
+pub fn outcome_of(alloc: Global, text: &str, options: Options) -> Result<FileChange, AllocError>
+    ensures { IfOk result (IsFileChange options.line_ends text.now) }
+{
+    match format(alloc, text, options) {
+        Ok(Formatted::Text(formatted)) => {
+            if formatted.as_str() == text {
+                Ok(FileChange::Same)
+            } else {
+                Ok(FileChange::Changed(formatted))
+            }
+        }
+        Ok(Formatted::Unchanged) => Ok(FileChange::LeftAlone),
+        Err(Fault::Grammar(errors)) => Ok(FileChange::Refused(errors)),
+        Err(Fault::Memory(error)) => Err(error),
+    }
+}
