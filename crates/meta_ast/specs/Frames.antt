@@ -1,4 +1,4 @@
--- How a walk takes expressions apart, and what stands round the place where it is.
+-- Continuation frames of a walk: how it destructures expressions, and the context of its position.
 use Rattle.std.specs.Prelude.{◌≡◌, ℕ, ◌+◌, ◌*◌, List, [], ◌∷◌, ◌++◌, Result}
 use Rattle.meta_base.specs.Language.Text.{Text}
 use Rattle.meta_base.specs.Language.Expression.{Expression}
@@ -15,7 +15,7 @@ use Rattle.meta_ast.specs.declared.walks.Frame.TheVariants as frame
 use Rattle.meta_ast.specs.declared.walks.Onward.{Onward}
 use Rattle.meta_ast.specs.declared.walks.Onward.TheVariants as onward
 
--- what stands round one operand
+-- the operator over one operand
 pub data Unary : Type 0 where
   PosPred : Unary
   NegPred : Unary
@@ -48,13 +48,13 @@ joined joint.Choice a b = e.Choice a b
 
 -- `says x`: the expression that a value x of code says; `stands_for s`: the sign that a value s of code is
 module _ {E S : Type 0} (says : E → Expression) (stands_for : S → Unary) where
-  -- an expression was taken apart
+  -- the node is the expression, destructured
   abbrev pub IsOpened : Expression → Node E S → Type 0
   IsOpened whole (node.Leaf x) = (says x ≡ whole) × (operands whole ≡ [])
   IsOpened whole (node.One s x) = whole ≡ around (stands_for s) (says x)
   IsOpened whole (node.Two j x y) = whole ≡ joined j (says x) (says y)
 
-  -- what is to be met next of an expression; what stands round it is behind the frames `ks`
+  -- the next node of a walk at an expression; its context is pushed after the frames `ks`
   pub data Opens (whole : Expression) (ks : List (Frame E S)) : Onward E → List (Frame E S) → Type 0 where
     leaf : {x : E} {ls : List (Frame E S)}
         → says x ≡ whole → operands whole ≡ [] → ls ≡ ks → Opens whole ks (onward.Done x) ls
@@ -65,7 +65,7 @@ module _ {E S : Type 0} (says : E → Expression) (stands_for : S → Unary) whe
         → whole ≡ joined j (says x) (says y) → ls ≡ ks ++ (frame.Before j y ∷ [])
         → Opens whole ks (onward.Next x) ls
 
-  -- what becomes of the frame behind the frames `ks`, once `d` is done in it
+  -- the result of a frame that follows the frames `ks`, once `d` is done in it
   pub data Closes (ks : List (Frame E S)) (d : E) : Frame E S → Onward E → List (Frame E S) → Type 0 where
     enclosed : {s : S} {x : E} {ls : List (Frame E S)}
         → says x ≡ around (stands_for s) (says d) → ls ≡ ks → Closes ks d (frame.Around s) (onward.Done x) ls
@@ -82,7 +82,7 @@ module _ {E S : Type 0} (says : E → Expression) (stands_for : S → Unary) whe
         (b : Expression) × TopDown says step s (says x) b t × (w ≡ joined j d b)
     ClosesTopDown (frame.After j x) s d w t = (w ≡ joined j (says x) d) × (t ≡ s)
 
-    -- the same, operands before node
+    -- one call at a finished frame, operands before node
     abbrev pub ClosesBottomUp : Frame E S → Progress F → Expression → Expression → Progress F → Type 0
     ClosesBottomUp (frame.Around u) s d w t = Becomes says step s (around (stands_for u) d) w t
     ClosesBottomUp (frame.Before j x) s d w t =
@@ -113,13 +113,13 @@ module _ {E : Type 0} (says : E → Expression) where
 
 module _ {E S F : Type 0} (says : E → Expression) (stands_for : S → Unary)
     (step : F → E → Result E Fault → F → Type 0) where
-  -- what is left of a map becomes `w`, while the calls lead from `s` to `t`: node before operands
+  -- the rest of a map gives `w`, and its calls lead from `s` to `t`, node before operands
   abbrev pub EndsTopDown : Onward E → List (Frame E S) → Progress F → Expression → Progress F → Type 0
   EndsTopDown (onward.Next x) ks s w t = (d : Expression) × (r : Progress F)
       × TopDown says step s (says x) d r × AllClose (ClosesTopDown says stands_for step) ks r d w t
   EndsTopDown (onward.Done x) ks s w t = AllClose (ClosesTopDown says stands_for step) ks s (says x) w t
 
-  -- the same, operands before node: at what is done a call is still to come
+  -- the rest of a map, operands before node: a finished operand still has its call
   abbrev pub EndsBottomUp : Onward E → List (Frame E S) → Progress F → Expression → Progress F → Type 0
   EndsBottomUp (onward.Next x) ks s w t = (d : Expression) × (r : Progress F)
       × BottomUp says step s (says x) d r × AllClose (ClosesBottomUp says stands_for step) ks r d w t

@@ -14,7 +14,7 @@ module _ {T : Type 0} (is_equal : T → T → Bool) where
   are_equal [] = true
   are_equal (p ∷ ps) = are_both p && are_equal ps
 
-  -- whether two are, by what is left to be compared of them
+  -- whether two trees are equal, by the comparisons that remain
   abbrev pub is_same : Left T → Bool
   is_same (left.Nothing answer) = answer
   is_same (left.One p answer) = answer && are_both p

@@ -1,4 +1,4 @@
-//! Equality of trees: by a list of what is left to be compared, and by calls where there is no memory for it.
+//! Equality of trees, iteratively with a worklist, and recursively where there is no memory for it.
 ghost use Rattle.std.specs.Prelude.{◌≡◌, ◌+◌, ◌<◌, ◌≤◌, ◌&&◌, Bool, IfOk};
 ghost use Rattle.meta_ast.specs.Sameness.{are_equal, heaviness_left, heaviness_of_all, is_same};
 
@@ -12,12 +12,12 @@ pub struct Both<'a, T> {
     pub second: &'a Box<T>,
 }
 
-/// What is left to be compared of two trees.
+/// The comparisons that remain between two trees.
 #[derive(Drop)]
 pub enum Left<'a, T> {
     /// Nothing: this is the answer.
     Nothing(bool),
-    /// Their operands, beside the answer on all else.
+    /// Their operands, and the answer on all else.
     One(Both<'a, T>, bool),
     /// Their operands, where all else is equal.
     Two(Both<'a, T>, Both<'a, T>),
@@ -27,7 +27,7 @@ pub enum Left<'a, T> {
 pub trait Compared: Shaped {
     ghost is_equal: { Self → Self → Bool };
 
-    /// What is left to be compared of two trees, once all but their operands is.
+    /// Compares two trees except their operands, and returns the comparisons that remain.
     fn compared<'a>(&'a self, other: &'a Self) -> Left<'a, Self>
         ensures same { is_same is_equal result ≡ is_equal self.entry.now other.entry.now }
         ensures work { heaviness_left Self.heaviness result < Self.heaviness self.entry.now };
@@ -40,7 +40,7 @@ pub fn equal<T: Compared>(a: &T, b: &T) -> bool
     are_same(&a.compared(b))
 }
 
-/// Whether what is left to be compared is equal, with a list of it; by calls where there is no memory for it.
+/// Whether the remaining comparisons hold, iteratively; recursively where memory is refused.
 pub fn are_same<T: Compared>(left: &Left<'_, T>) -> bool
     ensures { result ≡ is_same T.is_equal left.now }
 {
@@ -54,7 +54,7 @@ pub fn are_same<T: Compared>(left: &Left<'_, T>) -> bool
     }
 }
 
-/// The same, by a loop. The only fault is a want of memory.
+/// Whether the remaining comparisons hold, iteratively. The only error is allocation failure.
 #[tactic(auto, using(crate::proofs::Pairs::lighter))]
 fn same_by_list<T: Compared>(alloc: Global, left: &Left<'_, T>) -> Result<bool, AllocError>
     ensures { IfOk result (λ answer. answer ≡ is_same T.is_equal left.now) }
@@ -71,7 +71,7 @@ fn same_by_list<T: Compared>(alloc: Global, left: &Left<'_, T>) -> Result<bool, 
     Ok(false)
 }
 
-/// Puts what is left to be compared on a list, and answers all else. The only fault is a want of memory.
+/// Pushes the remaining comparisons, and answers all else. The only error is allocation failure.
 fn put<'a, T: Compared>(
     left: &Left<'a, T>,
     others: &mut Vec<Both<'a, T>>,
@@ -104,7 +104,7 @@ fn put<'a, T: Compared>(
     }
 }
 
-/// Whether what is left to be compared is equal, by calls.
+/// Whether the remaining comparisons hold, recursively.
 fn same_by_calls<T: Compared>(left: &Left<'_, T>) -> bool
     ensures { result ≡ is_same T.is_equal left.now }
 {

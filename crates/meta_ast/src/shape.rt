@@ -1,5 +1,4 @@
-//! Which operands a tree has, and what stands round them: said once for each kind of tree. What is done with
-//! trees of any kind goes by it.
+//! The operator and operands of a tree, defined once for each type of tree. Generic algorithms use them.
 mod copying;
 
 ghost use Rattle.std.specs.Prelude.{◌≡◌, ◌+◌, ◌*◌, ◌≤◌, ◌<◌, ℕ, IfOk};
@@ -8,7 +7,7 @@ ghost use Rattle.meta_ast.specs.Shapes.{heaviness_of, meaning_of, LeafIs};
 pub use copying::{copied, copied_box};
 use std::alloc::AllocError;
 
-/// What stands between two operands.
+/// The operator between two operands.
 #[derive(Drop)]
 pub enum Joint {
     /// One after another.
@@ -17,25 +16,25 @@ pub enum Joint {
     Choice,
 }
 
-/// A tree that is taken apart.
+/// A destructured tree.
 #[derive(Drop)]
 pub enum Shape<L, S, J, O> {
-    /// It has no operands.
+    /// A tree without operands.
     Leaf(L),
-    /// What stands round its operand, and the operand.
+    /// The operator over one operand, and the operand.
     One(S, O),
-    /// What stands between its operands, the left one and the right one.
+    /// The operator between two operands, the left one and the right one.
     Two(J, O, O),
 }
 
-/// Trees that are taken apart and put together again.
+/// Trees that can be destructured and rebuilt.
 pub trait Shaped: Drop {
-    /// What may stand round one operand.
+    /// Operators over one operand.
     type Sign: Drop;
-    /// What may stand between two operands.
+    /// Operators between two operands.
     type Joint: Drop;
 
-    // what trees mean, and what their operands mean in them
+    // the meaning of trees, and of operands in them
     ghost Meaning: { Type 0 };
 
     ghost says: { Self → Meaning };
@@ -50,14 +49,14 @@ pub trait Shaped: Drop {
     // how large a tree is, where left sides count double
     ghost heaviness: { Self → ℕ };
 
-    /// The tree taken apart, without memory. What has no operands is left whole.
+    /// Destructures the tree without allocating. A tree without operands is kept whole.
     fn open(self) -> Shape<Self, Self::Sign, Self::Joint, Box<Self>>
         ensures meaning { meaning_of says (λ operand. says operand.value) around between result ≡ says self }
         ensures lighter { heaviness_of (λ operand. heaviness operand.value) result < heaviness self }
         ensures bare { LeafIs is_bare result };
 
-    /// The shape of the tree: its operands as they stand there, and copies of all else. The only fault is a
-    /// want of memory.
+    /// Returns the shape of the tree, with its operands borrowed and copies of all else. The only error is
+    /// allocation failure.
     fn shape<'a>(
         &'a self,
     ) -> Result<Shape<Self, Self::Sign, Self::Joint, &'a Box<Self>>, AllocError>
@@ -83,7 +82,7 @@ pub trait Shaped: Drop {
         ensures { heaviness result ≤ 2 * heaviness first.value + heaviness second.value + 1 };
 }
 
-/// Lets a tree go by a loop, without memory.
+/// Drops a tree iteratively, without allocating.
 pub fn let_go<T: Shaped>(tree: T) {
     let mut rest = tree;
     'parts: loop {
@@ -104,7 +103,7 @@ pub fn let_go<T: Shaped>(tree: T) {
     }
 }
 
-/// What is left of two sides, with less on the left: its operator is gone, or all of it.
+/// Drops the operator on the left of two sides, or all of the left side, and chains the rest.
 fn leaned<T: Shaped>(mut left: Box<T>, right: Box<T>) -> T
     ensures { T.heaviness result < 2 * T.heaviness left.value + T.heaviness right.value + 1 }
 {

@@ -1,4 +1,4 @@
-//! Strings as texts: a string stands for the list of its characters.
+//! Strings as texts: a string is viewed as the list of its characters.
 ghost use Rattle.std.specs.Prelude.{◌≡◌, ◌↔◌, IsTrue, IfOk, map};
 ghost use Rattle.meta_ast.specs.Ast.{text_of};
 ghost use Rattle.meta_base.specs.Rewritings.Equality.{text_eq, texts_eq};
@@ -21,7 +21,7 @@ pub fn same_texts(ss: &Vec<String>, ts: &Vec<String>) -> bool
     ss == ts
 }
 
-/// The same texts again, with the same allocators. The only fault is a want of memory.
+/// Copies texts, with their allocators. The only error is allocation failure.
 pub fn copy_texts(texts: &Vec<String>) -> Result<Vec<String>, AllocError>
     ensures { IfOk result (λ copy. map text_of copy.items ≡ map text_of texts.now.items) }
 {

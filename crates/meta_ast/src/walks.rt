@@ -1,8 +1,7 @@
-//! What the maps and the iterators of both kinds of expressions share: each is written once, over trees that
-//! are taken apart and put together again.
+//! Maps and iterators of both types of expressions, each written once over trees that can be destructured
+//! and rebuilt.
 //!
-//! A map keeps the frames round the place where it is on a list of its own, so no nesting of an expression
-//! takes depth.
+//! A map keeps its continuation frames on an explicit stack, so nesting takes no stack space.
 mod bottom_up;
 mod frames;
 mod preorder;
@@ -20,16 +19,16 @@ pub(crate) use preorder::take_first;
 use std::alloc::{AllocError, Global};
 pub(crate) use top_down::map_top_down;
 
-/// An expression that was taken apart.
+/// A destructured expression.
 #[derive(Drop)]
 pub(crate) enum Node<E, S> {
-    /// It has no operands, or is a wrapper.
+    /// An expression without operands, or a wrapper.
     Leaf(E),
     One(S, E),
     Two(Joint, E, E),
 }
 
-/// What stands round an operand that a map is at.
+/// A continuation frame of a map: the context of the operand that it visits.
 pub(crate) enum Frame<E: Release, S: Drop> {
     Around(S),
     /// The operand is the left one, and the right one is still to be met.
@@ -55,13 +54,13 @@ impl<E: Release, S: Drop> Drop for Frame<E, S> {
 pub(crate) enum Onward<E> {
     /// This is to be met next.
     Next(E),
-    /// All that stands in this is met.
+    /// This expression and all in it are done.
     Done(E),
 }
 
-/// Expressions that can be taken apart and put together again.
+/// Expressions that can be destructured and rebuilt.
 pub(crate) trait Tree: Release {
-    /// What may stand round one operand.
+    /// Operators over one operand.
     type Sign: Drop;
 
     ghost says: { Self → Expression };
@@ -82,7 +81,7 @@ pub(crate) trait Tree: Release {
         ensures whole { IfOk result (λ whole. says whole ≡ joined joint (says left) (says right)) }
         ensures memory { IfErr result (λ fault. fault ≡ Fault.Memory alloc_error) };
 
-    /// The same expression again.
+    /// Copies the expression.
     fn copy(&self) -> Result<Self, AllocError>
         ensures { IfOk result (λ copy. says copy ≡ says self.now) };
 }

@@ -1,4 +1,4 @@
--- What is expected where a text is none of a rule.
+-- The rules that are expected where a text does not match a rule.
 use Rattle.std.specs.Prelude.{◌≡◌, ℕ, List, [], ◌∷◌, Bool, false, ◌||◌, filter, bytes_eq}
 use Rattle.meta_base.specs.Language.Expected.{expected, expected_at}
 use Rattle.meta_base.specs.Language.State.{Trees, State, Outcome, Success, Failure, Classes}
@@ -17,7 +17,7 @@ is_named (n ∷ ns) r = bytes_eq n (name_of r) || is_named ns r
 abbrev pub rules_named : List Text → List Rule
 rules_named names = filter (is_named names) (is.EOI ∷ meta_rules)
 
--- nothing is expected where the text begins with what the rule matches
+-- nothing is expected if the text begins with a match of the rule
 abbrev pub ExpectsNothing : Rule → List ℕ → List Rule → Type 0
 ExpectsNothing rule text rules = (classes : Classes) (t : State) (us : Trees)
     → Recognizes rule text classes (Success t us) → rules ≡ []

@@ -1,4 +1,4 @@
--- What the second reading answers: what it finds, and what it makes of the names that are expected.
+-- The answer of the second run: its outcome, and the names that it adds to those that are expected.
 use Rattle.std.specs.Prelude.{◌≡◌, ℕ, List, [], ◌∷◌, ◌++◌, Bool, true, false, Option, Some, None, map, take, nat_eq, ◌&&◌, if◌then◌else◌}
 use Rattle.std.specs.Borrow.{Bor}
 use Rattle.meta_base.specs.Language.Expression.{Grammar}
@@ -37,7 +37,7 @@ telling counts n saved position s =
     then record { place = s.place; names = take saved s.names ++ n ∷ [] }
     else s
 
--- the task k from s was found to have the outcome o, and what is expected in it was added
+-- the task k has the outcome o from s, and the names that are expected in it are added
 pub record Noted (g : Grammar) (classes : Classes) (k : Task) (s : State) (o : Outcome)
     (old new : Sought) : Type 0 where
   pub found : Does g classes k s o
@@ -59,15 +59,15 @@ abbrev pub FailsOrFindsNoting : Task → List ℕ → List ℕ → Sought → So
 FailsOrFindsNoting k text rest old new None = FailsNoting k text rest old new
 FailsOrFindsNoting k text rest old new (Some after) = FindsNoting k text rest old new after.now
 
--- what a run answers, and what it makes of the names
+-- the outcome of a run, and the names that it adds
 abbrev pub Tells : Task → List ℕ → List ℕ → Expecting → Expecting → Option (Bor (List ℕ)) → Type 0
 Tells k text rest old new o = FailsOrFindsNoting k text rest (sought_of old) (sought_of new) o
 
--- the same of a run that cannot fail
+-- the outcome of a run that cannot fail, and the names that it adds
 abbrev pub TellsTo : Task → List ℕ → List ℕ → Expecting → Expecting → List ℕ → Type 0
 TellsTo k text rest old new after = FindsNoting k text rest (sought_of old) (sought_of new) after
 
--- what the recognizer remembers is so
+-- the recognizer's memory is true of the text
 abbrev pub IsTruly : List ℕ → Expecting → Type 0
 IsTruly text e = RemembersTruly text e.recognizer
 
@@ -78,7 +78,7 @@ IsReadyAgain text rest e = record {
   truly : IsTruly text e;
 }
 
--- the rules within whose calls nothing is told: their bodies run in Atomic, or are silent throughout
+-- rules within whose calls nothing is recorded: their bodies run in Atomic, or are silent throughout
 abbrev pub is_settled : Rule → Bool
 is_settled is.tag_id = true
 is_settled is.number = true

@@ -1,4 +1,4 @@
--- What a text spells for a rule.
+-- The trees that a text spells for a rule.
 use Rattle.std.specs.Prelude.{◌≡◌, List, [], ◌∷◌, ℕ, chars, ⊤}
 use Rattle.meta_base.specs.Language.Expression.{Ident}
 use Rattle.meta_base.specs.Language.State.{NonAtomicMode, State, Trees, Outcome, Success, Failure, Classes}
@@ -65,7 +65,7 @@ abbrev pub IsSyntaxErrorOrMemory : List ℕ → ℕ → Fault → Type 0
 IsSyntaxErrorOrMemory text place (fault_is.Memory e) = ⊤
 IsSyntaxErrorOrMemory text place (fault_is.Grammar errors) = IsSyntaxError text place errors.items
 
--- one syntax error at the place where the rule fails, unless memory is wanting
+-- one syntax error at the position where the rule fails, unless memory is refused
 pub record IsRefused (rule : Rule) (text : List ℕ) (errors : List (Error Rule)) : Type 0 where
   pub place : ℕ
   pub fails : FailsAt rule text place

@@ -1,4 +1,4 @@
--- What the recognizer remembers of comments.
+-- The recognizer's memory of comments.
 use Rattle.std.specs.Prelude.{◌≡◌, ℕ, ◌-◌, ◌≤◌, List, [], true, drop, length, nat_eq, ◌⊎◌}
 use Rattle.std.specs.HashSet.{HashSet, contains}
 use Rattle.std.specs.declared.hash.FoldHasher.{FoldHasher}
@@ -26,14 +26,14 @@ abbrev pub Remembers : Mode → List ℕ → ℕ → HashSet ℕ (BuildHasherDef
 Remembers m text bound places = (n : ℕ) → contains nat_eq places n ≡ true
     → FailsWithin is.block_comment m text (drop (length text - n) text) bound
 
--- what the recognizer remembers is so; where comments end it knows of all of the text, or of nothing yet
+-- the recognizer's memory is true; of comment ends it knows all of the text, or nothing yet
 abbrev pub RemembersTruly : List ℕ → Recognizer → Type 0
 RemembersTruly text r = record {
   failed : Remembers NonAtomicMode text r.furthest r.failed;
   known : (r.ends.items ≡ []) ⊎ AreAllEnds text r.ends.items;
 }
 
--- a run may begin: these bytes are what is left of the text, and what the recognizer remembers is so
+-- a run may begin: these bytes end the text, and the recognizer's memory is true
 abbrev pub IsReady : List ℕ → List ℕ → Recognizer → Type 0
 IsReady text rest r = record {
   left : IsLeft text rest;

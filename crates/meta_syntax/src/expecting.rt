@@ -1,6 +1,6 @@
-//! What is expected at a place: a second reading of a text, for which the place is known. It walks the table
-//! plainly, with a list of what waits for an answer, so that no text takes the machine's stack; and it leaves
-//! to the recognizer what tells no name: the skipping, and rules within which no call is told.
+//! The rules that are expected at a position: a second run over the text, once the position is known. Its
+//! continuation frames are on an explicit stack, so no text takes stack space. The recognizer runs the
+//! parts that record nothing: the skipping, and rules within which no call is recorded.
 ghost use Rattle.std.specs.Prelude.{◌≡◌, ◌+◌, ◌<◌, ◌≤◌, ◌∷◌, ◌++◌, ◌&&◌, ℕ, List, filter, IfOk, OnOk, Some, [], length, true, codes};
 ghost use Rattle.meta_base.specs.Language.Expression.{Ident};
 ghost use Rattle.meta_base.specs.Language.Meaning.{Run, Skipping};
@@ -23,12 +23,12 @@ use crate::table::{Form, Kind, parts_of, row_of};
 use meta_base::grammar::Rule;
 use std::alloc::{AllocError, Global};
 
-/// What is to be done once the answer is there.
+/// The use of an answer.
 #[derive(Clone, Copy)]
 pub enum Wait {
     /// A call of a rule of a kind ends.
     Call(Rule, Kind),
-    /// A sequence goes on: of this part the answer is awaited, and these parts are behind it.
+    /// A sequence goes on: the answer of this part is awaited, and these parts follow it.
     Sequence(&'static Form, &'static Form),
     /// This is tried where the first alternative fails.
     Choice(&'static Form),
@@ -38,35 +38,35 @@ pub enum Wait {
     Option,
     /// There may be one more turn of this.
     Repetition(&'static Form),
-    /// There may be turns of this behind the first one.
+    /// There may be turns of this after the first one.
     OnceOrMore(&'static Form),
-    /// Nothing is matched where it fails, and what was told in it is forgotten.
+    /// Matches nothing where the body fails, and forgets the rules that were recorded in it.
     Negation,
 }
 
-/// What it was like where a part was begun.
+/// The state where a part was begun.
 #[derive(Clone, Copy)]
 pub struct Start<'i> {
     pub mode: Mode,
-    /// How many rules were told.
+    /// The number of rules that were recorded.
     pub saved: usize,
-    /// What was left of the text; of a repetition, behind its last turn.
+    /// The remaining text; of a repetition, after its last turn.
     pub rest: &'i str,
 }
 
-/// What waits for the answer of what it has begun.
+/// A continuation frame: the use of an answer, and the state where its part was begun.
 #[derive(Clone, Copy)]
 pub struct Frame<'i> {
     pub wait: Wait,
     pub start: Start<'i>,
 }
 
-/// A second reading, and what it was told so far.
+/// A second run, and the rules that it has recorded.
 #[derive(Drop)]
 pub struct Expecting {
-    /// The memory for what waits.
+    /// The allocator of the frames.
     alloc: Global,
-    /// What matches the parts that tell nothing.
+    /// Matches the parts that record nothing.
     recognizer: Recognizer,
     /// The place, in bytes.
     place: usize,
@@ -74,7 +74,8 @@ pub struct Expecting {
     told: Vec<Rule>,
 }
 
-/// Whether no call within a call of this rule is told: what runs in Atomic, and what is silent throughout.
+/// Whether no call within a call of this rule is recorded: its body runs in Atomic, or is silent
+/// throughout.
 fn is_settled(rule: Rule) -> bool
     ensures { result ≡ is_settled rule }
 {
@@ -109,7 +110,7 @@ fn is_among(rules: &[Rule], rule: Rule) -> bool
     rules.contains(&rule)
 }
 
-/// Adds a rule, where it is among those that were told.
+/// Adds a rule, if it was recorded.
 fn add_if_told(rules: &mut Vec<Rule>, told: &[Rule], rule: Rule) -> Result<(), AllocError>
     ensures { OnOk result
         (rules.new.items ≡ rules.old.items ++ filter (is_named (names_of told.now)) (rule ∷ [])) }
@@ -120,7 +121,7 @@ fn add_if_told(rules: &mut Vec<Rule>, told: &[Rule], rule: Rule) -> Result<(), A
     Ok(())
 }
 
-/// Those rules of the table that are among some, in the order of the table, each once.
+/// Returns the recorded rules, in the order of the table, each once.
 fn in_order(alloc: Global, told: &[Rule]) -> Result<Vec<Rule>, AllocError>
     ensures { IfOk result (λ rules. rules.items ≡ rules_named (names_of told.now)) }
 {
@@ -147,7 +148,7 @@ pub fn expected_rules(
     in_order(alloc, &told)
 }
 
-/// Begins a part, and what waits for its answer goes on the list.
+/// Begins a part, and pushes a frame for its answer.
 fn begin_part<'i>(
     frames: &mut Vec<Frame<'i>>,
     wait: Wait,
@@ -197,14 +198,15 @@ impl Expecting {
         told
     }
 
-    /// How many rules were told.
+    /// Returns the number of recorded rules.
     fn count(&self) -> usize
         ensures { result ≡ length (names_of self.now.told.items) }
     {
         self.told.len()
     }
 
-    /// Tells a call that failed, where it counts and began at the place, instead of what was told within it.
+    /// Records a failed call in place of the rules recorded within it, if it counts and began at the
+    /// position.
     fn tell(
         &mut self,
         counts: bool,
@@ -223,7 +225,7 @@ impl Expecting {
         Ok(())
     }
 
-    /// A call within which nothing is told.
+    /// Calls a rule within which nothing is recorded.
     fn settled<'i>(
         &mut self,
         text: &str,
@@ -286,7 +288,7 @@ impl Expecting {
         Ok(Some(rest))
     }
 
-    /// The implicit skipping, in which nothing is told.
+    /// Skips blanks and comments, in which nothing is recorded.
     fn skip<'i>(&mut self, text: &str, mode: Mode, from: &'i str) -> Result<&'i str, AllocError>
         requires ready { IsReadyAgain text.now from.now self.old }
         ensures goes_on { IfOk result (λ after. GoesOn text.now from.entry.now true after.now) }
@@ -299,8 +301,8 @@ impl Expecting {
         Ok(after)
     }
 
-    /// What a rule, or `EOI`, matches. No text takes the machine's stack for it: what waits for an answer
-    /// lies on a list.
+    /// Matches a rule, or `EOI`. Continuation frames are on an explicit stack, so no text takes stack
+    /// space.
     pub fn call<'i>(
         &mut self,
         text: &str,
@@ -435,7 +437,7 @@ impl Expecting {
         Ok(step)
     }
 
-    /// Goes on with what waits.
+    /// Resumes a frame with an answer.
     fn resume<'i>(
         &mut self,
         text: &str,
@@ -458,7 +460,7 @@ impl Expecting {
         }
     }
 
-    /// Goes on where what was begun is found.
+    /// Resumes a frame whose part succeeded.
     fn found<'i>(
         &mut self,
         text: &str,
@@ -490,7 +492,7 @@ impl Expecting {
         }
     }
 
-    /// Goes on where what was begun fails.
+    /// Resumes a frame whose part failed.
     fn failed<'i>(
         &mut self,
         text: &str,
@@ -527,7 +529,7 @@ impl Expecting {
         }
     }
 
-    /// Begins the next part of a sequence, behind the skipping.
+    /// Begins the next part of a sequence, after the skipping.
     fn next_part<'i>(
         &mut self,
         text: &str,
@@ -559,7 +561,7 @@ impl Expecting {
         )
     }
 
-    /// Begins one more turn of a repetition, behind the skipping.
+    /// Begins one more turn of a repetition, after the skipping.
     fn turn<'i>(
         &mut self,
         text: &str,
@@ -584,7 +586,7 @@ impl Expecting {
         Ok(Step::Begin(body, mode, next))
     }
 
-    /// Begins as many turns as there are behind the first one, and behind the skipping.
+    /// Begins the turns that follow the first one and the skipping.
     fn more<'i>(
         &mut self,
         text: &str,

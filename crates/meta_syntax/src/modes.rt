@@ -1,4 +1,4 @@
-//! What is skipped, and which rules give tokens.
+//! Atomicity: where white space and comments are skipped, and which rules give tokens.
 ghost use Rattle.std.specs.Prelude.{◌≡◌, ◌≤◌, ◌&&◌, true};
 ghost use Rattle.meta_base.specs.Language.Meaning.{body_mode, gives_token, seen_from};
 ghost use Rattle.meta_syntax.specs.Forms.{kind_of};
@@ -8,8 +8,8 @@ ghost use Rattle.meta_syntax.specs.Runs.{is_blank, furthest_with, mode_of, skips
 use crate::table::Kind;
 use meta_base::grammar::Rule;
 
-/// How the parts of an expression are put together: with white space and comments between them, or
-/// without; and whether their rules give tokens.
+/// The atomicity in force: whether white space and comments are skipped between the parts of an expression,
+/// and whether its rules give tokens.
 #[derive(Clone, Copy)]
 pub enum Mode {
     NonAtomic,

@@ -34,15 +34,14 @@ pub fn leading_tree(trees: &[TokenTree<Rule>]) -> FirstTree<'_, Rule>
     }
 }
 
-/// The end of a tree whose start is still to come, and the trees behind it. Of them the last comes
-/// first.
+/// The end of a tree whose start is not read yet, and the trees after it, the last first.
 #[derive(Drop)]
 struct Pending {
     end: usize,
     others: Vec<TokenTree<Rule>>,
 }
 
-/// How many whole pairs stand one behind another at the end of a list.
+/// Returns the number of whole pairs that follow one another at the end of a list.
 fn siblings(entries: &[Entry]) -> usize
     ensures { result ≤ length entries.now }
 {
@@ -61,8 +60,8 @@ fn siblings(entries: &[Entry]) -> usize
     count
 }
 
-/// The trees with one more entry before those that were met, `before` being those that are still to
-/// come. In a tree that the entry ends there is room for the trees inside it, and for no more.
+/// Adds one more entry before those that were read, where `before` are those still to be read. A tree that
+/// the entry ends has capacity for the trees inside it, and for no more.
 fn with_entry(
     alloc: Global,
     before: &[Entry],

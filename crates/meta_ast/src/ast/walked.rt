@@ -1,4 +1,4 @@
-//! Maps of expressions, and all that stands in them one by one.
+//! Maps of expressions, and iteration over their nodes in preorder.
 ghost use Rattle.std.specs.Prelude.{◌≡◌, alloc_error, IfErr, IfOk};
 ghost use Rattle.meta_ast.specs.Ast.{expression_of};
 ghost use Rattle.meta_ast.specs.ExprWalks.{expressions_left, unary_of};
@@ -14,8 +14,8 @@ use meta_base::runtime::Fault;
 use std::alloc::{AllocError, Global};
 
 impl Expr {
-    /// The expression and all that stands in it, each before what stands in it, the left side before the
-    /// right. The only fault is a want of memory.
+    /// Iterates over the expression and all expressions in it in preorder: node before operands, left
+    /// before right. The only error is allocation failure.
     pub fn iter_top_down(&self, alloc: Global) -> Result<ExprTopDownIterator, Fault>
         ensures whole { IfOk result (λ iter. expressions_left iter ≡ preorder (expression_of self.now)) }
         ensures memory { IfErr result (λ fault. fault ≡ Fault.Memory alloc_error) }
@@ -23,9 +23,9 @@ impl Expr {
         ExprTopDownIterator::new(alloc, self)
     }
 
-    /// The expression with `f` done at it, then at each operand of its answer, and so on down; the left side
-    /// comes before the right. `f` answers no more nodes than it gets. Refused for want of memory, or with
-    /// the first `Err` that `f` answers.
+    /// Applies `f` to the expression, then to each operand of its answer, and so on down, left before
+    /// right. `f` answers no more nodes than it gets. Fails where memory is refused, or with the first
+    /// `Err` of `f`.
     pub fn map_top_down<F>(self, alloc: Global, f: F) -> Result<Expr, Fault>
     where
         F: FnMut(Expr) -> Result<Expr, Fault> + Drop,
@@ -37,9 +37,8 @@ impl Expr {
         map_top_down(alloc, self, f)
     }
 
-    /// The expression with `f` done at what stands in each node, the left side before the right, and then at
-    /// the node with what that gives in it. Refused for want of memory, or with the first `Err` that `f`
-    /// answers.
+    /// Applies `f` to the operands of each node, left before right, and then to the node with their results
+    /// in it. Fails where memory is refused, or with the first `Err` of `f`.
     pub fn map_bottom_up<F>(self, alloc: Global, f: F) -> Result<Expr, Fault>
     where
         F: FnMut(Expr) -> Result<Expr, Fault> + Drop,
@@ -51,16 +50,16 @@ impl Expr {
     }
 }
 
-/// An expression and all that stands in it, each before what stands in it, the left side before the right,
-/// and each as often as it stands there. After an error there are none.
+/// An iterator over an expression and all expressions in it, in preorder, with repetitions. After an error
+/// it is empty.
 #[derive(Drop)]
 pub struct ExprTopDownIterator {
-    /// Those whose turn is still to come, with what stands in them. The last comes first.
+    /// The expressions still to be visited with all in them, the last first.
     stack: Deep<Vec<Expr>>,
 }
 
 impl ExprTopDownIterator {
-    /// What `Expr::iter_top_down` answers.
+    /// Returns the iterator of `Expr::iter_top_down`.
     pub fn new(alloc: Global, expr: &Expr) -> Result<ExprTopDownIterator, Fault>
         ensures whole { IfOk result (λ iter. expressions_left iter ≡ preorder (expression_of expr.now)) }
         ensures memory { IfErr result (λ fault. fault ≡ Fault.Memory alloc_error) }

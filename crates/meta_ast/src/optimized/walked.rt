@@ -1,5 +1,4 @@
-//! Maps of optimized expressions, and all that stands in them one by one. What lies below a wrapper is not
-//! met.
+//! Maps of optimized expressions, and iteration over their nodes in preorder. Walks do not enter a wrapper.
 ghost use Rattle.std.specs.Prelude.{◌≡◌, alloc_error, IfErr, IfOk};
 ghost use Rattle.meta_ast.specs.Optimized.{optimized_expression_of};
 ghost use Rattle.meta_ast.specs.OptimizedWalks.{optimized_expressions_left, optimized_unary_of};
@@ -15,8 +14,8 @@ use meta_base::runtime::Fault;
 use std::alloc::{AllocError, Global};
 
 impl OptimizedExpr {
-    /// The expression and all that stands in it, each before what stands in it, the left side before the
-    /// right. The only fault is a want of memory.
+    /// Iterates over the expression and all expressions in it in preorder: node before operands, left
+    /// before right. The only error is allocation failure.
     pub fn iter_top_down(&self, alloc: Global) -> Result<OptimizedExprTopDownIterator, Fault>
         ensures whole { IfOk result
             (λ iter. optimized_expressions_left iter ≡ preorder (optimized_expression_of self.now)) }
@@ -25,9 +24,9 @@ impl OptimizedExpr {
         OptimizedExprTopDownIterator::new(alloc, self)
     }
 
-    /// The expression with `f` done at it, then at each operand of its answer, and so on down; the left side
-    /// comes before the right. `f` answers no more nodes than it gets. Refused for want of memory, or with
-    /// the first `Err` that `f` answers.
+    /// Applies `f` to the expression, then to each operand of its answer, and so on down, left before
+    /// right. `f` answers no more nodes than it gets. Fails where memory is refused, or with the first
+    /// `Err` of `f`.
     pub fn map_top_down<F>(self, alloc: Global, f: F) -> Result<OptimizedExpr, Fault>
     where
         F: FnMut(OptimizedExpr) -> Result<OptimizedExpr, Fault> + Drop,
@@ -39,9 +38,8 @@ impl OptimizedExpr {
         map_top_down(alloc, self, f)
     }
 
-    /// The expression with `f` done at what stands in each node, the left side before the right, and then at
-    /// the node with what that gives in it. Refused for want of memory, or with the first `Err` that `f`
-    /// answers.
+    /// Applies `f` to the operands of each node, left before right, and then to the node with their results
+    /// in it. Fails where memory is refused, or with the first `Err` of `f`.
     pub fn map_bottom_up<F>(self, alloc: Global, f: F) -> Result<OptimizedExpr, Fault>
     where
         F: FnMut(OptimizedExpr) -> Result<OptimizedExpr, Fault> + Drop,
@@ -53,16 +51,16 @@ impl OptimizedExpr {
     }
 }
 
-/// An expression and all that stands in it, each before what stands in it, the left side before the right,
-/// and each as often as it stands there. After an error there are none.
+/// An iterator over an expression and all expressions in it, in preorder, with repetitions. After an error
+/// it is empty.
 #[derive(Drop)]
 pub struct OptimizedExprTopDownIterator {
-    /// Those whose turn is still to come, with what stands in them. The last comes first.
+    /// The expressions still to be visited with all in them, the last first.
     stack: Deep<Vec<OptimizedExpr>>,
 }
 
 impl OptimizedExprTopDownIterator {
-    /// What `OptimizedExpr::iter_top_down` answers.
+    /// Returns the iterator of `OptimizedExpr::iter_top_down`.
     pub fn new(alloc: Global, expr: &OptimizedExpr) -> Result<OptimizedExprTopDownIterator, Fault>
         ensures whole { IfOk result
             (λ iter. optimized_expressions_left iter ≡ preorder (optimized_expression_of expr.now)) }

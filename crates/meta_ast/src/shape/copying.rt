@@ -1,4 +1,4 @@
-//! Copies of trees, by a loop.
+//! Copies of trees, made iteratively.
 ghost use Rattle.std.specs.Prelude.{◌≡◌, ◌*◌, IfOk, ⊤};
 ghost use Rattle.meta_ast.specs.Copying.{waits_of, with_operand};
 
@@ -7,7 +7,7 @@ use crate::deep::{Deep, Release};
 use crate::rebuilt::{Rebuild, Step, rebuilt};
 use std::alloc::{AllocError, Global};
 
-/// The same tree again. The only fault is a want of memory.
+/// Copies a tree. The only error is allocation failure.
 pub fn copied<T: Shaped + Release>(tree: &T) -> Result<T, AllocError>
     ensures { IfOk result (λ copy. T.says copy ≡ T.says tree.now) }
 {
@@ -24,7 +24,7 @@ pub fn copied<T: Shaped + Release>(tree: &T) -> Result<T, AllocError>
     }
 }
 
-/// The same tree again, in a box of its own. The only fault is a want of memory.
+/// Copies a tree into a box of its own. The only error is allocation failure.
 pub fn copied_box<T: Shaped + Release>(tree: &Box<T>) -> Result<Box<T>, AllocError>
     ensures { IfOk result (λ copy. T.says copy.value ≡ T.says tree.now.value) }
 {
@@ -33,7 +33,7 @@ pub fn copied_box<T: Shaped + Release>(tree: &Box<T>) -> Result<Box<T>, AllocErr
     Ok(Deep { value }.boxed(alloc)?.into_inner())
 }
 
-/// What stands around an operand while it is copied.
+/// The context of an operand while it is copied.
 enum Around<'a, T: Release, S: Drop, J: Drop> {
     Sign(S),
     /// The operand is the left one, and this the right one.

@@ -7,7 +7,7 @@ use super::{Onward, Tree};
 use meta_base::runtime::Fault;
 use std::alloc::Global;
 
-/// The expression with `f` done at the operands of each node, and then at what that gives.
+/// Applies `f` to the operands of each node, and then to the node with their results.
 pub(crate) fn map_bottom_up<E: Tree, F: FnMut(E) -> Result<E, Fault> + Drop>(
     alloc: Global,
     expr: E,

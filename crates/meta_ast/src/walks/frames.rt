@@ -1,4 +1,4 @@
-//! One step of a map: an expression that is taken apart, or what stands round it put together again.
+//! One step of a map: an expression is destructured, or rebuilt from its frame.
 ghost use Rattle.std.specs.Prelude.{◌≡◌, ◌++◌, ◌∷◌, [], alloc_error, IfErr, IfOk, OnOk};
 ghost use Rattle.meta_ast.specs.Frames.{Closes, Opens};
 
@@ -7,8 +7,8 @@ use crate::deep::{Deep, Release};
 use meta_base::runtime::Fault;
 use std::alloc::Global;
 
-/// What is to be met next of an expression, with a frame for what stands round it. The only fault is a want
-/// of memory.
+/// Returns the next node of a walk at an expression, and pushes a frame for its context. The only error is
+/// allocation failure.
 pub(crate) fn opened<E: Tree>(
     frames: &mut Vec<Frame<E, E::Sign>>,
     expr: E,
@@ -33,8 +33,8 @@ pub(crate) fn opened<E: Tree>(
 }
 
 impl<E: Tree> Frame<E, E::Sign> {
-    /// What becomes of the frame, which stood behind these, once what stands in it is done. The only fault is
-    /// a want of memory.
+    /// Returns the next node after an operand of this frame, which followed `frames`, is done. The only
+    /// error is allocation failure.
     pub(crate) fn closed(
         self,
         alloc: Global,
@@ -57,7 +57,7 @@ impl<E: Tree> Frame<E, E::Sign> {
     }
 }
 
-// Puts a frame behind the others.
+// Pushes a frame.
 fn keep<E: Release, S: Drop>(frames: &mut Vec<Frame<E, S>>, frame: Frame<E, S>) -> Result<(), Fault>
     ensures kept { OnOk result (frames.new.items ≡ frames.old.items ++ (frame ∷ [])) }
     ensures memory { IfErr result (λ fault. fault ≡ Fault.Memory alloc_error) }
