@@ -44,8 +44,10 @@ fn fmt_escaped<W: fmt::Write>(f: &mut fmt::Formatter<W>, c: char, quote: char) -
 
 // Returns the escape of a character that has one of its own.
 fn escape_of(c: char) -> Option<&'static str>
-    ensures some { IfSome result (λ text. (quote : ℕ) → c ≢ quote → text.now ≡ encode_utf8_all (escaped quote c)) }
-    ensures none { IfNone result ((quote : ℕ) → c ≢ quote → escaped quote c ≡ cond (is_control c) (numbered c) (c ∷ [])) }
+    ensures some { IfSome result (λ text.
+        (quote : ℕ) → c ≢ quote → text.now ≡ encode_utf8_all (escaped quote c)) }
+    ensures none { IfNone result ((quote : ℕ) → c ≢ quote
+        → escaped quote c ≡ cond (is_control c) (numbered c) (c ∷ [])) }
 {
     match c {
         '\0' => Some("\\0"),

@@ -1,5 +1,5 @@
-//! What the derived clone, `==`, order and hash of this crate's types answer: laws on the ghost members of
-//! the derived impls, which the derived methods are proved to answer.
+//! Laws of the derived clone, `==`, order and hash of this crate's types, on the ghost members of the
+//! derived impls, which the derived methods are proved to answer.
 ghost use Rattle.std.specs.Prelude.{◌≡◌, ◌↔◌, ℕ, Some, IsTrue, Contains, slice_get};
 ghost use Rattle.std.specs.Ordering.{nat_cmp};
 ghost use Rattle.std.specs.Hash as fed;
@@ -68,12 +68,12 @@ pub fn equality_of_spans()
         ↔ (piece_of a ≡ piece_of b) }
 {}
 
-/// Two positions are equal where they stand before one byte of texts that are equal.
+/// Two positions are equal where they are before one byte of texts that are equal.
 pub fn equality_of_positions()
     ensures { (a b : Position) → IsTrue (⟦<Position<'static> as PartialEq>⟧.eq a b) ↔ SamePlace a b }
 {}
 
-/// What is wrong is equal where both times no rule matched, or both times the message is the same.
+/// Two variants are equal where both times no rule matched, or both messages are equal.
 pub fn equality_of_variants()
     ensures { (a b : ErrorVariant) → IsTrue (⟦<ErrorVariant as PartialEq>⟧.eq a b) ↔ SaySame a b }
 {}
@@ -88,7 +88,7 @@ pub fn equality_of_lines_and_columns()
     ensures { (a b : LineColLocation) → IsTrue (⟦<LineColLocation as PartialEq>⟧.eq a b) ↔ (a ≡ b) }
 {}
 
-/// Two errors are equal where they say the same, stand at the same places and print the same line.
+/// Two errors are equal where their messages, positions and printed lines are equal.
 pub fn equality_of_errors<R>()
     ensures { (a b : Error R) → IsTrue (⟦<Error<R> as PartialEq>⟧.eq a b) ↔ SameError a b }
 {}

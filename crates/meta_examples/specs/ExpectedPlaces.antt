@@ -1,4 +1,4 @@
--- What is expected where a match gets no further.
+-- Expected names where a match gets no further.
 use Rattle.std.specs.Prelude.{◌≡◌, List, [], ◌∷◌, codes}
 use Rattle.meta_base.specs.Language.Text.{Text}
 use Rattle.meta_base.specs.Language.Expression.{Expression, Str, Ident, Seq, Choice, Opt, NegPred, PosPred, RuleType, Normal, Silent, Atomic, CompoundAtomic, Grammar}

@@ -1,4 +1,4 @@
--- Which failures count for the place that an error tells of.
+-- Failures that count for the position of an error.
 use Rattle.std.specs.Prelude.{◌≡◌, ℕ, [], ◌∷◌, codes}
 use Rattle.meta_base.specs.Language.Text.{Text}
 use Rattle.meta_base.specs.Language.Expression.{Expression, Str, Ident, Seq, Choice, NegPred, RuleType, Normal, Atomic, CompoundAtomic, Grammar}
@@ -7,7 +7,7 @@ use Rattle.meta_base.specs.Language.Meaning.{Matches}
 use Rattle.meta_base.specs.Language.FurthestFailure.{furthest}
 use Rattle.meta_examples.specs.SmallGrammars.{at_start, end_of}
 
--- the rule `a` has this outcome on a text, and the furthest failure that counts stands here
+-- the rule `a` has this outcome on a text, and this is the position of the furthest failure that counts
 pub record ComesTo (g : Grammar) (classes : Classes) (t : Text) (o : Outcome) (place : ℕ) : Type 0 where
   pub outcome : Matches g classes (Ident (codes "a")) NonAtomicMode (at_start t) o
   pub furthest_failure : (d : Matches g classes (Ident (codes "a")) NonAtomicMode (at_start t) o)

@@ -1,5 +1,5 @@
-//! Which items' flags hang on which others: for each item a list of those that listen to it. What is asked of
-//! the lists is only that they save time; no flag rests on them.
+//! The dependency graph of flags: for each item the list of its listeners, whose flags depend on its own.
+//! The lists only save time; no flag's correctness rests on them.
 use std::alloc::{AllocError, Global};
 
 /// Items that are known by number, each of which listens to some of them.
@@ -7,13 +7,13 @@ pub trait Listening {
     /// How many items there are.
     fn count(&self) -> usize;
 
-    /// Tells each one to which an item listens.
+    /// Calls `listens_to` for each item to which this one listens.
     fn tell<T: Told>(&self, item: usize, told: &mut T);
 }
 
-/// Whoever is told to which items one listens.
+/// A visitor of the items to which one item listens.
 pub trait Told {
-    /// It listens to this one.
+    /// Visits an item to which the current one listens.
     fn listens_to(&mut self, item: usize);
 }
 
@@ -84,7 +84,7 @@ fn counts_of<L: Listening>(alloc: Global, listening: &L) -> Result<Vec<usize>, A
     Ok(told.counts)
 }
 
-/// Each number becomes its sum with those in front of it; and the sum of all.
+/// Replaces each number by its sum with those before it, and returns the total.
 fn add_up(counts: &mut [usize]) -> usize {
     let mut sum: usize = 0;
     for count in counts.iter_mut() {

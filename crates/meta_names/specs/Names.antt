@@ -31,7 +31,7 @@ AreIn text (place ∷ places) = (place.text ≡ text) × AreIn text places
 abbrev pub places_of : List Text → List Span → List Span
 places_of names places = filter (λ place. is_one_of names (written place)) places
 
--- the places whose names stand at a place before them, or are among these
+-- the pieces whose names occur at an earlier piece, or are among these
 abbrev pub later_places : List Text → List Span → List Span
 later_places before [] = []
 later_places before (place ∷ places) =
@@ -52,7 +52,7 @@ undefined_calls definitions calls =
     && not (is_builtin (written call)))
     calls
 
--- the same of the name at each place, between two words
+-- an error about the name of each piece, between two words
 abbrev pub said : Text → Text → List Span → List Complaint
 said before after places =
     map (λ place. record { message = before ++ written place ++ after; span = place }) places
@@ -72,7 +72,7 @@ abbrev pub duplicate_complaints : List Span → List Complaint
 duplicate_complaints definitions =
     said (codes "rule ") (codes " already defined") (later_places [] definitions)
 
--- calls of what is neither defined nor a builtin
+-- calls of names that are neither defined nor a builtin
 abbrev pub undefined_complaints : List Span → List Span → List Complaint
 undefined_complaints definitions calls =
     said (codes "rule ") (codes " is undefined") (undefined_calls definitions calls)

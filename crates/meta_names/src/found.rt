@@ -38,7 +38,7 @@ fn add_own_name<'i>(
     Ok(())
 }
 
-/// Leaves what is in a tree, and what is behind it, for later: what is in it comes first.
+/// Pushes the trees after a tree, and then the trees in it, which are read first.
 fn leave<'t>(
     tree: FirstTree<'t, Rule>,
     waiting: &mut Vec<&'t [TokenTree<Rule>]>,
@@ -105,8 +105,8 @@ fn add_calls<'i>(
     }
 }
 
-/// The places of the names that the rules of a grammar define, in the order of the text. `trees` stand in
-/// `text`; places count bytes.
+/// Collects the names that the rules of a grammar define, in the order of the text, by spans in bytes.
+/// `trees` are within `text`.
 pub(crate) fn definitions<'i>(
     alloc: Global,
     text: &'i str,
@@ -127,8 +127,8 @@ pub(crate) fn definitions<'i>(
     Ok(found)
 }
 
-/// The places of the names that the rules of a grammar call, in the order of the text. `trees` stand in
-/// `text`; places count bytes.
+/// Collects the names that the rules of a grammar call, in the order of the text, by spans in bytes.
+/// `trees` are within `text`.
 pub(crate) fn calls<'i>(
     alloc: Global,
     text: &'i str,

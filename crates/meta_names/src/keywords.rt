@@ -10,8 +10,8 @@ use meta_base::runtime::{Error, Fault, Span};
 use std::alloc::{AllocError, Global};
 use std::collections::HashSet;
 
-/// An error `NAME is a rust keyword` at each of these definitions whose name Rust keeps for itself, in
-/// their order. The only fault is a want of memory.
+/// Reports `NAME is a rust keyword` at each of these definitions whose name Rust reserves, in their order.
+/// The only error is allocation failure.
 pub fn validate_rust_keywords(
     alloc: Global,
     definitions: &Vec<Span<'_>>,
@@ -24,8 +24,8 @@ pub fn validate_rust_keywords(
     errors(alloc, "", " is a rust keyword", &words)
 }
 
-/// An error `NAME is a pest keyword` at each of these definitions whose name pest keeps for itself, in
-/// their order. The only fault is a want of memory.
+/// Reports `NAME is a pest keyword` at each of these definitions whose name pest reserves, in their order.
+/// The only error is allocation failure.
 pub fn validate_pest_keywords(
     alloc: Global,
     definitions: &Vec<Span<'_>>,
@@ -38,8 +38,8 @@ pub fn validate_pest_keywords(
     errors(alloc, "", " is a pest keyword", &words)
 }
 
-/// An error `rule NAME already defined` at each of these definitions that has one of its name before it,
-/// in their order. The only fault is a want of memory.
+/// Reports `rule NAME already defined` at each of these definitions that has an earlier one of its name, in
+/// their order. The only error is allocation failure.
 pub fn validate_already_defined(
     alloc: Global,
     definitions: &Vec<Span<'_>>,
@@ -82,7 +82,7 @@ pub(crate) fn already_defined_in(
     errors_in(alloc, text, "rule ", " already defined", &found)
 }
 
-/// Those of these places whose name stands at a place before them, in their order.
+/// Collects the spans whose name occurs at an earlier span, in their order.
 fn later<'i>(alloc: Global, places: &[Span<'i>]) -> Result<Vec<Span<'i>>, AllocError>
     ensures { IfOk result (λ later. map piece_of later.items ≡ later_places [] (map piece_of places.now)) }
 {
@@ -96,7 +96,7 @@ fn later<'i>(alloc: Global, places: &[Span<'i>]) -> Result<Vec<Span<'i>>, AllocE
     Ok(later)
 }
 
-/// Those of these places whose name is among `names`, in their order.
+/// Collects the spans whose name is among `names`, in their order.
 fn places_of<'i>(
     alloc: Global,
     names: &[&str],

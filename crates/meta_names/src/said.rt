@@ -9,8 +9,8 @@ use meta_base::grammar::Rule;
 use meta_base::runtime::{Error, ErrorVariant, Fault, Span, Survey};
 use std::alloc::{AllocError, Global};
 
-/// The error that says the name at a place, between `before` and `after`. The only fault is a want of
-/// memory.
+/// Makes an error about the name at a span, with the message `before`, name, `after`. The only error is
+/// allocation failure.
 fn error(alloc: Global, before: &str, after: &str, place: Span<'_>) -> Result<Error<Rule>, Fault>
     ensures says { IfOk result
         (SaysAt (before.now ++ written (piece_of place.entry) ++ after.now) (piece_of place.entry)) }
@@ -21,8 +21,8 @@ fn error(alloc: Global, before: &str, after: &str, place: Span<'_>) -> Result<Er
     Error::new_from_span(alloc, ErrorVariant::CustomError { message }, place)
 }
 
-/// An error at each of these places, in their order: it says the name that is written there, between
-/// `before` and `after`. The only fault is a want of memory.
+/// Makes an error about the name at each of these spans, in their order, with the message `before`, name,
+/// `after`. The only error is allocation failure.
 pub(crate) fn errors(
     alloc: Global,
     before: &str,
@@ -41,8 +41,8 @@ pub(crate) fn errors(
     Ok(errors)
 }
 
-/// The error that says the name at a place of a text that was surveyed, between `before` and `after`. The
-/// only fault is a want of memory.
+/// Makes an error about the name at a span of a surveyed text, with the message `before`, name, `after`.
+/// The only error is allocation failure.
 fn error_in(
     alloc: Global,
     survey: &mut Survey<'_>,

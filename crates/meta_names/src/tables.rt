@@ -196,7 +196,7 @@ pub(crate) fn is_among(names: &[&str], name: &str) -> bool
     names.contains(&name)
 }
 
-/// Whether a grammar need not define `name`: it is the name of a builtin or of a property of Unicode.
+/// Whether a grammar need not define `name`, since a builtin or a property of Unicode has that name.
 pub fn is_builtin(name: &str) -> bool
     ensures written { result ≡ spec.is_builtin name.now }
     ensures named { result ≡ spec.is_builtin (chars name.now) }
@@ -204,7 +204,7 @@ pub fn is_builtin(name: &str) -> bool
     is_known(name)
 }
 
-/// The same, by the bytes of the names.
+/// Whether a grammar need not define `name`, by the bytes of the names.
 fn is_known(name: &str) -> bool
     ensures { result ≡ spec.is_builtin name.now }
 {

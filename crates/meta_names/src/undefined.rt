@@ -1,4 +1,4 @@
-//! Calls of what is not defined.
+//! Calls of undefined names.
 ghost use Rattle.std.specs.Prelude.{◌≡◌, IfErr, IfOk, alloc_error, filter, map};
 ghost use Rattle.meta_base.specs.Pieces.Saying.{Tell, piece_of, written};
 ghost use Rattle.meta_names.specs.NameSets.{HasNames, is_outside, is_unknown};
@@ -11,8 +11,8 @@ use meta_base::runtime::{Error, Fault, Span};
 use std::alloc::{AllocError, Global};
 use std::collections::HashSet;
 
-/// An error `rule NAME is undefined` at each of these calls whose name is neither that of a definition nor
-/// a builtin's, in the order of the calls. The only fault is a want of memory.
+/// Reports `rule NAME is undefined` at each of these calls whose name is neither defined nor a builtin's,
+/// in the order of the calls. The only error is allocation failure.
 pub fn validate_undefined<'i>(
     alloc: Global,
     definitions: &Vec<Span<'i>>,
@@ -44,7 +44,7 @@ pub(crate) fn undefined_in<'i>(
     errors_in(alloc, text, "rule ", " is undefined", &found)
 }
 
-/// Those of the calls whose name is neither that of a definition nor a builtin's, in their order.
+/// Collects the calls whose name is neither defined nor a builtin's, in their order.
 fn undefined<'i>(
     alloc: Global,
     definitions: &[Span<'i>],
@@ -58,7 +58,7 @@ fn undefined<'i>(
     Ok(calls)
 }
 
-/// Those of the calls whose name is neither in a set of names nor a builtin's, in their order.
+/// Collects the calls whose name is neither in a set of names nor a builtin's, in their order.
 fn calls_outside<'i>(
     alloc: Global,
     defined: &HashSet<&str>,

@@ -1,4 +1,4 @@
--- What stands around an operand whose spans are left out.
+-- The context of an operand whose spans are erased.
 use Rattle.std.specs.Prelude.{ℕ, ◌+◌, ◌*◌}
 use Rattle.meta_base.specs.Language.Expression.{Expression}
 use Rattle.meta_ast.specs.Ast.{expression_of}

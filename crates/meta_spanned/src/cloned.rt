@@ -37,7 +37,7 @@ impl<'i> Clone for ParserExpr<'i> {
     }
 }
 
-/// The same expression again. The only fault is a want of memory.
+/// Copies an expression. The only error is allocation failure.
 fn copy_expr<'i>(expr: &ParserExpr<'i>) -> Result<ParserExpr<'i>, AllocError>
     ensures { IfOk result (λ copy. IsSameExpression copy expr.now) }
 {

@@ -84,7 +84,7 @@ impl<'i> Compared for ParserNode<'i> {
     }
 }
 
-/// What is left to be compared of two expressions, once all but their operands is.
+/// Compares two expressions except their operands, and returns the comparisons that remain.
 fn compared<'n, 'i>(a: &'n ParserExpr<'i>, b: &'n ParserExpr<'i>) -> Left<'n, ParserNode<'i>>
     ensures same { is_same (λ x y. spanned_eq (view x) (view y)) result
         ≡ spanned_eq (unplaced a.entry.now) (unplaced b.entry.now) }

@@ -17,9 +17,10 @@ use meta_ast::rebuilt::{Rebuild, Step, rebuilt};
 use meta_ast::shape::{Joint, Shape, Shaped};
 use std::alloc::{AllocError, Global};
 
-/// The same rules, in order, without the spans of their names and nodes. The only fault is a want of memory.
+/// Returns the rules in order, without the spans of their names and nodes. The only error is allocation
+/// failure.
 ///
-/// Texts are handed on and not copied. What is wide or deep takes no more of the machine's stack.
+/// Texts are moved and not copied. Neither width nor depth takes stack space.
 pub fn erase_spans(alloc: Global, rules: Vec<ParserRule<'_>>) -> Result<Vec<Rule>, AllocError>
     ensures { IfOk result
         (λ erased. rules_of erased.items ≡ rules_without_spans (rule_views rules.entry.items)) }
@@ -37,7 +38,7 @@ pub fn erase_spans(alloc: Global, rules: Vec<ParserRule<'_>>) -> Result<Vec<Rule
     Ok(erased.into_inner())
 }
 
-/// The same rule without its spans.
+/// Returns a rule without its spans.
 fn erased_rule(alloc: Global, rule: ParserRule<'_>) -> Result<Rule, AllocError>
     ensures { IfOk result (λ erased. rule_of_code erased ≡ rule_without_spans (rule_view rule.entry)) }
 {
@@ -46,13 +47,13 @@ fn erased_rule(alloc: Global, rule: ParserRule<'_>) -> Result<Rule, AllocError>
     Ok(Rule { name, ty, expr })
 }
 
-/// What stands around an operand while its spans are left out.
+/// The context of an operand while its spans are erased.
 #[derive(Drop)]
 enum Around<'i> {
     Sign(Sign),
     /// The operand is the left one, and this the right one.
     First(Joint, Deep<ParserNode<'i>>),
-    /// The operand is the right one, and this what the left one is without spans.
+    /// The operand is the right one, and this the left one without spans.
     Second(Joint, Deep<Box<Expr>>),
 }
 

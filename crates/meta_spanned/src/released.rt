@@ -1,19 +1,19 @@
-//! Letting go of rules and nodes by a loop.
+//! Iterative drop of rules and nodes.
 use crate::node::{ParserExpr, ParserNode, ParserRule};
 use crate::shaped::opened;
 use meta_ast::deep::Release;
 use meta_ast::shape::{Shape, let_go};
 
-/// Lets rules go, the body of each as [`ParserNode::release`] does.
+/// Drops rules, the body of each as [`ParserNode::release`] does.
 pub fn release(rules: Vec<ParserRule<'_>>) {
     rules.release();
 }
 
 impl<'i> ParserNode<'i> {
-    /// Lets the node go by a loop, without memory.
+    /// Drops the node iteratively, without allocating.
     ///
-    /// A node that goes out of scope is let go by a call a level, so a chain of very many parts takes very
-    /// much of the machine's stack; this takes the same for each.
+    /// A node that goes out of scope is dropped recursively, so a chain of very many parts takes very much
+    /// stack space; this takes a constant amount.
     pub fn release(self) {
         let_go(self);
     }

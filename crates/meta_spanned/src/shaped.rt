@@ -1,4 +1,4 @@
-//! Nodes taken apart and put together again.
+//! Destructures and rebuilds nodes.
 ghost use Rattle.std.specs.Prelude.{◌≡◌, ◌+◌, ◌*◌, ◌≤◌, ◌<◌, IfOk};
 ghost use Rattle.meta_ast.specs.Shapes.{heaviness_of, meaning_of, LeafIs};
 ghost use Rattle.meta_ast.specs.Weight.{weight};
@@ -13,14 +13,14 @@ use meta_ast::shape::{Joint, Shape, Shaped};
 use meta_base::runtime::Span;
 use std::alloc::AllocError;
 
-/// What stands round the operand of a node, and where the node stands.
+/// The operator over the operand of a node, and the span of the node.
 #[derive(Drop)]
 pub struct Around<'i> {
     pub sign: Sign,
     pub span: Span<'i>,
 }
 
-/// What stands between the operands of a node, and where the node stands.
+/// The operator between the operands of a node, and the span of the node.
 #[derive(Drop)]
 pub struct Between<'i> {
     pub joint: Joint,
@@ -108,7 +108,7 @@ impl<'i> Shaped for ParserNode<'i> {
     }
 }
 
-/// An expression taken apart. What has no operands is left whole.
+/// Destructures an expression. An expression without operands is kept whole.
 pub(crate) fn opened<'i>(
     expr: ParserExpr<'i>,
 ) -> Shape<ParserExpr<'i>, Sign, Joint, Box<ParserNode<'i>>>
@@ -139,8 +139,8 @@ pub(crate) fn opened<'i>(
     Shape::One(sign, operand)
 }
 
-/// The shape of an expression: its operands as they stand there, and copies of all else. The only fault is a
-/// want of memory.
+/// Returns the shape of an expression, with its operands borrowed and copies of all else. The only error is
+/// allocation failure.
 pub(crate) fn seen<'n, 'i>(
     expr: &'n ParserExpr<'i>,
 ) -> Result<Shape<ParserExpr<'i>, Sign, Joint, &'n Box<ParserNode<'i>>>, AllocError>

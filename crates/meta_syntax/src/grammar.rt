@@ -54,8 +54,8 @@ impl PestParser {
         Ok(recognizer.into_entries())
     }
 
-    /// Returns the rules that would have let the text get further: those expected at the position of the
-    /// error of `parse`, `EOI` among them, in the order of the meta-grammar (`EOI` first), each once.
+    /// Returns the expected set at the position of the error of `parse`, `EOI` included, in the order of the
+    /// meta-grammar (`EOI` first), without repetitions.
     ///
     /// A rule is expected there if a call of it that began at that position failed, gives a token, was made
     /// in a mode other than Atomic and not below a `!`, and is within no other such call. The list is empty

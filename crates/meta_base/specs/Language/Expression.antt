@@ -65,7 +65,7 @@ whitespace = codes "WHITESPACE"
 unfoldable pub comment : Text
 comment = codes "COMMENT"
 
--- an expression and what stands in it
+-- an expression and its parts
 pub data Part : Expression → Expression → Type 0 where
   whole : {e : Expression} → Part e e
   of_pos_pred : {e p : Expression} → Part e p → Part (PosPred e) p

@@ -22,7 +22,7 @@ pub data Unrolls : Expression → Expression → Type 0 where
   unroll_max : {e : Expression} {i : ℕ} → Unrolls (RepMax e i) (at_most e i)
   unroll_min_max : {e : Expression} {i j : ℕ} → Unrolls (RepMinMax e i j) (from_to e i j)
 
--- the strings that an expression stands for, names being looked up in g
+-- the strings that an expression matches as a choice of literals, with names looked up in g
 pub data Strings (g : Grammar) : Expression → List Text → Type 0 where
   one : {t : Text} → Strings g (Str t) (t ∷ [])
   named : {n : Text} {r : Rule} {ts : List Text} → rule_of g n ≡ Some r → Strings g r.body ts
@@ -83,7 +83,7 @@ module _ (R : Expression → Expression → Type 0) where
     no_step : {a : Expression} → Many a a
     one_step : {a b c : Expression} → Within a b → Many b c → Many a c
 
-  -- it applies nowhere
+  -- the rewriting applies nowhere
   abbrev pub Nowhere : Expression → Type 0
   Nowhere e = (p q : Expression) → Part e p → R p q → ⊥
 
@@ -111,7 +111,7 @@ pub data EachBody (P : RuleType → Expression → Expression → Type 0) : Gram
   also_rule : {r : Rule} {b : Expression} {rs qs : Grammar} → P r.type_of r.body b → EachBody P rs qs
       → EachBody P (r ∷ rs) (record r { body = b } ∷ qs)
 
--- what a pass does: any number of rewritings in each rule, names being looked up in g throughout
+-- the result of a pass: any number of rewritings in each rule, with names looked up in g throughout
 abbrev pub EachRewritten : Grammar → Grammar → Grammar → Type 0
 EachRewritten g = EachBody (λ y. Many (Rewrites g y))
 

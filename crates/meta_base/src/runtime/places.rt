@@ -44,8 +44,8 @@ impl<'i> Span<'i> {
         }
     }
 
-    /// The part of `text` from byte `start` up to byte `end`, where these stand in it in this order, each
-    /// between two characters.
+    /// Returns the part of `text` from byte `start` up to byte `end`, which are in this order, within the
+    /// text and between two characters.
     pub fn of(text: &'i str, start: usize, end: usize) -> Span<'i>
         requires ordered { start ≤ end }
         requires starts_at_character { IsCharBoundary text.now start }
@@ -125,7 +125,7 @@ impl<'i> Position<'i> {
         }
     }
 
-    /// How many bytes of the text stand before the place.
+    /// Returns the position in bytes from the start of the text.
     pub fn pos(&self) -> usize
         ensures { result ≡ position_offset self.now }
     {
@@ -143,14 +143,14 @@ impl<'i> Position<'i> {
         (line, column)
     }
 
-    /// What stands before the place.
+    /// Returns the text before the position.
     pub(crate) fn before(&self) -> &'i str
         ensures { result.now ≡ take (position_offset self.now) (position_text self.now) }
     {
         &self.text[..self.pos]
     }
 
-    /// What stands after the place.
+    /// Returns the text after the position.
     pub(crate) fn after(&self) -> &'i str
         ensures { result.now ≡ drop (position_offset self.now) (position_text self.now) }
     {

@@ -14,7 +14,7 @@ use super::places::Position;
 use std::alloc::{AllocError, Global};
 use std::sync::Arc;
 
-/// How many bytes of the text stand between one landmark and the next, but for parts of a character.
+/// The distance of landmarks in bytes, up to parts of a character.
 const STRIDE: usize = 256;
 
 /// Where every text begins.
@@ -32,7 +32,7 @@ pub(crate) struct Landmark {
     pub column: usize,
 }
 
-/// A line of a text as it is printed, and a landmark that stands in it.
+/// A line of a text as it is printed, and a landmark in it.
 #[derive(Drop)]
 struct KnownLine {
     landmark: Landmark,
@@ -53,7 +53,7 @@ pub struct Survey<'i> {
 impl<'i> Survey<'i> {
     ghost use Rattle.meta_base.specs.Pieces.Survey.{survey_text};
 
-    /// A survey of `text`. The only fault is a want of memory.
+    /// Surveys `text`. The only error is allocation failure.
     pub fn new(alloc: Global, text: &'i str) -> Result<Survey<'i>, AllocError>
         ensures { IfOk result (λ survey. survey_text survey ≡ text.now) }
     {
@@ -82,7 +82,7 @@ impl<'i> Survey<'i> {
         self.landmark_before(place).moved(self.text, place)
     }
 
-    /// A landmark that stands at a place or not far before it.
+    /// Returns a landmark at a position or shortly before it.
     fn landmark_before(&self, place: usize) -> Landmark
         ensures landmark { IsLandmark (survey_text self.now) result }
         ensures before { result.place ≤ place }
@@ -93,8 +93,8 @@ impl<'i> Survey<'i> {
         }
     }
 
-    /// The line in which a landmark stands, without any `\r` and `\n`: the one that was asked for last is
-    /// kept, and shared where it is asked for again.
+    /// Returns the line of a landmark, without any `\r` and `\n`. The last such line is kept, and shared by
+    /// a call for the same line.
     pub(crate) fn line_at(
         &mut self,
         alloc: Global,
@@ -118,7 +118,7 @@ impl<'i> Survey<'i> {
 }
 
 impl Landmark {
-    /// The landmark at a place that stands at this one or behind it.
+    /// Moves the landmark to a position that is not before it.
     fn moved(self, text: &str, place: usize) -> Landmark
         requires landmark { IsLandmark text.now self }
         requires between { IsCharBoundary text.now place }
@@ -136,7 +136,7 @@ impl Landmark {
     }
 }
 
-/// The column behind a piece of a text that begins at `column`.
+/// Returns the column after a piece of a text that begins at `column`.
 fn column_behind(column: usize, passed: &str) -> usize
     requires from_one { 1 ≤ column }
     requires fits { column + length passed.now < 2 ^ 64 }
@@ -167,7 +167,7 @@ fn landmarks(alloc: Global, text: &str) -> Result<Vec<Landmark>, AllocError>
     Ok(landmarks)
 }
 
-/// The line in which a place stands, without any `\r` and `\n`.
+/// Returns the line of a position, without any `\r` and `\n`.
 fn line_of(alloc: Global, text: &str, place: usize) -> Result<Arc<String>, AllocError>
     requires between { IsCharBoundary text.now place }
     ensures { IfOk result (λ line. string_bytes (arc_value line) ≡ printed_line text.now place) }

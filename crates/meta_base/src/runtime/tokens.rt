@@ -52,7 +52,7 @@ impl<'i, R: Copy> Pair<'i, R> {
         &self.text[self.start..self.end]
     }
 
-    /// The same part, as a span.
+    /// Returns the matched part as a span.
     pub fn as_span(&self) -> Span<'i>
         ensures text { span_text result ≡ pair_text self.now }
         ensures start { span_start result ≡ pair_start self.now }
@@ -61,7 +61,7 @@ impl<'i, R: Copy> Pair<'i, R> {
         Span::of(self.text, self.start, self.end)
     }
 
-    /// The pairs of the rules inside this one. They lie in the part that it matched.
+    /// Returns the pairs of the rules inside this one, in the part that it matched.
     pub fn into_inner(self) -> Pairs<'i, R>
         ensures text { pairs_text result ≡ pair_text self.entry }
         ensures trees { pairs_trees result ≡ pair_inner self.entry }
@@ -103,8 +103,7 @@ impl<'i, R: Copy> Pairs<'i, R> {
         &self.rest
     }
 
-    /// These pairs and all pairs inside them, each before those inside it. The only fault is a want of
-    /// memory.
+    /// Collects these pairs and all pairs inside them, in preorder. The only error is allocation failure.
     pub fn flatten(self, alloc: Global) -> Result<FlatPairs<'i, R>, Fault>
         ensures text { IfOk result (λ flat. flat_text flat ≡ pairs_text self.entry) }
         ensures pairs { IfOk result (λ flat. flat_pairs flat ≡ preorder (pairs_trees self.entry)) }
@@ -163,7 +162,7 @@ impl<'i, R: Copy> Iterator for Pairs<'i, R> {
 #[derive(Drop)]
 pub struct FlatPairs<'i, R> {
     text: &'i str,
-    /// Those still to come. The last tree comes first.
+    /// The remaining trees, the last first.
     rest: Vec<TokenTree<R>>,
     alloc: Global,
     pub ghost nested: { AreNestedIn text.now rest.items } by { AreNestedIn-prop text.now rest.items },

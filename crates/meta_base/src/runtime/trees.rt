@@ -8,7 +8,7 @@ use std::mem::swap;
 
 /// A rule with the part of a text that it matched, in bytes, and the trees of the rules inside it.
 ///
-/// However deep it is, it is let go by a loop wherever it goes out of scope, without memory.
+/// A tree of any depth is dropped iteratively wherever it goes out of scope, without allocating.
 pub struct TokenTree<R> {
     pub(crate) rule: R,
     pub(crate) start: usize,
@@ -32,7 +32,7 @@ impl<R> TokenTree<R> {
     }
 }
 
-/// What a tree is made of.
+/// The parts of a tree.
 #[derive(Drop)]
 pub(crate) struct TreeParts<R> {
     pub(crate) rule: R,
@@ -43,7 +43,7 @@ pub(crate) struct TreeParts<R> {
 }
 
 impl<R> TokenTree<R> {
-    /// The parts of the tree, which is taken apart.
+    /// Destructures the tree.
     pub(crate) fn into_parts(self) -> TreeParts<R>
         ensures { tree_of self
             ≡ Token result.rule result.start result.end (trees_of result.inner.items) NoTokens }
@@ -64,8 +64,8 @@ impl<R> TokenTree<R> {
 }
 
 impl<R: Drop> Drop for TokenTree<R> {
-    /// Lets the trees go from the last to the first of each list. A tree that is gone into keeps the list
-    /// above its own in the place of the trees inside it: so the way back up takes no memory.
+    /// Drops the trees from the last to the first of each list. The list above one that is entered is kept
+    /// in the place of the entered trees: so the way back up takes no memory.
     fn drop(self) {
         let mut trees = self.into_parts().inner;
         let mut above = Vec::new(*trees.allocator());
@@ -116,7 +116,7 @@ pub fn first_tree<R: Copy>(trees: &[TokenTree<R>]) -> Option<FirstTree<'_, R>>
     })
 }
 
-/// A tree whose copy is begun, the trees behind it that are still to be copied, and the copies of those
+/// A tree whose copy is begun, the trees after it that are still to be copied, and the copies of those
 /// before it.
 #[derive(Drop)]
 struct Begun<'t, R> {
@@ -125,8 +125,8 @@ struct Begun<'t, R> {
     copies: Vec<TokenTree<R>>,
 }
 
-/// A copy of `trees`, in the same order. The trees whose copies are begun lie in a list, so what is deep
-/// takes memory and not the machine's stack.
+/// Copies `trees`, in order. Trees whose copies are begun are on an explicit stack, so depth takes memory
+/// and no stack space.
 pub(crate) fn copies<R: Copy>(
     alloc: Global,
     trees: &Vec<TokenTree<R>>,
