@@ -95,11 +95,11 @@ fn in_place(alloc: Global, around: &Around<'_>, form: Form) -> Result<Deep<Box<F
 {
     match around {
         Around::FirstOfChoice(_) | Around::SecondOfChoice(_) => {
-            Ok(Deep { value: form }.boxed(alloc)?)
+            Ok(Deep { value: form }.into_box(alloc)?)
         }
         _ => {
             let value = gathered(alloc, form)?;
-            Ok(Deep { value }.boxed(alloc)?)
+            Ok(Deep { value }.into_box(alloc)?)
         }
     }
 }

@@ -63,7 +63,7 @@ impl<T: Release> Deep<T> {
     }
 
     /// Moves the value into a box. Where memory is refused for the box, the value is dropped.
-    pub fn boxed(self, alloc: Global) -> Result<Deep<Box<T>>, AllocError>
+    pub fn into_box(self, alloc: Global) -> Result<Deep<Box<T>>, AllocError>
         ensures { IfOk result (λ boxed. boxed.value.value ≡ self.value) }
     {
         match Box::new(alloc, self.into_inner()) {

@@ -60,7 +60,7 @@ pub trait Rebuild: Drop {
 }
 
 /// Builds a tree from another one, in the contexts that `R` defines. The only error is allocation failure.
-pub fn rebuilt<R: Rebuild>(alloc: Global, source: R::Source) -> Result<R::Target, AllocError>
+pub fn rebuild_tree<R: Rebuild>(alloc: Global, source: R::Source) -> Result<R::Target, AllocError>
     requires { R.is_right source }
     ensures { IfOk result (λ tree. R.made tree ≡ R.says source) }
 {

@@ -4,7 +4,7 @@ mod copying;
 ghost use Rattle.std.specs.Prelude.{◌≡◌, ◌+◌, ◌*◌, ◌≤◌, ◌<◌, ℕ, IfOk};
 ghost use Rattle.meta_ast.specs.Shapes.{heaviness_of, meaning_of, LeafIs};
 
-pub use copying::{copied, copied_box};
+pub use copying::{copy_box, copy_tree};
 use std::alloc::AllocError;
 
 /// The operator between two operands.
@@ -83,7 +83,7 @@ pub trait Shaped: Drop {
 }
 
 /// Drops a tree iteratively, without allocating.
-pub fn let_go<T: Shaped>(tree: T) {
+pub fn release_tree<T: Shaped>(tree: T) {
     let mut rest = tree;
     'parts: loop {
         match rest.open() {
@@ -97,14 +97,14 @@ pub fn let_go<T: Shaped>(tree: T) {
             }
             Shape::Two(joint, left, right) => {
                 drop(joint);
-                rest = leaned(left, right);
+                rest = drop_left_operator(left, right);
             }
         }
     }
 }
 
 /// Drops the operator on the left of two sides, or all of the left side, and chains the rest.
-fn leaned<T: Shaped>(mut left: Box<T>, right: Box<T>) -> T
+fn drop_left_operator<T: Shaped>(mut left: Box<T>, right: Box<T>) -> T
     ensures { T.heaviness result < 2 * T.heaviness left.value + T.heaviness right.value + 1 }
 {
     match T::take(&mut left).open() {

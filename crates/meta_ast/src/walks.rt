@@ -87,11 +87,14 @@ pub(crate) trait Tree: Release {
 }
 
 /// An operand in a box of its own.
-pub(crate) fn boxed<E: Release>(alloc: Global, operand: Deep<E>) -> Result<Deep<Box<E>>, Fault>
+pub(crate) fn box_operand<E: Release>(
+    alloc: Global,
+    operand: Deep<E>,
+) -> Result<Deep<Box<E>>, Fault>
     ensures boxed { IfOk result (λ b. b.value.value ≡ operand.value) }
     ensures memory { IfErr result (λ fault. fault ≡ Fault.Memory alloc_error) }
 {
-    Ok(operand.boxed(alloc)?)
+    Ok(operand.into_box(alloc)?)
 }
 
 /// Two operands without their boxes.

@@ -134,7 +134,7 @@ fn operand<E: Release>(alloc: Global, operands: &mut Deep<Vec<E>>) -> Result<Dee
         ≡ operands.new.value.items ++ (taken.value.value ∷ [])) }
 {
     match operands.value.pop() {
-        Some(expr) => Ok(Deep { value: expr }.boxed(alloc)?),
+        Some(expr) => Ok(Deep { value: expr }.into_box(alloc)?),
         None => Err(Unread::Why(Why::Operands)),
     }
 }

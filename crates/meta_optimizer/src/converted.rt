@@ -15,7 +15,7 @@ use crate::{OptimizedExpr, OptimizedRule};
 use meta_ast::ast::{Expr, Rule, Sign};
 use meta_ast::deep::Deep;
 use meta_ast::optimized::{PlainSign, Sign as OptimizedSign};
-use meta_ast::rebuilt::{Rebuild, Step, rebuilt};
+use meta_ast::rebuilt::{Rebuild, Step, rebuild_tree};
 use meta_ast::shape::{Joint, Shape, Shaped};
 use std::alloc::{AllocError, Global};
 
@@ -25,7 +25,7 @@ pub(crate) fn rule_to_optimized_rule(alloc: Global, rule: Rule) -> Result<Optimi
     ensures { IfOk result (λ r. optimized_rule_of r ≡ rule_of_code rule) }
 {
     let Rule { name, ty, expr } = rule;
-    let expr = rebuilt::<Around>(alloc, expr)?;
+    let expr = rebuild_tree::<Around>(alloc, expr)?;
     Ok(OptimizedRule { name, ty, expr })
 }
 
@@ -80,7 +80,7 @@ impl Rebuild for Around {
         alloc: Global,
         operand: OptimizedExpr,
     ) -> Result<Step<Expr, Around, OptimizedExpr>, AllocError> {
-        let operand = Deep { value: operand }.boxed(alloc)?;
+        let operand = Deep { value: operand }.into_box(alloc)?;
         match self {
             Around::Sign(sign) => {
                 let whole = OptimizedExpr::enclose(sign, operand.into_inner());

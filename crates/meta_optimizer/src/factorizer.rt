@@ -128,7 +128,7 @@ fn before(alloc: Global, front: Box<Expr>, back: Expr) -> Result<Expr, AllocErro
         (λ e. expression_of e ≡ Seq (expression_of front.value) (expression_of back)) }
 {
     let front = Deep { value: front };
-    let back = Deep { value: back }.boxed(alloc)?;
+    let back = Deep { value: back }.into_box(alloc)?;
     Ok(Expr::Seq(front.into_inner(), back.into_inner()))
 }
 

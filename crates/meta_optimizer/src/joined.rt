@@ -8,7 +8,7 @@ ghost use Rattle.meta_optimizer.specs.Joined.{concatenated, in_order, joined_wit
 
 use meta_ast::ast::Expr;
 use meta_ast::deep::{Deep, Release};
-use meta_ast::rebuilt::{Rebuild, Step, rebuilt};
+use meta_ast::rebuilt::{Rebuild, Step, rebuild_tree};
 use std::alloc::{AllocError, Global};
 use std::collections::VecDeque;
 
@@ -17,7 +17,7 @@ use std::collections::VecDeque;
 pub(crate) fn with_literals_joined(alloc: Global, expr: Expr) -> Result<Expr, AllocError>
     ensures { IfOk result (λ e. expression_of e ≡ concatenated (expression_of expr)) }
 {
-    let joined = rebuilt::<Around>(alloc, expr)?;
+    let joined = rebuild_tree::<Around>(alloc, expr)?;
     whole(alloc, joined)
 }
 
@@ -158,7 +158,7 @@ fn boxed(alloc: Global, joined: Joined) -> Result<Box<Expr>, AllocError>
     let expr = Deep {
         value: whole(alloc, joined)?,
     };
-    Ok(expr.boxed(alloc)?.into_inner())
+    Ok(expr.into_box(alloc)?.into_inner())
 }
 
 // The texts one after another.
@@ -238,7 +238,7 @@ fn apart(alloc: Global, left: Expr, right: Joined) -> Result<Joined, AllocError>
     ensures { IfOk result (λ j. said_by j ≡ Seq (expression_of left) (said_by right)) }
 {
     let right = Deep { value: right };
-    let left = Deep { value: left }.boxed(alloc)?;
+    let left = Deep { value: left }.into_box(alloc)?;
     let right = boxed(alloc, right.into_inner())?;
     Ok(Joined::Other(Expr::Seq(left.into_inner(), right)))
 }

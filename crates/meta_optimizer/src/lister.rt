@@ -105,11 +105,11 @@ fn turned(
     ensures { IfOk result (λ e. expression_of e ≡ Seq (expression_of x.value.value)
         (Rep (Seq (expression_of y.value.value) (expression_of right.value)))) }
 {
-    let right = right.boxed(alloc)?;
+    let right = right.into_box(alloc)?;
     let turn = Expr::Seq(y.into_inner(), right.into_inner());
-    let turn = Deep { value: turn }.boxed(alloc)?;
+    let turn = Deep { value: turn }.into_box(alloc)?;
     let turns = Expr::Rep(turn.into_inner());
-    let turns = Deep { value: turns }.boxed(alloc)?;
+    let turns = Deep { value: turns }.into_box(alloc)?;
     Ok(Expr::Seq(x.into_inner(), turns.into_inner()))
 }
 
@@ -118,7 +118,7 @@ fn again(alloc: Global, turn: Deep<Expr>, right: Deep<Expr>) -> Result<Expr, All
     ensures { IfOk result
         (λ e. expression_of e ≡ Seq (Rep (expression_of turn.value)) (expression_of right.value)) }
 {
-    let turn = turn.boxed(alloc)?;
+    let turn = turn.into_box(alloc)?;
     let turns = Expr::Rep(turn.into_inner());
     sequence_of(alloc, Deep { value: turns }, right)
 }

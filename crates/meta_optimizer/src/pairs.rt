@@ -16,8 +16,8 @@ pub(crate) fn sequence_of(
     ensures { IfOk result
         (λ e. expression_of e ≡ Seq (expression_of left.value) (expression_of right.value)) }
 {
-    let left = left.boxed(alloc)?;
-    let right = right.boxed(alloc)?;
+    let left = left.into_box(alloc)?;
+    let right = right.into_box(alloc)?;
     Ok(Expr::Seq(left.into_inner(), right.into_inner()))
 }
 
@@ -30,7 +30,7 @@ pub(crate) fn choice_of(
     ensures { IfOk result
         (λ e. expression_of e ≡ Choice (expression_of left.value) (expression_of right.value)) }
 {
-    let left = left.boxed(alloc)?;
-    let right = right.boxed(alloc)?;
+    let left = left.into_box(alloc)?;
+    let right = right.into_box(alloc)?;
     Ok(Expr::Choice(left.into_inner(), right.into_inner()))
 }

@@ -77,11 +77,11 @@ fn sequence(alloc: Global, left: Box<Expr>, right: Box<Expr>) -> Result<Expr, Al
             Expr::Seq(first, second) => {
                 let first = Deep { value: first };
                 let moved = Expr::Seq(second, right.into_inner());
-                right = Deep { value: moved }.boxed(alloc)?;
+                right = Deep { value: moved }.into_box(alloc)?;
                 left = first.into_inner();
             }
             other => {
-                let left = Deep { value: other }.boxed(alloc)?;
+                let left = Deep { value: other }.into_box(alloc)?;
                 return Ok(Expr::Seq(left.into_inner(), right.into_inner()));
             }
         }
@@ -104,11 +104,11 @@ fn choice(alloc: Global, left: Box<Expr>, right: Box<Expr>) -> Result<Expr, Allo
             Expr::Choice(first, second) => {
                 let first = Deep { value: first };
                 let moved = Expr::Choice(second, right.into_inner());
-                right = Deep { value: moved }.boxed(alloc)?;
+                right = Deep { value: moved }.into_box(alloc)?;
                 left = first.into_inner();
             }
             other => {
-                let left = Deep { value: other }.boxed(alloc)?;
+                let left = Deep { value: other }.into_box(alloc)?;
                 return Ok(Expr::Choice(left.into_inner(), right.into_inner()));
             }
         }

@@ -88,9 +88,9 @@ fn min_or_more(alloc: Global, expr: Deep<Expr>, min: u32) -> Result<Expr, AllocE
     ensures { IfOk result (λ e. expression_of e ≡ at_least (expression_of expr.value) min) }
 {
     if min == 0 {
-        return Ok(Expr::Rep(expr.boxed(alloc)?.into_inner()));
+        return Ok(Expr::Rep(expr.into_box(alloc)?.into_inner()));
     }
-    let copy = copy_of(&expr.value)?.boxed(alloc)?;
+    let copy = copy_of(&expr.value)?.into_box(alloc)?;
     let others = Deep {
         value: Expr::Rep(copy.into_inner()),
     };
@@ -130,7 +130,7 @@ fn between(alloc: Global, expr: Deep<Expr>, min: u32, max: u32) -> Result<Expr, 
 fn optional(alloc: Global, expr: Deep<Expr>) -> Result<Deep<Expr>, AllocError>
     ensures { IfOk result (λ e. expression_of e.value ≡ Opt (expression_of expr.value)) }
 {
-    let inner = expr.boxed(alloc)?;
+    let inner = expr.into_box(alloc)?;
     Ok(Deep {
         value: Expr::Opt(inner.into_inner()),
     })

@@ -5,7 +5,7 @@ ghost use Rattle.meta_spanned.specs.Nodes.{rule_view, view, IsSameExpression};
 use crate::node::{ParserExpr, ParserNode, ParserRule};
 use crate::shaped::{enclosed, joined, seen};
 use meta_ast::deep::Deep;
-use meta_ast::shape::{Shape, copied, copied_box};
+use meta_ast::shape::{Shape, copy_box, copy_tree};
 use std::alloc::AllocError;
 
 impl<'i> Clone for ParserRule<'i> {
@@ -25,7 +25,7 @@ impl<'i> Clone for ParserNode<'i> {
     ghost is_clone = { λ node copy. view copy ≡ view node };
 
     fn clone(&self) -> Result<ParserNode<'i>, AllocError> {
-        copied(self)
+        copy_tree(self)
     }
 }
 
@@ -43,12 +43,12 @@ fn copy_expr<'i>(expr: &ParserExpr<'i>) -> Result<ParserExpr<'i>, AllocError>
 {
     match seen(expr)? {
         Shape::Leaf(copy) => Ok(copy),
-        Shape::One(sign, operand) => Ok(enclosed(sign, copied_box(operand)?)),
+        Shape::One(sign, operand) => Ok(enclosed(sign, copy_box(operand)?)),
         Shape::Two(joint, left, right) => {
             let left = Deep {
-                value: copied_box(left)?,
+                value: copy_box(left)?,
             };
-            let right = copied_box(right)?;
+            let right = copy_box(right)?;
             Ok(joined(joint, left.into_inner(), right))
         }
     }

@@ -13,7 +13,7 @@ use crate::node::{ParserExpr, ParserNode, ParserRule};
 use crate::shaped::opened;
 use meta_ast::ast::{Expr, Rule, Sign};
 use meta_ast::deep::Deep;
-use meta_ast::rebuilt::{Rebuild, Step, rebuilt};
+use meta_ast::rebuilt::{Rebuild, Step, rebuild_tree};
 use meta_ast::shape::{Joint, Shape, Shaped};
 use std::alloc::{AllocError, Global};
 
@@ -43,7 +43,7 @@ fn erased_rule(alloc: Global, rule: ParserRule<'_>) -> Result<Rule, AllocError>
     ensures { IfOk result (λ erased. rule_of_code erased ≡ rule_without_spans (rule_view rule.entry)) }
 {
     let ParserRule { name, ty, node, .. } = rule;
-    let expr = rebuilt::<Around<'_>>(alloc, node)?;
+    let expr = rebuild_tree::<Around<'_>>(alloc, node)?;
     Ok(Rule { name, ty, expr })
 }
 
@@ -98,7 +98,7 @@ impl<'i> Rebuild for Around<'i> {
         alloc: Global,
         operand: Expr,
     ) -> Result<Step<ParserNode<'i>, Around<'i>, Expr>, AllocError> {
-        let operand = Deep { value: operand }.boxed(alloc)?;
+        let operand = Deep { value: operand }.into_box(alloc)?;
         match self {
             Around::Sign(sign) => Ok(Step::Made(Expr::enclose(sign, operand.into_inner()))),
             Around::First(joint, right) => {

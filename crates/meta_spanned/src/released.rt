@@ -2,7 +2,7 @@
 use crate::node::{ParserExpr, ParserNode, ParserRule};
 use crate::shaped::opened;
 use meta_ast::deep::Release;
-use meta_ast::shape::{Shape, let_go};
+use meta_ast::shape::{Shape, release_tree};
 
 /// Drops rules, the body of each as [`ParserNode::release`] does.
 pub fn release(rules: Vec<ParserRule<'_>>) {
@@ -15,7 +15,7 @@ impl<'i> ParserNode<'i> {
     /// A node that goes out of scope is dropped recursively, so a chain of very many parts takes very much
     /// stack space; this takes a constant amount.
     pub fn release(self) {
-        let_go(self);
+        release_tree(self);
     }
 }
 
@@ -27,7 +27,7 @@ impl<'i> Release for ParserRule<'i> {
 
 impl<'i> Release for ParserNode<'i> {
     fn release(self) {
-        let_go(self);
+        release_tree(self);
     }
 }
 
@@ -37,12 +37,12 @@ impl<'i> Release for ParserExpr<'i> {
             Shape::Leaf(leaf) => drop(leaf),
             Shape::One(sign, operand) => {
                 drop(sign);
-                let_go(Box::into_inner(operand));
+                release_tree(Box::into_inner(operand));
             }
             Shape::Two(joint, left, right) => {
                 drop(joint);
-                let_go(Box::into_inner(left));
-                let_go(Box::into_inner(right));
+                release_tree(Box::into_inner(left));
+                release_tree(Box::into_inner(right));
             }
         }
     }

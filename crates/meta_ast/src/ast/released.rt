@@ -1,7 +1,7 @@
 //! Iterative drop of rules and expressions.
 use super::{Expr, Rule};
 use crate::deep::Release;
-use crate::shape::let_go;
+use crate::shape::release_tree;
 
 /// Drops rules, the body of each as [`Expr::release`] does.
 pub fn release(rules: Vec<Rule>) {
@@ -26,6 +26,6 @@ impl Expr {
     /// An expression that goes out of scope is dropped recursively, so a chain of very many parts takes
     /// very much stack space; this takes a constant amount.
     pub fn release(self) {
-        let_go(self);
+        release_tree(self);
     }
 }

@@ -9,7 +9,7 @@ use super::Expr;
 use super::shaped::Sign;
 use crate::deep::Deep;
 use crate::shape::{Joint, Shape, Shaped};
-use crate::walks::{Node, Tree, boxed, map_bottom_up, map_top_down, take_first, two};
+use crate::walks::{Node, Tree, box_operand, map_bottom_up, map_top_down, take_first, two};
 use meta_base::runtime::Fault;
 use std::alloc::{AllocError, Global};
 
@@ -113,14 +113,14 @@ impl Tree for Expr {
     }
 
     fn enclose(alloc: Global, sign: Sign, operand: Expr) -> Result<Expr, Fault> {
-        let operand = boxed(alloc, Deep { value: operand })?.into_inner();
+        let operand = box_operand(alloc, Deep { value: operand })?.into_inner();
         Ok(Shaped::enclose(sign, operand))
     }
 
     fn join(alloc: Global, joint: Joint, left: Expr, right: Expr) -> Result<Expr, Fault> {
         let right = Deep { value: right };
-        let left = boxed(alloc, Deep { value: left })?;
-        let right = boxed(alloc, right)?.into_inner();
+        let left = box_operand(alloc, Deep { value: left })?;
+        let right = box_operand(alloc, right)?.into_inner();
         Ok(Shaped::join(joint, left.into_inner(), right))
     }
 

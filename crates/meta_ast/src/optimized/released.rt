@@ -1,7 +1,7 @@
 //! Iterative drop of optimized rules and expressions.
 use super::{OptimizedExpr, OptimizedRule};
 use crate::deep::Release;
-use crate::shape::let_go;
+use crate::shape::release_tree;
 
 /// Drops rules, the body of each as [`OptimizedExpr::release`] does.
 pub fn release(rules: Vec<OptimizedRule>) {
@@ -24,6 +24,6 @@ impl OptimizedExpr {
     /// Drops the expression iteratively, without allocating, as
     /// [`Expr::release`](crate::ast::Expr::release) does.
     pub fn release(self) {
-        let_go(self);
+        release_tree(self);
     }
 }

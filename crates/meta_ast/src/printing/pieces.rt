@@ -90,7 +90,7 @@ pub(crate) fn fmt_printed<W: fmt::Write, E: Printed>(
         | Parts::Counted(inner, _)
         | Parts::Push(inner)
         | Parts::Tag(_, inner)
-        | Parts::Wrapper(inner) => fmt_by_list(f, *Box::allocator(inner), expr),
+        | Parts::Wrapper(inner) => fmt_iteratively(f, *Box::allocator(inner), expr),
     }
 }
 
@@ -110,7 +110,7 @@ fn fmt_leaf<W: fmt::Write>(f: &mut fmt::Formatter<W>, leaf: Leaf<'_>) -> fmt::Re
 }
 
 /// Writes an expression piece by piece.
-fn fmt_by_list<W: fmt::Write, E: Printed>(
+fn fmt_iteratively<W: fmt::Write, E: Printed>(
     f: &mut fmt::Formatter<W>,
     alloc: Global,
     expr: &E,

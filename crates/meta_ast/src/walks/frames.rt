@@ -9,7 +9,7 @@ use std::alloc::Global;
 
 /// Returns the next node of a walk at an expression, and pushes a frame for its context. The only error is
 /// allocation failure.
-pub(crate) fn opened<E: Tree>(
+pub(crate) fn open_node<E: Tree>(
     frames: &mut Vec<Frame<E, E::Sign>>,
     expr: E,
 ) -> Result<Onward<E>, Fault>
@@ -35,7 +35,7 @@ pub(crate) fn opened<E: Tree>(
 impl<E: Tree> Frame<E, E::Sign> {
     /// Returns the next node after an operand of this frame, which followed `frames`, is done. The only
     /// error is allocation failure.
-    pub(crate) fn closed(
+    pub(crate) fn close(
         self,
         alloc: Global,
         frames: &mut Vec<Frame<E, E::Sign>>,

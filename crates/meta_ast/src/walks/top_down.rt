@@ -2,7 +2,7 @@
 ghost use Rattle.std.specs.Prelude.{IfErr, IfOk};
 ghost use Rattle.meta_ast.specs.Maps.{MapsTopDown, RefusesTopDown, NeverGrows};
 
-use super::frames::opened;
+use super::frames::open_node;
 use super::{Onward, Tree};
 use meta_base::runtime::Fault;
 use std::alloc::Global;
@@ -23,9 +23,9 @@ pub(crate) fn map_top_down<E: Tree, F: FnMut(E) -> Result<E, Fault> + Drop>(
     let mut next = Onward::Next(expr);
     'along: loop {
         match next {
-            Onward::Next(expr) => next = opened(&mut frames, f(expr)?)?,
+            Onward::Next(expr) => next = open_node(&mut frames, f(expr)?)?,
             Onward::Done(done) => match frames.pop() {
-                Some(frame) => next = frame.closed(alloc, &mut frames, done)?,
+                Some(frame) => next = frame.close(alloc, &mut frames, done)?,
                 None => return Ok(done),
             },
         }

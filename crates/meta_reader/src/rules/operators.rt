@@ -141,7 +141,7 @@ fn postfix<'i>(
 {
     let node = Deep { value: node };
     let times = times_of(span.get_input(), operator)?;
-    let node = node.boxed(alloc)?.into_inner();
+    let node = node.into_box(alloc)?.into_inner();
     Ok(ParserNode {
         expr: repeated(times, node),
         span,

@@ -63,8 +63,8 @@ fn combined<'i>(
         ≡ both text.entry.now (binary_of operator) (view left.entry.value) (view right.entry.value)) }
 {
     let span = span_at(text, left.value.span.start(), right.value.span.end());
-    let left = left.boxed(alloc)?;
-    let right = right.boxed(alloc)?;
+    let left = left.into_box(alloc)?;
+    let right = right.into_box(alloc)?;
     let expr = operation(operator, left.into_inner(), right.into_inner());
     let value = ParserNode { expr, span };
     Ok(Deep { value })
@@ -329,7 +329,7 @@ fn pushed<'i>(
         → ReadsAs text.entry.now ATerm us result }
 {
     let span = span_at(text, start, inside.span.end());
-    let inside = Deep { value: inside }.boxed(alloc)?;
+    let inside = Deep { value: inside }.into_box(alloc)?;
     let node = ParserNode {
         expr: ParserExpr::Push(inside.into_inner()),
         span,

@@ -102,11 +102,11 @@ fn signed_by<'i>(
         ≡ One place (sign_of kind.entry) (view node.entry.value)) }
 {
     match kind {
-        SignKind::Positive => Ok(ParserExpr::PosPred(node.boxed(alloc)?.into_inner())),
-        SignKind::Negative => Ok(ParserExpr::NegPred(node.boxed(alloc)?.into_inner())),
+        SignKind::Positive => Ok(ParserExpr::PosPred(node.into_box(alloc)?.into_inner())),
+        SignKind::Negative => Ok(ParserExpr::NegPred(node.into_box(alloc)?.into_inner())),
         SignKind::Tag(tag) => {
             let tag = String::from_str(alloc, tag)?;
-            Ok(ParserExpr::NodeTag(node.boxed(alloc)?.into_inner(), tag))
+            Ok(ParserExpr::NodeTag(node.into_box(alloc)?.into_inner(), tag))
         }
     }
 }

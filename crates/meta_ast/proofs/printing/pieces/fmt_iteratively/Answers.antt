@@ -3,7 +3,7 @@ use Rattle.std.proofs.Output.{has_written_append}
 use Rattle.meta_ast.specs.Pieces.{bytes_at}
 use Rattle.meta_ast.specs.declared.printing.pieces.Piece.TheVariants as piece
 use Rattle.meta_ast.proofs.Pieces.{one_piece_more, one_piece_apart, load_of_one_less}
-use Rattle.meta_ast.proofs.printing.pieces.fmt_by_list.Goals as goal
+use Rattle.meta_ast.proofs.printing.pieces.fmt_iteratively.Goals as goal
 
 pub loop-piece-smaller-in-Continue-branch-2 : goal.loop-piece-smaller-in-Continue-branch-2
 loop-piece-smaller-in-Continue-branch-2 g c =

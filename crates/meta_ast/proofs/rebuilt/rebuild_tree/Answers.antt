@@ -1,6 +1,6 @@
 use Rattle.std.proofs.Common.{subst, sym}
 use Rattle.meta_ast.proofs.Rebuilding.{same_inside, same_outside, less_inside, less_outside, ready_inside, right_inside, ready_outside, last_ready}
-use Rattle.meta_ast.proofs.rebuilt.rebuilt.Goals as goal
+use Rattle.meta_ast.proofs.rebuilt.rebuild_tree.Goals as goal
 
 pub steps-init : goal.steps-init
 steps-init g c = (rw c.new-outside.ensures.items c.in_ok-step.ensures.meaning, record { at_hand = c.in_ok-step.ensures.ready; outside = rw c.new-outside.ensures.items tt })

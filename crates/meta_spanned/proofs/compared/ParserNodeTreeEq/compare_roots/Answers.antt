@@ -4,7 +4,7 @@ use Rattle.meta_spanned.specs.Erasure.{without_spans}
 use Rattle.meta_spanned.specs.Nodes.{view}
 use Rattle.meta_spanned.proofs.Sameness.{apart, together}
 use Rattle.meta_spanned.proofs.Unplaced.{weight_unplaced}
-use Rattle.meta_spanned.proofs.compared.ParserNodeCompared.compared.Goals as goal
+use Rattle.meta_spanned.proofs.compared.ParserNodeTreeEq.compare_roots.Goals as goal
 
 pub returns-then-not-same_span-clause-same : goal.returns-then-not-same_span-clause-same
 returns-then-not-same_span-clause-same c =
@@ -15,8 +15,8 @@ returns-then-not-same_span-clause-work c = some_weight (without_spans (view c.ar
 
 pub returns-clause-same : goal.returns-clause-same
 returns-clause-same c =
-    together c.args.self.now c.args.other.now c.same_span.result _ c.same_span.ensures c.if-not-same_span.false c.compared.ensures.same
+    together c.args.self.now c.args.other.now c.same_span.result _ c.same_span.ensures c.if-not-same_span.false c.compare_exprs.ensures.same
 
 pub returns-clause-work : goal.returns-clause-work
 returns-clause-work c =
-    let e = weight_unplaced c.args.self.now in omega (arith, e, c.compared.ensures.work)
+    let e = weight_unplaced c.args.self.now in omega (arith, e, c.compare_exprs.ensures.work)

@@ -1,7 +1,7 @@
 use Rattle.std.proofs.Common.{◌≡◌, ℕ, ◌++◌, List}
 use Rattle.std.specs.Fmt.{HasWritten, IsPlainFormatter}
 use Rattle.meta_ast.specs.Pieces.{in_turn, load}
-use Rattle.meta_ast.proofs.printing.pieces.fmt_by_list.Given as goal
+use Rattle.meta_ast.proofs.printing.pieces.fmt_iteratively.Given as goal
 
 -- the pieces that are left come behind what is written
 abbrev pub invariant-loop-piece : goal.invariant-loop-piece

@@ -1,7 +1,7 @@
 use Rattle.std.proofs.Common.{◌≡◌, ◌+◌}
 use Rattle.meta_ast.specs.Rebuilding.{filled, meaning_of, waiting, work_of}
 use Rattle.meta_ast.proofs.Rebuilding.{AllReady}
-use Rattle.meta_ast.proofs.rebuilt.rebuilt.Given as goal
+use Rattle.meta_ast.proofs.rebuilt.rebuild_tree.Given as goal
 
 abbrev pub invariant-steps : goal.invariant-steps
 invariant-steps g l =

@@ -1,6 +1,6 @@
 use Rattle.std.proofs.Common.{refl}
 use Rattle.meta_ast.specs.Frames.{leaf, one, two}
-use Rattle.meta_ast.proofs.walks.frames.opened.Goals as goal
+use Rattle.meta_ast.proofs.walks.frames.open_node.Goals as goal
 
 pub returns-in-Leaf-clause-opens : goal.returns-in-Leaf-clause-opens
 returns-in-Leaf-clause-opens g c = leaf c.in-Leaf.ensures.0 c.in-Leaf.ensures.1 refl
