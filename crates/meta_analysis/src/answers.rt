@@ -5,7 +5,7 @@ ghost use Rattle.meta_analysis.specs.KindTable.{AgreeAt, fires};
 ghost use Rattle.meta_analysis.specs.declared.kind_table.Question.{Question};
 
 use crate::kind_table::{Kind, KindTable, Question};
-use meta_fixpoint::{Inference, Listeners, Listening, Told, least_flags};
+use meta_fixpoint::{DependencyGraph, DependencyVisitor, Inference, Listeners, least_flags};
 use std::alloc::{AllocError, Global};
 
 /// The nodes on which the answers for a node depend, two at most: for any other the answers may change.
@@ -26,19 +26,19 @@ pub fn listened_to(table: &KindTable, kind: Kind) -> (Option<usize>, Option<usiz
     }
 }
 
-impl Listening for KindTable {
+impl DependencyGraph for KindTable {
     fn count(&self) -> usize {
         self.kinds.len()
     }
 
-    fn tell<T: Told>(&self, node: usize, told: &mut T) {
+    fn visit_dependencies<V: DependencyVisitor>(&self, node: usize, visitor: &mut V) {
         if let Some(kind) = self.kinds.get(node) {
             let (first, second) = listened_to(self, *kind);
             if let Some(first) = first {
-                told.listens_to(first);
+                visitor.visit(first);
             }
             if let Some(second) = second {
-                told.listens_to(second);
+                visitor.visit(second);
             }
         }
     }

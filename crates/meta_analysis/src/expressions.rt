@@ -12,7 +12,7 @@ use crate::kinds::kinds_of;
 use crate::names::names_of;
 use crate::table::{Unnumbered, number, tabulated};
 use meta_base::runtime::Span;
-use meta_fixpoint::{is_set, who_listens};
+use meta_fixpoint::{find_listeners, is_set};
 use meta_spanned::{ParserExpr, ParserRule};
 use std::alloc::{AllocError, Global};
 
@@ -41,7 +41,7 @@ pub fn answer_for<'i>(
         kinds: kinds_of(alloc, rules, &names, nodes.nodes.as_slice())?,
         roots: nodes.roots,
     };
-    let listeners = who_listens(alloc, &table)?;
+    let listeners = find_listeners(alloc, &table)?;
     let answers = answers_to(alloc, &table, &listeners, question)?;
     let answer = is_set(answers.as_slice(), own);
     Ok(answer)

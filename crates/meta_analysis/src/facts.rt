@@ -9,7 +9,7 @@ use crate::kind_table::{KindTable, Question};
 use crate::kinds::kinds_of;
 use crate::names::Names;
 use crate::table::Table;
-use meta_fixpoint::who_listens;
+use meta_fixpoint::find_listeners;
 use meta_spanned::ParserRule;
 use std::alloc::{AllocError, Global};
 
@@ -62,7 +62,7 @@ pub fn facts_of<'i>(
     ensures { IfOk result (λ facts. AreFacts rules.now facts) }
 {
     let table = table_with_kinds(alloc, rules, names, table)?;
-    let listeners = who_listens(alloc, &table)?;
+    let listeners = find_listeners(alloc, &table)?;
     let nullable = answers_to(alloc, &table, &listeners, Question::TakesNothing)?;
     let certain = answers_to(alloc, &table, &listeners, Question::CannotFail)?;
     Ok(Facts {

@@ -88,7 +88,7 @@ fn spread<I: Inference>(
 }
 
 /// Sets each flag that follows from those that are set, and visits listeners. Returns whether any was set.
-fn round<I: Inference>(
+fn run_round<I: Inference>(
     inference: &I,
     listeners: &Listeners,
     flags: &mut Vec<bool>,
@@ -125,7 +125,7 @@ pub fn least_flags<I: Inference>(
     let mut flags = vec![in alloc; false; inference.count()]?;
     let mut waiting = Vec::new(alloc);
     loop {
-        if !round(inference, listeners, &mut flags, &mut waiting)? {
+        if !run_round(inference, listeners, &mut flags, &mut waiting)? {
             return Ok(flags);
         }
     }

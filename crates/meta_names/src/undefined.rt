@@ -23,7 +23,7 @@ pub fn validate_undefined<'i>(
         errors.items) }
     ensures memory { IfErr result (λ fault. fault ≡ Fault.Memory alloc_error) }
 {
-    let undefined = undefined(alloc, definitions, called)?;
+    let undefined = collect_undefined(alloc, definitions, called)?;
     errors(alloc, "rule ", " is undefined", &undefined)
 }
 
@@ -40,12 +40,12 @@ pub(crate) fn undefined_in<'i>(
         errors.items) }
     ensures memory { IfErr result (λ fault. fault ≡ Fault.Memory alloc_error) }
 {
-    let found = undefined(alloc, definitions, called)?;
+    let found = collect_undefined(alloc, definitions, called)?;
     errors_in(alloc, text, "rule ", " is undefined", &found)
 }
 
 /// Collects the calls whose name is neither defined nor a builtin's, in their order.
-fn undefined<'i>(
+fn collect_undefined<'i>(
     alloc: Global,
     definitions: &[Span<'i>],
     called: &[Span<'i>],

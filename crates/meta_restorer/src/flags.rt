@@ -4,21 +4,21 @@ ghost use Rattle.std.specs.Prelude.{IfOk};
 ghost use Rattle.meta_restorer.specs.Noted.{AreClosed, AreSound, AreWithin};
 
 use crate::noted::{Noted, Share, is_shown};
-use meta_fixpoint::{Inference, Listening, Told, least_flags, who_listens};
+use meta_fixpoint::{DependencyGraph, DependencyVisitor, Inference, find_listeners, least_flags};
 use std::alloc::{AllocError, Global};
 
-impl Listening for Noted {
+impl DependencyGraph for Noted {
     fn count(&self) -> usize {
         self.shares.len()
     }
 
-    fn tell<T: Told>(&self, caller: usize, told: &mut T) {
+    fn visit_dependencies<V: DependencyVisitor>(&self, caller: usize, visitor: &mut V) {
         let Some(share) = self.shares.get(caller) else {
             return;
         };
         for rule in self.numbers.get(share.start..share.end).unwrap_or(&[]) {
             if let Some(rule) = rule {
-                told.listens_to(*rule);
+                visitor.visit(*rule);
             }
         }
     }
@@ -55,6 +55,6 @@ pub(crate) fn flagged(alloc: Global, noted: &Noted) -> Result<Vec<bool>, AllocEr
     ensures sound { IfOk result (λ flags. AreSound noted.now flags.items) }
     ensures closed { IfOk result (λ flags. AreClosed noted.now flags.items) }
 {
-    let callers = who_listens(alloc, noted)?;
+    let callers = find_listeners(alloc, noted)?;
     least_flags(alloc, &Bodies { noted }, &callers)
 }

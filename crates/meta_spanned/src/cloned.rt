@@ -3,7 +3,7 @@ ghost use Rattle.std.specs.Prelude.{◌≡◌, IfOk};
 ghost use Rattle.meta_spanned.specs.Nodes.{rule_view, view, IsSameExpression};
 
 use crate::node::{ParserExpr, ParserNode, ParserRule};
-use crate::shaped::{enclosed, joined, seen};
+use crate::shaped::{enclose_expr, expr_shape, join_exprs};
 use meta_ast::deep::Deep;
 use meta_ast::shape::{Shape, copy_box, copy_tree};
 use std::alloc::AllocError;
@@ -41,15 +41,15 @@ impl<'i> Clone for ParserExpr<'i> {
 fn copy_expr<'i>(expr: &ParserExpr<'i>) -> Result<ParserExpr<'i>, AllocError>
     ensures { IfOk result (λ copy. IsSameExpression copy expr.now) }
 {
-    match seen(expr)? {
+    match expr_shape(expr)? {
         Shape::Leaf(copy) => Ok(copy),
-        Shape::One(sign, operand) => Ok(enclosed(sign, copy_box(operand)?)),
+        Shape::One(sign, operand) => Ok(enclose_expr(sign, copy_box(operand)?)),
         Shape::Two(joint, left, right) => {
             let left = Deep {
                 value: copy_box(left)?,
             };
             let right = copy_box(right)?;
-            Ok(joined(joint, left.into_inner(), right))
+            Ok(join_exprs(joint, left.into_inner(), right))
         }
     }
 }

@@ -10,7 +10,7 @@ ghost use Rattle.meta_spanned.specs.Shapes.{IsLeaf};
 ghost use Rattle.meta_spanned.specs.Spanned.{Span as Place};
 
 use crate::node::{ParserExpr, ParserNode, ParserRule};
-use crate::shaped::opened;
+use crate::shaped::open_expr;
 use meta_ast::ast::{Expr, Rule, Sign};
 use meta_ast::deep::Deep;
 use meta_ast::rebuilt::{Rebuild, Step, rebuild_tree};
@@ -43,13 +43,13 @@ fn erased_rule(alloc: Global, rule: ParserRule<'_>) -> Result<Rule, AllocError>
     ensures { IfOk result (λ erased. rule_of_code erased ≡ rule_without_spans (rule_view rule.entry)) }
 {
     let ParserRule { name, ty, node, .. } = rule;
-    let expr = rebuild_tree::<Around<'_>>(alloc, node)?;
+    let expr = rebuild_tree::<ErasureContext<'_>>(alloc, node)?;
     Ok(Rule { name, ty, expr })
 }
 
 /// The context of an operand while its spans are erased.
 #[derive(Drop)]
-enum Around<'i> {
+enum ErasureContext<'i> {
     Sign(Sign),
     /// The operand is the left one, and this the right one.
     First(Joint, Deep<ParserNode<'i>>),
@@ -57,7 +57,7 @@ enum Around<'i> {
     Second(Joint, Deep<Box<Expr>>),
 }
 
-impl<'i> Rebuild for Around<'i> {
+impl<'i> Rebuild for ErasureContext<'i> {
     type Source = ParserNode<'i>;
 
     type Target = Expr;
@@ -78,16 +78,18 @@ impl<'i> Rebuild for Around<'i> {
 
     ghost waits = { λ around. waits_of around };
 
-    fn open(node: ParserNode<'i>) -> Result<Step<ParserNode<'i>, Around<'i>, Expr>, AllocError> {
-        match opened(node.expr) {
+    fn open(
+        node: ParserNode<'i>,
+    ) -> Result<Step<ParserNode<'i>, ErasureContext<'i>, Expr>, AllocError> {
+        match open_expr(node.expr) {
             Shape::Leaf(leaf) => Ok(Step::Made(erased_leaf(leaf))),
             Shape::One(sign, operand) => {
                 let operand = Box::into_inner(operand);
-                Ok(Step::Inside(Around::Sign(sign), operand))
+                Ok(Step::Inside(ErasureContext::Sign(sign), operand))
             }
             Shape::Two(joint, left, right) => {
                 let value = Box::into_inner(right);
-                let around = Around::First(joint, Deep { value });
+                let around = ErasureContext::First(joint, Deep { value });
                 Ok(Step::Inside(around, Box::into_inner(left)))
             }
         }
@@ -97,15 +99,15 @@ impl<'i> Rebuild for Around<'i> {
         self,
         alloc: Global,
         operand: Expr,
-    ) -> Result<Step<ParserNode<'i>, Around<'i>, Expr>, AllocError> {
+    ) -> Result<Step<ParserNode<'i>, ErasureContext<'i>, Expr>, AllocError> {
         let operand = Deep { value: operand }.into_box(alloc)?;
         match self {
-            Around::Sign(sign) => Ok(Step::Made(Expr::enclose(sign, operand.into_inner()))),
-            Around::First(joint, right) => {
-                let around = Around::Second(joint, operand);
+            ErasureContext::Sign(sign) => Ok(Step::Made(Expr::enclose(sign, operand.into_inner()))),
+            ErasureContext::First(joint, right) => {
+                let around = ErasureContext::Second(joint, operand);
                 Ok(Step::Inside(around, right.into_inner()))
             }
-            Around::Second(joint, left) => {
+            ErasureContext::Second(joint, left) => {
                 let whole = Expr::join(joint, left.into_inner(), operand.into_inner());
                 Ok(Step::Made(whole))
             }

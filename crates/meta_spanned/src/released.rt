@@ -1,6 +1,6 @@
 //! Iterative drop of rules and nodes.
 use crate::node::{ParserExpr, ParserNode, ParserRule};
-use crate::shaped::opened;
+use crate::shaped::open_expr;
 use meta_ast::deep::Release;
 use meta_ast::shape::{Shape, release_tree};
 
@@ -33,7 +33,7 @@ impl<'i> Release for ParserNode<'i> {
 
 impl<'i> Release for ParserExpr<'i> {
     fn release(self) {
-        match opened(self) {
+        match open_expr(self) {
             Shape::Leaf(leaf) => drop(leaf),
             Shape::One(sign, operand) => {
                 drop(sign);

@@ -8,7 +8,7 @@ ghost use Rattle.meta_stack_loops.specs.Table.{nodes_of};
 
 use crate::facts::Nodes;
 use crate::table::{Kind, Table};
-use meta_fixpoint::{is_set, who_listens};
+use meta_fixpoint::{find_listeners, is_set};
 use std::alloc::{AllocError, Global};
 
 /// Whether the body that a call leads to has a flag.
@@ -86,7 +86,7 @@ fn found_apart<'n, 'i>(alloc: Global, table: &Table<'n, 'i>) -> Result<Vec<bool>
         roots: table.roots.as_slice(),
         nodes: table.nodes.as_slice(),
     };
-    let listeners = who_listens(alloc, &nodes)?;
+    let listeners = find_listeners(alloc, &nodes)?;
     let mut flags = vec![in alloc; true; table.nodes.len()]?;
     let mut waiting = Vec::new(alloc);
     for place in 0..table.nodes.len() {

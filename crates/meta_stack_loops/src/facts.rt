@@ -6,7 +6,9 @@ ghost use Rattle.meta_stack_loops.specs.Answers.{AreSound, AreClosed};
 ghost use Rattle.meta_stack_loops.specs.Table.{called_by, parts_of};
 
 use crate::table::{Kind, Node, Parts};
-use meta_fixpoint::{Inference, Listening, Told, is_set, least_flags, who_listens};
+use meta_fixpoint::{
+    DependencyGraph, DependencyVisitor, Inference, find_listeners, is_set, least_flags,
+};
 use std::alloc::{AllocError, Global};
 
 /// What is asked of each node.
@@ -118,27 +120,27 @@ pub(crate) struct Nodes<'a, 'n, 'i> {
     pub nodes: &'a [Node<'n, 'i>],
 }
 
-impl<'a, 'n, 'i> Listening for Nodes<'a, 'n, 'i> {
+impl<'a, 'n, 'i> DependencyGraph for Nodes<'a, 'n, 'i> {
     fn count(&self) -> usize {
         self.nodes.len()
     }
 
-    fn tell<T: Told>(&self, place: usize, told: &mut T) {
+    fn visit_dependencies<V: DependencyVisitor>(&self, place: usize, visitor: &mut V) {
         let Some(node) = self.nodes.get(place) else {
             return;
         };
         if let Some(rule) = node.kind.called() {
             if let Some(root) = self.roots.get(rule) {
-                told.listens_to(*root);
+                visitor.visit(*root);
             }
             return;
         }
         match node.kind.parts() {
             Parts::Nothing => {}
-            Parts::Inside(body, _, _, _) => told.listens_to(body),
+            Parts::Inside(body, _, _, _) => visitor.visit(body),
             Parts::Both(first, second, _) => {
-                told.listens_to(first);
-                told.listens_to(second);
+                visitor.visit(first);
+                visitor.visit(second);
             }
         }
     }
@@ -178,7 +180,7 @@ pub(crate) fn answers<'n, 'i>(
     ensures sound { IfOk result (λ flags. AreSound question nodes.now roots.now flags.items) }
     ensures closed { IfOk result (λ flags. AreClosed question nodes.now roots.now flags.items) }
 {
-    let listeners = who_listens(alloc, &Nodes { roots, nodes })?;
+    let listeners = find_listeners(alloc, &Nodes { roots, nodes })?;
     let asked = Asked {
         question,
         roots,

@@ -10,7 +10,7 @@ ghost use Rattle.meta_validator.specs.Without.{AreAnswersWithout, IsWithout, wit
 use crate::cycles::number_at;
 use crate::levels::levels_of;
 use meta_analysis::{Facts, Kind, KindTable, Question, answers_to};
-use meta_fixpoint::{is_set, who_listens};
+use meta_fixpoint::{find_listeners, is_set};
 use meta_spanned::ParserRule;
 use std::alloc::{AllocError, Global};
 
@@ -45,7 +45,7 @@ fn answers_without(alloc: Global, facts: &Facts, rule: usize) -> Result<Vec<bool
     ensures { IfOk result (λ answers. AreAnswersWithout rule facts.now.table answers.items) }
 {
     let table = table_without(alloc, &facts.table, rule)?;
-    let listeners = who_listens(alloc, &table)?;
+    let listeners = find_listeners(alloc, &table)?;
     let answers = answers_to(alloc, &table, &listeners, Question::TakesNothing)?;
     Ok(answers)
 }

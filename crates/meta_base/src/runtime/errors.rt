@@ -238,7 +238,7 @@ fn printed_line(alloc: Global, pos: Position<'_>) -> Result<String, AllocError>
     ensures { IfOk result (λ line. string_bytes line
         ≡ printed_line (position_text pos.entry) (position_offset pos.entry)) }
 {
-    without_breaks(alloc, last_line(pos.before()), first_line(pos.after()))
+    without_breaks(alloc, last_line(pos.prefix()), first_line(pos.suffix()))
 }
 
 /// `before` and `after` in one text, without any `\r` and `\n`.

@@ -137,21 +137,21 @@ impl<'i> Position<'i> {
     pub fn line_col(&self) -> (usize, usize)
         ensures { result ≡ line_column (position_text self.now) (position_offset self.now) }
     {
-        let before = self.before();
+        let before = self.prefix();
         let line = 1 + before.bytes().filter(|byte| *byte == b'\n').count();
         let column = 1 + last_line(before).chars().count();
         (line, column)
     }
 
     /// Returns the text before the position.
-    pub(crate) fn before(&self) -> &'i str
+    pub(crate) fn prefix(&self) -> &'i str
         ensures { result.now ≡ take (position_offset self.now) (position_text self.now) }
     {
         &self.text[..self.pos]
     }
 
     /// Returns the text after the position.
-    pub(crate) fn after(&self) -> &'i str
+    pub(crate) fn suffix(&self) -> &'i str
         ensures { result.now ≡ drop (position_offset self.now) (position_text self.now) }
     {
         &self.text[self.pos..]

@@ -79,7 +79,7 @@ impl<'i> Survey<'i> {
         ensures place { result.place ≡ position_offset pos.entry }
     {
         let place = pos.pos();
-        self.landmark_before(place).moved(self.text, place)
+        self.landmark_before(place).move_to(self.text, place)
     }
 
     /// Returns a landmark at a position or shortly before it.
@@ -119,7 +119,7 @@ impl<'i> Survey<'i> {
 
 impl Landmark {
     /// Moves the landmark to a position that is not before it.
-    fn moved(self, text: &str, place: usize) -> Landmark
+    fn move_to(self, text: &str, place: usize) -> Landmark
         requires landmark { IsLandmark text.now self }
         requires between { IsCharBoundary text.now place }
         requires behind { self.place ≤ place }
@@ -161,7 +161,7 @@ fn landmarks(alloc: Global, text: &str) -> Result<Vec<Landmark>, AllocError>
     let mut landmarks = vec![in alloc; landmark]?;
     for count in 0..text.len() / STRIDE {
         let place = text.floor_char_boundary((count + 1) * STRIDE);
-        landmark = landmark.moved(text, place);
+        landmark = landmark.move_to(text, place);
         landmarks.push(landmark)?;
     }
     Ok(landmarks)

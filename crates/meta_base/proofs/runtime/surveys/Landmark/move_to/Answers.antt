@@ -5,7 +5,7 @@ use Rattle.std.proofs.lemmas.Str.{IsUtf8-take}
 use Rattle.meta_base.specs.Pieces.LineColumn.{is_line_feed, last_line, line_number, column_number}
 use Rattle.meta_base.specs.Pieces.Landmarks.{column_behind}
 use Rattle.meta_base.proofs.Surveys.{before_place, column_moves, line_moves}
-use Rattle.meta_base.proofs.runtime.surveys.Landmark.moved.Goals as goal
+use Rattle.meta_base.proofs.runtime.surveys.Landmark.move_to.Goals as goal
 
 pub column_behind-requires-clause-fits : goal.column_behind-requires-clause-fits
 column_behind-requires-clause-fits c = omega (arith, c.range-passed.ensures.len, c.requires.landmark.fits, c.requires.between.0)

@@ -3,7 +3,7 @@ use Rattle.meta_base.specs.Pieces.Saying.{piece_of, written}
 use Rattle.meta_names.specs.Names.{is_builtin}
 use Rattle.meta_names.specs.NameSets.{is_outside}
 use Rattle.meta_names.proofs.Places.{filter_pieces, filter_same}
-use Rattle.meta_names.proofs.undefined.undefined.Goals as goal
+use Rattle.meta_names.proofs.undefined.collect_undefined.Goals as goal
 
 pub returns : goal.returns
 returns c =

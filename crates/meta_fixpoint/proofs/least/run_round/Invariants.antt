@@ -1,6 +1,6 @@
 use Rattle.std.proofs.Common.{◌≡◌, ◌<◌, ℕ, true, false}
 use Rattle.meta_fixpoint.specs.Least.{unset, AreSound, IsClosedAt}
-use Rattle.meta_fixpoint.proofs.least.round.Given as goal
+use Rattle.meta_fixpoint.proofs.least.run_round.Given as goal
 
 abbrev pub invariant-loop-number : goal.invariant-loop-number
 invariant-loop-number g l = record {
