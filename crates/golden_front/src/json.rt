@@ -86,7 +86,7 @@ fn fault_text(alloc: Global, rule: Rule, text: &str, fault: Fault) -> Result<Str
     match fault {
         Fault::Memory(refused) => Err(refused),
         Fault::Grammar(errors) => {
-            let expected = PestParser::expected(alloc, rule, text)?;
+            let expected = PestParser::expected_set(alloc, rule, text)?;
             errors_text(alloc, &errors, &expected)
         }
     }

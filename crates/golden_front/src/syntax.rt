@@ -147,7 +147,7 @@ pub(crate) fn expected(
     text: &str,
     out: &mut String,
 ) -> Result<(), Fault> {
-    let rules = PestParser::expected(alloc, rule_of(alloc, rule)?, text)?;
+    let rules = PestParser::expected_set(alloc, rule_of(alloc, rule)?, text)?;
     write_common(out, &rules)?;
     Ok(())
 }

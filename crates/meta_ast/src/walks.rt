@@ -29,7 +29,7 @@ pub(crate) enum Node<E, S> {
 }
 
 /// A continuation frame of a map: the context of the operand that it visits.
-pub(crate) enum Frame<E: Release, S: Drop> {
+pub(crate) enum WalkFrame<E: Release, S: Drop> {
     Around(S),
     /// The operand is the left one, and the right one is still to be met.
     Before(Joint, E),
@@ -37,11 +37,11 @@ pub(crate) enum Frame<E: Release, S: Drop> {
     After(Joint, E),
 }
 
-impl<E: Release, S: Drop> Drop for Frame<E, S> {
+impl<E: Release, S: Drop> Drop for WalkFrame<E, S> {
     fn drop(self) {
         match self {
-            Frame::Around(sign) => drop(sign),
-            Frame::Before(joint, operand) | Frame::After(joint, operand) => {
+            WalkFrame::Around(sign) => drop(sign),
+            WalkFrame::Before(joint, operand) | WalkFrame::After(joint, operand) => {
                 drop(joint);
                 operand.release();
             }

@@ -28,6 +28,6 @@ AreExpected rule text rules = (classes : Classes)
     → (d : Recognizes rule text classes Failure) → rules ≡ rules_named (expected d)
 
 -- the rules are those that are expected at a place, where the rule fails or matches
-abbrev pub AreToldAt : Rule → List ℕ → ℕ → List Rule → Type 0
-AreToldAt rule text place rules = (classes : Classes) (o : Outcome)
+abbrev pub AreRecordedAt : Rule → List ℕ → ℕ → List Rule → Type 0
+AreRecordedAt rule text place rules = (classes : Classes) (o : Outcome)
     → (d : Recognizes rule text classes o) → rules ≡ rules_named (expected_at place d)

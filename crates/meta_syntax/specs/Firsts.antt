@@ -64,16 +64,16 @@ may_begin r c = is_among_any (firsts r) c
 
 -- whether a call that the first set refuses is recorded as a failure: not blanks and comments, which are
 -- silent, nor calls that Atomic hides; the quotes of a literal are seen from its own mode
-abbrev pub is_noted_at_once : Rule → mode.Mode → Bool
-is_noted_at_once is.WHITESPACE m = false
-is_noted_at_once is.newline m = false
-is_noted_at_once is.COMMENT m = false
-is_noted_at_once is.line_comment m = false
-is_noted_at_once is.block_comment m = false
-is_noted_at_once is.string m = true
-is_noted_at_once is.range m = true
-is_noted_at_once is.character m = true
-is_noted_at_once _ m = seen_from (mode_of m)
+abbrev pub is_recorded_at_once : Rule → mode.Mode → Bool
+is_recorded_at_once is.WHITESPACE m = false
+is_recorded_at_once is.newline m = false
+is_recorded_at_once is.COMMENT m = false
+is_recorded_at_once is.line_comment m = false
+is_recorded_at_once is.block_comment m = false
+is_recorded_at_once is.string m = true
+is_recorded_at_once is.range m = true
+is_recorded_at_once is.character m = true
+is_recorded_at_once _ m = seen_from (mode_of m)
 
 -- whether a silent rule matches a character and nothing more, for the rules of single characters
 abbrev pub takes_one : Rule → ℕ → Bool
@@ -85,7 +85,7 @@ takes_one is.alpha_num c = (is_lower c || is_upper c) || is_between 48 57 c
 takes_one _ c = false
 
 -- the answer of a lookahead is true of the call
-abbrev pub Foretells : Rule → ℕ → Lookahead → Type 0
-Foretells r c ahead.Fails = may_begin r c ≡ false
-Foretells r c ahead.TakesOne = takes_one r c ≡ true
-Foretells r c ahead.MustRun = (may_begin r c ≡ true) × (takes_one r c ≡ false)
+abbrev pub IsLookahead : Rule → ℕ → Lookahead → Type 0
+IsLookahead r c ahead.Fails = may_begin r c ≡ false
+IsLookahead r c ahead.TakesOne = takes_one r c ≡ true
+IsLookahead r c ahead.MustRun = (may_begin r c ≡ true) × (takes_one r c ≡ false)

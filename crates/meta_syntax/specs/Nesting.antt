@@ -95,10 +95,10 @@ abbrev pub effort : List ℕ → ℕ → ℕ
 effort rest n = length rest * 1000 + n
 
 -- the rest of a sequence after a part: none, so that the answer is that of the whole; or further parts
-abbrev pub GoesOnBehind : List ℕ → Form → Option (Bor Form) → mode.Mode → ℕ → List ℕ → Question
+abbrev pub GoesOnAfter : List ℕ → Form → Option (Bor Form) → mode.Mode → ℕ → List ℕ → Question
     → List Entry → ℕ → Bor (List ℕ) → Type 0
-GoesOnBehind text part None m saved rest q es p after = IsAnswered text q es p (Some after)
-GoesOnBehind text part (Some others) m saved rest q es p after =
+GoesOnAfter text part None m saved rest q es p after = IsAnswered text q es p (Some after)
+GoesOnAfter text part (Some others) m saved rest q es p after =
     (s : Question) × IsPartWay text others.now m saved es p after.now s × Serves text s q
     × (effort after.now (cost others.now) < effort rest (cost part))
 
@@ -120,7 +120,7 @@ Follows text (wait.Call rule kind) m saved rest k q = record {
 }
 Follows text (wait.Sequence part others) m saved rest k q = record {
   found : (es : List Entry) (p : ℕ) (after : Bor (List ℕ)) → IsAnswered text k es p (Some after)
-      → GoesOnBehind text part.now others m saved rest.now q es p after;
+      → GoesOnAfter text part.now others m saved rest.now q es p after;
   failed : (es fs : List Entry) (p : ℕ) → IsAnswered text k es p None
       → named_entries fs ≡ take saved (named_entries es) → IsAnswered text q fs p None;
 }

@@ -16,7 +16,7 @@ use Rattle.meta_syntax.specs.declared.expecting.Wait.{Wait}
 use Rattle.meta_syntax.specs.declared.expecting.Wait.TheVariants as wait
 use Rattle.meta_syntax.specs.declared.nesting.Step.{Step}
 use Rattle.meta_syntax.specs.declared.nesting.Step.TheVariants as step
-use Rattle.meta_syntax.specs.Expecting.{FailsNoting, FailsOrFindsNoting, FindsNoting, IsReadyAgain, IsTruly, Noted, Sought, sought_of, telling}
+use Rattle.meta_syntax.specs.Expecting.{FailsRecording, FailsOrFindsRecording, FindsRecording, IsReadyAgain, HasTrueMemory, DoesRecording, Sought, sought_of, with_failure}
 use Rattle.meta_syntax.specs.Forms.{IsGood, IsRunnable, IsRunnableTurn, IsSpelled, all_take, calls_cost, choice_among, cost, expression_of, followed, kind_of, null}
 use Rattle.meta_syntax.specs.MetaGrammar.{meta_grammar}
 use Rattle.meta_syntax.specs.Nesting.{effort, steps}
@@ -36,7 +36,7 @@ question_of k rest empty e = record { task = k; rest = rest; empty = empty; soug
 
 -- this is an answer to the question, and these are then the names
 pub record IsAnswered (text : List ℕ) (q : Question) (now : Sought) (o : Option (Bor (List ℕ))) : Type 0 where
-  pub means : FailsOrFindsNoting q.task text q.rest q.sought now o
+  pub means : FailsOrFindsRecording q.task text q.rest q.sought now o
   pub goes_on : GoesOnIfFound text q.rest q.empty o
 
 -- an answer to the one question answers the other
@@ -48,7 +48,7 @@ Serves text k q = (now : Sought) (o : Option (Bor (List ℕ)))
 pub record FoundSoFar (m : Mode) (whole : Expression) (text from : List ℕ) (p : Sought) (left : Form)
     (rest : List ℕ) (q : Sought) : Type 0 where
   pub done : Expression
-  pub found : FindsNoting (Run m done) text from p q rest
+  pub found : FindsRecording (Run m done) text from p q rest
   pub goes_on : followed (Some done) left ≡ whole
 
 -- a sequence was found up to here, these parts are left, and the question is about the whole of it
@@ -73,8 +73,8 @@ pub record IsTrying (text : List ℕ) (first : Rule) (others : List Rule) (m : m
   pub upto : Expression
   pub task : q.task ≡ Run (mode_of m) (choice_among upto others)
   pub answers : (later : Sought) (o : Option (Bor (List ℕ)))
-      → FailsOrFindsNoting (Run (mode_of m) (Ident (name_of first))) text rest now later o
-      → FailsOrFindsNoting (Run (mode_of m) upto) text rest q.sought later o
+      → FailsOrFindsRecording (Run (mode_of m) (Ident (name_of first))) text rest now later o
+      → FailsOrFindsRecording (Run (mode_of m) upto) text rest q.sought later o
 
 -- some alternatives have failed, these rules are left, and the question is about the whole choice
 pub record IsTried (text : List ℕ) (others : List Rule) (m : mode.Mode) (now : Sought) (rest : List ℕ)
@@ -83,7 +83,7 @@ pub record IsTried (text : List ℕ) (others : List Rule) (m : mode.Mode) (now :
   pub here : q.rest ≡ rest
   pub before : Expression
   pub task : q.task ≡ Run (mode_of m) (choice_among before others)
-  pub failed : FailsNoting (Run (mode_of m) before) text rest q.sought now
+  pub failed : FailsRecording (Run (mode_of m) before) text rest q.sought now
 
 -- there were turns up to here: further turns are turns of the repetition, with these trees before theirs
 pub record HasTurned (text : List ℕ) (body : Form) (m : mode.Mode) (now : Sought) (rest : List ℕ)
@@ -94,9 +94,9 @@ pub record HasTurned (text : List ℕ) (body : Form) (m : mode.Mode) (now : Soug
   pub empty : q.empty ≡ true
   pub trees : Trees
   pub goes_on : (classes : Classes) (t : State) (us : Trees) (z : Sought)
-      → Noted meta_grammar classes (Turns (mode_of m) (expression_of body)) (at text rest)
+      → DoesRecording meta_grammar classes (Turns (mode_of m) (expression_of body)) (at text rest)
       (Success t us) now z
-      → Noted meta_grammar classes q.task (at text q.rest) (Success t (joined trees us)) q.sought z
+      → DoesRecording meta_grammar classes q.task (at text q.rest) (Success t (joined trees us)) q.sought z
 
 -- there was a first turn up to here: a repetition after the skipping answers the question
 pub record HasBegun (text : List ℕ) (body : Form) (m : mode.Mode) (now : Sought) (rest : List ℕ)
@@ -104,7 +104,7 @@ pub record HasBegun (text : List ℕ) (body : Form) (m : mode.Mode) (now : Sough
   pub turn : IsRunnableTurn body
   pub here : IsLeft text rest
   pub goes_on : (later : Sought) (next : List ℕ)
-      → FindsNoting (Skipping (mode_of m)) text rest now later next → GoesOn text rest true next
+      → FindsRecording (Skipping (mode_of m)) text rest now later next → GoesOn text rest true next
       → Serves text (record {
         task = Run (mode_of m) (Rep (expression_of body));
         rest = next;
@@ -138,7 +138,7 @@ GoesOnFound text wait.Negation s q now after =
 abbrev pub GoesOnFailed : List ℕ → Wait → Start → Question → Sought → Type 0
 GoesOnFailed text (wait.Call rule kind) s q now =
     (later : Sought)
-    → later ≡ telling (seen_from (mode_of s.mode) && gives_token (kind_of kind) (mode_of s.mode))
+    → later ≡ with_failure (seen_from (mode_of s.mode) && gives_token (kind_of kind) (mode_of s.mode))
     (name_of rule) s.saved (length text - length s.rest.now) now
     → IsAnswered text q later None
 GoesOnFailed text (wait.Sequence part others) s q now = IsAnswered text q now None
@@ -189,7 +189,7 @@ IsOnTheWay text fs e (step.Begin form m rest) top = record {
       (question_of (Run (mode_of m) (expression_of form.now)) rest.now (null form.now) e) top;
 }
 IsOnTheWay text fs e (step.Answer o) top = record {
-  truly : IsTruly text e;
+  truly : HasTrueMemory text e;
   answered : (q : Question) × IsAnswered text q (sought_of e) o × IsWaiting text fs q top;
 }
 

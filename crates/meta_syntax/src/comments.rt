@@ -11,7 +11,7 @@ use std::alloc::AllocError;
 
 /// Returns the text after a comment that goes on at `from`, if the comment and all that begin within it are
 /// closed.
-pub fn closed<'i>(from: &'i str) -> Option<&'i str>
+pub fn skip_closed_comment<'i>(from: &'i str) -> Option<&'i str>
     ensures goes_on { (text : List ℕ) → IsLeft text from.entry.now
         → GoesOnIfFound text from.entry.now false result }
     ensures closed { (text : List ℕ) (classes : Classes) (furthest : ℕ) → IsLeft text from.entry.now
@@ -110,7 +110,7 @@ pub fn ends_of(text: &str, ends: &mut Vec<Option<usize>>) -> Result<(), AllocErr
 }
 
 /// Returns the text after a comment that goes on at `inside`.
-pub fn behind<'i>(text: &str, ends: &[Option<usize>], inside: &'i str) -> Option<&'i str>
+pub fn skip_comment<'i>(text: &str, ends: &[Option<usize>], inside: &'i str) -> Option<&'i str>
     requires left { IsLeft text.now inside.now }
     requires known { AreAllEnds text.now ends.now }
     ensures goes_on { GoesOnIfFound text.now inside.entry.now false result }

@@ -5,8 +5,8 @@ ghost use Rattle.std.specs.Prelude.{◌≡◌, ◌+◌, ◌<◌, ◌≤◌, ◌�
 ghost use Rattle.meta_base.specs.Language.Expression.{Ident};
 ghost use Rattle.meta_base.specs.Language.Meaning.{Run, Skipping};
 ghost use Rattle.meta_base.specs.Pieces.MetaRules.{name_of};
-ghost use Rattle.meta_syntax.specs.Expecting.{IsReadyAgain, IsTruly, Tells, TellsTo, is_settled, names_of, sought_of, telling};
-ghost use Rattle.meta_syntax.specs.ExpectedRules.{AreToldAt, is_named, rules_named};
+ghost use Rattle.meta_syntax.specs.Expecting.{IsReadyAgain, HasTrueMemory, RunsRecording, RunsToRecording, is_unrecorded, names_of, sought_of, with_failure};
+ghost use Rattle.meta_syntax.specs.ExpectedRules.{AreRecordedAt, is_named, rules_named};
 ghost use Rattle.meta_syntax.specs.Forms.{IsRunnable, calls_cost, cost, expression_of, kind_of, null, nullable, rank_of};
 ghost use Rattle.meta_syntax.specs.MetaGrammar.{type_of_rule};
 ghost use Rattle.meta_syntax.specs.Nesting.{effort, steps};
@@ -71,13 +71,13 @@ pub struct Expecting {
     /// The place, in bytes.
     place: usize,
     /// The rules whose calls failed there, in the order of their calls.
-    told: Vec<Rule>,
+    recorded: Vec<Rule>,
 }
 
 /// Whether no call within a call of this rule is recorded: its body runs in Atomic, or is silent
 /// throughout.
-fn is_settled(rule: Rule) -> bool
-    ensures { result ≡ is_settled rule }
+fn is_unrecorded(rule: Rule) -> bool
+    ensures { result ≡ is_unrecorded rule }
 {
     matches!(
         rule,
@@ -111,7 +111,7 @@ fn is_among(rules: &[Rule], rule: Rule) -> bool
 }
 
 /// Adds a rule, if it was recorded.
-fn add_if_told(rules: &mut Vec<Rule>, told: &[Rule], rule: Rule) -> Result<(), AllocError>
+fn add_if_recorded(rules: &mut Vec<Rule>, told: &[Rule], rule: Rule) -> Result<(), AllocError>
     ensures { OnOk result
         (rules.new.items ≡ rules.old.items ++ filter (is_named (names_of told.now)) (rule ∷ [])) }
 {
@@ -126,9 +126,9 @@ fn in_order(alloc: Global, told: &[Rule]) -> Result<Vec<Rule>, AllocError>
     ensures { IfOk result (λ rules. rules.items ≡ rules_named (names_of told.now)) }
 {
     let mut rules = Vec::new(alloc);
-    add_if_told(&mut rules, told, Rule::EOI)?;
+    add_if_recorded(&mut rules, told, Rule::EOI)?;
     for rule in Rule::all_rules() {
-        add_if_told(&mut rules, told, *rule)?;
+        add_if_recorded(&mut rules, told, *rule)?;
     }
     Ok(rules)
 }
@@ -140,11 +140,11 @@ pub fn expected_rules(
     text: &str,
     place: usize,
 ) -> Result<Vec<Rule>, AllocError>
-    ensures { IfOk result (λ rules. AreToldAt rule text.now place rules.items) }
+    ensures { IfOk result (λ rules. AreRecordedAt rule text.now place rules.items) }
 {
     let mut expecting = Expecting::new(alloc, place);
     let _answer = expecting.call(text, rule, Mode::NonAtomic, text)?;
-    let told = expecting.into_told();
+    let told = expecting.into_recorded();
     in_order(alloc, &told)
 }
 
@@ -173,21 +173,21 @@ fn begin_part<'i>(
 impl Expecting {
     /// A reading for a place, in bytes.
     pub fn new(alloc: Global, place: usize) -> Expecting
-        ensures told { names_of result.told.items ≡ [] }
+        ensures told { names_of result.recorded.items ≡ [] }
         ensures place { result.place ≡ place }
-        ensures truly { (text : List ℕ) → IsTruly text result }
+        ensures truly { (text : List ℕ) → HasTrueMemory text result }
     {
         Expecting {
             alloc,
             recognizer: Recognizer::new(alloc),
             place,
-            told: Vec::new(alloc),
+            recorded: Vec::new(alloc),
         }
     }
 
     /// The rules whose calls failed at the place, in the order of their calls.
-    pub fn into_told(self) -> Vec<Rule>
-        ensures { result ≡ self.told }
+    pub fn into_recorded(self) -> Vec<Rule>
+        ensures { result ≡ self.recorded }
     {
         let Expecting {
             alloc: _,
@@ -200,33 +200,34 @@ impl Expecting {
 
     /// Returns the number of recorded rules.
     fn count(&self) -> usize
-        ensures { result ≡ length (names_of self.now.told.items) }
+        ensures { result ≡ length (names_of self.now.recorded.items) }
     {
-        self.told.len()
+        self.recorded.len()
     }
 
     /// Records a failed call in place of the rules recorded within it, if it counts and began at the
     /// position.
-    fn tell(
+    fn record_failure(
         &mut self,
         counts: bool,
         rule: Rule,
         saved: usize,
         position: usize,
     ) -> Result<(), AllocError>
-        ensures truly { (text : List ℕ) → IsTruly text self.old → OnOk result (IsTruly text self.new) }
+        ensures truly { (text : List ℕ) → HasTrueMemory text self.old
+            → OnOk result (HasTrueMemory text self.new) }
         ensures told { OnOk result
-            (sought_of self.new ≡ telling counts (name_of rule) saved position (sought_of self.old)) }
+            (sought_of self.new ≡ with_failure counts (name_of rule) saved position (sought_of self.old)) }
     {
         if counts && position == self.place {
-            self.told.truncate(saved);
-            self.told.push(rule)?;
+            self.recorded.truncate(saved);
+            self.recorded.push(rule)?;
         }
         Ok(())
     }
 
     /// Calls a rule within which nothing is recorded.
-    fn settled<'i>(
+    fn call_unrecorded<'i>(
         &mut self,
         text: &str,
         rule: Rule,
@@ -234,23 +235,25 @@ impl Expecting {
         mode: Mode,
         rest: &'i str,
     ) -> Result<Option<&'i str>, AllocError>
-        requires settled { is_settled rule ≡ true }
+        requires settled { is_unrecorded rule ≡ true }
         requires defined { is_defined rule ≡ true }
         requires kind { kind_of kind ≡ type_of_rule rule }
         requires ready { IsReadyAgain text.now rest.now self.old }
         ensures goes_on { IfOk result (GoesOnIfFound text.now rest.entry.now (nullable rule)) }
-        ensures truly { OnOk result (IsTruly text.now self.new) }
+        ensures truly { OnOk result (HasTrueMemory text.now self.new) }
         ensures means { IfOk result
-            (Tells (Run (mode_of mode) (Ident (name_of rule)))
+            (RunsRecording (Run (mode_of mode) (Ident (name_of rule)))
             text.now rest.entry.now self.old self.new) }
     {
-        let answer = self.recognizer.by_list(self.alloc, text, rule, mode, rest)?;
+        let answer = self
+            .recognizer
+            .call_iteratively(self.alloc, text, rule, mode, rest)?;
         cut(&mut self.recognizer.entries, 0);
         match answer {
             Some(after) => Ok(Some(after)),
             None => {
                 let saved = self.count();
-                self.tell(
+                self.record_failure(
                     call_counts(kind, mode),
                     rule,
                     saved,
@@ -270,14 +273,14 @@ impl Expecting {
     ) -> Result<Option<&'i str>, AllocError>
         requires ready { IsReadyAgain text.now rest.now self.old }
         ensures goes_on { IfOk result (GoesOnIfFound text.now rest.entry.now true) }
-        ensures truly { OnOk result (IsTruly text.now self.new) }
+        ensures truly { OnOk result (HasTrueMemory text.now self.new) }
         ensures means { IfOk result
-            (Tells (Run (mode_of mode) (Ident (codes "EOI")))
+            (RunsRecording (Run (mode_of mode) (Ident (codes "EOI")))
             text.now rest.entry.now self.old self.new) }
     {
         if !rest.is_empty() {
             let saved = self.count();
-            self.tell(
+            self.record_failure(
                 is_seen_from(mode),
                 Rule::EOI,
                 saved,
@@ -292,9 +295,9 @@ impl Expecting {
     fn skip<'i>(&mut self, text: &str, mode: Mode, from: &'i str) -> Result<&'i str, AllocError>
         requires ready { IsReadyAgain text.now from.now self.old }
         ensures goes_on { IfOk result (λ after. GoesOn text.now from.entry.now true after.now) }
-        ensures truly { OnOk result (IsTruly text.now self.new) }
+        ensures truly { OnOk result (HasTrueMemory text.now self.new) }
         ensures means { IfOk result
-            (λ after. TellsTo (Skipping (mode_of mode))
+            (λ after. RunsToRecording (Skipping (mode_of mode))
             text.now from.entry.now self.old self.new after.now) }
     {
         let after = self.recognizer.skip(text, mode, from)?;
@@ -312,7 +315,7 @@ impl Expecting {
     ) -> Result<Option<&'i str>, AllocError>
         requires ready { IsReadyAgain text.now rest.now self.old }
         ensures means { IfOk result
-            (Tells (Run (mode_of mode) (Ident (name_of rule)))
+            (RunsRecording (Run (mode_of mode) (Ident (name_of rule)))
             text.now rest.entry.now self.old self.new) }
     {
         let mut frames = Vec::new(self.alloc);
@@ -402,8 +405,8 @@ impl Expecting {
         let Some(row) = row_of(rule) else {
             return Ok(Step::Answer(self.end_of_input(text, mode, rest)?));
         };
-        if is_settled(rule) {
-            let answer = self.settled(text, rule, row.kind, mode, rest)?;
+        if is_unrecorded(rule) {
+            let answer = self.call_unrecorded(text, rule, row.kind, mode, rest)?;
             return Ok(Step::Answer(answer));
         }
         let saved = self.count();
@@ -445,7 +448,7 @@ impl Expecting {
         frame: Frame<'i>,
         answer: Option<&'i str>,
     ) -> Result<Step<'i>, AllocError>
-        requires truly { IsTruly text.now self.old }
+        requires truly { HasTrueMemory text.now self.old }
         requires follows { (k : Question) × (q : Question) × FrameFollows text.now frame k q
             × IsAnswered text.now k (sought_of self.old) answer }
         ensures next { (k q top : Question) (work : ℕ) → FrameFollows text.now frame.entry k q
@@ -455,13 +458,13 @@ impl Expecting {
             → IfOk result (λ step. IsNext text.now frames.new.items self.new step top work) }
     {
         match answer {
-            Some(after) => self.found(text, frames, frame, after),
-            None => self.failed(text, frames, frame),
+            Some(after) => self.resume_found(text, frames, frame, after),
+            None => self.resume_failed(text, frames, frame),
         }
     }
 
     /// Resumes a frame whose part succeeded.
-    fn found<'i>(
+    fn resume_found<'i>(
         &mut self,
         text: &str,
         frames: &mut Vec<Frame<'i>>,
@@ -486,14 +489,14 @@ impl Expecting {
             Wait::Repetition(body) => self.turn(text, frames, body, frame.start.mode, after),
             Wait::OnceOrMore(body) => self.more(text, frames, body, frame.start.mode, after),
             Wait::Negation => {
-                self.told.truncate(frame.start.saved);
+                self.recorded.truncate(frame.start.saved);
                 Ok(Step::Answer(None))
             }
         }
     }
 
     /// Resumes a frame whose part failed.
-    fn failed<'i>(
+    fn resume_failed<'i>(
         &mut self,
         text: &str,
         frames: &mut Vec<Frame<'i>>,
@@ -510,7 +513,7 @@ impl Expecting {
         match frame.wait {
             Wait::Call(rule, kind) => {
                 let position = text.len() - start.rest.len();
-                self.tell(call_counts(kind, start.mode), rule, start.saved, position)?;
+                self.record_failure(call_counts(kind, start.mode), rule, start.saved, position)?;
                 Ok(Step::Answer(None))
             }
             Wait::Sequence(_, _) => Ok(Step::Answer(None)),
@@ -523,7 +526,7 @@ impl Expecting {
             Wait::Option => Ok(Step::Answer(Some(start.rest))),
             Wait::Repetition(_) => Ok(Step::Answer(Some(start.rest))),
             Wait::Negation => {
-                self.told.truncate(start.saved);
+                self.recorded.truncate(start.saved);
                 Ok(Step::Answer(Some(start.rest)))
             }
         }

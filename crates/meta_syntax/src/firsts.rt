@@ -3,7 +3,7 @@ ghost use Rattle.std.specs.Prelude.{◌≡◌, ℕ, List, true};
 ghost use Rattle.meta_base.specs.Language.State.{Classes, None', NonAtomicMode, Success};
 ghost use Rattle.meta_base.specs.Language.Meaning.{Skipping};
 ghost use Rattle.meta_base.specs.Language.Ran.{Ran};
-ghost use Rattle.meta_syntax.specs.Firsts.{Foretells, is_noted_at_once, may_begin, takes_one};
+ghost use Rattle.meta_syntax.specs.Firsts.{IsLookahead, is_recorded_at_once, may_begin, takes_one};
 ghost use Rattle.meta_syntax.specs.MetaGrammar.{meta_grammar};
 ghost use Rattle.meta_syntax.specs.Runs.{at};
 
@@ -59,8 +59,8 @@ fn may_begin(rule: Rule, first: char) -> bool
 /// Whether a call that its first character refuses is recorded as a failure there: the call itself, or one
 /// within it.
 #[inline(always)]
-pub fn is_noted_at_once(rule: Rule, mode: Mode) -> bool
-    ensures { result ≡ is_noted_at_once rule mode }
+pub fn is_recorded_at_once(rule: Rule, mode: Mode) -> bool
+    ensures { result ≡ is_recorded_at_once rule mode }
 {
     match rule {
         Rule::WHITESPACE
@@ -92,7 +92,7 @@ fn takes_one(rule: Rule, first: char) -> bool
 /// rule that is known there only the comparisons remain.
 #[inline(always)]
 pub fn look(rule: Rule, first: char) -> Lookahead
-    ensures { Foretells rule first result }
+    ensures { IsLookahead rule first result }
 {
     if !may_begin(rule, first) {
         Lookahead::Fails

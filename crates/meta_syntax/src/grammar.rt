@@ -63,7 +63,7 @@ impl PestParser {
     ///
     /// A text that fails is read twice, and another one once: call this where `parse` refused the text. The
     /// only error is allocation failure.
-    pub fn expected(alloc: Global, rule: Rule, text: &str) -> Result<Vec<Rule>, AllocError>
+    pub fn expected_set(alloc: Global, rule: Rule, text: &str) -> Result<Vec<Rule>, AllocError>
         ensures nothing { IfOk result (λ rules. ExpectsNothing rule text.now rules.items) }
         ensures expected { IfOk result (λ rules. AreExpected rule text.now rules.items) }
     {

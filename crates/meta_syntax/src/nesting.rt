@@ -161,13 +161,13 @@ impl Recognizer {
             }
         }
         *self = Recognizer::new(alloc);
-        let answer = self.by_list(alloc, text, rule, mode, text)?;
+        let answer = self.call_iteratively(alloc, text, rule, mode, text)?;
         Ok(answer)
     }
 
     /// Matches a rule as `call` does, with continuation frames on an explicit stack: no text takes stack
     /// space.
-    pub fn by_list<'i>(
+    pub fn call_iteratively<'i>(
         &mut self,
         alloc: Global,
         text: &str,
@@ -272,7 +272,7 @@ impl Recognizer {
             top → work_aside frames.old.items + steps (effort rest.entry.now (rank_of rule + 3)) ≤ work
             → IfOk result (λ step. IsNext text.now frames.new.items self.new step top work) }
     {
-        if let Some(answer) = self.decided(text, rule, mode, rest) {
+        if let Some(answer) = self.decide_call(text, rule, mode, rest) {
             return Ok(Step::Answer(answer));
         }
         let Some(row) = row_of(rule) else {

@@ -19,9 +19,9 @@ ghost use Rattle.meta_syntax.specs.declared.sets.Set.{Set};
 ghost use Rattle.meta_syntax.specs.Remembering.{FailsWithin, IsReady, RemembersTruly};
 ghost use Rattle.meta_syntax.specs.Runs.{GoesOn, IsLeft, GoesOnIfFound, RunsTo, Runs, mode_of};
 
-use crate::comments::{behind, closed, ends_of};
+use crate::comments::{ends_of, skip_closed_comment, skip_comment};
 use crate::entries::{Entry, close, count_of_entries, cut, leaf, open};
-use crate::firsts::{Lookahead, is_left_alone, is_noted_at_once, look};
+use crate::firsts::{Lookahead, is_left_alone, is_recorded_at_once, look};
 use crate::leaves::{any, character, literal, sign};
 use crate::modes::{
     Mode, body_mode, call_counts, furthest_with, gives_token, is_seen_from, is_tight,
@@ -106,7 +106,7 @@ impl Recognizer {
     ///
     /// Inlined into `call`, which asks first.
     #[inline(always)]
-    pub fn decided<'i>(
+    pub fn decide_call<'i>(
         &mut self,
         text: &str,
         rule: Rule,
@@ -125,7 +125,11 @@ impl Recognizer {
         match look(rule, first) {
             Lookahead::Fails => {
                 let place = text.len() - rest.len();
-                self.furthest = furthest_with(is_noted_at_once(rule, mode), place, self.furthest);
+                self.furthest = furthest_with(
+                    is_recorded_at_once(rule, mode),
+                    place,
+                    self.furthest,
+                );
                 Some(None)
             }
             Lookahead::TakesOne => Some(Some(characters.as_str())),
@@ -273,7 +277,7 @@ impl Recognizer {
                 let after = self.characters(text, *set, body, mode, rest)?;
                 Ok(Some(after))
             }
-            Form::Quoted(body, spelled) => self.quoted(text, body, spelled, mode, rest),
+            Form::Quoted(body, spelled) => self.quotation(text, body, spelled, mode, rest),
             Form::Comment(spelled) => self.comment(text, spelled, mode, rest),
             Form::RepOnce(body) => self.once_or_more(text, body, mode, rest),
             Form::NegPred(body) => self.negation(text, body, mode, rest),
@@ -580,7 +584,7 @@ impl Recognizer {
     /// there; this function takes another turn.
     #[inline(never)]
     #[cycle(recognize)]
-    fn quoted<'i>(
+    fn quotation<'i>(
         &mut self,
         text: &str,
         body: &'static Form,
@@ -651,12 +655,12 @@ impl Recognizer {
             return Ok(None);
         };
         if self.ends.is_empty() {
-            if let Some(after) = closed(inside) {
+            if let Some(after) = skip_closed_comment(inside) {
                 return Ok(Some(after));
             }
         }
         self.find_ends(text)?;
-        Ok(behind(text, self.ends.as_slice(), inside))
+        Ok(skip_comment(text, self.ends.as_slice(), inside))
     }
 
     /// Calls a rule, or `EOI`. Inlined into its callers: the next character decides most calls, which then
@@ -677,7 +681,7 @@ impl Recognizer {
             (Runs (Run (mode_of mode) (Ident (name_of rule)))
             text.now rest.entry.now self.old self.new) }
     {
-        if let Some(answer) = self.decided(text, rule, mode, rest) {
+        if let Some(answer) = self.decide_call(text, rule, mode, rest) {
             return Ok(answer);
         }
         match sign_of(rule) {
@@ -686,7 +690,7 @@ impl Recognizer {
                 if reaches_itself(rule) {
                     self.deeper(text, rule, mode, rest)
                 } else {
-                    self.called(text, rule, mode, rest)
+                    self.run_call(text, rule, mode, rest)
                 }
             }
         }
@@ -715,7 +719,7 @@ impl Recognizer {
             return Err(AllocError);
         }
         self.levels = levels - 1;
-        let answer = self.called(text, rule, mode, rest)?;
+        let answer = self.run_call(text, rule, mode, rest)?;
         self.levels = levels;
         Ok(answer)
     }
@@ -724,7 +728,7 @@ impl Recognizer {
     /// takes little stack space.
     #[inline(never)]
     #[cycle(recognize)]
-    fn called<'i>(
+    fn run_call<'i>(
         &mut self,
         text: &str,
         rule: Rule,

@@ -57,7 +57,7 @@ pub enum Form {
 
 /// The first part of a sequence, and the rest.
 #[derive(Clone, Copy)]
-pub struct Parts {
+pub struct SequenceParts {
     pub first: &'static Form,
     pub others: Option<&'static Form>,
 }
@@ -65,18 +65,18 @@ pub struct Parts {
 /// Splits the rest of a sequence into its next part and those after it; if it is no sequence, it is the
 /// last part. Inlined into the loop that calls it.
 #[inline(always)]
-pub fn parts_of(form: &'static Form) -> Parts
+pub fn parts_of(form: &'static Form) -> SequenceParts
     ensures good { IsGood form.now → IsGood result.first.now }
     ensures spelled { IsSpelled form.now → IsSpelled result.first.now }
     ensures cost { cost result.first.now ≤ cost form.now }
     ensures parts { AreParts form.now result.first.now result.others }
 {
     match form {
-        Form::Seq(first, others) => Parts {
+        Form::Seq(first, others) => SequenceParts {
             first: *first,
             others: Some(*others),
         },
-        _ => Parts {
+        _ => SequenceParts {
             first: form,
             others: None,
         },

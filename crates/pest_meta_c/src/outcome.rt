@@ -43,6 +43,6 @@ fn errors_told(
 ) -> Result<String, AllocError>
     ensures { IfOk result (λ json. Tells rule text.now errors.now (string_bytes json)) }
 {
-    let expected = PestParser::expected(alloc, rule, text)?;
+    let expected = PestParser::expected_set(alloc, rule, text)?;
     errors_text(alloc, errors, &expected)
 }

@@ -18,7 +18,7 @@ pub fn expected(alloc: Global, rule: Rule, text: &str) -> Result<Vec<Rule>, Allo
     ensures nothing { IfOk result (λ rules. ExpectsNothing rule text.now rules.items) }
     ensures expected { IfOk result (λ rules. AreExpected rule text.now rules.items) }
 {
-    PestParser::expected(alloc, rule, text)
+    PestParser::expected_set(alloc, rule, text)
 }
 
 /// What errors call a rule of the meta-grammar.

@@ -1,7 +1,7 @@
 use Rattle.std.proofs.Common.{rules}
 use Rattle.meta_syntax.proofs.Expectations.{expected_if_ok, no_failure, nothing_if_ok}
 use Rattle.meta_syntax.proofs.Parsing.{refused}
-use Rattle.meta_syntax.proofs.grammar.PestParser.expected.Goals as goal
+use Rattle.meta_syntax.proofs.grammar.PestParser.expected_set.Goals as goal
 
 pub recognize-requires : goal.recognize-requires
 recognize-requires c = record {

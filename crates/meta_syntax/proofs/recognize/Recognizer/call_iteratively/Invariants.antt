@@ -4,7 +4,7 @@ use Rattle.meta_base.specs.Pieces.MetaRules.{name_of}
 use Rattle.meta_syntax.specs.Forms.{nullable}
 use Rattle.meta_syntax.specs.Nesting.{IsOnTheWay, question_of, work_left}
 use Rattle.meta_syntax.specs.Runs.{mode_of}
-use Rattle.meta_syntax.proofs.recognize.Recognizer.by_list.Given as goal
+use Rattle.meta_syntax.proofs.recognize.Recognizer.call_iteratively.Given as goal
 
 abbrev pub invariant-loop-step : goal.invariant-loop-step
 invariant-loop-step l = IsOnTheWay l.text l.frames.items l.self l.step

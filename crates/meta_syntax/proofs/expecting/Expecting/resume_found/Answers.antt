@@ -6,7 +6,7 @@ use Rattle.meta_syntax.specs.Nesting.{effort, steps}
 use Rattle.meta_syntax.specs.SecondReading.{parts_cost}
 use Rattle.meta_syntax.proofs.SecondReading.{answered_next}
 use Rattle.meta_syntax.proofs.Waiting.{some_steps}
-use Rattle.meta_syntax.proofs.expecting.Expecting.found.Goals as goal
+use Rattle.meta_syntax.proofs.expecting.Expecting.resume_found.Goals as goal
 
 pub returns-in-Call : goal.returns-in-Call
 returns-in-Call c = record {

@@ -3,7 +3,7 @@ use denote.Text.{Utf8}
 use denote.Shadow.{shadow}
 use Rattle.meta_syntax.specs.Runs.{IsLeft}
 use Rattle.meta_syntax.proofs.CommentEnds.{StillOpen}
-use Rattle.meta_syntax.proofs.comments.closed.Given as goal
+use Rattle.meta_syntax.proofs.comments.skip_closed_comment.Given as goal
 
 abbrev pub invariant-loop-after : goal.invariant-loop-after
 invariant-loop-after l = record {

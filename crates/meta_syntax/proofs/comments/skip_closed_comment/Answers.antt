@@ -2,7 +2,7 @@ use Rattle.std.proofs.Common.{rules, refl, arith}
 use Rattle.meta_syntax.specs.declared.modes.Mode.TheVariants as in_mode
 use Rattle.meta_syntax.proofs.Steps.{ran_any}
 use Rattle.meta_syntax.proofs.CommentEnds.{all_closed, itself, one_closed, one_less, one_opened, one_taken, past_plain, shortened}
-use Rattle.meta_syntax.proofs.comments.closed.Goals as goal
+use Rattle.meta_syntax.proofs.comments.skip_closed_comment.Goals as goal
 
 pub returns-then-inner-eq0-clause-closed : goal.returns-then-inner-eq0-clause-closed
 returns-then-inner-eq0-clause-closed c = λ text classes p l.

@@ -6,7 +6,7 @@ use Rattle.meta_syntax.specs.Forms.{cost, nullable, rank_of}
 use Rattle.meta_syntax.specs.Nesting.{IsAnswered, IsWaiting, effort, question_of, steps, work_aside, work_of}
 use Rattle.meta_syntax.specs.Runs.{mode_of}
 use Rattle.meta_syntax.proofs.Waiting.{none_waits, nothing_left, waited, work_on}
-use Rattle.meta_syntax.proofs.recognize.Recognizer.by_list.Goals as goal
+use Rattle.meta_syntax.proofs.recognize.Recognizer.call_iteratively.Goals as goal
 
 pub loop-step-init : goal.loop-step-init
 loop-step-init c =

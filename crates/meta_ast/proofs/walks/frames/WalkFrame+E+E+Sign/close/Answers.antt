@@ -1,6 +1,6 @@
 use Rattle.std.proofs.Common.{refl}
 use Rattle.meta_ast.specs.Frames.{enclosed, put_together, turned}
-use Rattle.meta_ast.proofs.walks.frames.Frame+E+E+Sign.close.Goals as goal
+use Rattle.meta_ast.proofs.walks.frames.WalkFrame+E+E+Sign.close.Goals as goal
 
 pub returns-in_ok-enclose-in-Around-clause-closes : goal.returns-in_ok-enclose-in-Around-clause-closes
 returns-in_ok-enclose-in-Around-clause-closes g c = rw c.in-Around.is (enclosed c.in_ok-enclose-in-Around.ensures.whole refl)

@@ -6,7 +6,7 @@ use Rattle.meta_syntax.specs.Nesting.{effort, steps}
 use Rattle.meta_syntax.specs.SecondReading.{parts_cost}
 use Rattle.meta_syntax.proofs.SecondReading.{answered_next, next_trying, none_tried}
 use Rattle.meta_syntax.proofs.Waiting.{some_steps}
-use Rattle.meta_syntax.proofs.expecting.Expecting.failed.Goals as goal
+use Rattle.meta_syntax.proofs.expecting.Expecting.resume_failed.Goals as goal
 
 pub returns-in-Sequence : goal.returns-in-Sequence
 returns-in-Sequence c = record {

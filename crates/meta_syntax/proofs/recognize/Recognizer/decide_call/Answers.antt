@@ -8,7 +8,7 @@ use Rattle.meta_syntax.proofs.FirstCharacters.{fails_at_once}
 use Rattle.meta_syntax.proofs.LeafLemmas.{past_one}
 use Rattle.meta_syntax.proofs.Memory.{remembers_truly_on}
 use Rattle.meta_syntax.proofs.SingleCharacters.{one_taken}
-use Rattle.meta_syntax.proofs.recognize.Recognizer.decided.Goals as goal
+use Rattle.meta_syntax.proofs.recognize.Recognizer.decide_call.Goals as goal
 
 pub returns-in-Fails-clause-remembers : goal.returns-in-Fails-clause-remembers
 returns-in-Fails-clause-remembers c = remembers_truly_on c.args.text.now c.args.self.now c.furthest_with-self.result c.requires.ready.remembers c.furthest_with-self.ensures.further
@@ -20,7 +20,7 @@ returns-in-Fails-clause-means c =
       kept = refl;
       ran = λ classes. fails_at_once c.args.rule c.args.mode c.in_ok-first.first classes _ _ _ _ fails
           (chars_past_char _ _ _ c.utf8.rest (sym c.chars-characters.ensures.rest ∙ c.in_ok-first.ensures.steps.0))
-          (rw (← c.is_noted_at_once.ensures) c.furthest_with-self.ensures.value);
+          (rw (← c.is_recorded_at_once.ensures) c.furthest_with-self.ensures.value);
     }
 
 pub returns-in-TakesOne-clause-goes_on : goal.returns-in-TakesOne-clause-goes_on

@@ -5,7 +5,7 @@ use Rattle.meta_base.specs.Language.State.{None', Success}
 use Rattle.meta_syntax.specs.CommentEnds.{GoesOnTo, IsEnd}
 use Rattle.meta_syntax.specs.Runs.{at}
 use Rattle.meta_syntax.proofs.CommentEnds.{entry_of, tail_is_left, tail_length, tail_of, there, within}
-use Rattle.meta_syntax.proofs.comments.behind.Goals as goal
+use Rattle.meta_syntax.proofs.comments.skip_comment.Goals as goal
 
 pub range_from-requires : goal.range_from-requires
 range_from-requires c = λ h.
