@@ -55,7 +55,8 @@ module _ {E S : Type 0} (says : E → Expression) (stands_for : S → Unary) whe
   IsOpened whole (node.Two j x y) = whole ≡ joined j (says x) (says y)
 
   -- the next node of a walk at an expression; its context is pushed after the frames `ks`
-  pub data Opens (whole : Expression) (ks : List (WalkFrame E S)) : Onward E → List (WalkFrame E S) → Type 0 where
+  pub data Opens (whole : Expression) (ks : List (WalkFrame E S)) : Onward E → List (WalkFrame E S)
+      → Type 0 where
     leaf : {x : E} {ls : List (WalkFrame E S)}
         → says x ≡ whole → operands whole ≡ [] → ls ≡ ks → Opens whole ks (onward.Done x) ls
     one : (s : S) {x : E} {ls : List (WalkFrame E S)}
@@ -66,7 +67,8 @@ module _ {E S : Type 0} (says : E → Expression) (stands_for : S → Unary) whe
         → Opens whole ks (onward.Next x) ls
 
   -- the result of a frame that follows the frames `ks`, once `d` is done in it
-  pub data Closes (ks : List (WalkFrame E S)) (d : E) : WalkFrame E S → Onward E → List (WalkFrame E S) → Type 0 where
+  pub data Closes (ks : List (WalkFrame E S)) (d : E) : WalkFrame E S → Onward E → List (WalkFrame E S)
+      → Type 0 where
     enclosed : {s : S} {x : E} {ls : List (WalkFrame E S)}
         → says x ≡ around (stands_for s) (says d) → ls ≡ ks → Closes ks d (frame.Around s) (onward.Done x) ls
     put_together : {j : Joint} {a x : E} {ls : List (WalkFrame E S)}
