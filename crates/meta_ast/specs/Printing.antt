@@ -82,7 +82,7 @@ abbrev pub inside_wrapper : Place → Place
 inside_wrapper BeforePostfix = BeforePostfix
 inside_wrapper _ = Alone
 
--- an expression at a place
+-- an expression at a position
 abbrev pub printed_at : Place → Expression → Text
 printed_at k (Str t) = literal 34 t
 printed_at k (Insens t) = codes "^" ++ literal 34 t

@@ -56,9 +56,9 @@ pub enum Expr {
     /// The texts from one index of the stack up to another, counted from its bottom. A negative index
     /// counts from the stack's length, which is also the end where none is given: `PEEK[0..-1]`.
     PeekSlice(i32, Option<i32>),
-    /// Succeeds in place where the expression succeeds: `&e`.
+    /// Succeeds where the expression succeeds, and takes nothing: `&e`.
     PosPred(Box<Expr>),
-    /// Succeeds in place where the expression fails: `!e`.
+    /// Succeeds where the expression fails, and takes nothing: `!e`.
     NegPred(Box<Expr>),
     /// One expression after another: `a ~ b`.
     Seq(Box<Expr>, Box<Expr>),

@@ -54,7 +54,7 @@ impl<T: Release> Drop for Deep<T> {
 }
 
 impl<T: Release> Deep<T> {
-    /// The value, which is no longer kept.
+    /// Unwraps the value.
     pub fn into_inner(self) -> T
         ensures { result ≡ self.value }
     {

@@ -65,11 +65,11 @@ pub trait Shaped: Drop {
         ensures lighter { IfOk result (λ shape.
             heaviness_of (λ operand. heaviness operand.now.value) shape < heaviness self.entry.now) };
 
-    /// An operand in its sign.
+    /// Rebuilds a tree from an operator and its operand.
     fn enclose(sign: Self::Sign, operand: Box<Self>) -> Self
         ensures { says result ≡ around sign (says operand.value) };
 
-    /// Two operands side by side.
+    /// Rebuilds a tree from an operator and its two operands.
     fn join(joint: Self::Joint, left: Box<Self>, right: Box<Self>) -> Self
         ensures { says result ≡ between joint (says left.value) (says right.value) };
 
@@ -77,7 +77,7 @@ pub trait Shaped: Drop {
     fn take(place: &mut Box<Self>) -> Self
         ensures { result ≡ place.old.value };
 
-    /// Two trees as the operands of one.
+    /// Chains two trees as the operands of one.
     fn chain(first: Box<Self>, second: Box<Self>) -> Self
         ensures { heaviness result ≤ 2 * heaviness first.value + heaviness second.value + 1 };
 }

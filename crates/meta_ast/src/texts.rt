@@ -13,7 +13,7 @@ pub fn same_text(s: &String, t: &String) -> bool
     s == t
 }
 
-/// Whether two lists have the same texts, place by place.
+/// Whether two lists have the same texts in the same order.
 pub fn same_texts(ss: &Vec<String>, ts: &Vec<String>) -> bool
     ensures computed { result ≡ texts_eq (map text_of ss.now.items) (map text_of ts.now.items) }
     ensures exact { IsTrue result ↔ (map text_of ss.now.items ≡ map text_of ts.now.items) }

@@ -71,12 +71,12 @@ pub(crate) trait Tree: Release {
     fn open(self) -> Node<Self, Self::Sign>
         ensures { IsOpened says stands_for (says self) result };
 
-    /// An operand in its sign.
+    /// Rebuilds an expression from an operator and its operand.
     fn enclose(alloc: Global, sign: Self::Sign, operand: Self) -> Result<Self, Fault>
         ensures whole { IfOk result (λ whole. says whole ≡ around (stands_for sign) (says operand)) }
         ensures memory { IfErr result (λ fault. fault ≡ Fault.Memory alloc_error) };
 
-    /// Two operands side by side.
+    /// Rebuilds an expression from an operator and its two operands.
     fn join(alloc: Global, joint: Joint, left: Self, right: Self) -> Result<Self, Fault>
         ensures whole { IfOk result (λ whole. says whole ≡ joined joint (says left) (says right)) }
         ensures memory { IfErr result (λ fault. fault ≡ Fault.Memory alloc_error) };
@@ -86,7 +86,7 @@ pub(crate) trait Tree: Release {
         ensures { IfOk result (λ copy. says copy ≡ says self.now) };
 }
 
-/// An operand in a box of its own.
+/// Moves an operand into a box.
 pub(crate) fn box_operand<E: Release>(
     alloc: Global,
     operand: Deep<E>,
@@ -97,7 +97,7 @@ pub(crate) fn box_operand<E: Release>(
     Ok(operand.into_box(alloc)?)
 }
 
-/// Two operands without their boxes.
+/// Unboxes two operands.
 pub(crate) fn two<E: Drop, S: Drop>(joint: Joint, left: Box<E>, right: Box<E>) -> Node<E, S>
     ensures { result ≡ Node.Two joint left.value right.value }
 {

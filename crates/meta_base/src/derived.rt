@@ -16,7 +16,7 @@ pub fn equality_of_rules()
 {}
 
 /// `EOI` is the least rule, and the others are in the order of the meta-grammar: two rules compare as their
-/// places in this list, which has them all.
+/// indices in this list, which has them all.
 pub fn order_of_rules()
     ensures listed { (rule : Rule) → Contains ascending_rules rule }
     ensures cmp { (a b : Rule) (i j : ℕ)
@@ -26,7 +26,7 @@ pub fn order_of_rules()
         → ⟦<Rule as PartialOrd>⟧.partial_cmp a b ≡ Some (⟦<Rule as Ord>⟧.cmp a b) }
 {}
 
-/// Of a rule a hasher is fed its place in that order, as a `usize`, and nothing else.
+/// A hasher is fed a rule's index in that order, as a `usize`, and nothing else.
 pub fn hash_of_rules()
     ensures { (rule : Rule) (i : ℕ) → slice_get ascending_rules i ≡ Some rule
         → ⟦<Rule as Hash>⟧.hash_input rule ≡ fed.usize i }
@@ -78,7 +78,7 @@ pub fn equality_of_variants()
     ensures { (a b : ErrorVariant) → IsTrue (⟦<ErrorVariant as PartialEq>⟧.eq a b) ↔ SaySame a b }
 {}
 
-/// Two locations in bytes are equal where they are one place, or one start and one end.
+/// Two locations in bytes are equal where they are one position, or one start and one end.
 pub fn equality_of_locations()
     ensures { (a b : InputLocation) → IsTrue (⟦<InputLocation as PartialEq>⟧.eq a b) ↔ (a ≡ b) }
 {}

@@ -102,7 +102,7 @@ pub fn bodies_run_in_rule_modes()
     ensures { (r : Rule) (m : Mode) → IsRuleMode (body_mode r m) }
 {}
 
-/// A failure has one place.
+/// A failure has one position.
 pub fn one_place_of_failure()
     ensures { (g : Grammar) (classes : Classes) (e : Expression) (m : Mode) (s : State) (o : Outcome)
         → (d f : Matches g classes e m s o) → furthest d ≡ furthest f }
@@ -132,7 +132,7 @@ pub fn pass_is_a_chain()
     ensures { (g h i : Grammar) → Chain g h → EachRewritten g h i → Chain h i }
 {}
 
-/// Rotations at any places of any rules keep the outcomes, whatever the rules are called.
+/// Rotations at any positions of any rules keep the outcomes, whatever the rules are called.
 pub fn rotations_keep_outcomes()
     ensures { (g h : Grammar) → EachBody (λ _. Many Rotates) g h → SameOutcomes g h }
 {}

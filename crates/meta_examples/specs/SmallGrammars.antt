@@ -223,7 +223,7 @@ pub record NegativePredicates (classes : Classes) : Type 0 where
       (ends_at (at_start (codes "b")))
   pub fails : Matches [] classes (NegPred (Str (codes "a"))) NonAtomicMode (at_start (codes "a")) Failure
 
--- a second alternative is taken after the first has failed, from the same place, and only then
+-- a second alternative is tried after the first has failed, from the same position, and only then
 pub record Alternatives (classes : Classes) : Type 0 where
   pub second : Matches [] classes
       (Choice (Seq (Str (codes "a")) (Str (codes "b"))) (Str (codes "ac"))) AtomicMode

@@ -107,7 +107,7 @@ pub fn negative_predicates()
     ensures { (classes : Classes) → NegativePredicates classes }
 {}
 
-/// A second alternative is taken after the first has failed, from the same place, and only then.
+/// A second alternative is tried after the first has failed, from the same position, and only then.
 pub fn alternatives()
     ensures { (classes : Classes) → Alternatives classes }
 {}
@@ -243,7 +243,7 @@ pub fn tells_the_outer()
     ensures { (classes : Classes) → TellsTheOuter classes }
 {}
 
-/// All calls that failed at the furthest place are expected, in their order, `EOI` among them.
+/// All calls that failed at the furthest position are expected, in their order, `EOI` among them.
 pub fn tells_all()
     ensures { (classes : Classes) → TellsAll classes }
 {}

@@ -17,7 +17,7 @@ pub trait Inference {
     // whether the flag of an item follows from others, where these say which of them are set
     ghost infers: { Self → (ℕ → Bool) → Self.Item → Bool };
 
-    /// How many items there are.
+    /// Counts the items.
     fn count(&self) -> usize
         ensures { result ≡ length (items self.now) };
 

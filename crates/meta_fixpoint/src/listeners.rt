@@ -4,7 +4,7 @@ use std::alloc::{AllocError, Global};
 
 /// Items that are known by number, each of which listens to some of them.
 pub trait DependencyGraph {
-    /// How many items there are.
+    /// Counts the items.
     fn count(&self) -> usize;
 
     /// Calls `visit` for each item to which this one listens.
@@ -26,7 +26,7 @@ pub struct Listeners {
 }
 
 impl Listeners {
-    /// The listeners of an item.
+    /// Returns the listeners of an item.
     pub fn of(&self, item: usize) -> &[usize] {
         let start = place_at(&self.starts, item);
         let end = place_at(&self.starts, item.saturating_add(1));
@@ -74,7 +74,7 @@ impl DependencyVisitor for ListenerLists {
     }
 }
 
-/// How many listen to each item; and one number more.
+/// Counts the listeners of each item, with one 0 more at the end.
 fn count_listeners<L: DependencyGraph>(alloc: Global, graph: &L) -> Result<Vec<usize>, AllocError> {
     let counts = vec![in alloc; 0; graph.count().saturating_add(1)]?;
     let mut visitor = ListenerCounts { counts };
@@ -94,7 +94,7 @@ fn add_up(counts: &mut [usize]) -> usize {
     sum
 }
 
-/// Who listens to whom.
+/// Collects the listeners of each item.
 pub fn find_listeners<L: DependencyGraph>(
     alloc: Global,
     graph: &L,

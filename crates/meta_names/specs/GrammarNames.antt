@@ -67,7 +67,7 @@ complaints_of pairs = name_complaints (definitions_of pairs) (calls_of pairs)
 abbrev pub first_calls_of : Pairs Rule → List Span
 first_calls_of pairs = first_calls (definitions_of pairs) (calls_of pairs)
 
--- the texts are those that are written at these places
+-- the texts are those of these pieces
 abbrev pub AreWrittenAt : List Span → List (Bor (List ℕ)) → Type 0
 AreWrittenAt places texts = map (λ t. t.now) texts ≡ map written places
 

@@ -1,4 +1,4 @@
--- The names that no rule may have, and the names that some places write.
+-- The names that no rule may have, and the names of some pieces.
 use Rattle.std.specs.Prelude.{◌≡◌, ⊤, ℕ, List, [], ◌∷◌, ◌++◌, Bool, not, ◌&&◌, if◌then◌else◌, is_some, map, filter, codes}
 use Rattle.meta_base.specs.Language.Text.{Text}
 use Rattle.meta_base.specs.Language.Builtins.{is_one_of, builtin_of}
@@ -22,12 +22,12 @@ rust_keywords =
 abbrev pub is_builtin : Text → Bool
 is_builtin name = is_some (builtin_of name)
 
--- all these places are in this text
+-- all these pieces are in this text
 abbrev pub AreIn : List ℕ → List Span → Type 0
 AreIn text [] = ⊤
 AreIn text (place ∷ places) = (place.text ≡ text) × AreIn text places
 
--- the places whose names are among these
+-- the pieces whose names are among these
 abbrev pub places_of : List Text → List Span → List Span
 places_of names places = filter (λ place. is_one_of names (written place)) places
 
@@ -38,7 +38,7 @@ later_places before (place ∷ places) =
     if is_one_of before (written place) then place ∷ later_places (written place ∷ before) places
     else later_places (written place ∷ before) places
 
--- the other places: the first of each name that is not among these
+-- the other pieces, the first of each name that is not among these
 abbrev pub first_places : List Text → List Span → List Span
 first_places before [] = []
 first_places before (place ∷ places) =

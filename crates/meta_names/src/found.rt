@@ -12,7 +12,7 @@ use meta_base::grammar::Rule;
 use meta_base::runtime::{FirstTree, Span, TokenTree, first_tree};
 use std::alloc::{AllocError, Global};
 
-/// The piece of the text from the byte `start` to the byte `end`.
+/// Returns the piece of the text from the byte `start` to the byte `end`.
 fn place<'i>(text: &'i str, start: usize, end: usize) -> Span<'i>
     requires ordered { start ≤ end }
     requires starts_at_character { IsCharBoundary text.now start }
@@ -22,7 +22,7 @@ fn place<'i>(text: &'i str, start: usize, end: usize) -> Span<'i>
     Span::new(text, start, end).unwrap()
 }
 
-/// Adds the place of a tree to `names`, where the tree is a name.
+/// Adds the span of a tree to `names`, if the tree is a name.
 fn add_own_name<'i>(
     text: &'i str,
     tree: FirstTree<'_, Rule>,
@@ -51,7 +51,7 @@ fn leave<'t>(
     Ok(())
 }
 
-/// Adds the places of all names in some trees, in the order of the text.
+/// Adds the spans of all names in some trees, in the order of the text.
 fn add_names<'i>(
     alloc: Global,
     text: &'i str,
@@ -72,7 +72,7 @@ fn add_names<'i>(
     Ok(())
 }
 
-/// Adds the place of the name which the trees of a rule define, where they define one.
+/// Adds the span of the name which the trees of a rule define, if they define one.
 fn add_definition<'i>(
     text: &'i str,
     trees: &[TokenTree<Rule>],
@@ -88,7 +88,7 @@ fn add_definition<'i>(
     }
 }
 
-/// Adds the places of the names which the trees of a rule call, in the order of the text.
+/// Adds the spans of the names which the trees of a rule call, in the order of the text.
 fn add_calls<'i>(
     alloc: Global,
     text: &'i str,

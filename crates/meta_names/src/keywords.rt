@@ -52,7 +52,7 @@ pub fn validate_already_defined(
     errors(alloc, "rule ", " already defined", &again)
 }
 
-/// The errors of `validate_pest_keywords`, of definitions that are all in one text.
+/// Collects the errors of `validate_pest_keywords`, for definitions that are all in one text.
 pub(crate) fn pest_keywords_in(
     alloc: Global,
     text: &str,
@@ -67,7 +67,7 @@ pub(crate) fn pest_keywords_in(
     errors_in(alloc, text, "", " is a pest keyword", &found)
 }
 
-/// The errors of `validate_already_defined`, of definitions that are all in one text.
+/// Collects the errors of `validate_already_defined`, for definitions that are all in one text.
 pub(crate) fn already_defined_in(
     alloc: Global,
     text: &str,

@@ -61,7 +61,7 @@ fn name_errors<'i>(
     Ok(errors)
 }
 
-/// The names of the calls that are no definition's, each once, in the order of their first calls.
+/// Collects the names of the calls that are no definition's, each once, in the order of their first calls.
 fn first_calls<'i>(
     alloc: Global,
     definitions: &[Span<'i>],

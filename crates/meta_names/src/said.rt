@@ -61,7 +61,7 @@ fn error_in(
     Error::new_in_survey(alloc, ErrorVariant::CustomError { message }, survey, place)
 }
 
-/// The errors of `errors` where all places are in one text, which is walked over once.
+/// Makes the errors of `errors` where all spans are in one text, which is surveyed once.
 pub(crate) fn errors_in(
     alloc: Global,
     text: &str,

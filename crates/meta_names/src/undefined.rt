@@ -27,7 +27,7 @@ pub fn validate_undefined<'i>(
     errors(alloc, "rule ", " is undefined", &undefined)
 }
 
-/// The errors of `validate_undefined`, of calls that are all in one text.
+/// Collects the errors of `validate_undefined`, for calls that are all in one text.
 pub(crate) fn undefined_in<'i>(
     alloc: Global,
     text: &str,
@@ -81,7 +81,7 @@ fn is_undefined(defined: &HashSet<&str>, name: &str) -> bool
     !defined.contains(&name) && !is_builtin(name)
 }
 
-/// The names that are written at these places.
+/// Collects the names at these spans.
 pub(crate) fn names<'i>(alloc: Global, places: &[Span<'i>]) -> Result<HashSet<&'i str>, AllocError>
     ensures { IfOk result (HasNames (map written (map piece_of places.now))) }
 {

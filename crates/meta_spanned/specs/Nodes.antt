@@ -37,7 +37,7 @@ view_at t (is.NodeTag' p e s u) = One t (spanned.Tag (text_of u)) (view_at (piec
 abbrev pub view : ParserNode → Spanned
 view n = view_at (piece_of n.span) n.expr
 
--- an expression of code without a place of its own, as one at the start of no text
+-- an expression of code without a piece of its own, as one at the start of no text
 abbrev pub unplaced : code.ParserExpr → Spanned
 unplaced e = view_at (record { text = []; start = 0; end = 0 }) e
 

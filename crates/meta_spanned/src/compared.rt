@@ -1,4 +1,4 @@
-//! Equality of nodes, expressions and rules: by structure and place, and exactly that.
+//! Equality of nodes, expressions and rules: by structure and span, and exactly that.
 ghost use Rattle.std.specs.Prelude.{◌≡◌, ◌↔◌, ◌<◌, IsTrue};
 ghost use Rattle.std.specs.Cmp.{on_equiv, partial_equiv_from_equiv};
 ghost use Rattle.meta_ast.specs.Sameness.{heaviness_left, is_same};

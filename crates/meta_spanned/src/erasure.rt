@@ -115,7 +115,7 @@ impl<'i> Rebuild for ErasureContext<'i> {
     }
 }
 
-/// An expression without operands.
+/// Converts an expression without operands.
 fn erased_leaf(leaf: ParserExpr<'_>) -> Expr
     requires { IsLeaf (unplaced leaf) }
     ensures { (place : Place) → expression_of result ≡ without_spans (view_at place leaf.entry) }

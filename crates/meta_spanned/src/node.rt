@@ -40,9 +40,9 @@ pub enum ParserExpr<'i> {
     Ident(String),
     /// The texts from one index of the stack up to another, or up to its end: `PEEK[0..-1]`.
     PeekSlice(i32, Option<i32>),
-    /// Succeeds in place where the node succeeds: `&e`.
+    /// Succeeds where the node succeeds, and takes nothing: `&e`.
     PosPred(Box<ParserNode<'i>>),
-    /// Succeeds in place where the node fails: `!e`.
+    /// Succeeds where the node fails, and takes nothing: `!e`.
     NegPred(Box<ParserNode<'i>>),
     /// One node after another: `a ~ b`.
     Seq(Box<ParserNode<'i>>, Box<ParserNode<'i>>),

@@ -177,7 +177,7 @@ pub(crate) fn expr_shape<'n, 'i>(
     Ok(Shape::One(sign, operand))
 }
 
-/// An operand in its sign.
+/// Rebuilds an expression from an operator and its operand.
 pub(crate) fn enclose_expr<'i>(sign: Sign, operand: Box<ParserNode<'i>>) -> ParserExpr<'i>
     ensures { (place : Place)
         → view_at place result ≡ One place (unary_of sign) (view operand.entry.value) }
@@ -198,7 +198,7 @@ pub(crate) fn enclose_expr<'i>(sign: Sign, operand: Box<ParserNode<'i>>) -> Pars
     }
 }
 
-/// Two operands side by side.
+/// Rebuilds an expression from an operator and its two operands.
 pub(crate) fn join_exprs<'i>(
     joint: Joint,
     left: Box<ParserNode<'i>>,

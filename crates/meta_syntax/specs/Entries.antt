@@ -6,7 +6,7 @@ use Rattle.meta_base.specs.Pieces.MetaRules.{name_of}
 use Rattle.meta_syntax.specs.declared.entries.Entry as code
 use Rattle.meta_syntax.specs.declared.entries.Entry.TheVariants as is
 
--- a tree starts, or ends, at a place; its other entry is the one of a number
+-- a tree starts, or ends, at a position; its other entry is the one of a number
 pub data Entry : Type 0 where
   Starts : (rule : Text) (place partner : ℕ) → Entry
   Ends : (place partner : ℕ) → Entry

@@ -22,12 +22,12 @@ abbrev pub ExpectsNothing : Rule → List ℕ → List Rule → Type 0
 ExpectsNothing rule text rules = (classes : Classes) (t : State) (us : Trees)
     → Recognizes rule text classes (Success t us) → rules ≡ []
 
--- the rules are those that are expected at the furthest place, where the rule fails
+-- the rules are those that are expected at the furthest position, where the rule fails
 abbrev pub AreExpected : Rule → List ℕ → List Rule → Type 0
 AreExpected rule text rules = (classes : Classes)
     → (d : Recognizes rule text classes Failure) → rules ≡ rules_named (expected d)
 
--- the rules are those that are expected at a place, where the rule fails or matches
+-- the rules are those that are expected at a position, where the rule fails or matches
 abbrev pub AreRecordedAt : Rule → List ℕ → ℕ → List Rule → Type 0
 AreRecordedAt rule text place rules = (classes : Classes) (o : Outcome)
     → (d : Recognizes rule text classes o) → rules ≡ rules_named (expected_at place d)

@@ -17,7 +17,7 @@ use Rattle.meta_syntax.specs.Runs.{IsLeft, at}
 abbrev pub names_of : List Rule → List Text
 names_of rules = map name_of rules
 
--- the place for which names are sought, and the names so far
+-- the position for which names are sought, and the names so far
 pub record Sought : Type 0 where
   pub place : ℕ
   pub names : List Text
@@ -29,7 +29,7 @@ sought_of e = record { place = e.place; names = names_of e.recorded.items }
 abbrev pub with_names : Sought → List Text → Sought
 with_names s ns = record { place = s.place; names = s.names ++ ns }
 
--- with the name of a call that failed, where it counts and began at the place, instead of all names but the
+-- with the name of a call that failed, if it counts and began at the position, instead of all names but the
 -- first ones
 abbrev pub with_failure : Bool → Text → ℕ → ℕ → Sought → Sought
 with_failure counts n saved position s =

@@ -47,12 +47,12 @@ AreSpelled rule pairs = Spells rule (pairs_text pairs) (named (pairs_trees pairs
 abbrev pub AreOfAGrammar : Pairs Rule → Type 0
 AreOfAGrammar pairs = AreSpelled rule_is.grammar_rules pairs
 
--- the rule fails, whatever the classes are, and this is the place of the failure
+-- the rule fails, for all classes, and this is the position of the failure
 abbrev pub FailsAt : Rule → List ℕ → ℕ → Type 0
 FailsAt rule text place =
     (classes : Classes) → (d : Recognizes rule text classes Failure) × (place ≡ furthest d)
 
--- the errors are one syntax error, at a place of a text
+-- the errors are one syntax error, at a position of a text
 pub record IsSyntaxError (text : List ℕ) (place : ℕ) (errors : List (Error Rule)) : Type 0 where
   pub error : Error Rule
   pub one : errors ≡ error ∷ []

@@ -15,13 +15,13 @@ use Rattle.meta_syntax.specs.CommentEnds.{AreAllEnds}
 use Rattle.meta_syntax.specs.MetaGrammar.{meta_grammar}
 use Rattle.meta_syntax.specs.Runs.{IsLeft, at}
 
--- a call fails, whatever the classes are, and nothing in it fails further than at a place
+-- a call fails, for all classes, and nothing in it fails further than at a position
 abbrev pub FailsWithin : Rule → Mode → List ℕ → List ℕ → ℕ → Type 0
 FailsWithin rule m text rest bound = (classes : Classes)
     → (d : Matches meta_grammar classes (Ident (name_of rule)) m (at text rest) Failure)
     × (furthest d ≤ bound)
 
--- a comment does so at each place that is remembered, by the count of bytes that are left there
+-- a comment does so at each remembered position, by the count of bytes left there
 abbrev pub Remembers : Mode → List ℕ → ℕ → HashSet ℕ (BuildHasherDefault FoldHasher) → Type 0
 Remembers m text bound places = (n : ℕ) → contains nat_eq places n ≡ true
     → FailsWithin is.block_comment m text (drop (length text - n) text) bound

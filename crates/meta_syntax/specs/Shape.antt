@@ -33,13 +33,13 @@ pub data IsModifier : Text → Type 0 where
   compound_atomic : IsModifier (codes "compound_atomic_modifier")
   non_atomic : IsModifier (codes "non_atomic_modifier")
 
--- between two places there are digits
+-- between two positions there are digits
 pub record IsNumber (text : List ℕ) (number_at number_to : ℕ) : Type 0 where
   pub digits : IsNumeral 10 (slice_range text number_at number_to)
   pub unsigned : without_leading_plus (slice_range text number_at number_to)
       ≡ slice_range text number_at number_to
 
--- between two places there are digits, or a sign and digits
+-- between two positions there are digits, or a sign and digits
 abbrev pub IsInteger : List ℕ → ℕ → ℕ → Type 0
 IsInteger text number_at number_to =
     IsNumeral 10 (without_leading_sign (slice_range text number_at number_to))

@@ -40,7 +40,7 @@ pub fn skip_closed_comment<'i>(from: &'i str) -> Option<&'i str>
     }
 }
 
-/// Where a comment ends whose text goes on where so many bytes are left.
+/// Returns the end of a comment that goes on where `left` bytes are left.
 fn known_end(ends: &[Option<usize>], left: usize) -> Option<usize>
     requires { left < length ends.now }
     ensures { result ≡ slice_index_or ends.now left None }
@@ -48,7 +48,7 @@ fn known_end(ends: &[Option<usize>], left: usize) -> Option<usize>
     ends[left]
 }
 
-/// Where a comment ends whose text goes on with a character in which no comment begins that is closed.
+/// Returns the end of a comment that goes on with a character at which no closed comment begins.
 fn end_outside(text: &str, rest: &str, ends: &[Option<usize>]) -> Option<usize>
     requires left { IsLeft text.now rest.now }
     requires outside { HasNoComment text.now rest.now }
@@ -97,7 +97,8 @@ fn end_at(text: &str, left: usize, ends: &[Option<usize>]) -> Option<usize>
     }
 }
 
-/// Where comments end, for each place within the text: at the count of bytes that are left there.
+/// Computes where comments end, for each position within the text, indexed by the count of bytes left
+/// there.
 pub fn ends_of(text: &str, ends: &mut Vec<Option<usize>>) -> Result<(), AllocError>
     requires none { ends.old.items ≡ [] }
     ensures { OnOk result (AreAllEnds text.now ends.new.items) }

@@ -68,7 +68,7 @@ pub struct Expecting {
     alloc: Global,
     /// Matches the parts that record nothing.
     recognizer: Recognizer,
-    /// The place, in bytes.
+    /// The position, in bytes.
     place: usize,
     /// The rules whose calls failed there, in the order of their calls.
     recorded: Vec<Rule>,
@@ -133,7 +133,7 @@ fn in_order(alloc: Global, told: &[Rule]) -> Result<Vec<Rule>, AllocError>
     Ok(rules)
 }
 
-/// The rules that are expected at a place of a text, in the order of the table, each once.
+/// Returns the rules that are expected at a byte position of a text, in the order of the table, each once.
 pub fn expected_rules(
     alloc: Global,
     rule: Rule,
@@ -171,7 +171,7 @@ fn begin_part<'i>(
 }
 
 impl Expecting {
-    /// A reading for a place, in bytes.
+    /// Starts a run for a position, in bytes.
     pub fn new(alloc: Global, place: usize) -> Expecting
         ensures told { names_of result.recorded.items ≡ [] }
         ensures place { result.place ≡ place }
@@ -185,7 +185,7 @@ impl Expecting {
         }
     }
 
-    /// The rules whose calls failed at the place, in the order of their calls.
+    /// Returns the rules whose calls failed at the position, in the order of their calls.
     pub fn into_recorded(self) -> Vec<Rule>
         ensures { result ≡ self.recorded }
     {
@@ -205,7 +205,7 @@ impl Expecting {
         self.recorded.len()
     }
 
-    /// Records a failed call in place of the rules recorded within it, if it counts and began at the
+    /// Records a failed call instead of the rules recorded within it, if it counts and began at the
     /// position.
     fn record_failure(
         &mut self,
@@ -264,7 +264,7 @@ impl Expecting {
         }
     }
 
-    /// The end of the text.
+    /// Matches the end of the text.
     fn end_of_input<'i>(
         &mut self,
         text: &str,

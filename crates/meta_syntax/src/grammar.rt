@@ -87,7 +87,7 @@ fn syntax_error(alloc: Global, text: &str, place: usize) -> Fault
     }
 }
 
-/// A list of one syntax error at a place.
+/// Returns a list of one syntax error at a byte position.
 fn syntax_errors(alloc: Global, text: &str, place: usize) -> Result<Vec<Error<Rule>>, Fault>
     requires { IsCharBoundary text.now place }
     ensures one { IfOk result (λ errors. IsSyntaxError text.now place errors.items) }

@@ -41,10 +41,10 @@ const LEVELS: usize = 500;
 pub struct Recognizer {
     /// The tokens, in order.
     pub entries: Vec<Entry>,
-    /// The furthest place, in bytes, at which a call that counts has failed.
+    /// The furthest position, in bytes, at which a call that counts has failed.
     pub furthest: usize,
-    /// The places where a call of `block_comment` in NonAtomic has failed, each as the count of bytes that
-    /// are left there.
+    /// The positions where a call of `block_comment` in NonAtomic has failed, each as the count of bytes
+    /// left there.
     failed: HashSet<usize>,
     /// Where comments end, by the count of bytes that are left; nothing until one is left open.
     ends: Vec<Option<usize>>,
@@ -83,7 +83,7 @@ impl Recognizer {
         }
     }
 
-    /// The tokens that were written.
+    /// Returns the tokens that were written.
     pub fn into_entries(self) -> Vec<Entry>
         ensures { result ≡ self.entries }
     {
@@ -172,7 +172,7 @@ impl Recognizer {
         Ok(())
     }
 
-    /// A call of a normal rule that matches one character and no other. Most calls that write a tree are such
+    /// Calls a normal rule that matches one character and no other. Most calls that write a tree are such
     /// calls: they run no form.
     #[inline(never)]
     fn sign<'i>(
@@ -307,7 +307,7 @@ impl Recognizer {
         self.run(text, spelled, mode, rest)
     }
 
-    /// One form, or the other.
+    /// Runs one form, or the other.
     #[inline(never)]
     #[cycle(recognize)]
     fn choice<'i>(
@@ -334,7 +334,7 @@ impl Recognizer {
         }
     }
 
-    /// A call of the first of some rules that matches.
+    /// Calls the first of some rules that matches.
     #[inline(never)]
     #[cycle(recognize)]
     #[tactic(auto, using(crate::proofs::Choices::rank_at))]
@@ -366,7 +366,7 @@ impl Recognizer {
         Ok(None)
     }
 
-    /// A form, or nothing.
+    /// Runs a form, or matches nothing.
     #[inline(never)]
     #[cycle(recognize)]
     fn option<'i>(
@@ -390,7 +390,7 @@ impl Recognizer {
         }
     }
 
-    /// Nothing, where a form fails.
+    /// Matches nothing, where a form fails.
     #[inline(never)]
     #[cycle(recognize)]
     fn negation<'i>(
@@ -418,7 +418,7 @@ impl Recognizer {
         }
     }
 
-    /// One turn, the skipping, and as many more as there are.
+    /// Runs one turn, the skipping, and as many more as there are.
     #[inline(never)]
     #[cycle(recognize)]
     fn once_or_more<'i>(
@@ -486,7 +486,7 @@ impl Recognizer {
         }
     }
 
-    /// As many turns as there are.
+    /// Runs as many turns as there are.
     #[inline(never)]
     #[cycle(recognize)]
     fn repetition<'i>(
@@ -513,7 +513,7 @@ impl Recognizer {
         }
     }
 
-    /// The turns of a repetition after its first.
+    /// Runs the turns of a repetition after its first.
     #[inline(never)]
     #[cycle(recognize)]
     fn turns<'i>(
@@ -792,7 +792,7 @@ impl Recognizer {
         }
     }
 
-    /// All blanks, from here on.
+    /// Skips all blanks, from here on.
     #[inline(never)]
     #[cycle(recognize)]
     fn blanks<'i>(&mut self, text: &str, from: &'i str) -> Result<&'i str, AllocError>
@@ -812,7 +812,7 @@ impl Recognizer {
         }
     }
 
-    /// All comments from here on, each with the blanks after it.
+    /// Skips all comments from here on, each with the blanks after it.
     #[inline(never)]
     #[cycle(recognize)]
     fn comments<'i>(&mut self, text: &str, from: &'i str) -> Result<&'i str, AllocError>

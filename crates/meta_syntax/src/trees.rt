@@ -11,7 +11,7 @@ use meta_base::grammar::Rule;
 use meta_base::runtime::{FirstTree, TokenTree};
 use std::alloc::{AllocError, Global};
 
-/// The first of these trees, of which the last comes first, or `None` where there is no tree.
+/// Returns the first of these trees, of which the last comes first, or `None` where there is no tree.
 pub fn first_tree(trees: &[TokenTree<Rule>]) -> Option<FirstTree<'_, Rule>>
     ensures { MatchOption result (named_trees_of trees.entry.now ≡ spec.None')
         (λ first. named_trees_of trees.entry.now
@@ -21,7 +21,7 @@ pub fn first_tree(trees: &[TokenTree<Rule>]) -> Option<FirstTree<'_, Rule>>
     meta_base::runtime::first_tree(trees)
 }
 
-/// The first of these trees, of which there is one at least, and the last comes first.
+/// Returns the first of these trees, of which there is one at least, and the last comes first.
 pub fn leading_tree(trees: &[TokenTree<Rule>]) -> FirstTree<'_, Rule>
     requires { named_trees_of trees.now ≢ spec.None' }
     ensures { named_trees_of trees.entry.now
@@ -90,7 +90,7 @@ fn with_entry(
     }
 }
 
-/// The trees whose entries these are. The last tree comes first.
+/// Builds the trees of these entries. The last tree comes first.
 pub fn from_entries(alloc: Global, entries: &[Entry]) -> Result<Vec<TokenTree<Rule>>, AllocError>
     ensures { (us : spec.Trees) → named_entries entries.now ≡ entries_of 0 us
         → IfOk result (λ t. named_trees_of t.items ≡ us) }

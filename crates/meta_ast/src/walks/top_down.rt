@@ -7,7 +7,7 @@ use super::{Onward, Tree};
 use meta_base::runtime::Fault;
 use std::alloc::Global;
 
-/// The expression with `f` done at each node, and then at the operands of its answer.
+/// Applies `f` to each node, and then to the operands of its answer.
 pub(crate) fn map_top_down<E: Tree, F: FnMut(E) -> Result<E, Fault> + Drop>(
     alloc: Global,
     expr: E,

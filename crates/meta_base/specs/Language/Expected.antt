@@ -13,7 +13,7 @@ told counts n place s (Success t us) within = within
 told counts n place s Failure within =
     if counts && nat_eq s.position place then n ∷ [] else within
 
--- the names that are expected at a place, in the order of their calls; none below a `!`
+-- the names that are expected at a position, in the order of their calls; none below a `!`
 abbrev pub expected_at : {g : Grammar} {classes : Classes} {k : Task} {s : State} {o : Outcome}
     → ℕ → Does g classes k s o → List Text
 expected_at place str = []

@@ -13,7 +13,7 @@ place_of b s Failure = if b then s.position else 0
 abbrev pub is_eoi : Text → Bool
 is_eoi n = bytes_eq n (codes "EOI")
 
--- the greatest such place in a derivation
+-- the greatest such position in a derivation
 abbrev pub furthest : {g : Grammar} {classes : Classes} {k : Task} {s : State} {o : Outcome}
     → Does g classes k s o → ℕ
 furthest str = 0

@@ -34,7 +34,7 @@ abbrev pub distance : List Text → Text → ℕ
 distance ts [] = 0
 distance ts (c ∷ u) = let d = distance ts u in if any_begins ts (c ∷ u) then 0 else suc d
 
--- a slice's number as a place in a stack of n entries
+-- a slice's number as an index in a stack of n entries
 abbrev pub place : ℕ → ℤ → Option ℕ
 place n (pos i) = if nat_le i n then Some i else None
 place n (negsuc i) = if nat_le (suc i) n then Some (n - suc i) else None

@@ -1,4 +1,4 @@
--- When two places or two errors are equal, and the order of the rules.
+-- When two positions or two errors are equal, and the order of the rules.
 use Rattle.std.specs.Prelude.{◌≡◌, List, ◌∷◌, ⊤, string_bytes}
 use Rattle.meta_base.specs.Pieces.MetaRules.{meta_rules}
 use Rattle.meta_base.specs.Pieces.PrintedError.{error_line}

@@ -16,7 +16,7 @@ column_behind column passed =
 abbrev pub start : Landmark
 start = record { place = 0; line = 1; column = 1 }
 
--- a place between two characters, with its line and its column
+-- a position between two characters, with its line and its column
 pub record IsLandmark (text : List ℕ) (landmark : Landmark) : Type 0 where
   pub between : IsCharBoundary text landmark.place
   pub line_column : (landmark.line, landmark.column) ≡ line_column text landmark.place

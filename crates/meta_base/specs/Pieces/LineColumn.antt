@@ -15,15 +15,15 @@ last_line text = after_last is_line_feed text
 abbrev pub first_line : List ℕ → List ℕ
 first_line text = before_first is_line_feed text
 
--- 1 and the number of line feeds before a place
+-- 1 and the number of line feeds before a position
 abbrev pub line_number : List ℕ → ℕ → ℕ
 line_number text place = 1 + count_by is_line_feed (take place text)
 
--- 1 and the number of characters between the last line feed before a place and the place
+-- 1 and the number of characters between the last line feed before a position and the position
 abbrev pub column_number : List ℕ → ℕ → ℕ
 column_number text place = 1 + length (chars (last_line (take place text)))
 
--- a place as its line and its column
+-- a position as its line and its column
 abbrev pub line_column : List ℕ → ℕ → ℕ × ℕ
 line_column text place = (line_number text place, column_number text place)
 

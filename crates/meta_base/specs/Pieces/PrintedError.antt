@@ -56,7 +56,7 @@ underline place line = map blank_under (take ((start_of place).1 - 1) line) ++ m
 abbrev pub margin : ℕ → List ℕ
 margin number = replicate (length (decimal number)) 32
 
--- the six lines of an error with this message, at this place, on this printed line
+-- the six lines of an error with this message, at this position, on this printed line
 abbrev pub printed_error : List ℕ → LineColLocation → List ℕ → List ℕ
 printed_error message place line = let number = (start_of place).0 in
     join_with_byte 10

@@ -15,7 +15,7 @@ span_start span = span.start
 abbrev pub span_end : Span → ℕ
 span_end span = span.end
 
--- the text that a position is a place in, as bytes
+-- the text of a position, as bytes
 abbrev pub position_text : Position → List ℕ
 position_text position = position.text.now
 

@@ -1,4 +1,4 @@
--- The eight rewritings, at any place of any rule.
+-- The eight rewritings, at any position of any rule.
 use Rattle.std.specs.Prelude.{◌≡◌, ℕ, List, [], ◌∷◌, ◌++◌, Some, None, ◌↔◌, codes}
 use Rattle.meta_base.specs.Language.Text.{Text}
 use Rattle.meta_base.specs.Language.Expression.{Expression, Str, Insens, Ident, PosPred, NegPred, Seq, Choice, Opt, Rep, RepOnce, RepExact, RepMin, RepMax, RepMinMax, Skip, Push, NodeTag, RestoreOnErr, RuleType, Atomic, CompoundAtomic, Rule, Grammar, rule_of, Part}
@@ -58,7 +58,7 @@ pub data Rewrites (g : Grammar) (y : RuleType) (a b : Expression) : Type 0 where
   by_factoring : Factors y a b → Rewrites g y a b
 
 module _ (R : Expression → Expression → Type 0) where
-  -- one rewriting at one place of an expression
+  -- one rewriting at one position of an expression
   pub data Within : Expression → Expression → Type 0 where
     here : {a b : Expression} → R a b → Within a b
     in_pos_pred : {a b : Expression} → Within a b → Within (PosPred a) (PosPred b)
@@ -97,7 +97,7 @@ pub data Changed (g : Grammar) : Grammar → Grammar → Type 0 where
       → Changed g (r ∷ rs) (record r { body = b } ∷ rs)
   later : {r : Rule} {rs qs : Grammar} → Changed g rs qs → Changed g (r ∷ rs) (r ∷ qs)
 
--- one of the eight steps at one place of one rule
+-- one of the eight steps at one position of one rule
 abbrev pub Step : Grammar → Grammar → Type 0
 Step g h = Changed g g h
 

@@ -1,4 +1,4 @@
-//! Errors, with the places and the line that they print.
+//! Errors, with their positions and the line that they print.
 ghost use Rattle.std.specs.Prelude.{◌≡◌, Some, IfOk, IfErr, ◌++◌, filter, alloc_error, string_bytes};
 ghost use Rattle.std.specs.Arc.{arc_value};
 ghost use Rattle.std.specs.Str.{chars, encode_utf8_all};
@@ -53,7 +53,7 @@ pub enum LineColLocation {
 }
 
 impl LineColLocation {
-    /// The line and the column at which the error begins.
+    /// Returns the line and the column at which the error begins.
     pub(crate) fn start(&self) -> (usize, usize)
         ensures { result ≡ start_of self.now }
     {
@@ -102,7 +102,7 @@ impl<R> fmt::Display for Error<R> {
 }
 
 impl<R> Error<R> {
-    /// The line of the text on which the error begins, as it prints it: without any `\r` and `\n`.
+    /// Returns the line of the text on which the error begins, as printed: without any `\r` and `\n`.
     pub fn line(&self) -> &str
         ensures { result.now ≡ error_line self.now }
     {
@@ -241,7 +241,7 @@ fn printed_line(alloc: Global, pos: Position<'_>) -> Result<String, AllocError>
     without_breaks(alloc, last_line(pos.prefix()), first_line(pos.suffix()))
 }
 
-/// `before` and `after` in one text, without any `\r` and `\n`.
+/// Concatenates `before` and `after`, without any `\r` and `\n`.
 pub(super) fn without_breaks(alloc: Global, before: &str, after: &str) -> Result<String, AllocError>
     ensures { IfOk result (λ text. string_bytes text
         ≡ encode_utf8_all (filter is_printed (chars (before.now ++ after.now)))) }

@@ -1,5 +1,5 @@
-//! Texts in which the places and the lines of many errors are found, none of them by a walk from the text's
-//! start.
+//! Texts with landmarks, by which the positions and the lines of many errors are found without a walk from
+//! the text's start.
 ghost use Rattle.std.specs.Prelude.{◌≡◌, ◌+◌, ◌<◌, ◌≤◌, ◌^◌, IfOk, length, string_bytes};
 ghost use Rattle.std.specs.Arc.{arc_value};
 ghost use Rattle.std.specs.Option.{ForSome};
@@ -24,7 +24,7 @@ const START: Landmark = Landmark {
     column: 1,
 };
 
-/// A place of a text in bytes, with its line and its column, both counted from 1.
+/// A position of a text in bytes, with its line and its column, both counted from 1.
 #[derive(Clone, Copy)]
 pub(crate) struct Landmark {
     pub place: usize,
@@ -39,7 +39,7 @@ struct KnownLine {
     line: Arc<String>,
 }
 
-/// A text that was walked over once, for the places and the lines of many errors.
+/// A text that was read once, for the positions and the lines of many errors.
 #[derive(Drop)]
 pub struct Survey<'i> {
     text: &'i str,
@@ -65,14 +65,14 @@ impl<'i> Survey<'i> {
         })
     }
 
-    /// The text that was surveyed.
+    /// Returns the text that was surveyed.
     pub fn get_input(&self) -> &'i str
         ensures { result.now ≡ survey_text self.now }
     {
         self.text
     }
 
-    /// The landmark at a place of the text.
+    /// Returns the landmark at a position of the text.
     pub(crate) fn landmark_at(&self, pos: Position<'_>) -> Landmark
         requires same_text { position_text pos ≡ survey_text self.now }
         ensures landmark { IsLandmark (survey_text self.now) result }

@@ -38,14 +38,14 @@ impl<'i, R: Copy> Pair<'i, R> {
     ghost use Rattle.meta_base.specs.Pieces.Span.{span_text, span_start, span_end};
     ghost use Rattle.meta_base.specs.Pieces.Pairs.{pair_text, pair_rule, pair_start, pair_end, pair_inner, pairs_text, pairs_trees};
 
-    /// The rule.
+    /// Returns the rule.
     pub fn as_rule(&self) -> R
         ensures { result ≡ pair_rule self.now }
     {
         self.rule
     }
 
-    /// The part of the text that the rule matched.
+    /// Returns the part of the text that the rule matched.
     pub fn as_str(&self) -> &'i str
         ensures { result.now ≡ slice_range (pair_text self.now) (pair_start self.now) (pair_end self.now) }
     {
@@ -80,7 +80,7 @@ impl<'i, R: Copy> Pairs<'i, R> {
     ghost use Rattle.meta_base.specs.Pieces.TokenTrees.{preorder};
     ghost use Rattle.meta_base.specs.Pieces.Pairs.{pairs_text, pairs_trees, flat_text, flat_pairs};
 
-    /// The pairs of these trees of `text`. Of the trees the last comes first.
+    /// Makes the pairs of these trees of `text`. Of the trees the last comes first.
     pub fn new(text: &'i str, trees: Vec<TokenTree<R>>) -> Pairs<'i, R>
         requires nested { AreNested text.now (trees_of trees.items) 0 (length text.now) }
         ensures text { pairs_text result ≡ text.now }
@@ -89,14 +89,14 @@ impl<'i, R: Copy> Pairs<'i, R> {
         Pairs { text, rest: trees }
     }
 
-    /// The text that they are parts of.
+    /// Returns the text that they are parts of.
     pub fn get_input(&self) -> &'i str
         ensures { result.now ≡ pairs_text self.now }
     {
         self.text
     }
 
-    /// Their trees, by reference. The last comes first.
+    /// Returns their trees, by reference. The last comes first.
     pub fn trees(&self) -> &[TokenTree<R>]
         ensures { trees_of result.now ≡ pairs_trees self.entry.now }
     {

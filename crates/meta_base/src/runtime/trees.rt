@@ -18,7 +18,7 @@ pub struct TokenTree<R> {
 }
 
 impl<R> TokenTree<R> {
-    /// The tree of `rule` from byte `start` up to byte `end`. Of the trees inside it the last comes
+    /// Makes the tree of `rule` from byte `start` up to byte `end`. Of the trees inside it the last comes
     /// first.
     pub fn new(rule: R, start: usize, end: usize, inner: Vec<TokenTree<R>>) -> TokenTree<R>
         ensures { tree_of result ≡ Token rule start end (trees_of inner.items) NoTokens }
@@ -64,8 +64,8 @@ impl<R> TokenTree<R> {
 }
 
 impl<R: Drop> Drop for TokenTree<R> {
-    /// Drops the trees from the last to the first of each list. The list above one that is entered is kept
-    /// in the place of the entered trees: so the way back up takes no memory.
+    /// Drops the trees from the last to the first of each list. The list above one that is entered replaces
+    /// the trees inside it: so the way back up takes no memory.
     fn drop(self) {
         let mut trees = self.into_parts().inner;
         let mut above = Vec::new(*trees.allocator());
@@ -98,7 +98,7 @@ pub struct FirstTree<'t, R> {
     pub others: &'t [TokenTree<R>],
 }
 
-/// The first of these trees, of which the last comes first, or `None` where there is no tree.
+/// Returns the first of these trees, of which the last comes first, or `None` where there is no tree.
 pub fn first_tree<R: Copy>(trees: &[TokenTree<R>]) -> Option<FirstTree<'_, R>>
     ensures { MatchOption result (trees_of trees.entry.now ≡ NoTokens)
         (λ first. trees_of trees.entry.now
