@@ -193,9 +193,9 @@ impl Expecting {
             alloc: _,
             recognizer: _,
             place: _,
-            told,
+            recorded,
         } = self;
-        told
+        recorded
     }
 
     /// Returns the number of recorded rules.
