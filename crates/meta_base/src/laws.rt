@@ -12,7 +12,7 @@ ghost use Rattle.meta_base.specs.Language.LooseMeaning.{Restored, IsSafe, SameEn
 ghost use Rattle.meta_base.specs.Language.WellFormed.{IsNullable, CannotFail, HasReadableCounts, NamesHaveReadableCounts};
 ghost use Rattle.meta_base.specs.Language.WellFormed.{InRules, InSomeRule, IsWellFormed, IsPlain, Start, EndsFrom};
 ghost use Rattle.meta_base.specs.Language.Grammar.{HasDistinctNames, IsGrammar};
-ghost use Rattle.meta_base.specs.Language.Places.{FitsIn, Stands};
+ghost use Rattle.meta_base.specs.Language.Places.{FitsIn, IsStateIn};
 ghost use Rattle.meta_base.specs.Language.Text.{IsPosition, Text};
 
 /// An expression has at most one outcome from one start.
@@ -141,11 +141,11 @@ pub fn rotations_keep_outcomes()
 /// inside them, and on character boundaries.
 pub fn trees_are_nested()
     ensures { (text : Text) (g : Grammar) (classes : Classes) (k : Task) (s : State) (o : Outcome)
-        → Does g classes k s o → Stands text s → FitsIn text s o }
+        → Does g classes k s o → IsStateIn text s → FitsIn text s o }
 {}
 
 /// The position of a failure is on a character boundary of the text.
 pub fn failures_are_on_characters()
     ensures { (text : Text) (g : Grammar) (classes : Classes) (k : Task) (s : State) (o : Outcome)
-        → (d : Does g classes k s o) → Stands text s → IsPosition text (furthest d) }
+        → (d : Does g classes k s o) → IsStateIn text s → IsPosition text (furthest d) }
 {}

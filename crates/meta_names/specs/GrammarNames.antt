@@ -5,7 +5,7 @@ use Rattle.meta_base.specs.Language.Text.{Text}
 use Rattle.meta_base.specs.Language.State.{Trees, None', Tree}
 use Rattle.meta_base.specs.Pieces.NamedTrees.{named}
 use Rattle.meta_base.specs.Pieces.Pairs.{pairs_text, pairs_trees}
-use Rattle.meta_base.specs.Pieces.Saying.{Span, piece, written, Complaint, Tell}
+use Rattle.meta_base.specs.Pieces.Saying.{Span, piece, written, Complaint, AreErrorsFor}
 use Rattle.meta_base.specs.declared.grammar.Rule.{Rule}
 use Rattle.meta_base.specs.declared.runtime.faults.Fault.{Fault}
 use Rattle.meta_base.specs.declared.runtime.faults.Fault.TheVariants as fault_is
@@ -74,4 +74,4 @@ AreWrittenAt places texts = map (λ t. t.now) texts ≡ map written places
 -- allocation failure, or just the errors that there are, at least one
 abbrev pub IsNameRefusal : List Complaint → Fault → Type 0
 IsNameRefusal complaints (fault_is.Memory e) = ⊤
-IsNameRefusal complaints (fault_is.Grammar errors) = (complaints ≢ []) × Tell complaints errors.items
+IsNameRefusal complaints (fault_is.Grammar errors) = (complaints ≢ []) × AreErrorsFor complaints errors.items

@@ -7,12 +7,12 @@ use Rattle.meta_base.specs.declared.runtime.trees.FirstTree.{FirstTree}
 
 -- the trees are within the text: in order and disjoint, on character boundaries, and around those inside
 -- them
-pub record TokenTreesStandIn (text : List ℕ) (trees : TokenTrees Rule) : Type 0 where
+pub record AreTreesWithin (text : List ℕ) (trees : TokenTrees Rule) : Type 0 where
   pub from : ℕ
   pub to : ℕ
   pub nested : AreNested text trees from to
 
 -- the first of some trees is within the text, and so are those in it and those after it
-abbrev pub StandsIn : List ℕ → FirstTree Rule → Type 0
-StandsIn text tree = TokenTreesStandIn text
+abbrev pub IsTreeWithin : List ℕ → FirstTree Rule → Type 0
+IsTreeWithin text tree = AreTreesWithin text
     (Token tree.rule tree.start tree.end (trees_of tree.inner.now) (trees_of tree.others.now))

@@ -6,7 +6,7 @@ ghost use Rattle.meta_base.specs.Pieces.NamedTrees.{named_trees_of};
 ghost use Rattle.meta_base.specs.Pieces.Saying.{piece, piece_of};
 ghost use Rattle.meta_base.specs.Pieces.TreeViews.{trees_of};
 ghost use Rattle.meta_names.specs.GrammarNames as spec;
-ghost use Rattle.meta_names.specs.Standing.{StandsIn, TokenTreesStandIn};
+ghost use Rattle.meta_names.specs.Standing.{IsTreeWithin, AreTreesWithin};
 
 use meta_base::grammar::Rule;
 use meta_base::runtime::{FirstTree, Span, TokenTree, first_tree};
@@ -28,7 +28,7 @@ fn add_own_name<'i>(
     tree: FirstTree<'_, Rule>,
     names: &mut Vec<Span<'i>>,
 ) -> Result<(), AllocError>
-    requires { StandsIn text.now tree }
+    requires { IsTreeWithin text.now tree }
     ensures { OnOk result (map piece_of names.new.items ≡ map piece_of names.old.items
         ++ spec.own_name text.entry.now (name_of tree.entry.rule) tree.entry.start tree.entry.end) }
 {
@@ -58,7 +58,7 @@ fn add_names<'i>(
     trees: &[TokenTree<Rule>],
     names: &mut Vec<Span<'i>>,
 ) -> Result<(), AllocError>
-    requires { TokenTreesStandIn text.now (trees_of trees.now) }
+    requires { AreTreesWithin text.now (trees_of trees.now) }
     ensures { OnOk result (map piece_of names.new.items
         ≡ map piece_of names.old.items ++ spec.names_in text.entry.now (named_trees_of trees.now)) }
 {
@@ -78,7 +78,7 @@ fn add_definition<'i>(
     trees: &[TokenTree<Rule>],
     names: &mut Vec<Span<'i>>,
 ) -> Result<(), AllocError>
-    requires { TokenTreesStandIn text.now (trees_of trees.now) }
+    requires { AreTreesWithin text.now (trees_of trees.now) }
     ensures { OnOk result (map piece_of names.new.items
         ≡ map piece_of names.old.items ++ spec.defined_by text.entry.now (named_trees_of trees.now)) }
 {
@@ -95,7 +95,7 @@ fn add_calls<'i>(
     trees: &[TokenTree<Rule>],
     names: &mut Vec<Span<'i>>,
 ) -> Result<(), AllocError>
-    requires { TokenTreesStandIn text.now (trees_of trees.now) }
+    requires { AreTreesWithin text.now (trees_of trees.now) }
     ensures { OnOk result (map piece_of names.new.items
         ≡ map piece_of names.old.items ++ spec.called_by text.entry.now (named_trees_of trees.now)) }
 {
@@ -112,7 +112,7 @@ pub(crate) fn definitions<'i>(
     text: &'i str,
     trees: &[TokenTree<Rule>],
 ) -> Result<Vec<Span<'i>>, AllocError>
-    requires { TokenTreesStandIn text.now (trees_of trees.now) }
+    requires { AreTreesWithin text.now (trees_of trees.now) }
     ensures { IfOk result (λ found. map piece_of found.items
         ≡ spec.definitions text.entry.now (named_trees_of trees.now)) }
 {
@@ -134,7 +134,7 @@ pub(crate) fn calls<'i>(
     text: &'i str,
     trees: &[TokenTree<Rule>],
 ) -> Result<Vec<Span<'i>>, AllocError>
-    requires { TokenTreesStandIn text.now (trees_of trees.now) }
+    requires { AreTreesWithin text.now (trees_of trees.now) }
     ensures { IfOk result (λ found. map piece_of found.items
         ≡ spec.calls text.entry.now (named_trees_of trees.now)) }
 {

@@ -1,6 +1,6 @@
 //! Names that no rule may have, and names that are defined twice.
 ghost use Rattle.std.specs.Prelude.{[], ◌≡◌, IfErr, IfOk, alloc_error, map};
-ghost use Rattle.meta_base.specs.Pieces.Saying.{Tell, piece_of};
+ghost use Rattle.meta_base.specs.Pieces.Saying.{AreErrorsFor, piece_of};
 ghost use Rattle.meta_names.specs.Names.{AreIn, duplicate_complaints, later_places, pest_keyword_complaints, places_of, rust_keyword_complaints};
 
 use crate::said::{errors, errors_in};
@@ -17,7 +17,7 @@ pub fn validate_rust_keywords(
     definitions: &Vec<Span<'_>>,
 ) -> Result<Vec<Error<Rule>>, Fault>
     ensures told { let places = map piece_of definitions.now.items in
-        IfOk result (λ errors. Tell (rust_keyword_complaints places) errors.items) }
+        IfOk result (λ errors. AreErrorsFor (rust_keyword_complaints places) errors.items) }
     ensures memory { IfErr result (λ fault. fault ≡ Fault.Memory alloc_error) }
 {
     let words = places_of(alloc, rust_keywords(), definitions)?;
@@ -31,7 +31,7 @@ pub fn validate_pest_keywords(
     definitions: &Vec<Span<'_>>,
 ) -> Result<Vec<Error<Rule>>, Fault>
     ensures told { let places = map piece_of definitions.now.items in
-        IfOk result (λ errors. Tell (pest_keyword_complaints places) errors.items) }
+        IfOk result (λ errors. AreErrorsFor (pest_keyword_complaints places) errors.items) }
     ensures memory { IfErr result (λ fault. fault ≡ Fault.Memory alloc_error) }
 {
     let words = places_of(alloc, pest_keywords(), definitions)?;
@@ -45,7 +45,7 @@ pub fn validate_already_defined(
     definitions: &Vec<Span<'_>>,
 ) -> Result<Vec<Error<Rule>>, Fault>
     ensures told { let places = map piece_of definitions.now.items in
-        IfOk result (λ errors. Tell (duplicate_complaints places) errors.items) }
+        IfOk result (λ errors. AreErrorsFor (duplicate_complaints places) errors.items) }
     ensures memory { IfErr result (λ fault. fault ≡ Fault.Memory alloc_error) }
 {
     let again = later(alloc, definitions)?;
@@ -60,7 +60,7 @@ pub(crate) fn pest_keywords_in(
 ) -> Result<Vec<Error<Rule>>, Fault>
     requires in_text { AreIn text.now (map piece_of definitions.now.items) }
     ensures told { let places = map piece_of definitions.now.items in
-        IfOk result (λ errors. Tell (pest_keyword_complaints places) errors.items) }
+        IfOk result (λ errors. AreErrorsFor (pest_keyword_complaints places) errors.items) }
     ensures memory { IfErr result (λ fault. fault ≡ Fault.Memory alloc_error) }
 {
     let found = places_of(alloc, pest_keywords(), definitions)?;
@@ -75,7 +75,7 @@ pub(crate) fn already_defined_in(
 ) -> Result<Vec<Error<Rule>>, Fault>
     requires in_text { AreIn text.now (map piece_of definitions.now.items) }
     ensures told { let places = map piece_of definitions.now.items in
-        IfOk result (λ errors. Tell (duplicate_complaints places) errors.items) }
+        IfOk result (λ errors. AreErrorsFor (duplicate_complaints places) errors.items) }
     ensures memory { IfErr result (λ fault. fault ≡ Fault.Memory alloc_error) }
 {
     let found = later(alloc, definitions)?;

@@ -1,6 +1,6 @@
 //! The names of a whole grammar.
 ghost use Rattle.std.specs.Prelude.{[], ◌≡◌, IfErr, IfOk, OnOk, alloc_error, map};
-ghost use Rattle.meta_base.specs.Pieces.Saying.{Tell, piece_of};
+ghost use Rattle.meta_base.specs.Pieces.Saying.{AreErrorsFor, piece_of};
 ghost use Rattle.meta_names.specs.Names.{AreIn};
 ghost use Rattle.meta_names.specs.GrammarNames.{AreWrittenAt, IsNameRefusal, complaints_of, first_calls, first_calls_of, name_complaints};
 
@@ -49,7 +49,7 @@ fn name_errors<'i>(
     requires definitions_in_text { AreIn text.now (map piece_of definitions.now.items) }
     requires calls_in_text { AreIn text.now (map piece_of calls.now.items) }
     ensures told { IfOk result (λ errors.
-        Tell (name_complaints (map piece_of definitions.now.items) (map piece_of calls.now.items))
+        AreErrorsFor (name_complaints (map piece_of definitions.now.items) (map piece_of calls.now.items))
         errors.items) }
     ensures memory { IfErr result (λ fault. fault ≡ Fault.Memory alloc_error) }
 {

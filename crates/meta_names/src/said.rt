@@ -1,6 +1,6 @@
 //! The errors that say the same of several names.
 ghost use Rattle.std.specs.Prelude.{◌++◌, ◌≡◌, IfErr, IfOk, alloc_error, map};
-ghost use Rattle.meta_base.specs.Pieces.Saying.{SaysAt, Tell, piece_of, written};
+ghost use Rattle.meta_base.specs.Pieces.Saying.{IsErrorAt, AreErrorsFor, piece_of, written};
 ghost use Rattle.meta_base.specs.Pieces.Span.{span_text};
 ghost use Rattle.meta_base.specs.Pieces.Survey.{survey_text};
 ghost use Rattle.meta_names.specs.Names.{AreIn, said};
@@ -13,7 +13,7 @@ use std::alloc::{AllocError, Global};
 /// allocation failure.
 fn error(alloc: Global, before: &str, after: &str, place: Span<'_>) -> Result<Error<Rule>, Fault>
     ensures says { IfOk result
-        (SaysAt (before.now ++ written (piece_of place.entry) ++ after.now) (piece_of place.entry)) }
+        (IsErrorAt (before.now ++ written (piece_of place.entry) ++ after.now) (piece_of place.entry)) }
     ensures memory { IfErr result (λ fault. fault ≡ Fault.Memory alloc_error) }
 {
     let name = place.as_str();
@@ -30,7 +30,7 @@ pub(crate) fn errors(
     places: &[Span<'_>],
 ) -> Result<Vec<Error<Rule>>, Fault>
     ensures told { IfOk result (λ errors.
-        Tell (said before.now after.now (map piece_of places.now)) errors.items) }
+        AreErrorsFor (said before.now after.now (map piece_of places.now)) errors.items) }
     ensures memory { IfErr result (λ fault. fault ≡ Fault.Memory alloc_error) }
 {
     let mut errors = Vec::new(alloc);
@@ -52,7 +52,7 @@ fn error_in(
 ) -> Result<Error<Rule>, Fault>
     requires in_text { span_text place ≡ survey_text survey.old }
     ensures says { IfOk result
-        (SaysAt (before.now ++ written (piece_of place.entry) ++ after.now) (piece_of place.entry)) }
+        (IsErrorAt (before.now ++ written (piece_of place.entry) ++ after.now) (piece_of place.entry)) }
     ensures memory { IfErr result (λ fault. fault ≡ Fault.Memory alloc_error) }
     ensures survey { survey_text survey.new ≡ survey_text survey.old }
 {
@@ -71,7 +71,7 @@ pub(crate) fn errors_in(
 ) -> Result<Vec<Error<Rule>>, Fault>
     requires in_text { AreIn text.now (map piece_of places.now) }
     ensures told { IfOk result (λ errors.
-        Tell (said before.now after.now (map piece_of places.now)) errors.items) }
+        AreErrorsFor (said before.now after.now (map piece_of places.now)) errors.items) }
     ensures memory { IfErr result (λ fault. fault ≡ Fault.Memory alloc_error) }
 {
     let mut errors = Vec::new(alloc);

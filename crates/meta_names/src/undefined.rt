@@ -1,6 +1,6 @@
 //! Calls of undefined names.
 ghost use Rattle.std.specs.Prelude.{◌≡◌, IfErr, IfOk, alloc_error, filter, map};
-ghost use Rattle.meta_base.specs.Pieces.Saying.{Tell, piece_of, written};
+ghost use Rattle.meta_base.specs.Pieces.Saying.{AreErrorsFor, piece_of, written};
 ghost use Rattle.meta_names.specs.NameSets.{HasNames, is_outside, is_unknown};
 ghost use Rattle.meta_names.specs.Names.{AreIn, undefined_calls, undefined_complaints};
 
@@ -19,7 +19,7 @@ pub fn validate_undefined<'i>(
     called: &Vec<Span<'i>>,
 ) -> Result<Vec<Error<Rule>>, Fault>
     ensures told { IfOk result (λ errors.
-        Tell (undefined_complaints (map piece_of definitions.now.items) (map piece_of called.now.items))
+        AreErrorsFor (undefined_complaints (map piece_of definitions.now.items) (map piece_of called.now.items))
         errors.items) }
     ensures memory { IfErr result (λ fault. fault ≡ Fault.Memory alloc_error) }
 {
@@ -36,7 +36,7 @@ pub(crate) fn undefined_in<'i>(
 ) -> Result<Vec<Error<Rule>>, Fault>
     requires in_text { AreIn text.now (map piece_of called.now.items) }
     ensures told { IfOk result (λ errors.
-        Tell (undefined_complaints (map piece_of definitions.now.items) (map piece_of called.now.items))
+        AreErrorsFor (undefined_complaints (map piece_of definitions.now.items) (map piece_of called.now.items))
         errors.items) }
     ensures memory { IfErr result (λ fault. fault ≡ Fault.Memory alloc_error) }
 {

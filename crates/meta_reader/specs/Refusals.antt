@@ -1,7 +1,7 @@
 -- What is answered to the pairs of a grammar's text.
 use Rattle.std.specs.Prelude.{◌≡◌, ℕ, List, [], ◌∷◌, Option, MatchOption, codes, ⊤}
 use Rattle.meta_base.specs.Pieces.NamedTrees.{named}
-use Rattle.meta_base.specs.Pieces.Saying.{SaysAt}
+use Rattle.meta_base.specs.Pieces.Saying.{IsErrorAt}
 use Rattle.meta_base.specs.Pieces.Pairs.{pairs_text, pairs_trees}
 use Rattle.meta_base.specs.declared.grammar.Rule.{Rule}
 use Rattle.meta_base.specs.declared.runtime.errors.Error.{Error}
@@ -23,7 +23,7 @@ cause_message ZeroTimes = codes "cannot repeat 0 times"
 pub record TellsOf (flaw : Flaw) (errors : List (Error Rule)) : Type 0 where
   pub error : Error Rule
   pub one : errors ≡ error ∷ []
-  pub says : SaysAt (cause_message flaw.cause) flaw.span error
+  pub says : IsErrorAt (cause_message flaw.cause) flaw.span error
 
 -- want of memory, or one error that tells of the first flaw
 abbrev pub IsReadRefusal : Option Flaw → code.Fault → Type 0

@@ -1,7 +1,7 @@
 -- What is promised of the reports.
 use Rattle.std.specs.Prelude.{◌≡◌, ◌↔◌, ℕ, suc, ◌+◌, ◌<◌, List, [], Some, Bool, true, false, slice_get, map, codes, IsPermutation}
 use Rattle.std.specs.Ordering.{is_lt, ordering_then, nat_cmp}
-use Rattle.meta_base.specs.Pieces.Saying.{Complaint, Tell}
+use Rattle.meta_base.specs.Pieces.Saying.{Complaint, AreErrorsFor}
 use Rattle.meta_base.specs.declared.grammar.Rule.{Rule}
 use Rattle.meta_base.specs.declared.runtime.errors.Error.{Error}
 use Rattle.meta_base.specs.Language.Text.{Text}
@@ -81,7 +81,7 @@ pub record AreReports (rules : List SpannedRule) (spans : List Span) : Type 0 wh
 pub record TellReports (rules : List SpannedRule) (errors : List (Error Rule)) : Type 0 where
   pub spans : List Span
   pub found : AreReports rules spans
-  pub told : Tell (map complaint_at spans) errors
+  pub told : AreErrorsFor (map complaint_at spans) errors
 
 -- the table of rules in which what is skipped leaves the stack alone
 pub record IsTableOf (rules : List ParserRule) (t : Table) : Type 0 where

@@ -3,7 +3,7 @@ ghost use Rattle.std.specs.Prelude.{◌≡◌, ◌<◌, ◌&&◌, not, IfOk, IfE
 ghost use Rattle.std.specs.List.{filter};
 ghost use Rattle.std.specs.Str.{IsAscii};
 ghost use Rattle.meta_base.specs.Language.Expression.{whitespace, comment, last_place};
-ghost use Rattle.meta_base.specs.Pieces.Saying.{Tell};
+ghost use Rattle.meta_base.specs.Pieces.Saying.{AreErrorsFor};
 ghost use Rattle.meta_fixpoint.specs.Least.{is_set_at};
 ghost use Rattle.meta_spanned.specs.Nodes.{rule_views, piece_of};
 ghost use Rattle.meta_analysis.specs.Facts.{AreFacts, AreNullable};
@@ -405,7 +405,7 @@ fn error_at<'i>(
     survey: &mut Survey<'_>,
     span: Span<'i>,
 ) -> Result<Error<Rule>, Fault>
-    ensures tells { IfOk result (λ error. Tell (complaint_at (piece_of span.entry) ∷ []) (error ∷ [])) }
+    ensures tells { IfOk result (λ error. AreErrorsFor (complaint_at (piece_of span.entry) ∷ []) (error ∷ [])) }
     ensures memory { IfErr result (λ fault. fault ≡ Fault.Memory alloc_error) }
 {
     let text = "expression inside repetition is non-progressing and will repeat infinitely";
@@ -425,7 +425,7 @@ fn first_text<'i>(found: &[Span<'i>]) -> &'i str {
 
 /// The errors that tell of repetitions, in their order.
 fn errors_at<'i>(alloc: Global, found: &[Span<'i>]) -> Result<Vec<Error<Rule>>, Fault>
-    ensures told { IfOk result (λ errors. Tell (map complaint_at (map piece_of found.now)) errors.items) }
+    ensures told { IfOk result (λ errors. AreErrorsFor (map complaint_at (map piece_of found.now)) errors.items) }
     ensures memory { IfErr result (λ fault. fault ≡ Fault.Memory alloc_error) }
 {
     let mut errors = Vec::new(alloc);

@@ -13,7 +13,7 @@ use Rattle.meta_syntax.specs.declared.entries.Entry.{Entry}
 use Rattle.meta_syntax.specs.Entries.{IsWhole, entries_of, named_entries}
 use Rattle.meta_syntax.specs.MetaGrammar.{meta_grammar}
 use Rattle.meta_base.specs.Pieces.NamedTrees.{named}
-use Rattle.meta_base.specs.Language.Places.{Stands}
+use Rattle.meta_base.specs.Language.Places.{IsStateIn}
 use Rattle.meta_base.specs.Pieces.TokenTrees.{TokenTrees, AreNested}
 use Rattle.meta_base.specs.declared.runtime.faults.Fault.{Fault}
 use Rattle.meta_base.specs.declared.runtime.faults.Fault.TheVariants as fault_is
@@ -67,7 +67,7 @@ tokens_whole rule text es t = subst (λ l. IsWhole 0 l) (sym t.2) (entries-whole
 no_classes : Classes
 no_classes n c = false
 
-stands_first : (text : List ℕ) → Stands (chars text) (start_of text)
+stands_first : (text : List ℕ) → IsStateIn (chars text) (start_of text)
 stands_first text = record { front = []; split = refl; size = refl }
 
 pub nested_in_text : (rule : Rule) (text : List ℕ) (trees : TokenTrees Rule) → IsUtf8 text → Spells rule text (named trees) → AreNested text trees 0 (length text)

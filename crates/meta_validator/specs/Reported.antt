@@ -1,6 +1,6 @@
 -- What is answered to rules.
 use Rattle.std.specs.Prelude.{List}
-use Rattle.meta_base.specs.Pieces.Saying.{Tell}
+use Rattle.meta_base.specs.Pieces.Saying.{AreErrorsFor}
 use Rattle.meta_base.specs.declared.grammar.Rule.{Rule}
 use Rattle.meta_base.specs.declared.runtime.errors.Error.{Error}
 use Rattle.meta_spanned.specs.Spanned.{Span, SpannedRule}
@@ -12,4 +12,4 @@ pub record AreReported (rules : List SpannedRule) (endless : List Span)
     (errors : List (Error Rule)) : Type 0 where
   pub findings : List Finding
   pub complete : AreAllFound rules endless findings
-  pub told : Tell findings errors
+  pub told : AreErrorsFor findings errors

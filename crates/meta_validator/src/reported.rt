@@ -1,6 +1,6 @@
 //! All that is found in rules, as errors.
 ghost use Rattle.std.specs.Prelude.{◌≡◌, ◌++◌, [], All, IfOk, IfErr, OnOk, alloc_error, map};
-ghost use Rattle.meta_base.specs.Pieces.Saying.{SaysAt, Tell};
+ghost use Rattle.meta_base.specs.Pieces.Saying.{IsErrorAt, AreErrorsFor};
 ghost use Rattle.meta_base.specs.Language.WellFormed.{IsWellFormed};
 ghost use Rattle.meta_base.specs.Pieces.Span.{span_text};
 ghost use Rattle.meta_base.specs.Pieces.Survey.{survey_text};
@@ -113,7 +113,7 @@ fn error_of<'i>(
     finding: &Finding<'i>,
 ) -> Result<Error<Rule>, Fault>
     ensures tells { IfOk result (λ error.
-        SaysAt (finding_of finding.now).message (finding_of finding.now).span error) }
+        IsErrorAt (finding_of finding.now).message (finding_of finding.now).span error) }
     ensures memory { IfErr result (λ fault. fault ≡ Fault.Memory alloc_error) }
 {
     let message = String::from_str(alloc, finding.message.as_str())?;
@@ -132,7 +132,7 @@ fn first_text<'i>(found: &[Finding<'i>]) -> &'i str {
 
 /// The errors that tell of findings, in their order.
 pub(crate) fn errors_of<'i>(alloc: Global, found: &[Finding<'i>]) -> Result<Vec<Error<Rule>>, Fault>
-    ensures told { IfOk result (λ errors. Tell (findings_of found.now) errors.items) }
+    ensures told { IfOk result (λ errors. AreErrorsFor (findings_of found.now) errors.items) }
     ensures memory { IfErr result (λ fault. fault ≡ Fault.Memory alloc_error) }
 {
     let mut errors = Vec::new(alloc);
@@ -152,7 +152,7 @@ fn error_in<'i>(
 ) -> Result<Error<Rule>, Fault>
     requires in_text { span_text finding.now.span ≡ survey_text survey.old }
     ensures tells { IfOk result (λ error.
-        SaysAt (finding_of finding.now).message (finding_of finding.now).span error) }
+        IsErrorAt (finding_of finding.now).message (finding_of finding.now).span error) }
     ensures survey { survey_text survey.new ≡ survey_text survey.old }
     ensures memory { IfErr result (λ fault. fault ≡ Fault.Memory alloc_error) }
 {
@@ -168,7 +168,7 @@ pub(crate) fn errors_in<'i>(
     found: &[Finding<'i>],
 ) -> Result<Vec<Error<Rule>>, Fault>
     requires in_text { All (λ f. f.span.text ≡ text.now) (findings_of found.now) }
-    ensures told { IfOk result (λ errors. Tell (findings_of found.now) errors.items) }
+    ensures told { IfOk result (λ errors. AreErrorsFor (findings_of found.now) errors.items) }
     ensures memory { IfErr result (λ fault. fault ≡ Fault.Memory alloc_error) }
 {
     let mut errors = Vec::new(alloc);

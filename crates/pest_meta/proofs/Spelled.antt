@@ -7,7 +7,7 @@ use Rattle.meta_base.specs.Language.Expression.{Grammar}
 use Rattle.meta_optimizer.specs.Passes.{IsOptimized}
 use Rattle.meta_base.specs.Language.State.{Classes, State, Trees, Success, Failure}
 use Rattle.meta_base.specs.Pieces.NamedTrees.{named}
-use Rattle.meta_base.specs.Pieces.Saying.{Tell}
+use Rattle.meta_base.specs.Pieces.Saying.{AreErrorsFor}
 use Rattle.meta_base.specs.Pieces.Pairs.{IsSamePairs, pairs_text, pairs_trees}
 use Rattle.meta_base.specs.declared.grammar.Rule.{Rule}
 use Rattle.meta_base.specs.declared.grammar.Rule.TheVariants as rule_is
@@ -129,7 +129,7 @@ misnamed text pairs copy (fault_is.Grammar errors) t h s k =
     rw (s.0, s.1, t) refl in
     let of_text : HasTrees text (named (pairs_trees pairs)) = subst (λ v. HasTrees v (named (pairs_trees pairs))) t h in
     let some : complaints_in text (named (pairs_trees pairs)) ≢ [] = subst (λ cs. cs ≢ []) same k.0 in
-    let tell = subst (λ cs. Tell cs errors.items) same k.1 in
+    let tell = subst (λ cs. AreErrorsFor cs errors.items) same k.1 in
     inr (record { trees = named (pairs_trees pairs); of_text = of_text; why = inl (record { some = some; tell = tell }) })
 
 -- what is refused for its rules, where there is nothing to say of its names

@@ -2,7 +2,7 @@
 use Rattle.std.specs.Prelude.{◌≡◌, ◌≢◌, ◌⊎◌, ℕ, List, [], Some, None, ⊤}
 use Rattle.std.specs.Borrow.{Bor}
 use Rattle.meta_base.specs.Language.Expression.{Grammar}
-use Rattle.meta_base.specs.Pieces.Saying.{Complaint, Tell}
+use Rattle.meta_base.specs.Pieces.Saying.{Complaint, AreErrorsFor}
 use Rattle.meta_base.specs.Language.State.{Trees}
 use Rattle.meta_base.specs.Language.WellFormed.{IsWellFormed}
 use Rattle.meta_base.specs.declared.grammar.Rule.{Rule}
@@ -99,7 +99,7 @@ pub record IsNoGrammar (text : List ℕ) (errors : List (Error Rule)) : Type 0 w
 -- the errors tell of the names of a text's trees
 pub record IsMisnamed (text : List ℕ) (trees : Trees) (errors : List (Error Rule)) : Type 0 where
   pub some : complaints_in text trees ≢ []
-  pub tell : Tell (complaints_in text trees) errors
+  pub tell : AreErrorsFor (complaints_in text trees) errors
 
 -- the names in a text's trees are in order, and the errors tell of the first flaw, or of what is found
 pub record HasWrongRules (text : List ℕ) (trees : Trees) (errors : List (Error Rule)) : Type 0 where

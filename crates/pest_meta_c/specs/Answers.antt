@@ -9,7 +9,7 @@ use Rattle.meta_ast.specs.declared.optimized.OptimizedRule.{OptimizedRule}
 use Rattle.meta_base.specs.Language.State.{Trees}
 use Rattle.meta_base.specs.Language.WellFormed.{HasReadableCounts, IsPlain}
 use Rattle.meta_base.specs.Pieces.MetaRules.{name_of}
-use Rattle.meta_base.specs.Pieces.Saying.{Tell, piece}
+use Rattle.meta_base.specs.Pieces.Saying.{AreErrorsFor, piece}
 use Rattle.meta_base.specs.declared.grammar.Rule.{Rule}
 use Rattle.meta_base.specs.declared.runtime.errors.Error.{Error}
 use Rattle.meta_json.specs.Errors.{answer_data, errors_data, names_data}
@@ -56,7 +56,7 @@ pub record AreNames (text json : List ℕ) : Type 0 where
 -- none
 pub record AreKeywordErrors (name json : List ℕ) : Type 0 where
   pub errors : List (Error Rule)
-  pub tell : Tell (rust_keyword_complaints (piece name 0 (length name) ∷ [])) errors
+  pub tell : AreErrorsFor (rust_keyword_complaints (piece name 0 (length name) ∷ [])) errors
   pub written : json ≡ compact_text (errors_data [] errors)
 
 -- the bytes are the rules that a grammar's text spells: nothing is wrong with them

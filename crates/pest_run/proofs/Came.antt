@@ -7,7 +7,7 @@ use Rattle.meta_base.specs.Language.Expression.{Grammar}
 use Rattle.meta_base.specs.Language.Expected.{expected, expected_at}
 use Rattle.meta_base.specs.Language.FurthestFailure.{furthest}
 use Rattle.meta_base.specs.Language.State.{Classes, Failure}
-use Rattle.meta_base.specs.Language.Places.{Stands}
+use Rattle.meta_base.specs.Language.Places.{IsStateIn}
 use Rattle.meta_base.specs.Language.Text.{Text}
 use Rattle.meta_base.proofs.ExpectedOnce.{one_list}
 use Rattle.meta_base.proofs.FailuresStand.{stands_at}
@@ -48,7 +48,7 @@ pub at_character : (g : Grammar) (ps : List Property) (n : Text) (text : List �
     → IsCharBoundary text place
 at_character g ps n text place utf8 fits f =
     let fails = f is_in_property fits in
-    let stands : Stands (chars text) (start_of text) = record { front = []; split = refl; size = refl } in
+    let stands : IsStateIn (chars text) (start_of text) = record { front = []; split = refl; size = refl } in
     let here : IsCharBoundary text (furthest fails.0) = on_bytes text utf8 (furthest fails.0) (stands_at (chars text) fails.0 stands) in
     subst (λ n. IsCharBoundary text n) (sym fails.1) here
 

@@ -1,6 +1,6 @@
 //! The names of a grammar.
 ghost use Rattle.std.specs.Prelude.{IfErr, IfOk, OnOk, [], alloc_error, map, ◌≡◌};
-ghost use Rattle.meta_base.specs.Pieces.Saying.{Tell, piece_of};
+ghost use Rattle.meta_base.specs.Pieces.Saying.{AreErrorsFor, piece_of};
 ghost use Rattle.meta_names.specs.GrammarNames.{AreWrittenAt, IsNameRefusal, complaints_of, first_calls_of};
 ghost use Rattle.meta_names.specs.Names.{rust_keyword_complaints, undefined_complaints};
 
@@ -23,7 +23,7 @@ pub fn validate_rust_keywords(
     definitions: &Vec<Span<'_>>,
 ) -> Result<Vec<Error<Rule>>, Fault>
     ensures told { let places = map piece_of definitions.now.items in
-        IfOk result (λ errors. Tell (rust_keyword_complaints places) errors.items) }
+        IfOk result (λ errors. AreErrorsFor (rust_keyword_complaints places) errors.items) }
     ensures memory { IfErr result (λ fault. fault ≡ Fault.Memory alloc_error) }
 {
     meta_names::validate_rust_keywords(alloc, definitions)
@@ -36,7 +36,7 @@ pub fn validate_undefined<'i>(
     called: &Vec<Span<'i>>,
 ) -> Result<Vec<Error<Rule>>, Fault>
     ensures told { IfOk result (λ errors.
-        Tell (undefined_complaints (map piece_of definitions.now.items) (map piece_of called.now.items))
+        AreErrorsFor (undefined_complaints (map piece_of definitions.now.items) (map piece_of called.now.items))
         errors.items) }
     ensures memory { IfErr result (λ fault. fault ≡ Fault.Memory alloc_error) }
 {

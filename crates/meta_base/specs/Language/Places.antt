@@ -4,7 +4,7 @@ use Rattle.meta_base.specs.Language.Text.{Text, IsPosition, size_of}
 use Rattle.meta_base.specs.Language.State.{State, Trees, None', Tree, Outcome, Success, Failure}
 
 -- the remaining input is the suffix from the position on
-pub record Stands (text : Text) (s : State) : Type 0 where
+pub record IsStateIn (text : Text) (s : State) : Type 0 where
   pub front : Text
   pub split : text ≡ front ++ s.rest
   pub size : s.position ≡ size_of front
@@ -18,4 +18,4 @@ Nested text (Tree r a b inner others) i j =
 -- a success is within the text, and so are its trees, between its start and its end
 abbrev pub FitsIn : Text → State → Outcome → Type 0
 FitsIn text s Failure = ⊤
-FitsIn text s (Success t us) = Stands text t × Nested text us s.position t.position
+FitsIn text s (Success t us) = IsStateIn text t × Nested text us s.position t.position
