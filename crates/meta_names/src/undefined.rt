@@ -19,7 +19,8 @@ pub fn validate_undefined<'i>(
     called: &Vec<Span<'i>>,
 ) -> Result<Vec<Error<Rule>>, Fault>
     ensures told { IfOk result (λ errors.
-        AreErrorsFor (undefined_complaints (map piece_of definitions.now.items) (map piece_of called.now.items))
+        AreErrorsFor
+        (undefined_complaints (map piece_of definitions.now.items) (map piece_of called.now.items))
         errors.items) }
     ensures memory { IfErr result (λ fault. fault ≡ Fault.Memory alloc_error) }
 {
@@ -36,7 +37,8 @@ pub(crate) fn undefined_in<'i>(
 ) -> Result<Vec<Error<Rule>>, Fault>
     requires in_text { AreIn text.now (map piece_of called.now.items) }
     ensures told { IfOk result (λ errors.
-        AreErrorsFor (undefined_complaints (map piece_of definitions.now.items) (map piece_of called.now.items))
+        AreErrorsFor
+        (undefined_complaints (map piece_of definitions.now.items) (map piece_of called.now.items))
         errors.items) }
     ensures memory { IfErr result (λ fault. fault ≡ Fault.Memory alloc_error) }
 {
