@@ -405,7 +405,8 @@ fn error_at<'i>(
     survey: &mut Survey<'_>,
     span: Span<'i>,
 ) -> Result<Error<Rule>, Fault>
-    ensures tells { IfOk result (λ error. AreErrorsFor (complaint_at (piece_of span.entry) ∷ []) (error ∷ [])) }
+    ensures tells { IfOk result (λ error.
+        AreErrorsFor (complaint_at (piece_of span.entry) ∷ []) (error ∷ [])) }
     ensures memory { IfErr result (λ fault. fault ≡ Fault.Memory alloc_error) }
 {
     let text = "expression inside repetition is non-progressing and will repeat infinitely";
@@ -425,7 +426,8 @@ fn first_text<'i>(found: &[Span<'i>]) -> &'i str {
 
 /// The errors that tell of repetitions, in their order.
 fn errors_at<'i>(alloc: Global, found: &[Span<'i>]) -> Result<Vec<Error<Rule>>, Fault>
-    ensures told { IfOk result (λ errors. AreErrorsFor (map complaint_at (map piece_of found.now)) errors.items) }
+    ensures told { IfOk result (λ errors.
+        AreErrorsFor (map complaint_at (map piece_of found.now)) errors.items) }
     ensures memory { IfErr result (λ fault. fault ≡ Fault.Memory alloc_error) }
 {
     let mut errors = Vec::new(alloc);

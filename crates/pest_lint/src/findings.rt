@@ -112,7 +112,8 @@ fn joined(told: Vec<Error<Rule>>, others: Vec<Error<Rule>>) -> Result<Vec<Error<
 
 /// An error with this message at each of these places, in order.
 fn said(alloc: Global, message: &str, places: &[Span<'_>]) -> Result<Vec<Error<Rule>>, Fault>
-    ensures { IfOk result (λ told. AreErrorsFor (map (said_at message.now) (map piece_of places.now)) told.items) }
+    ensures { IfOk result (λ told.
+        AreErrorsFor (map (said_at message.now) (map piece_of places.now)) told.items) }
 {
     let mut told = Vec::new(alloc);
     for place in places {

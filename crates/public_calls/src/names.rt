@@ -36,7 +36,8 @@ pub fn validate_undefined<'i>(
     called: &Vec<Span<'i>>,
 ) -> Result<Vec<Error<Rule>>, Fault>
     ensures told { IfOk result (λ errors.
-        AreErrorsFor (undefined_complaints (map piece_of definitions.now.items) (map piece_of called.now.items))
+        AreErrorsFor
+        (undefined_complaints (map piece_of definitions.now.items) (map piece_of called.now.items))
         errors.items) }
     ensures memory { IfErr result (λ fault. fault ≡ Fault.Memory alloc_error) }
 {
