@@ -15,8 +15,8 @@ module _ {E : Type 0} (says : E → Expression) where
   -- `left i`: the expressions that an iterator i has still to give
   module _ {I : Type 0} (left : I → List Expression) where
     -- the first is given, if there is one; or memory for it is refused, and from then on there is none
-    abbrev pub GivesFirstOrFails : I → Option (Result E Fault) → I → Type 0
-    GivesFirstOrFails old given new = MatchOption given
+    abbrev pub YieldsFirstOrFails : I → Option (Result E Fault) → I → Type 0
+    YieldsFirstOrFails old given new = MatchOption given
         ((left old ≡ []) × (left new ≡ []))
         (λ item. MatchResult item
         (λ x. left old ≡ says x ∷ left new)

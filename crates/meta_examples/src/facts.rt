@@ -3,7 +3,7 @@ ghost use Rattle.meta_base.specs.Language.State.{Classes};
 ghost use Rattle.meta_examples.specs.SmallGrammars.{ListingDiffers, BlankIsTaken, HasNone, ReadsEmptyStack, OrdersOfTheStack, NegativeSlices, TokensOfAtomicRules, PredicateRestores, PushPushes, Skips, Newlines, RangesThatFail, BlankGivesToken, NonAtomicInside, LastRuleIsMeant, OtherReadings, ReadsTheTop, EmptiesTheStack, NegativePredicates, Alternatives, CommentsAreSkipped, UndefinedNames, LoudBlanks, SlicesPastTheLength, TokensOfTheEnd, CompoundInsideAtomic, CompoundComments};
 ghost use Rattle.meta_examples.specs.SingleParts.{OnlyAtTheStart, HexDigits, AsksTheSet, TwoCopies, Options, LaterTurnsFail};
 ghost use Rattle.meta_examples.specs.FurthestPlaces.{CountsUnderPredicate, CountsByMode, CountsWhenGivenUp};
-ghost use Rattle.meta_examples.specs.ExpectedPlaces.{NoneBelowNot, NoneInAtomic, TellsAll, TellsTheOuter};
+ghost use Rattle.meta_examples.specs.ExpectedPlaces.{NoneBelowNot, NoneInAtomic, ExpectsAll, ExpectsTheOuter};
 ghost use Rattle.meta_examples.specs.NullableExpressions.{NullableOrNot, CannotFailOrMay, LeftCalledOrNot};
 ghost use Rattle.meta_examples.specs.SmallRewritings.{ListingIsComputed, StringsOfNames};
 ghost use Rattle.meta_examples.specs.LooseRuns.{FailuresLose, GoesOnFromWhatIsLeft, RepeatsInBoth};
@@ -239,13 +239,13 @@ pub fn counts_when_given_up()
 
 /// Of two calls that failed at one position, one within the other, the outer is expected; for a silent
 /// rule, the inner.
-pub fn tells_the_outer()
-    ensures { (classes : Classes) → TellsTheOuter classes }
+pub fn expects_the_outer()
+    ensures { (classes : Classes) → ExpectsTheOuter classes }
 {}
 
 /// All calls that failed at the furthest position are expected, in their order, `EOI` among them.
-pub fn tells_all()
-    ensures { (classes : Classes) → TellsAll classes }
+pub fn expects_all()
+    ensures { (classes : Classes) → ExpectsAll classes }
 {}
 
 /// A failure below a `!` is not expected, so that nothing may be; a failure below a `&` is.

@@ -4,7 +4,7 @@ use Rattle.std.specs.String.{string_bytes}
 use Rattle.meta_base.specs.declared.grammar.Rule.TheVariants.{grammar_rules}
 use Rattle.meta_syntax.specs.declared.entries.Entry.{Entry}
 use Rattle.meta_syntax.specs.declared.entries.Entry.TheVariants.{End}
-use Rattle.meta_syntax.specs.Parses.{TokensGive}
+use Rattle.meta_syntax.specs.Parses.{AreTokensOf}
 use Rattle.meta_format.specs.Reading.{SameRules}
 use Rattle.meta_format.specs.Tokens.{tokens_after, comments_after, has_clean_lines}
 use Rattle.meta_format.specs.declared.Formatted.{Formatted}
@@ -18,7 +18,7 @@ start = End 0 0
 
 -- these are the tokens of a grammar's text
 abbrev pub AreTokens : List ℕ → List Entry → Type 0
-AreTokens text entries = TokensGive grammar_rules text entries
+AreTokens text entries = AreTokensOf grammar_rules text entries
 
 -- two texts have the same tokens, those that hold no others with the same texts
 abbrev pub SameTokens : List ℕ → List Entry → List ℕ → List Entry → Type 0

@@ -36,8 +36,8 @@ abbrev pub Spells : Rule → List ℕ → Trees → Type 0
 Spells rule text us = (classes : Classes) → (t : State) × Recognizes rule text classes (Success t us)
 
 -- these are the entries of trees that the text spells
-abbrev pub TokensGive : Rule → List ℕ → List Entry → Type 0
-TokensGive rule text es = (us : Trees) × Spells rule text us × (named_entries es ≡ entries_of 0 us)
+abbrev pub AreTokensOf : Rule → List ℕ → List Entry → Type 0
+AreTokensOf rule text es = (us : Trees) × Spells rule text us × (named_entries es ≡ entries_of 0 us)
 
 -- the pairs are all those that their text spells for the rule
 abbrev pub AreSpelled : Rule → Pairs Rule → Type 0

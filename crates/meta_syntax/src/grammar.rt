@@ -4,7 +4,7 @@ ghost use Rattle.std.specs.Str.{IsCharBoundary};
 ghost use Rattle.meta_base.specs.Pieces.Pairs.{pairs_text};
 ghost use Rattle.meta_syntax.specs.Entries.{IsWhole, named_entries};
 ghost use Rattle.meta_syntax.specs.ExpectedRules.{AreExpected, ExpectsNothing};
-ghost use Rattle.meta_syntax.specs.Parses.{AreSpelled, IsSyntaxError, IsSyntaxErrorOrMemory, ParseRefuses, TokensGive};
+ghost use Rattle.meta_syntax.specs.Parses.{AreSpelled, IsSyntaxError, IsSyntaxErrorOrMemory, ParseRefuses, AreTokensOf};
 
 pub use crate::entries::Entry;
 use crate::expecting::expected_rules;
@@ -44,7 +44,7 @@ impl PestParser {
     /// those of `parse`.
     pub fn tokens(alloc: Global, rule: Rule, text: &str) -> Result<Vec<Entry>, Fault>
         ensures trees { MatchResult result
-            (λ v. TokensGive rule text.now v.items) (ParseRefuses rule text.now) }
+            (λ v. AreTokensOf rule text.now v.items) (ParseRefuses rule text.now) }
         ensures whole { IfOk result (λ v. IsWhole 0 (named_entries v.items)) }
     {
         let mut recognizer = Recognizer::new(alloc);

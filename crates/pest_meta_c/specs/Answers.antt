@@ -28,7 +28,7 @@ use Rattle.meta_reader.specs.Reading.{ReadsRules}
 use Rattle.meta_restorer.specs.Agreeing.{AgreesLoosely, WrappersSuffice}
 use Rattle.meta_stack_loops.specs.Certain.{AreReports}
 use Rattle.meta_syntax.specs.Entries as entries
-use Rattle.meta_syntax.specs.Parses.{TokensGive}
+use Rattle.meta_syntax.specs.Parses.{AreTokensOf}
 use Rattle.meta_syntax.specs.declared.entries.Entry.{Entry}
 use Rattle.pest_meta.specs.Promises.{AreBuiltinsOf, EndsFromEverywhere, HasOutcomesOf, IsWellFormedGrammar, OfRead, OfSpelled}
 use Rattle.pest_meta.specs.Spelling.{AreAccepted, HasRefusal, HasTrees, IsAnswer, complaints_in}
@@ -38,7 +38,7 @@ pub record AreTokens (text name json : List ℕ) : Type 0 where
   pub rule : Rule
   pub named : name_of rule ≡ name
   pub tokens : List Entry
-  pub given : TokensGive rule text tokens
+  pub given : AreTokensOf rule text tokens
   pub whole : entries.IsWhole 0 (entries.named_entries tokens)
   pub written : json ≡ compact_text (tokens_data tokens)
 

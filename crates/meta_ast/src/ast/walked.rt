@@ -80,9 +80,9 @@ impl Iterator for ExprTopDownIterator {
 
     ghost use Rattle.std.specs.Prelude.{length};
     ghost use Rattle.std.specs.Iterator.{at_most};
-    ghost use Rattle.meta_ast.specs.TopDownIterators.{GivesFirstOrFails};
+    ghost use Rattle.meta_ast.specs.TopDownIterators.{YieldsFirstOrFails};
 
-    ghost next_gives = { GivesFirstOrFails expression_of expressions_left };
+    ghost next_gives = { YieldsFirstOrFails expression_of expressions_left };
 
     ghost remaining = { λ iter. at_most (length (expressions_left iter)) };
 

@@ -82,9 +82,9 @@ impl Iterator for OptimizedExprTopDownIterator {
 
     ghost use Rattle.std.specs.Prelude.{length};
     ghost use Rattle.std.specs.Iterator.{at_most};
-    ghost use Rattle.meta_ast.specs.TopDownIterators.{GivesFirstOrFails};
+    ghost use Rattle.meta_ast.specs.TopDownIterators.{YieldsFirstOrFails};
 
-    ghost next_gives = { GivesFirstOrFails optimized_expression_of optimized_expressions_left };
+    ghost next_gives = { YieldsFirstOrFails optimized_expression_of optimized_expressions_left };
 
     ghost remaining = { λ iter. at_most (length (optimized_expressions_left iter)) };
 
