@@ -7,7 +7,7 @@ use Rattle.std.proofs.lemmas.List.Sorted.{All-permutation, ranks_by}
 use Rattle.std.proofs.lemmas.Option.{slice_get-get_or}
 use Rattle.meta_base.specs.Language.Expression.{Expression, Grammar}
 use Rattle.meta_base.specs.Pieces.PrintedError.{message_of}
-use Rattle.meta_base.specs.Pieces.Saying.{Complaint, Says, IsErrorAt, AreErrorsFor}
+use Rattle.meta_base.specs.Pieces.Saying.{Complaint, HasMessage, IsErrorAt, AreErrorsFor}
 use Rattle.meta_base.specs.declared.grammar.Rule.{Rule}
 use Rattle.meta_base.specs.declared.runtime.errors.Error.{Error}
 use Rattle.meta_base.specs.declared.runtime.errors.ErrorVariant.{ErrorVariant}
@@ -101,7 +101,7 @@ one_told rules endless errors others a b =
     one_sorted b.complete.0 a.findings b.findings (subst (λ fs. IsSortedBySpan fs a.findings) found a.complete.2) b.complete.2
 
 -- 3. errors that tell of the same say the same
-said_message : (message : List ℕ) (variant : ErrorVariant) → Says message variant → message_of variant ≡ message
+said_message : (message : List ℕ) (variant : ErrorVariant) → HasMessage message variant → message_of variant ≡ message
 said_message message ParsingError h = absurd h
 said_message message (CustomError own) h = h
 
