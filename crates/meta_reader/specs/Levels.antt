@@ -1,4 +1,4 @@
--- What is open while an expression is read, and how much there is to be read.
+-- The expressions that are open in the reader, and how many trees are still to be read.
 use Rattle.std.specs.Prelude.{◌≡◌, ◌+◌, ℕ, List, [], ◌∷◌, Option, Some, None, codes, option_map}
 use Rattle.std.specs.Option.{option_or}
 use Rattle.meta_ast.specs.declared.deep.Deep.{Deep}
@@ -28,7 +28,7 @@ use Rattle.meta_syntax.specs.Shape.{Lone, IsExpression, AreTerms, IsMore, IsTerm
 abbrev pub node_view : Option (Deep ParserNode) → Option Spanned
 node_view o = option_map (λ n. view n.value) o
 
--- a node and what stands before it, with an operator between them
+-- a node and the one before it, with an operator between them
 abbrev pub together : List ℕ → Binary → Option Spanned → Spanned → Spanned
 together text f None y = y
 together text f (Some x) y = both text f x y
@@ -37,13 +37,13 @@ together text f (Some x) y = both text f x y
 abbrev pub IsReadAs : List ℕ → Category → Trees → ParserNode → Type 0
 IsReadAs text category us n = (first_flaw text us ≡ None) × Reads text category us (view n)
 
--- a front of the trees is read as a sequence, and the rest is left
+-- a prefix of the trees is read as a sequence, and the rest follows
 pub record InFront (text : List ℕ) (us rest : Trees) (x : Spanned) : Type 0 where
   pub front : Trees
   pub split : us ≡ joined front rest
   pub reads : Reads text ASequence front x
 
--- a front of an expression's trees is read as alternatives, and the rest is left
+-- a prefix of an expression's trees is read as alternatives, and the rest follows
 pub record SplitOff (text : List ℕ) (us rest : Trees) (x : Spanned) : Type 0 where
   pub front : Trees
   pub whole : Trees
@@ -52,28 +52,28 @@ pub record SplitOff (text : List ℕ) (us rest : Trees) (x : Spanned) : Type 0 w
   pub behind : (y : Spanned) → Reads text Alternatives whole y → Reads text AnExpression us y
   pub standing : StandIn text whole
 
--- with these trees a term begins: the first of a sequence, or the next behind others and a tilde
+-- a term begins with these trees: the first of a sequence, or the next after others and a tilde
 pub data BeginsTerm (text : List ℕ) : Trees → Option Spanned → Trees → Type 0 where
   first_term : {us : Trees} → BeginsTerm text us None us
   next_term : {tilde_at tilde_to : ℕ} {us vs : Trees} {x : Spanned}
       → InFront text us (Lone (codes "sequence_operator") tilde_at tilde_to vs) x
       → BeginsTerm text us (Some x) vs
 
--- with these trees an alternative begins: the first of an expression, or the next behind others and a bar
+-- an alternative begins with these trees: the first of an expression, or the next after others and a bar
 pub data BeginsAlternative (text : List ℕ) (us : Trees) : Option Spanned → Trees → Type 0 where
   first_alternative : {vs : Trees} → IsBehindBar text us vs → BeginsAlternative text us None vs
   next_alternative : {bar_at bar_to : ℕ} {vs : Trees} {x : Spanned}
       → SplitOff text us (Lone (codes "choice_operator") bar_at bar_to vs) x
       → BeginsAlternative text us (Some x) vs
 
--- an alternative of the expression `us` and what is behind it: `choice` is before it
+-- an alternative of the expression `us` with all after it; `choice` is the node of those before it
 pub record IsAlternative (text : List ℕ) (us : Trees) (choice : Option Spanned) (vs : Trees) : Type 0 where
   pub shape : AreTerms text vs
   pub nested : StandIn text us
   pub flaws : first_flaw text us ≡ first_flaw text vs
   pub begins : BeginsAlternative text us choice vs
 
--- a term of the expression `us` stands beside all this
+-- a term of the expression `us`, with its surroundings
 pub record IsTermBeside (text : List ℕ) (us : Trees) (beside : Beside) (term : Trees) : Type 0 where
   pub alternative : Trees
   pub from : ℕ
@@ -86,7 +86,7 @@ pub record IsTermBeside (text : List ℕ) (us : Trees) (beside : Beside) (term :
   pub flaws : first_flaw text alternative
       ≡ option_or (first_flaw text term) (first_flaw text (named_trees_of beside.rest.now))
 
--- an operand's trees: what stands round an expression, the expression's trees and the postfix operators
+-- an operand's trees: its wrapper round an expression, the expression's trees and the postfix operators
 pub data Opens (text : List ℕ) : Trees → Within → Trees → Trees → Type 0 where
   parentheses : {open_at open_to body_at body_to close_at close_to : ℕ} {inner us : Trees}
       → IsExpression text inner → ArePostfixes text us
@@ -119,20 +119,21 @@ pub record IsInside (text : List ℕ) (us : Trees) (level : Level) (inner : Tree
   pub signed : IsBehindSigns text term level.signs.items operand
   pub opens : Opens text operand level.within inner (named_trees_of level.postfixes.now)
 
--- what is next in reading the expression `us` is a term of it, or an expression in one, or it is read
+-- the next step in reading the expression `us` is a term of it, or an expression in one, or it is read
 abbrev pub GoesOn : List ℕ → Trees → Next → Type 0
 GoesOn text us (next_is.Term beside trees) = IsTermBeside text us beside (named_trees_of trees.now)
 GoesOn text us (next_is.Inner level trees) = IsInside text us level (named_trees_of trees.now)
 GoesOn text us (next_is.Done n) = IsReadAs text AnExpression us n
 
--- the trees `us` are the expression in the last of the levels; each level is in the expression of the one
--- before it, and the first in the expression `whole`
+-- the trees `us` are the expression in the last level; every level is in the expression of the one before
+-- it, and the first level is in the expression `whole`
 abbrev pub AreOpen : List ℕ → List Level → Trees → Trees → Type 0
 AreOpen text [] us whole = us ≡ whole
 AreOpen text (level ∷ others) us whole =
     (inner : Trees) × IsInside text whole level inner × AreOpen text others us inner
 
--- what is read: an alternative, a term, an operand, the expression in an operand, and that in a level
+-- an alternative, a term, an operand, the expression in an operand, and that in a level, once they are
+-- read
 pub record IsAlternativeRead (text : List ℕ) (us : Trees) (choice : Option (Deep ParserNode))
     (sequence : Deep ParserNode) (rest : Trees) : Type 0 where
   pub alternative : Trees
@@ -166,7 +167,7 @@ pub record IsLevelRead (text : List ℕ) (us : Trees) (level : Level) (node : Pa
   pub inside : IsInside text us level inner
   pub reads : IsReadAs text AnExpression inner node
 
--- how many trees are still to be read: beside a term, in what is next, and beside all levels
+-- the number of trees still to be read: after a term, in the next step, and after all levels
 abbrev pub waits_of : Beside → ℕ
 waits_of beside = count_of (named_trees_of beside.rest.now)
 

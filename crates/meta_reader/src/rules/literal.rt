@@ -1,4 +1,4 @@
-//! Literals.
+//! Literals and their escapes.
 ghost use Rattle.std.specs.Prelude.{◌≡◌, ◌<◌, ℕ, IfOk, IfSome, MatchOption, [], ◌∷◌, chars, length, string_bytes};
 ghost use Rattle.std.specs.Char.{IsScalar};
 ghost use Rattle.meta_base.specs.Pieces.NamedTrees.{named_trees_of};
@@ -14,7 +14,7 @@ use meta_base::runtime::{FirstTree, TokenTree};
 use meta_syntax::trees::leading_tree;
 use std::alloc::{AllocError, Global};
 
-/// The first character of a text, and what follows it.
+/// Returns the first character of a text, and the rest.
 fn first(text: &str) -> Option<(char, &str)>
     ensures parts { MatchOption result (chars text.entry.now ≡ [])
         (λ x. chars text.entry.now ≡ x.0 ∷ chars x.1.now) }
@@ -28,8 +28,8 @@ fn first(text: &str) -> Option<(char, &str)>
     }
 }
 
-/// The number that one more hexadecimal digit makes of another, or, past the greatest scalar value,
-/// some number past it.
+/// Appends one more hexadecimal digit to a number. Past the greatest scalar value the result is some
+/// number past it.
 fn extended(value: u32, digit: char) -> u32
     ensures { (n : ℕ) → IsSameNumber value n → IsSameNumber result (extended n digit) }
 {
@@ -37,7 +37,7 @@ fn extended(value: u32, digit: char) -> u32
     value.saturating_mul(16).saturating_add(digit)
 }
 
-/// The number that two digits name, and what follows them.
+/// Returns the number that two hexadecimal digits name, and the rest after them.
 fn two_digits(text: &str) -> Option<(u32, &str)>
     ensures names { NamesFirst two_digits text.entry.now result }
     ensures shorter { IfSome result (λ x. length x.1.now < length text.entry.now) }
@@ -47,7 +47,7 @@ fn two_digits(text: &str) -> Option<(u32, &str)>
     Some((extended(extended(0, high), low), rest))
 }
 
-/// The number that digits up to a brace name, and what follows the brace.
+/// Returns the number that hexadecimal digits up to a brace name, and the rest after the brace.
 fn digits(text: &str) -> Option<(u32, &str)>
     ensures names { NamesFirst (digits 0) text.entry.now result }
     ensures shorter { IfSome result (λ x. length x.1.now < length text.entry.now) }
@@ -64,7 +64,8 @@ fn digits(text: &str) -> Option<(u32, &str)>
     None
 }
 
-/// The number that an escape names, by what follows its backslash, and what follows the escape.
+/// Returns the number that an escape names, given the text after its backslash, and the rest after the
+/// escape.
 fn escape(text: &str) -> Option<(u32, &str)>
     ensures names { NamesFirst escape text.entry.now result }
     ensures shorter { IfSome result (λ x. length x.1.now < length text.entry.now) }
@@ -84,7 +85,7 @@ fn escape(text: &str) -> Option<(u32, &str)>
     }
 }
 
-/// The text with its escapes read, or none where one names no character.
+/// Returns the text with its escapes read, or none where one names no character.
 fn unescape(alloc: Global, text: &str) -> Result<Option<String>, AllocError>
     ensures { IfOk result (λ o. Unescapes (λ s. chars (string_bytes s)) (chars text.now) o) }
 {
@@ -108,8 +109,8 @@ fn unescape(alloc: Global, text: &str) -> Result<Option<String>, AllocError>
     Ok(Some(read))
 }
 
-/// What a literal stands for, `quoted` being the trees in it: a quote, what is quoted, a quote.
-/// An escape that names no character is a flaw of the whole literal.
+/// Returns the text that a literal denotes, where the trees `quoted` in it are a quote, the quoted text
+/// and a quote. An escape that names no character is a flaw of the whole literal.
 pub fn literal<'i>(
     alloc: Global,
     text: &'i str,

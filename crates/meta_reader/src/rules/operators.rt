@@ -1,4 +1,4 @@
-//! Postfix operators.
+//! Postfix operators and their numbers.
 ghost use Rattle.std.specs.Prelude.{◌≡◌, codes};
 ghost use Rattle.meta_base.specs.Pieces.NamedTrees.{named_trees_of};
 ghost use Rattle.meta_base.specs.Pieces.Span.{span_text};
@@ -19,7 +19,7 @@ use meta_spanned::{ParserExpr, ParserNode};
 use meta_syntax::trees::{first_tree, leading_tree};
 use std::alloc::Global;
 
-/// The count of `{n}`, by the trees in it. A number that fits no `u32` is a flaw, and so is 0.
+/// Returns the count of `{n}`, by the trees in it. A number that fits no `u32` is a flaw, and so is 0.
 fn exact<'i>(text: &'i str, inner: &[TokenTree<Rule>]) -> Result<u32, ReadError<'i>>
     requires shape { IsCounted text.now (codes "repeat_exact") (named_trees_of inner.now) }
     requires nested { StandIn text.now (named_trees_of inner.now) }
@@ -30,7 +30,7 @@ fn exact<'i>(text: &'i str, inner: &[TokenTree<Rule>]) -> Result<u32, ReadError<
     count(text, times)
 }
 
-/// The least number of `{n,}`, by the trees in it. A number that fits no `u32` is a flaw.
+/// Returns the least number of `{n,}`, by the trees in it. A number that fits no `u32` is a flaw.
 fn at_least<'i>(text: &'i str, inner: &[TokenTree<Rule>]) -> Result<u32, ReadError<'i>>
     requires shape { IsCounted text.now (codes "repeat_min") (named_trees_of inner.now) }
     requires nested { StandIn text.now (named_trees_of inner.now) }
@@ -41,7 +41,8 @@ fn at_least<'i>(text: &'i str, inner: &[TokenTree<Rule>]) -> Result<u32, ReadErr
     number(text, least)
 }
 
-/// The greatest number of `{,n}`, by the trees in it. A number that fits no `u32` is a flaw, and so is 0.
+/// Returns the greatest number of `{,n}`, by the trees in it. A number that fits no `u32` is a flaw, and
+/// so is 0.
 fn at_most<'i>(text: &'i str, inner: &[TokenTree<Rule>]) -> Result<u32, ReadError<'i>>
     requires shape { IsCounted text.now (codes "repeat_max") (named_trees_of inner.now) }
     requires nested { StandIn text.now (named_trees_of inner.now) }
@@ -53,8 +54,8 @@ fn at_most<'i>(text: &'i str, inner: &[TokenTree<Rule>]) -> Result<u32, ReadErro
     count(text, most)
 }
 
-/// The numbers of `{m,n}`, by the trees in it. A number that fits no `u32` is a flaw, and so is 0 as
-/// the second.
+/// Returns the numbers of `{m,n}`, by the trees in it. A number that fits no `u32` is a flaw, and so is 0
+/// as the second.
 fn between<'i>(text: &'i str, inner: &[TokenTree<Rule>]) -> Result<(u32, u32), ReadError<'i>>
     requires shape { IsCounted text.now (codes "repeat_min_max") (named_trees_of inner.now) }
     requires nested { StandIn text.now (named_trees_of inner.now) }
@@ -70,7 +71,7 @@ fn between<'i>(text: &'i str, inner: &[TokenTree<Rule>]) -> Result<(u32, u32), R
     Ok((least, most))
 }
 
-/// How often what stands before a postfix operator may come.
+/// The number of repetitions that a postfix operator allows.
 #[derive(Clone, Copy)]
 pub enum Times {
     /// `?`: once or not at all.
@@ -89,7 +90,8 @@ pub enum Times {
     Between(u32, u32),
 }
 
-/// What a postfix operator says, or the first flaw of the numbers in it.
+/// Returns the number of repetitions that a postfix operator allows, or the first flaw of the numbers in
+/// it.
 fn times_of<'i>(text: &'i str, operator: FirstTree<'_, Rule>) -> Result<Times, ReadError<'i>>
     requires shape { IsPostfix text.now (name_of operator.rule) (named_trees_of operator.inner.now) }
     requires nested { StandIn text.now (named_trees_of operator.inner.now) }
@@ -112,7 +114,7 @@ fn times_of<'i>(text: &'i str, operator: FirstTree<'_, Rule>) -> Result<Times, R
     }
 }
 
-/// A node that may come so often.
+/// Makes an expression that repeats a node `times`.
 fn repeated<'i>(times: Times, node: Box<ParserNode<'i>>) -> ParserExpr<'i>
     ensures { (place : spanned.Span) → view_at place result
         ≡ One place (operator_of times) (view node.entry.value) }
@@ -128,7 +130,7 @@ fn repeated<'i>(times: Times, node: Box<ParserNode<'i>>) -> ParserExpr<'i>
     }
 }
 
-/// What a postfix operator makes of a node: `span` is where it stands with the node.
+/// Applies a postfix operator to a node. `span` is that of the node with the operator.
 fn postfix<'i>(
     alloc: Global,
     node: ParserNode<'i>,
@@ -148,7 +150,7 @@ fn postfix<'i>(
     })
 }
 
-/// What the postfix operators behind a node make of it, or their first flaw.
+/// Applies the postfix operators after a node, one after another, and reports their first flaw.
 pub fn postfixed<'i>(
     alloc: Global,
     text: &'i str,

@@ -1,4 +1,5 @@
-//! From trees to nodes.
+//! Iterative recursive descent: reads spanned expressions from token trees, with a list of levels as its
+//! stack.
 ghost use Rattle.std.specs.Prelude.{◌≡◌, ◌≢◌, ◌<◌, ◌+◌, ℕ, List, IfOk, IfSome, MatchOption, MatchResult};
 ghost use Rattle.meta_base.specs.Language.State.{Trees, None'};
 ghost use Rattle.meta_base.specs.Pieces.NamedTrees.{named_trees_of};
@@ -35,7 +36,7 @@ pub enum Infix {
     Choice,
 }
 
-/// What an operator makes of two nodes, wherever they stand.
+/// Makes an expression of two nodes and the operator between them.
 fn operation<'i>(
     operator: Infix,
     left: Box<ParserNode<'i>>,
@@ -50,7 +51,7 @@ fn operation<'i>(
     }
 }
 
-/// Two nodes with an operator between them, from the start of the left to the end of the right.
+/// Combines two nodes by an operator, from the start of the left to the end of the right.
 fn combined<'i>(
     alloc: Global,
     text: &'i str,
@@ -70,7 +71,7 @@ fn combined<'i>(
     Ok(Deep { value })
 }
 
-/// The alternatives of an expression, without a bar before the first.
+/// Skips a bar before the first alternative of an expression.
 fn behind_bar(trees: &[TokenTree<Rule>]) -> &[TokenTree<Rule>]
     ensures { (text : List ℕ) → IsExpression text (named_trees_of trees.entry.now)
         → IsBehindBar text (named_trees_of trees.entry.now) (named_trees_of result.now) }
@@ -84,7 +85,8 @@ fn behind_bar(trees: &[TokenTree<Rule>]) -> &[TokenTree<Rule>]
     }
 }
 
-/// The trees in the next term of a sequence, and what follows it, where a tilde goes before it.
+/// Returns the trees in the next term of a sequence and the trees after it, where a tilde comes before
+/// it.
 fn next_term(trees: &[TokenTree<Rule>]) -> Option<(&[TokenTree<Rule>], &[TokenTree<Rule>])>
     ensures { (text : List ℕ) → IsMore text (named_trees_of trees.entry.now)
         → MatchOption result (IsRest text (named_trees_of trees.entry.now))
@@ -103,7 +105,8 @@ fn next_term(trees: &[TokenTree<Rule>]) -> Option<(&[TokenTree<Rule>], &[TokenTr
     Some((term.inner, term.others))
 }
 
-/// A node and what stands before it, with an operator between them; the node itself where nothing does.
+/// Combines a node with the one before it by an operator; answers the node itself where none is before
+/// it.
 fn together<'i>(
     alloc: Global,
     text: &'i str,
@@ -122,7 +125,7 @@ fn together<'i>(
     }
 }
 
-/// The first term of an alternative is next. `choice` is what is read before the alternative.
+/// Begins an alternative with its first term. `choice` is the node of the alternatives before it.
 fn first_term<'i, 't>(
     choice: Option<Deep<ParserNode<'i>>>,
     trees: &'t [TokenTree<Rule>],
@@ -142,7 +145,7 @@ fn first_term<'i, 't>(
     Next::Term(beside, term.inner)
 }
 
-/// What is next where the alternative at hand is read, and `rest` is behind it.
+/// Goes on after an alternative, with the trees `rest` after it.
 fn behind_alternative<'i, 't>(
     alloc: Global,
     text: &'i str,
@@ -163,7 +166,7 @@ fn behind_alternative<'i, 't>(
     }
 }
 
-/// What is next where the term at hand is read.
+/// Goes on after a term.
 fn behind_term<'i, 't>(
     alloc: Global,
     text: &'i str,
@@ -194,7 +197,7 @@ fn behind_term<'i, 't>(
     }
 }
 
-/// What is next where a term's operand is read.
+/// Goes on after a term's operand.
 fn behind_operand<'i, 't>(
     alloc: Global,
     text: &'i str,
@@ -212,8 +215,8 @@ fn behind_operand<'i, 't>(
     behind_term(alloc, text, beside, node)
 }
 
-/// What an operand, which begins with a tree, puts round an expression, the trees in the expression and
-/// the postfix operators behind it; none where it holds no expression.
+/// Destructures an operand that begins with a tree into its wrapper round an expression, the trees in the
+/// expression and the postfix operators after the operand; answers none where it holds no expression.
 fn inner_of<'t>(
     tree: FirstTree<'t, Rule>,
 ) -> Option<(Within, &'t [TokenTree<Rule>], &'t [TokenTree<Rule>])>
@@ -242,7 +245,7 @@ fn inner_of<'t>(
     }
 }
 
-/// An operand that holds no expression, by its trees, or its first flaw.
+/// Reads an operand that holds no expression from its trees, and reports its first flaw.
 fn operand<'i>(
     alloc: Global,
     text: &'i str,
@@ -256,7 +259,8 @@ fn operand<'i>(
     postfixed(alloc, text, node, tree.others)
 }
 
-/// What is next where a term is to be read, by the trees in it; or the first flaw of its operand.
+/// Reads the signs of a term from the trees in it, and its operand where that holds no expression.
+/// Reports the operand's first flaw.
 fn term<'i, 't>(
     alloc: Global,
     text: &'i str,
@@ -289,8 +293,8 @@ fn term<'i, 't>(
     }
 }
 
-/// An expression in parentheses with the postfix operators behind them, or their first flaw. The
-/// outermost node begins with the first parenthesis, and the expression ends with the second.
+/// Closes an expression in parentheses, applies the postfix operators after it, and reports their first
+/// flaw. The outermost node begins with the first parenthesis, and the expression ends with the second.
 fn in_parentheses<'i>(
     alloc: Global,
     text: &'i str,
@@ -313,8 +317,8 @@ fn in_parentheses<'i>(
     Ok(node)
 }
 
-/// What `PUSH` makes of the expression in it, with the postfix operators behind, or their first flaw.
-/// It ends where the expression does.
+/// Makes the `PUSH` of an expression, applies the postfix operators after it, and reports their first
+/// flaw. `PUSH` ends where the expression does.
 fn pushed<'i>(
     alloc: Global,
     text: &'i str,
@@ -337,7 +341,7 @@ fn pushed<'i>(
     postfixed(alloc, text, node, postfixes)
 }
 
-/// An operand whose inner expression is read, or the first flaw of its postfix operators.
+/// Closes an operand whose inner expression is read, and reports the first flaw of its postfix operators.
 fn closed<'i>(
     alloc: Global,
     text: &'i str,
@@ -358,7 +362,7 @@ fn closed<'i>(
     }
 }
 
-/// What is next where the expression in a term is read; or the first flaw of the postfix operators.
+/// Goes on after the expression in a term, and reports the first flaw of the postfix operators.
 fn behind_level<'i, 't>(
     alloc: Global,
     text: &'i str,
@@ -380,7 +384,8 @@ fn behind_level<'i, 't>(
     Ok(behind_operand(alloc, text, beside, signs, node)?)
 }
 
-/// An expression, by the trees in it, or its first flaw. Expressions within one another lie in a list.
+/// Reads an expression from the trees in it, and reports its first flaw. Nesting takes memory in a list,
+/// and no stack space.
 pub fn expression<'i>(
     alloc: Global,
     text: &'i str,

@@ -16,7 +16,7 @@ use meta_spanned::{ParserExpr, ParserNode};
 use meta_syntax::trees::leading_tree;
 use std::alloc::Global;
 
-/// A range. A flaw is its literals'.
+/// Reads a range. Its flaws are those of its literals.
 fn range<'i>(
     alloc: Global,
     text: &'i str,
@@ -37,7 +37,8 @@ fn range<'i>(
     })
 }
 
-/// The number that may stand first, and what follows it. A number that fits no `i32` is a flaw.
+/// Takes the number that may come first, and returns it with the trees after it. A number that fits no
+/// `i32` is a flaw.
 fn bound<'i, 't>(
     text: &'i str,
     trees: &'t [TokenTree<Rule>],
@@ -56,7 +57,7 @@ fn bound<'i, 't>(
     }
 }
 
-/// A slice of the stack. A flaw is its numbers'.
+/// Reads a slice of the stack. Its flaws are those of its numbers.
 fn slice<'i>(text: &'i str, tree: FirstTree<'_, Rule>) -> Result<ParserNode<'i>, ReadError<'i>>
     requires shape { IsSlice text.now (named_trees_of tree.inner.now) }
     requires nested { StandIn text.now (alone_as (codes "peek_slice") tree) }
@@ -72,7 +73,7 @@ fn slice<'i>(text: &'i str, tree: FirstTree<'_, Rule>) -> Result<ParserNode<'i>,
     })
 }
 
-/// A literal push, which stands where its string does. A flaw is its string's.
+/// Reads a literal push, which has the span of its string. Its flaws are those of the string.
 fn push_literal<'i>(
     alloc: Global,
     text: &'i str,
@@ -91,7 +92,7 @@ fn push_literal<'i>(
     })
 }
 
-/// The node of a rule that holds no expression, or its first flaw.
+/// Reads the node of a rule that holds no expression, and reports its first flaw.
 pub fn terminal<'i>(
     alloc: Global,
     text: &'i str,
