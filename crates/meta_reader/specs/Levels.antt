@@ -11,16 +11,16 @@ use Rattle.meta_spanned.specs.Nodes.{view}
 use Rattle.meta_spanned.specs.Spanned.{Spanned, Binary}
 use Rattle.meta_spanned.specs.declared.node.ParserNode.{ParserNode}
 use Rattle.meta_reader.specs.Flaws.{first_flaw}
-use Rattle.meta_reader.specs.Pieces.{StandIn}
+use Rattle.meta_reader.specs.Pieces.{AreInText}
 use Rattle.meta_reader.specs.Reading.{Category, AnExpression, Alternatives, ASequence, ATerm, Reads, both}
-use Rattle.meta_reader.specs.Signs.{IsBehindSigns}
-use Rattle.meta_reader.specs.Views.{IsBehindBar, IsRest, count_of}
-use Rattle.meta_reader.specs.declared.rules.levels.Beside.{Beside}
+use Rattle.meta_reader.specs.Signs.{IsAfterSigns}
+use Rattle.meta_reader.specs.Views.{IsAfterBar, IsRest, count_of}
+use Rattle.meta_reader.specs.declared.rules.levels.TermContext.{TermContext}
 use Rattle.meta_reader.specs.declared.rules.levels.Level.{Level}
 use Rattle.meta_reader.specs.declared.rules.levels.Next.{Next}
 use Rattle.meta_reader.specs.declared.rules.levels.Next.TheVariants as next_is
-use Rattle.meta_reader.specs.declared.rules.levels.Within.{Within}
-use Rattle.meta_reader.specs.declared.rules.levels.Within.TheVariants as within_is
+use Rattle.meta_reader.specs.declared.rules.levels.Enclosure.{Enclosure}
+use Rattle.meta_reader.specs.declared.rules.levels.Enclosure.TheVariants as within_is
 use Rattle.meta_reader.specs.declared.rules.signs.Sign.{Sign}
 use Rattle.meta_syntax.specs.Shape.{Lone, IsExpression, AreTerms, IsMore, IsTerm, IsTerminal, ArePostfixes}
 
@@ -50,7 +50,7 @@ pub record SplitOff (text : List ℕ) (us rest : Trees) (x : Spanned) : Type 0 w
   pub split : whole ≡ joined front rest
   pub reads : Reads text Alternatives front x
   pub behind : (y : Spanned) → Reads text Alternatives whole y → Reads text AnExpression us y
-  pub standing : StandIn text whole
+  pub standing : AreInText text whole
 
 -- a term begins with these trees: the first of a sequence, or the next after others and a tilde
 pub data BeginsTerm (text : List ℕ) : Trees → Option Spanned → Trees → Type 0 where
@@ -61,7 +61,7 @@ pub data BeginsTerm (text : List ℕ) : Trees → Option Spanned → Trees → T
 
 -- an alternative begins with these trees: the first of an expression, or the next after others and a bar
 pub data BeginsAlternative (text : List ℕ) (us : Trees) : Option Spanned → Trees → Type 0 where
-  first_alternative : {vs : Trees} → IsBehindBar text us vs → BeginsAlternative text us None vs
+  first_alternative : {vs : Trees} → IsAfterBar text us vs → BeginsAlternative text us None vs
   next_alternative : {bar_at bar_to : ℕ} {vs : Trees} {x : Spanned}
       → SplitOff text us (Lone (codes "choice_operator") bar_at bar_to vs) x
       → BeginsAlternative text us (Some x) vs
@@ -69,12 +69,12 @@ pub data BeginsAlternative (text : List ℕ) (us : Trees) : Option Spanned → T
 -- an alternative of the expression `us` with all after it; `choice` is the node of those before it
 pub record IsAlternative (text : List ℕ) (us : Trees) (choice : Option Spanned) (vs : Trees) : Type 0 where
   pub shape : AreTerms text vs
-  pub nested : StandIn text us
+  pub nested : AreInText text us
   pub flaws : first_flaw text us ≡ first_flaw text vs
   pub begins : BeginsAlternative text us choice vs
 
 -- a term of the expression `us`, with its surroundings
-pub record IsTermBeside (text : List ℕ) (us : Trees) (beside : Beside) (term : Trees) : Type 0 where
+pub record IsTermBeside (text : List ℕ) (us : Trees) (beside : TermContext) (term : Trees) : Type 0 where
   pub alternative : Trees
   pub from : ℕ
   pub to : ℕ
@@ -87,7 +87,7 @@ pub record IsTermBeside (text : List ℕ) (us : Trees) (beside : Beside) (term :
       ≡ option_or (first_flaw text term) (first_flaw text (named_trees_of beside.rest.now))
 
 -- an operand's trees: its wrapper round an expression, the expression's trees and the postfix operators
-pub data Opens (text : List ℕ) : Trees → Within → Trees → Trees → Type 0 where
+pub data Opens (text : List ℕ) : Trees → Enclosure → Trees → Trees → Type 0 where
   parentheses : {open_at open_to body_at body_to close_at close_to : ℕ} {inner us : Trees}
       → IsExpression text inner → ArePostfixes text us
       → Opens text
@@ -116,7 +116,7 @@ pub record IsInside (text : List ℕ) (us : Trees) (level : Level) (inner : Tree
   pub term : Trees
   pub operand : Trees
   pub stands : IsTermBeside text us level.beside term
-  pub signed : IsBehindSigns text term level.signs.items operand
+  pub signed : IsAfterSigns text term level.signs.items operand
   pub opens : Opens text operand level.within inner (named_trees_of level.postfixes.now)
 
 -- the next step in reading the expression `us` is a term of it, or an expression in one, or it is read
@@ -142,24 +142,24 @@ pub record IsAlternativeRead (text : List ℕ) (us : Trees) (choice : Option (De
   pub flaws : first_flaw text alternative ≡ first_flaw text rest
   pub behind : IsRest text rest
 
-pub record IsTermRead (text : List ℕ) (us : Trees) (beside : Beside) (node : ParserNode) : Type 0 where
+pub record IsTermRead (text : List ℕ) (us : Trees) (beside : TermContext) (node : ParserNode) : Type 0 where
   pub term : Trees
   pub stands : IsTermBeside text us beside term
   pub reads : IsReadAs text ATerm term node
 
-pub record IsOperandRead (text : List ℕ) (us : Trees) (beside : Beside) (signs : List Sign)
+pub record IsOperandRead (text : List ℕ) (us : Trees) (beside : TermContext) (signs : List Sign)
     (node : ParserNode) : Type 0 where
   pub term : Trees
   pub operand : Trees
   pub stands : IsTermBeside text us beside term
-  pub signed : IsBehindSigns text term signs operand
+  pub signed : IsAfterSigns text term signs operand
   pub reads : IsReadAs text ATerm operand node
 
-pub record IsInsideRead (text : List ℕ) (us : Trees) (within : Within) (node : ParserNode)
+pub record IsInsideRead (text : List ℕ) (us : Trees) (within : Enclosure) (node : ParserNode)
     (postfixes : Trees) : Type 0 where
   pub inner : Trees
   pub opens : Opens text us within inner postfixes
-  pub nested : StandIn text us
+  pub nested : AreInText text us
   pub reads : IsReadAs text AnExpression inner node
 
 pub record IsLevelRead (text : List ℕ) (us : Trees) (level : Level) (node : ParserNode) : Type 0 where
@@ -168,7 +168,7 @@ pub record IsLevelRead (text : List ℕ) (us : Trees) (level : Level) (node : Pa
   pub reads : IsReadAs text AnExpression inner node
 
 -- the number of trees still to be read: after a term, in the next step, and after all levels
-abbrev pub waits_of : Beside → ℕ
+abbrev pub waits_of : TermContext → ℕ
 waits_of beside = count_of (named_trees_of beside.rest.now)
 
 abbrev pub work_of : Next → ℕ

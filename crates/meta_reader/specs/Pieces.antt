@@ -17,12 +17,12 @@ NestedInBytes text (Tree r a b inner others) i j =
     × NestedInBytes text inner a b × NestedInBytes text others b j
 
 -- the trees are somewhere in the text
-pub record StandIn (text : List ℕ) (us : Trees) : Type 0 where
+pub record AreInText (text : List ℕ) (us : Trees) : Type 0 where
   pub from : ℕ
   pub to : ℕ
   pub nested : NestedInBytes text us from to
 
 -- the trees are after a position in the text
-pub record StandBehind (text : List ℕ) (from : ℕ) (us : Trees) : Type 0 where
+pub record AreAfter (text : List ℕ) (from : ℕ) (us : Trees) : Type 0 where
   pub to : ℕ
   pub nested : NestedInBytes text us from to

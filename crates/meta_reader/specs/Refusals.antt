@@ -20,7 +20,7 @@ cause_message PastU32 = codes "number cannot overflow u32"
 cause_message ZeroTimes = codes "cannot repeat 0 times"
 
 -- the errors are one error, which has the message of the flaw and its span
-pub record TellsOf (flaw : Flaw) (errors : List (Error Rule)) : Type 0 where
+pub record ReportsFlaw (flaw : Flaw) (errors : List (Error Rule)) : Type 0 where
   pub error : Error Rule
   pub one : errors ≡ error ∷ []
   pub says : SaysAt (cause_message flaw.cause) flaw.span error
@@ -28,7 +28,7 @@ pub record TellsOf (flaw : Flaw) (errors : List (Error Rule)) : Type 0 where
 -- an allocation failure, or one error that reports the first flaw
 abbrev pub IsReadRefusal : Option Flaw → code.Fault → Type 0
 IsReadRefusal first (code_is.Memory e) = ⊤
-IsReadRefusal first (code_is.Grammar errors) = MatchOption first ⊥ (λ flaw. TellsOf flaw errors.items)
+IsReadRefusal first (code_is.Grammar errors) = MatchOption first ⊥ (λ flaw. ReportsFlaw flaw errors.items)
 
 -- the pairs are read as these rules
 abbrev pub AreReadAs : Pairs Rule → List SpannedRule → Type 0

@@ -7,7 +7,7 @@ use Rattle.meta_base.specs.Pieces.Saying.{piece}
 use Rattle.meta_syntax.specs.Shape.{Lone, IsExpression, IsNode, ArePostfixes}
 use Rattle.meta_spanned.specs.Spanned.{Spanned, One, Unary, PosPred, NegPred, Tag, end_of}
 use Rattle.meta_reader.specs.Flaws.{first_flaw}
-use Rattle.meta_reader.specs.Pieces.{NestedInBytes, StandIn}
+use Rattle.meta_reader.specs.Pieces.{NestedInBytes, AreInText}
 use Rattle.meta_reader.specs.Reading.{Reads, ATerm}
 use Rattle.meta_reader.specs.Views.{count_of}
 use Rattle.meta_reader.specs.declared.rules.signs.Sign.{Sign}
@@ -39,16 +39,16 @@ pub data IsOperand (text : List ℕ) : Trees → Type 0 where
       → IsNode text r inner → ArePostfixes text us → IsOperand text (Tree r from to inner us)
 
 -- the signs are in the text, before the trees
-pub record SignsStand (text : List ℕ) (signs : List Sign) (us : Trees) : Type 0 where
+pub record AreSignsIn (text : List ℕ) (signs : List Sign) (us : Trees) : Type 0 where
   pub from : ℕ
   pub to : ℕ
   pub nested : NestedInBytes text us from to
   pub before : All (λ sign. IsCharBoundary text sign.start × (sign.start ≤ from)) signs
 
 -- a term's trees after these signs
-pub record IsBehindSigns (text : List ℕ) (us : Trees) (signs : List Sign) (vs : Trees) : Type 0 where
+pub record IsAfterSigns (text : List ℕ) (us : Trees) (signs : List Sign) (vs : Trees) : Type 0 where
   pub shape : IsOperand text vs
   pub flaws : first_flaw text us ≡ first_flaw text vs
   pub shorter : count_of vs ≤ count_of us
   pub reads : (x : Spanned) → Reads text ATerm vs x → Reads text ATerm us (signed text signs x)
-  pub stand : StandIn text us → SignsStand text signs vs
+  pub stand : AreInText text us → AreSignsIn text signs vs

@@ -10,7 +10,7 @@ use Rattle.meta_base.specs.Language.Text.{Text}
 use Rattle.meta_base.specs.Language.State.{joined}
 use Rattle.meta_base.specs.Pieces.Span.{span_text, span_end}
 use Rattle.meta_spanned.specs.Spanned as spanned
-use Rattle.meta_reader.specs.Pieces.{StandBehind, StandIn}
+use Rattle.meta_reader.specs.Pieces.{AreAfter, AreInText}
 use Rattle.meta_syntax.specs.Shape.{Lone, AreTerms, IsMore, IsTerm, IsModifier}
 use Rattle.meta_spanned.specs.Spanned.{Spanned, Binary, Seq, Choice, One, Unary, Opt, Rep, RepOnce, RepExact, RepMin, RepMax, RepMinMax}
 use Rattle.meta_spanned.specs.Nodes.{piece_of, view, rule_view, rule_views}
@@ -125,9 +125,9 @@ Unescapes of t result =
     (λ s. (all_scalars (unescaped t) ≡ true) × (of s ≡ unescaped t))
 
 -- a node in the text, before some trees
-pub record StandsBefore (text : List ℕ) (n : ParserNode) (us : state.Trees) : Type 0 where
+pub record IsNodeBefore (text : List ℕ) (n : ParserNode) (us : state.Trees) : Type 0 where
   pub same_text : span_text n.span ≡ text
-  pub behind : StandBehind text (span_end n.span) us
+  pub behind : AreAfter text (span_end n.span) us
 
 -- a postfix operator's node round another
 pub record IsPostfixOf (text : List ℕ) (r : Text) (us : state.Trees) (s : spanned.Span) (n x : ParserNode)
@@ -175,9 +175,9 @@ count_of state.None' = 1
 count_of (state.Tree r i j inner others) = 1 + (count_of inner + count_of others)
 
 -- the alternatives of an expression, after a bar before the first
-pub record IsBehindBar (text : List ℕ) (us vs : state.Trees) : Type 0 where
+pub record IsAfterBar (text : List ℕ) (us vs : state.Trees) : Type 0 where
   pub shape : AreTerms text vs
-  pub nested : StandIn text us → StandIn text vs
+  pub nested : AreInText text us → AreInText text vs
   pub reads : (x : Spanned) → Reads text Alternatives vs x → Reads text AnExpression us x
   pub flaws : first_flaw text us ≡ first_flaw text vs
   pub shorter : count_of vs ≤ count_of us

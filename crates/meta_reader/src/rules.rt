@@ -4,7 +4,7 @@ ghost use Rattle.meta_base.specs.Pieces.Pairs.{pairs_text};
 ghost use Rattle.meta_base.specs.Pieces.NamedTrees.{named_trees_of};
 ghost use Rattle.meta_syntax.specs.Parses.{AreOfAGrammar, AreSpelled, ParseRefuses};
 ghost use Rattle.meta_reader.specs.Refusals.{AreReadAs, IsReadRefusal, first_flaw_of};
-ghost use Rattle.meta_reader.specs.Pieces.{StandIn};
+ghost use Rattle.meta_reader.specs.Pieces.{AreInText};
 ghost use Rattle.meta_syntax.specs.Shape.{AreGrammarTrees, IsRule};
 ghost use Rattle.meta_reader.specs.Views.{AnswersRule, AnswersRules, MayBeModifier, TakesModifier};
 ghost use Rattle.meta_spanned.specs.Nodes.{rule_views, type_of};
@@ -60,7 +60,7 @@ fn rule<'i>(
     trees: &[TokenTree<Rule>],
 ) -> Result<Option<ParserRule<'i>>, ReadError<'i>>
     requires shape { IsRule text.now (named_trees_of trees.now) }
-    requires nested { StandIn text.now (named_trees_of trees.now) }
+    requires nested { AreInText text.now (named_trees_of trees.now) }
     ensures { AnswersRule text.entry.now (named_trees_of trees.now) result }
 {
     let first = leading_tree(trees);
@@ -90,7 +90,7 @@ fn rules<'i>(
     trees: &[TokenTree<Rule>],
 ) -> Result<Vec<ParserRule<'i>>, ReadError<'i>>
     requires shape { AreGrammarTrees text.now (named_trees_of trees.now) }
-    requires nested { StandIn text.now (named_trees_of trees.now) }
+    requires nested { AreInText text.now (named_trees_of trees.now) }
     ensures { AnswersRules text.entry.now (named_trees_of trees.now) result }
 {
     let mut read = Deep {

@@ -1,7 +1,7 @@
 //! The flaws of a grammar's text, and the errors that report them.
 ghost use Rattle.std.specs.Prelude.{◌≡◌, alloc_error, IfErr, IfOk, Option};
 ghost use Rattle.meta_reader.specs.Flaws as spec;
-ghost use Rattle.meta_reader.specs.Refusals.{IsReadRefusal, TellsOf, cause_message};
+ghost use Rattle.meta_reader.specs.Refusals.{IsReadRefusal, ReportsFlaw, cause_message};
 ghost use Rattle.meta_reader.specs.Views.{IsFirst, cause_of, flaw_of};
 ghost use Rattle.meta_reader.specs.declared.rules.flaws.ReadError.TheVariants.{Memory};
 
@@ -66,7 +66,7 @@ fn message(cause: Cause) -> &'static str
 
 /// Makes the list of the one error that reports a flaw. The only fault is an allocation failure.
 fn errors(alloc: Global, flaw: Flaw<'_>) -> Result<Vec<Error<Rule>>, Fault>
-    ensures one { IfOk result (λ errors. TellsOf (flaw_of flaw.entry) errors.items) }
+    ensures one { IfOk result (λ errors. ReportsFlaw (flaw_of flaw.entry) errors.items) }
     ensures memory { IfErr result (λ fault. fault ≡ Fault.Memory alloc_error) }
 {
     let message = String::from_str(alloc, message(flaw.cause))?;

@@ -8,7 +8,7 @@ use meta_spanned::ParserNode;
 
 /// The surroundings of a term in its expression.
 #[derive(Drop)]
-pub struct Beside<'i, 't> {
+pub struct TermContext<'i, 't> {
     /// The alternatives before the term's own, read and combined into one node.
     pub choice: Option<Deep<ParserNode<'i>>>,
     /// The terms before this one in its alternative, read and combined into one node.
@@ -19,7 +19,7 @@ pub struct Beside<'i, 't> {
 
 /// The operand that an inner expression is in.
 #[derive(Clone, Copy)]
-pub enum Within {
+pub enum Enclosure {
     /// Parentheses, by the byte positions where the first begins and where the second ends.
     Parentheses { start: usize, end: usize },
     /// `PUSH`, by the byte position where it begins.
@@ -29,10 +29,10 @@ pub enum Within {
 /// A term whose inner expression is being read.
 #[derive(Drop)]
 pub struct Level<'i, 't> {
-    pub beside: Beside<'i, 't>,
+    pub beside: TermContext<'i, 't>,
     /// The signs before the operand.
     pub signs: Vec<Sign<'i>>,
-    pub within: Within,
+    pub within: Enclosure,
     /// The postfix operators after the operand.
     pub postfixes: &'t [TokenTree<Rule>],
 }
@@ -41,7 +41,7 @@ pub struct Level<'i, 't> {
 #[derive(Drop)]
 pub enum Next<'i, 't> {
     /// A term is to be read, by the trees in it.
-    Term(Beside<'i, 't>, &'t [TokenTree<Rule>]),
+    Term(TermContext<'i, 't>, &'t [TokenTree<Rule>]),
     /// An expression in a term is to be read, by the trees in it.
     Inner(Level<'i, 't>, &'t [TokenTree<Rule>]),
     /// Nothing: an expression is read.

@@ -3,7 +3,7 @@ ghost use Rattle.std.specs.Prelude.{◌≡◌, ◌<◌, ℕ, IfOk, IfSome, Match
 ghost use Rattle.std.specs.Char.{IsScalar};
 ghost use Rattle.meta_base.specs.Pieces.NamedTrees.{named_trees_of};
 ghost use Rattle.meta_reader.specs.Literal.{braced, digits, escape, extended, two_digits};
-ghost use Rattle.meta_reader.specs.Pieces.{IsPiece, StandIn};
+ghost use Rattle.meta_reader.specs.Pieces.{IsPiece, AreInText};
 ghost use Rattle.meta_syntax.specs.Shape.{IsQuoted};
 ghost use Rattle.meta_reader.specs.Views.{AnswersLiteral, IsSameNumber, NamesFirst, Unescapes};
 
@@ -30,7 +30,7 @@ fn first(text: &str) -> Option<(char, &str)>
 
 /// Appends one more hexadecimal digit to a number. Past the greatest scalar value the result is some
 /// number past it.
-fn extended(value: u32, digit: char) -> u32
+fn append_digit(value: u32, digit: char) -> u32
     ensures { (n : ℕ) → IsSameNumber value n → IsSameNumber result (extended n digit) }
 {
     let digit = digit.to_digit(16).unwrap_or(0);
@@ -44,7 +44,7 @@ fn two_digits(text: &str) -> Option<(u32, &str)>
 {
     let (high, rest) = first(text)?;
     let (low, rest) = first(rest)?;
-    Some((extended(extended(0, high), low), rest))
+    Some((append_digit(append_digit(0, high), low), rest))
 }
 
 /// Returns the number that hexadecimal digits up to a brace name, and the rest after the brace.
@@ -58,7 +58,7 @@ fn digits(text: &str) -> Option<(u32, &str)>
         if c == '}' {
             return Some((value, after));
         }
-        value = extended(value, c);
+        value = append_digit(value, c);
         rest = after;
     }
     None
@@ -119,7 +119,7 @@ pub fn literal<'i>(
 ) -> Result<String, ReadError<'i>>
     requires place { IsPiece text.now tree.start tree.end }
     requires shape { IsQuoted (named_trees_of quoted.now) }
-    requires nested { StandIn text.now (named_trees_of quoted.now) }
+    requires nested { AreInText text.now (named_trees_of quoted.now) }
     ensures { AnswersLiteral text.entry.now tree.entry.start tree.entry.end
         (named_trees_of quoted.now) result }
 {

@@ -16,11 +16,11 @@ pub fn rename_meta_rule(alloc: Global, rule: &Rule) -> Result<String, Fault>
         (λ name. string_bytes name ≡ shown_name rule.now)
         (λ fault. fault ≡ Fault.Memory alloc_error) }
 {
-    Ok(String::from_str(alloc, shown(*rule))?)
+    Ok(String::from_str(alloc, meta_rule_name(*rule))?)
 }
 
 /// Returns the name of a rule that errors show.
-fn shown(rule: Rule) -> &'static str
+fn meta_rule_name(rule: Rule) -> &'static str
     ensures { result.now ≡ shown_name rule }
 {
     match rule {

@@ -4,9 +4,9 @@ ghost use Rattle.meta_base.specs.Pieces.NamedTrees.{named_trees_of};
 ghost use Rattle.meta_base.specs.Pieces.Span.{span_end, span_text};
 ghost use Rattle.meta_spanned.specs.Nodes.{view, view_at};
 ghost use Rattle.meta_spanned.specs.Spanned.{One, Span};
-ghost use Rattle.meta_reader.specs.Pieces.{IsPiece, StandIn};
+ghost use Rattle.meta_reader.specs.Pieces.{IsPiece, AreInText};
 ghost use Rattle.meta_reader.specs.Reading.{tag_name};
-ghost use Rattle.meta_reader.specs.Signs.{IsBehindSigns, sign_of, signed};
+ghost use Rattle.meta_reader.specs.Signs.{IsAfterSigns, sign_of, signed};
 ghost use Rattle.meta_syntax.specs.Shape.{IsTerm};
 
 use crate::rules::pieces::{span_at, text_of};
@@ -49,14 +49,14 @@ fn tag_name<'i>(text: &'i str, tag: FirstTree<'_, Rule>) -> &'i str
 
 /// Collects the signs of predicates and the tags in a term, the first first, and returns the trees after
 /// them.
-pub fn behind_signs<'i, 't>(
+pub fn take_signs<'i, 't>(
     alloc: Global,
     text: &'i str,
     trees: &'t [TokenTree<Rule>],
 ) -> Result<(Vec<Sign<'i>>, &'t [TokenTree<Rule>]), AllocError>
     requires shape { IsTerm text.now (named_trees_of trees.now) }
-    requires nested { StandIn text.now (named_trees_of trees.now) }
-    ensures { IfOk result (λ x. IsBehindSigns text.entry.now (named_trees_of trees.entry.now)
+    requires nested { AreInText text.now (named_trees_of trees.now) }
+    ensures { IfOk result (λ x. IsAfterSigns text.entry.now (named_trees_of trees.entry.now)
         x.0.items (named_trees_of x.1.now)) }
 {
     let mut signs = Vec::new(alloc);

@@ -1,7 +1,7 @@
 //! Nodes that hold no expression.
 ghost use Rattle.std.specs.Prelude.{codes};
 ghost use Rattle.meta_base.specs.Pieces.NamedTrees.{named_trees_of};
-ghost use Rattle.meta_reader.specs.Pieces.{StandIn};
+ghost use Rattle.meta_reader.specs.Pieces.{AreInText};
 ghost use Rattle.meta_reader.specs.Reading.{ANode};
 ghost use Rattle.meta_base.specs.Pieces.MetaRules.{name_of};
 ghost use Rattle.meta_syntax.specs.Shape.{IsSlice, IsTerminal, MayBeNumber};
@@ -23,7 +23,7 @@ fn range<'i>(
     tree: FirstTree<'_, Rule>,
 ) -> Result<ParserNode<'i>, ReadError<'i>>
     requires shape { IsTerminal text.now (codes "range") (named_trees_of tree.inner.now) }
-    requires nested { StandIn text.now (alone_as (codes "range") tree) }
+    requires nested { AreInText text.now (alone_as (codes "range") tree) }
     ensures { ReadsAs text.entry.now ANode (alone_as (codes "range") tree.entry) result }
 {
     let first = leading_tree(tree.inner);
@@ -39,12 +39,12 @@ fn range<'i>(
 
 /// Takes the number that may come first, and returns it with the trees after it. A number that fits no
 /// `i32` is a flaw.
-fn bound<'i, 't>(
+fn take_bound<'i, 't>(
     text: &'i str,
     trees: &'t [TokenTree<Rule>],
 ) -> Result<(Option<i32>, &'t [TokenTree<Rule>]), ReadError<'i>>
     requires shape { MayBeNumber text.now (named_trees_of trees.now) }
-    requires nested { StandIn text.now (named_trees_of trees.now) }
+    requires nested { AreInText text.now (named_trees_of trees.now) }
     ensures { AnswersBound text.entry.now (named_trees_of trees.entry.now) result }
 {
     let tree = leading_tree(trees);
@@ -60,13 +60,13 @@ fn bound<'i, 't>(
 /// Reads a slice of the stack. Its flaws are those of its numbers.
 fn slice<'i>(text: &'i str, tree: FirstTree<'_, Rule>) -> Result<ParserNode<'i>, ReadError<'i>>
     requires shape { IsSlice text.now (named_trees_of tree.inner.now) }
-    requires nested { StandIn text.now (alone_as (codes "peek_slice") tree) }
+    requires nested { AreInText text.now (alone_as (codes "peek_slice") tree) }
     ensures { ReadsAs text.entry.now ANode (alone_as (codes "peek_slice") tree.entry) result }
 {
     let bracket = leading_tree(tree.inner);
-    let (low, rest) = bound(text, bracket.others)?;
+    let (low, rest) = take_bound(text, bracket.others)?;
     let dots = leading_tree(rest);
-    let (high, _) = bound(text, dots.others)?;
+    let (high, _) = take_bound(text, dots.others)?;
     Ok(ParserNode {
         expr: ParserExpr::PeekSlice(low.unwrap_or(0), high),
         span: span_of(text, tree),
@@ -80,7 +80,7 @@ fn push_literal<'i>(
     tree: FirstTree<'_, Rule>,
 ) -> Result<ParserNode<'i>, ReadError<'i>>
     requires shape { IsTerminal text.now (codes "_push_literal") (named_trees_of tree.inner.now) }
-    requires nested { StandIn text.now (alone_as (codes "_push_literal") tree) }
+    requires nested { AreInText text.now (alone_as (codes "_push_literal") tree) }
     ensures { ReadsAs text.entry.now ANode (alone_as (codes "_push_literal") tree.entry) result }
 {
     let paren = leading_tree(tree.inner);
@@ -99,7 +99,7 @@ pub fn terminal<'i>(
     tree: FirstTree<'_, Rule>,
 ) -> Result<ParserNode<'i>, ReadError<'i>>
     requires shape { IsTerminal text.now (name_of tree.rule) (named_trees_of tree.inner.now) }
-    requires nested { StandIn text.now (alone tree) }
+    requires nested { AreInText text.now (alone tree) }
     ensures { ReadsAs text.entry.now ANode (alone tree.entry) result }
 {
     let span = span_of(text, tree);

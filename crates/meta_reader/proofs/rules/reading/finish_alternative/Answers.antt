@@ -2,7 +2,7 @@ use Rattle.std.proofs.Common.{refl, ◌∙◌}
 use Rattle.meta_base.specs.Pieces.NamedTrees.{named_trees_of}
 use Rattle.meta_reader.proofs.Chains.{no_chain, rest_tree, expression_end}
 use Rattle.meta_reader.proofs.Levels.{alternative_piece, alternative_front, at_next_alternative}
-use Rattle.meta_reader.proofs.rules.reading.behind_alternative.Goals as goal
+use Rattle.meta_reader.proofs.rules.reading.finish_alternative.Goals as goal
 
 pub together-requires : goal.together-requires
 together-requires c =

@@ -1,6 +1,6 @@
 use Rattle.std.proofs.Common.{refl}
 use Rattle.meta_reader.proofs.Chains.{with_bar, no_expression, without_bar}
-use Rattle.meta_reader.proofs.rules.reading.behind_bar.Goals as goal
+use Rattle.meta_reader.proofs.rules.reading.skip_bar.Goals as goal
 
 pub returns-in_default : goal.returns-in_default
 returns-in_default c = λ text h. absurd (no_expression (rw c.in_default.ensures at h))

@@ -4,7 +4,7 @@ use Rattle.std.proofs.lemmas.Int.{to_z-of_z}
 use Rattle.std.proofs.lemmas.Result.{err_from_is_err_and}
 use Rattle.meta_reader.proofs.FlawsInOrder.{first_in}
 use Rattle.meta_reader.proofs.Terminals.{number_first, no_number}
-use Rattle.meta_reader.proofs.rules.terminals.bound.Goals as goal
+use Rattle.meta_reader.proofs.rules.terminals.take_bound.Goals as goal
 
 pub slice_number-requires-clause-digits : goal.slice_number-requires-clause-digits
 slice_number-requires-clause-digits c = let h = number_first (rw (c.leading_tree-tree.ensures, c.in-integer.is) at c.requires.shape) in h.digits

@@ -4,14 +4,14 @@ use Rattle.meta_reader.specs.Flaws.{first_flaw}
 use Rattle.meta_reader.specs.Reading.{Postfixed}
 use Rattle.meta_syntax.specs.Shape.{ArePostfixes}
 use Rattle.meta_spanned.specs.Spanned.{Spanned}
-use Rattle.meta_reader.specs.Views.{StandsBefore, count_of}
+use Rattle.meta_reader.specs.Views.{IsNodeBefore, count_of}
 use Rattle.meta_spanned.specs.Nodes.{view}
-use Rattle.meta_reader.proofs.rules.operators.postfixed.Given as goal
+use Rattle.meta_reader.proofs.rules.operators.apply_postfixes.Given as goal
 
 abbrev pub invariant-loop-operator : goal.invariant-loop-operator
 invariant-loop-operator l = record {
   shape : ArePostfixes l.text (named_trees_of l.rest);
-  place : StandsBefore l.text l.node (named_trees_of l.rest);
+  place : IsNodeBefore l.text l.node (named_trees_of l.rest);
   flaws : first_flaw l.text (named_trees_of l.operators) ≡ first_flaw l.text (named_trees_of l.rest);
   reads : (y : Spanned) → Postfixed l.text (view l.node) (named_trees_of l.rest) y
       → Postfixed l.text (view l.fn.operand) (named_trees_of l.operators) y;

@@ -3,7 +3,7 @@ use Rattle.std.proofs.lemmas.Result.{err_from_is_err_and}
 use Rattle.meta_spanned.specs.Nodes.{view}
 use Rattle.meta_reader.proofs.Levels.{opened, close}
 use Rattle.meta_reader.proofs.Terms.{view_ending, view_starting}
-use Rattle.meta_reader.proofs.rules.reading.in_parentheses.Goals as goal
+use Rattle.meta_reader.proofs.rules.reading.close_parentheses.Goals as goal
 
 pub span_at-inside-requires : goal.span_at-inside-requires
 span_at-inside-requires c =
@@ -11,13 +11,13 @@ span_at-inside-requires c =
     let k = close c.args.inside s.opens s.nested s.reads.1 in
     rw c.start.ensures k.place
 
-pub postfixed-requires-clause-shape : goal.postfixed-requires-clause-shape
-postfixed-requires-clause-shape c =
+pub apply_postfixes-requires-clause-shape : goal.apply_postfixes-requires-clause-shape
+apply_postfixes-requires-clause-shape c =
     let o = opened c.requires.1.opens in
     o.behind
 
-pub postfixed-requires-clause-place : goal.postfixed-requires-clause-place
-postfixed-requires-clause-place c =
+pub apply_postfixes-requires-clause-place : goal.apply_postfixes-requires-clause-place
+apply_postfixes-requires-clause-place c =
     let s = c.requires.1 in
     let k = close c.args.inside s.opens s.nested s.reads.1 in
     k.before _ (rw c.start.ensures at c.span_at-inside.ensures)

@@ -1,7 +1,7 @@
 use Rattle.meta_base.specs.Pieces.NamedTrees.{named_trees_of}
 use Rattle.meta_reader.specs.Views.{count_of}
 use Rattle.meta_reader.proofs.Signs.{IsLeftOfTerm}
-use Rattle.meta_reader.proofs.rules.signs.behind_signs.Given as goal
+use Rattle.meta_reader.proofs.rules.signs.take_signs.Given as goal
 
 abbrev pub invariant-loop-tree : goal.invariant-loop-tree
 invariant-loop-tree l = IsLeftOfTerm l.text (named_trees_of l.trees) l.signs.items (named_trees_of l.rest)

@@ -1,7 +1,7 @@
 use Rattle.std.proofs.Common.{refl}
 use Rattle.meta_reader.proofs.Signs.{sign_piece, term_start, term_tag, term_positive, term_negative, term_operand}
 use Rattle.meta_reader.proofs.Terms.{lone_tag}
-use Rattle.meta_reader.proofs.rules.signs.behind_signs.Goals as goal
+use Rattle.meta_reader.proofs.rules.signs.take_signs.Goals as goal
 
 pub loop-tree-init : goal.loop-tree-init
 loop-tree-init c = rw c.new-signs.ensures.items (term_start c.requires.shape)

@@ -1,14 +1,14 @@
 use Rattle.std.proofs.Common.{refl, ◌∙◌}
 use Rattle.meta_reader.proofs.Levels.{term_piece, term_front, stand_alternative, alternative_read, at_next_term, next_work}
-use Rattle.meta_reader.proofs.rules.reading.behind_term.Goals as goal
+use Rattle.meta_reader.proofs.rules.reading.finish_term.Goals as goal
 
 pub together-requires : goal.together-requires
 together-requires c =
     let h = c.requires.1 in
     term_piece c.args.beside.sequence c.args.node h.stands.begins (stand_alternative h.stands.choice) h.reads.1
 
-pub behind_alternative-requires : goal.behind_alternative-requires
-behind_alternative-requires c =
+pub finish_alternative-requires : goal.finish_alternative-requires
+finish_alternative-requires c =
     let h = c.requires.1 in
     (c.requires.0, alternative_read c.in_ok-sequence.sequence h c.in_ok-sequence.ensures (c.in-None.ensures c.args.text.now h.stands.others))
 
@@ -21,4 +21,4 @@ returns-in-Some-clause-work c = next_work (c.in-Some.ensures c.args.text.now c.r
 
 pub returns-in-None-clause-goes_on : goal.returns-in-None-clause-goes_on
 returns-in-None-clause-goes_on c = λ us h.
-    c.behind_alternative.ensures.goes_on us (alternative_read c.in_ok-sequence.sequence h c.in_ok-sequence.ensures (c.in-None.ensures c.args.text.now h.stands.others))
+    c.finish_alternative.ensures.goes_on us (alternative_read c.in_ok-sequence.sequence h c.in_ok-sequence.ensures (c.in-None.ensures c.args.text.now h.stands.others))

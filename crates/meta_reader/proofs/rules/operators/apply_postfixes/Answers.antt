@@ -7,7 +7,7 @@ use Rattle.meta_spanned.specs.Spanned.{Span}
 use Rattle.meta_reader.proofs.FlawsInOrder.{first_in, or_skip}
 use Rattle.meta_reader.proofs.Nodes.{piece_round, before_next, postfix_in, postfixed_more}
 use Rattle.meta_reader.proofs.Operators.{postfixes_tree, quiet_postfix}
-use Rattle.meta_reader.proofs.rules.operators.postfixed.Goals as goal
+use Rattle.meta_reader.proofs.rules.operators.apply_postfixes.Goals as goal
 
 pub span_at-span-requires : goal.span_at-span-requires
 span_at-span-requires c = rw c.start.ensures (piece_round c.args.text.now c.loop-operator.node (rw c.in-Some.ensures at c.loop-operator.invariant.place))

@@ -3,7 +3,7 @@ use Rattle.std.proofs.lemmas.Result.{err_from_is_err_and}
 use Rattle.meta_reader.proofs.FlawsInOrder.{first_in}
 use Rattle.meta_reader.proofs.Operators.{two_trees, first_of_two}
 use Rattle.meta_reader.proofs.TreesStandInText.{first_piece, stand_behind}
-use Rattle.meta_reader.proofs.rules.operators.between.Goals as goal
+use Rattle.meta_reader.proofs.rules.operators.least_and_most.Goals as goal
 
 pub number-requires : goal.number-requires
 number-requires c =
