@@ -1,4 +1,4 @@
--- Numbers that fall along left calls, and numbers that do not rise along them.
+-- Numbers of nodes that fall along left calls, and numbers that do not rise along them.
 use Rattle.std.specs.Prelude.{◌≡◌, ℕ, ◌+◌, ◌<◌, List, Some, true, ⊤, slice_get, unwrap_or}
 use Rattle.meta_fixpoint.specs.Least.{is_set_at}
 use Rattle.meta_analysis.specs.declared.kind_table.Kind.{Kind}
@@ -12,7 +12,7 @@ rank_at order i = unwrap_or (slice_get order i) 0
 abbrev pub IsBelowRoot : Facts → List ℕ → ℕ → ℕ → Type 0
 IsBelowRoot facts order r b = (j : ℕ) → slice_get facts.table.roots.items r ≡ Some j → rank_at order j < b
 
--- the nodes to which the left calls of a node lead at once have numbers below b
+-- the nodes to which the left calls of a node lead directly have numbers below b
 abbrev pub Falls : Facts → List ℕ → ℕ → Kind → Type 0
 Falls facts order b is.Taking = ⊤
 Falls facts order b is.Still = ⊤

@@ -1,4 +1,4 @@
--- The search for left recursion: what is still to be walked over, and what is known of what was.
+-- Invariants of the search for left recursion: its worklist, and the rules that it has entered.
 use Rattle.std.specs.Prelude.{◌≡◌, ◌⊎◌, ℕ, suc, ◌+◌, if◌then◌else◌, List, [], ◌∷◌, ◌++◌, Option, Some, None, Bool, true, false, ⊤, length, slice_get}
 use Rattle.std.specs.List.{Contains}
 use Rattle.meta_base.specs.Language.Text.{Text}
@@ -28,7 +28,7 @@ abbrev pub rest : List ℕ → List ℕ
 rest [] = []
 rest (k ∷ path) = path
 
--- what is to be done once the last rule of the path is left
+-- the tasks once the last rule of the path is left
 abbrev pub after : List Task → List Task
 after [] = []
 after (Leave ∷ todo) = todo
@@ -40,7 +40,7 @@ called_in (Some (is.Call k)) = Some k
 called_in (Some (is.EndCall k)) = Some k
 called_in _ = None
 
--- what is to be walked over inside a node, what comes first in the text last
+-- the tasks inside a node; the first in the text is the last in the list
 abbrev pub inside_of : List Bool → Option Kind → List Task
 inside_of passing (Some (is.Ahead j)) = Visit j ∷ []
 inside_of passing (Some (is.NotAhead j)) = Visit j ∷ []
@@ -57,13 +57,13 @@ abbrev pub size_at : Option Spanned → ℕ
 size_at None = 0
 size_at (Some x) = size x
 
--- how much there is to do: each node is walked over once, and each rule left once
+-- a bound of the steps to do: every node is walked over once, and every rule left once
 abbrev pub cost : List Spanned → List Task → ℕ
 cost nodes [] = 0
 cost nodes (Leave ∷ tasks) = suc (cost nodes tasks)
 cost nodes (Visit i ∷ tasks) = size_at (slice_get nodes i) + cost nodes tasks
 
--- and how much in the rules that were not entered
+-- a bound of the steps in the rules that were not entered
 abbrev pub unentered : List Bool → List SpannedRule → ℕ
 unentered [] rules = 0
 unentered (b ∷ entered) [] = 0
@@ -74,7 +74,7 @@ module _ (rules : List ParserRule) (roots : List ℕ) (start : ℕ) where
   abbrev pub views : List SpannedRule
   views = rule_views rules
 
-  -- the walk over a part of the body of v comes to a call of the rule at this place
+  -- the walk over a part of the body of v comes to a call of the rule at this index
   abbrev pub Calls : Text → Spanned → ℕ → Type 0
   Calls v x k = (n : Text) × Walked (said views) v (without_spans x) n × Means views n k
 
@@ -82,17 +82,17 @@ module _ (rules : List ParserRule) (roots : List ℕ) (start : ℕ) where
   name_of None = []
   name_of (Some r) = r.name
 
-  -- the name of the last rule of a path, which is its first element here
+  -- the name of the last rule of a path, which is the first element here
   abbrev pub last_name : List ℕ → Text
   last_name [] = []
   last_name (k ∷ path) = name_of (slice_get views k)
 
-  -- what the walk over the node of a number comes to
+  -- the result of the walk over the node of a number
   abbrev pub Comes : List ℕ → ℕ → Option Closed → Type 0
   Comes path i o = (x : Spanned) → slice_get (all_nodes rules) i ≡ Some x
       → Walks views start (ordered path) (last_name path) x o
 
-  -- what all that is to be done comes to first
+  -- the first result of all tasks
   abbrev pub Goes : List ℕ → List Task → Option Closed → Type 0
   Goes path [] o = o ≡ None
   Goes path (Leave ∷ todo) o = Goes (rest path) todo o
@@ -100,14 +100,14 @@ module _ (rules : List ParserRule) (roots : List ℕ) (start : ℕ) where
   Goes path (Visit i ∷ todo) (Some z) =
       Comes path i (Some z) ⊎ (Comes path i None × Goes path todo (Some z))
 
-  -- a call that is still to be come to in the body of v, the last rule of the path
+  -- a call in the body of v, the last rule of the path, to which the walk has not come yet
   abbrev pub Owes : Text → List Task → ℕ → Type 0
   Owes v [] k = ⊥
   Owes v (Leave ∷ todo) k = ⊥
   Owes v (Visit i ∷ todo) k =
       ((x : Spanned) × (slice_get (all_nodes rules) i ≡ Some x) × Calls v x k) ⊎ Owes v todo k
 
-  -- each node that is to be walked over is one of the body of the last rule of its path
+  -- every node in the tasks is one of the body of the last rule of its path
   abbrev pub ArePlaced : List ℕ → List Task → Type 0
   ArePlaced path [] = path ≡ []
   ArePlaced path (Leave ∷ todo) = ArePlaced (rest path) todo
@@ -119,7 +119,7 @@ module _ (rules : List ParserRule) (roots : List ℕ) (start : ℕ) where
   abbrev pub IsKnown : List Bool → ℕ → Type 0
   IsKnown entered k = (k ≡ start → ⊥) × (is_set_at entered k ≡ true)
 
-  -- a call in the body of a rule of the path is known, or still to be come to
+  -- a call in the body of a rule of the path is known, or the walk will come to it
   abbrev pub AreCovered : List Bool → List ℕ → List Task → Type 0
   AreCovered entered [] todo = ⊤
   AreCovered entered (k ∷ path) todo = ((r : SpannedRule) (m : ℕ) → slice_get views k ≡ Some r
@@ -130,7 +130,7 @@ module _ (rules : List ParserRule) (roots : List ℕ) (start : ℕ) where
   AreSettled entered path = (k : ℕ) → is_set_at entered k ≡ true → (Contains (ordered path) k → ⊥)
       → (r : SpannedRule) (m : ℕ) → slice_get views k ≡ Some r → Calls r.name r.body m → IsKnown entered m
 
-  -- what is sought: what the walk over the body of the start comes to
+  -- the result of the search: that of the walk over the body of the start
   abbrev pub IsSought : Option Closed → Type 0
   IsSought o = (r : SpannedRule) → slice_get views start ≡ Some r
       → Walks views start (start ∷ []) r.name r.body o
@@ -153,7 +153,7 @@ module _ (rules : List ParserRule) (roots : List ℕ) (start : ℕ) where
     pub is_trail : trail ≡ ordered path
     pub state : IsSearch entered todo path
 
-  -- a node closes the trail: its walk is what is sought
+  -- a node closes the trail: its walk is the result of the search
   pub record IsClosing (node : ℕ) (trail : List ℕ) : Type 0 where
     pub call : Spanned
     pub here : slice_get (all_nodes rules) node ≡ Some call
@@ -163,7 +163,7 @@ module _ (rules : List ParserRule) (roots : List ℕ) (start : ℕ) where
   abbrev pub NeverComesBack : Type 0
   NeverComesBack = (n : Text) → Means views n start → WalkLeads (said views) n n → ⊥
 
--- a walk that is to be begun
+-- a walk that has not begun
 pub record IsIdle (rules : List ParserRule) (walk : Walk) : Type 0 where
   pub alike : length walk.entered.all.items ≡ length rules
   pub entered : NoneSet walk.entered.all.items

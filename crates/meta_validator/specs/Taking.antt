@@ -1,4 +1,4 @@
--- What may take nothing is not repeated, and not skipped.
+-- Repetitions and skipped rules take something.
 use Rattle.std.specs.Prelude.{◌≡◌, ℕ, List, Some, true, false, ⊤, slice_get}
 use Rattle.meta_ast.specs.Ast.{text_of}
 use Rattle.meta_spanned.specs.declared.node.ParserRule.{ParserRule}

@@ -1,7 +1,7 @@
-//! Whether some rule calls itself before anything is taken, in one pass: the nodes are ordered by a search
-//! in depth, and the order is then looked over node by node. Only what is looked over counts: where each
-//! left call leads down, none comes back. Where one does come back, levels in place of the order tell which
-//! rules none comes back to: no left call leads to a higher level, and those of such a rule lead to lower
+//! Reports whether some rule is left-recursive, by a topological order of the left calls. A depth-first
+//! search numbers the nodes, and a linear pass checks the numbers as a certificate: where every left call
+//! leads to a lower number, no cycle exists. Where a cycle exists, levels in place of the order decide
+//! which rules are on none: no left call leads to a higher level, and those of such a rule lead to lower
 //! ones.
 ghost use Rattle.std.specs.Prelude.{◌≡◌, ◌<◌, ◌≤◌, ◌+◌, ◌*◌, IfOk, OnOk, length, true};
 ghost use Rattle.meta_base.specs.Language.Text.{Text};
@@ -16,7 +16,7 @@ use meta_fixpoint::is_set;
 use meta_spanned::ParserRule;
 use std::alloc::{AllocError, Global};
 
-/// What is to be done with a node.
+/// A step of the depth-first search.
 #[derive(Clone, Copy)]
 pub enum Step {
     Enter(usize),
@@ -32,7 +32,7 @@ fn enter_root(facts: &Facts, steps: &mut Vec<Step>, rule: usize) -> Result<(), A
     Ok(())
 }
 
-/// Puts the nodes to which a node's left calls lead at once on the list of steps.
+/// Pushes the nodes to which a node's left calls lead directly on the worklist.
 fn enter_operands(facts: &Facts, steps: &mut Vec<Step>, kind: Kind) -> Result<(), AllocError>
     ensures { OnOk result (steps.new.len ≤ steps.old.len + 2) }
 {
@@ -63,7 +63,7 @@ fn enter_operands(facts: &Facts, steps: &mut Vec<Step>, kind: Kind) -> Result<()
     }
 }
 
-/// Enters a node that was not seen.
+/// Enters a node that was not seen yet.
 fn enter(
     facts: &Facts,
     seen: &mut Vec<bool>,
@@ -85,10 +85,10 @@ fn enter(
     Ok(())
 }
 
-/// A search in depth, under way.
+/// The state of a depth-first search.
 #[derive(Drop)]
 struct Search {
-    /// A number for each node that was left: one that was left later has a greater one.
+    /// The number of a node, greater for a node that was left later.
     order: Vec<usize>,
     seen: Vec<bool>,
     steps: Vec<Step>,
@@ -119,7 +119,7 @@ fn search_from(facts: &Facts, search: &mut Search, node: usize) -> Result<(), Al
     Ok(())
 }
 
-/// A number for each node: a node that was left later has a greater one.
+/// Numbers all nodes in the order in which a depth-first search leaves them.
 fn ordered(alloc: Global, facts: &Facts) -> Result<Vec<usize>, AllocError> {
     let mut search = Search {
         order: vec![in alloc; 0; facts.table.kinds.len()]?,
@@ -133,7 +133,7 @@ fn ordered(alloc: Global, facts: &Facts) -> Result<Vec<usize>, AllocError> {
     Ok(search.order)
 }
 
-/// The number of a node.
+/// Returns the number of a node.
 pub(crate) fn number_at(order: &[usize], node: usize) -> usize
     ensures { result ≡ rank_at order.now node }
 {
@@ -158,7 +158,7 @@ fn is_root_below(facts: &Facts, order: &[usize], rule: usize, bound: usize) -> b
     }
 }
 
-/// Whether the nodes to which the left calls of such a node lead at once have numbers below a bound.
+/// Reports whether the left calls of such a node lead directly to nodes with numbers below a bound.
 fn falls(facts: &Facts, order: &[usize], bound: usize, kind: Kind) -> bool
     ensures { result ≡ true → Falls facts.now order.now bound kind }
 {
@@ -180,7 +180,7 @@ fn falls(facts: &Facts, order: &[usize], bound: usize, kind: Kind) -> bool
     }
 }
 
-/// Whether every left call leads down.
+/// Reports whether every left call leads to a lower number.
 fn all_fall(facts: &Facts, order: &[usize]) -> bool
     ensures { result ≡ true → AllFall facts.now order.now }
 {
@@ -193,7 +193,7 @@ fn all_fall(facts: &Facts, order: &[usize]) -> bool
     true
 }
 
-/// Whether the nodes to which a node's left calls lead at once have no higher levels.
+/// Reports whether the left calls of a node lead directly to nodes with no higher levels.
 fn stays(facts: &Facts, levels: &[usize], node: usize, kind: Kind) -> bool
     ensures { result ≡ true → Falls facts.now levels.now (rank_at levels.now node + 1) kind }
 {
@@ -203,7 +203,7 @@ fn stays(facts: &Facts, levels: &[usize], node: usize, kind: Kind) -> bool
     }
 }
 
-/// Whether no left call leads to a higher level.
+/// Reports whether no left call leads to a higher level.
 pub(crate) fn none_rises(facts: &Facts, levels: &[usize]) -> bool
     ensures { result ≡ true → NoneRises facts.now levels.now }
 {
@@ -215,7 +215,8 @@ pub(crate) fn none_rises(facts: &Facts, levels: &[usize]) -> bool
     true
 }
 
-/// Whether the left calls of the body of a rule lead to lower levels, so that none comes back to it.
+/// Reports whether the left calls of the body of a rule lead to lower levels, so that none returns to the
+/// rule.
 pub(crate) fn falls_from(facts: &Facts, levels: &[usize], rule: usize) -> bool
     ensures { result ≡ true → FallsFrom facts.now levels.now rule }
 {
@@ -228,7 +229,7 @@ pub(crate) fn falls_from(facts: &Facts, levels: &[usize], rule: usize) -> bool
     }
 }
 
-/// Whether no rule calls itself before anything is taken; a yes is certain.
+/// Reports whether no rule is left-recursive; yes is definite.
 pub(crate) fn has_no_cycle<'i>(
     alloc: Global,
     rules: &[ParserRule<'i>],

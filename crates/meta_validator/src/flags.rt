@@ -1,4 +1,4 @@
-//! Flags that are set one by one, and unset together in the time that it takes to unset those that were set.
+//! A sparse set of flags: unsetting all of them takes time by how many were set.
 ghost use Rattle.std.specs.Prelude.{◌≡◌, ◌<◌, IfOk, OnOk, length, slice_set, true};
 ghost use Rattle.meta_fixpoint.specs.Least.{is_set_at};
 ghost use Rattle.meta_validator.specs.Flags.{AreNoted, NoneSet};
@@ -28,7 +28,7 @@ fn unset(all: &mut [bool], noted: &[usize])
 }
 
 impl Flags {
-    /// So many flags, of which none is set.
+    /// Makes as many flags, none of which is set.
     pub(crate) fn new(alloc: Global, count: usize) -> Result<Flags, AllocError>
         ensures long { IfOk result (λ flags. length flags.all.items ≡ count) }
         ensures none { IfOk result (λ flags. NoneSet flags.all.items) }
@@ -40,7 +40,7 @@ impl Flags {
         })
     }
 
-    /// Whether a flag is set.
+    /// Reports whether a flag is set.
     pub(crate) fn is_set(&self, place: usize) -> bool
         ensures { result ≡ is_set_at self.now.all.items place }
     {

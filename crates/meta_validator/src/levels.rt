@@ -1,6 +1,6 @@
-//! A level for each node: none has a lower one than those on which it depends whether the node may take
-//! nothing, or than those to which its left calls lead. Nodes that lead to one another have one level. The
-//! levels are found by a search in depth and then looked over node by node; only what is looked over counts.
+//! Levels of nodes: the strongly connected components of a relation between nodes, by Tarjan's algorithm.
+//! A node's level is at least those of the nodes to which it leads, and nodes that lead to each other
+//! share one. A linear pass checks the levels as a certificate.
 ghost use Rattle.std.specs.Prelude.{◌≡◌, ◌≤◌, ◌+◌, ◌*◌, IfOk, OnOk, length, true};
 ghost use Rattle.meta_fixpoint.specs.Least.{unset};
 ghost use Rattle.meta_validator.specs.Cycles.{NoneRises, rank_at};
@@ -11,8 +11,8 @@ use meta_analysis::{Facts, Kind, listened_to};
 use meta_fixpoint::is_set;
 use std::alloc::{AllocError, Global};
 
-/// The nodes on which it depends whether a node may take nothing, two at most. A call of a rule that takes
-/// something leads nowhere.
+/// Returns the nodes that decide whether a node may take nothing, two at most. A call of a rule that
+/// takes something leads nowhere.
 fn rested_on(facts: &Facts, kind: Kind) -> (Option<usize>, Option<usize>) {
     match kind {
         Kind::EndCall(_) => (None, None),
@@ -27,7 +27,7 @@ fn rested_on(facts: &Facts, kind: Kind) -> (Option<usize>, Option<usize>) {
     }
 }
 
-/// The nodes to which the left calls of a node lead at once, two at most.
+/// Returns the nodes to which the left calls of a node lead directly, two at most.
 fn called_on_the_left(facts: &Facts, kind: Kind) -> (Option<usize>, Option<usize>) {
     match kind {
         Kind::Seq(first, _) if !is_set(facts.nullable.as_slice(), first) => (Some(first), None),
@@ -35,17 +35,17 @@ fn called_on_the_left(facts: &Facts, kind: Kind) -> (Option<usize>, Option<usize
     }
 }
 
-/// What leads from a node to others.
+/// The relation that leads from a node to others.
 #[derive(Clone, Copy)]
 pub enum Ways {
-    /// It depends on these whether the node may take nothing.
+    /// The nodes that decide whether the node may take nothing.
     Rests,
-    /// Its left calls lead to these.
+    /// The nodes of the left calls.
     LeftCalls,
 }
 
 impl Ways {
-    /// The nodes to which a node leads at once, two at most.
+    /// Returns the nodes to which a node leads directly, two at most.
     fn from(self, facts: &Facts, kind: Kind) -> (Option<usize>, Option<usize>) {
         match self {
             Ways::Rests => rested_on(facts, kind),
@@ -54,22 +54,22 @@ impl Ways {
     }
 }
 
-/// A search in depth, under way.
+/// The state of Tarjan's algorithm.
 #[derive(Drop)]
 struct Search {
-    /// A number for each node that was entered: one that was entered later has a greater one.
+    /// The number of a node, greater for a node that was entered later.
     numbers: Vec<usize>,
-    /// For each node the lowest number of a node that is still open and was reached from it.
+    /// The low link of a node: the lowest number of an open node that was reached from it.
     lowest: Vec<usize>,
-    /// A level for each node that has one, else 0.
+    /// The level of a node, 0 where it has none yet.
     levels: Vec<usize>,
     seen: Vec<bool>,
     steps: Vec<Step>,
     /// The nodes that were entered and have no level yet, in the order of their numbers.
     open: Vec<usize>,
-    /// The number of the node that is entered next.
+    /// The number of the last node that was entered.
     clock: usize,
-    /// The level that was given last.
+    /// The last level that was given.
     level: usize,
 }
 
@@ -88,7 +88,7 @@ fn enter_some(steps: &mut Vec<Step>, node: Option<usize>) -> Result<(), AllocErr
     Ok(())
 }
 
-/// Enters a node that was not seen. Whether it was not.
+/// Enters a node that was not seen yet. Answers whether it entered one.
 fn enter(
     facts: &Facts,
     ways: Ways,
@@ -113,7 +113,7 @@ fn enter(
     Ok(true)
 }
 
-/// Gives a node that was entered its number.
+/// Numbers a node that was entered.
 fn open(search: &mut Search, node: usize) -> Result<(), AllocError>
     ensures seen { OnOk result (search.new.seen ≡ search.old.seen) }
     ensures steps { OnOk result (search.new.steps ≡ search.old.steps) }
@@ -125,7 +125,7 @@ fn open(search: &mut Search, node: usize) -> Result<(), AllocError>
     Ok(())
 }
 
-/// The lower one of a number and the lowest that was reached from a node that is open.
+/// Returns the minimum of a number and the low link of a node, if that is open.
 fn lower_of(search: &Search, low: usize, node: Option<usize>) -> usize {
     match node {
         Some(node) => {
@@ -140,7 +140,7 @@ fn lower_of(search: &Search, low: usize, node: Option<usize>) -> usize {
     }
 }
 
-/// Gives a level to a node and to all that were opened after it.
+/// Closes a component: gives a level to a node and to all that were opened after it.
 fn close(open: &mut Vec<usize>, levels: &mut Vec<usize>, level: usize, node: usize) {
     while let Some(last) = open.pop() {
         put_number(levels, last, level);
@@ -150,7 +150,7 @@ fn close(open: &mut Vec<usize>, levels: &mut Vec<usize>, level: usize, node: usi
     }
 }
 
-/// Leaves a node. It is closed where no node that was opened before was reached from it.
+/// Leaves a node, and closes its component where no node that was opened before was reached from it.
 fn leave(facts: &Facts, ways: Ways, search: &mut Search, node: usize)
     ensures seen { search.new.seen ≡ search.old.seen }
     ensures steps { search.new.steps ≡ search.old.steps }
@@ -190,7 +190,7 @@ fn search_from(
     Ok(())
 }
 
-/// A level for each node, as the search finds it.
+/// Computes a level for each node. Nothing is promised of them.
 fn found_levels(alloc: Global, facts: &Facts, ways: Ways) -> Result<Vec<usize>, AllocError> {
     let nodes = facts.table.kinds.len();
     let mut search = Search {
@@ -224,7 +224,7 @@ fn is_root_within(facts: &Facts, levels: &[usize], rule: usize, high: usize) -> 
     }
 }
 
-/// Whether the nodes on which it depends whether a node may take nothing have no higher level.
+/// Reports whether the nodes that decide whether a node may take nothing have no higher level.
 fn rests(facts: &Facts, levels: &[usize], node: usize, kind: Kind) -> bool
     ensures { result ≡ true → Rests facts.now levels.now node kind }
 {
@@ -238,7 +238,7 @@ fn rests(facts: &Facts, levels: &[usize], node: usize, kind: Kind) -> bool
     }
 }
 
-/// Whether that is so of every node.
+/// Reports whether all nodes are so.
 fn all_rest(facts: &Facts, levels: &[usize]) -> bool
     ensures { result ≡ true → AllRest facts.now levels.now }
 {
@@ -250,7 +250,8 @@ fn all_rest(facts: &Facts, levels: &[usize]) -> bool
     true
 }
 
-/// A level for each node by what it depends on; no level at all where those that were found are not right.
+/// Computes levels by the nodes that decide whether a node may take nothing. Where the check fails, there
+/// are none.
 pub(crate) fn levels_of(alloc: Global, facts: &Facts) -> Result<Vec<usize>, AllocError>
     ensures { IfOk result (λ levels. AllRest facts.now levels.items) }
 {
@@ -261,7 +262,7 @@ pub(crate) fn levels_of(alloc: Global, facts: &Facts) -> Result<Vec<usize>, Allo
     Ok(Vec::new(alloc))
 }
 
-/// A level for each node by its left calls; no level at all where those that were found are not right.
+/// Computes levels by left calls. Where the check fails, there are none.
 pub(crate) fn left_levels(alloc: Global, facts: &Facts) -> Result<Vec<usize>, AllocError>
     ensures { IfOk result (λ levels. NoneRises facts.now levels.items) }
 {

@@ -1,4 +1,4 @@
-//! All that is found in rules, as errors.
+//! All findings in rules, as errors.
 ghost use Rattle.std.specs.Prelude.{◌≡◌, ◌++◌, [], All, IfOk, IfErr, OnOk, alloc_error, map};
 ghost use Rattle.meta_base.specs.Pieces.Saying.{SaysAt, Tell};
 ghost use Rattle.meta_base.specs.Language.WellFormed.{IsWellFormed};
@@ -19,7 +19,7 @@ use meta_base::runtime::{Error, ErrorVariant, Fault, Span, Survey};
 use meta_spanned::ParserRule;
 use std::alloc::{AllocError, Global};
 
-/// What is found of repetitions that are known to be endless.
+/// Makes the findings of repetitions that are known to be endless.
 fn endless_findings<'i>(alloc: Global, endless: &[Span<'i>]) -> Result<Vec<Finding<'i>>, AllocError>
     ensures { IfOk result (λ found.
         findings_of found.items ≡ map endless_at (map piece_of endless.now)) }
@@ -36,8 +36,8 @@ fn endless_findings<'i>(alloc: Global, endless: &[Span<'i>]) -> Result<Vec<Findi
     Ok(found)
 }
 
-/// All that is found in rules: repetitions, then those that are known to be endless, then choices, then rules
-/// that are skipped, then left recursion, then tags.
+/// Collects all findings in rules: repetitions, then those that are known to be endless, then choices,
+/// then skipped rules, then left recursion, then tags.
 fn all_findings<'i>(
     alloc: Global,
     rules: &[ParserRule<'i>],
@@ -66,7 +66,7 @@ fn all_findings<'i>(
     Ok(found)
 }
 
-/// Findings, and others behind them.
+/// Appends other findings.
 fn with_others<'i>(
     found: Vec<Finding<'i>>,
     others: Vec<Finding<'i>>,
@@ -80,7 +80,7 @@ fn with_others<'i>(
     Ok(all)
 }
 
-/// Puts findings in the order of their places.
+/// Sorts findings by their spans. The sort is stable.
 fn sort_by_span<'i>(found: &mut Vec<Finding<'i>>) -> Result<(), AllocError>
     ensures { OnOk result (IsSortedBySpan (findings_of found.old.items) (findings_of found.new.items)) }
 {
@@ -88,7 +88,7 @@ fn sort_by_span<'i>(found: &mut Vec<Finding<'i>>) -> Result<(), AllocError>
     Ok(())
 }
 
-/// All that is found in rules, by place.
+/// Collects all findings in rules, sorted by span.
 pub(crate) fn sorted_findings<'i>(
     alloc: Global,
     rules: &[ParserRule<'i>],
@@ -106,7 +106,7 @@ pub(crate) fn sorted_findings<'i>(
     Ok(found)
 }
 
-/// The error that tells of a finding, made by the survey where the finding is in its text.
+/// Makes the error that reports a finding; the survey makes it where the finding is in its text.
 fn error_of<'i>(
     alloc: Global,
     survey: &mut Survey<'_>,
@@ -122,7 +122,7 @@ fn error_of<'i>(
     Ok(error)
 }
 
-/// The text of the first of these, which is that of all of them where they are found in one text.
+/// Returns the text of the first finding, which is that of all of them where they are in one text.
 fn first_text<'i>(found: &[Finding<'i>]) -> &'i str {
     match found.first() {
         Some(finding) => finding.span.get_input(),
@@ -130,7 +130,7 @@ fn first_text<'i>(found: &[Finding<'i>]) -> &'i str {
     }
 }
 
-/// The errors that tell of findings, in their order.
+/// Makes the errors that report findings, in their order.
 pub(crate) fn errors_of<'i>(alloc: Global, found: &[Finding<'i>]) -> Result<Vec<Error<Rule>>, Fault>
     ensures told { IfOk result (λ errors. Tell (findings_of found.now) errors.items) }
     ensures memory { IfErr result (λ fault. fault ≡ Fault.Memory alloc_error) }
@@ -144,7 +144,7 @@ pub(crate) fn errors_of<'i>(alloc: Global, found: &[Finding<'i>]) -> Result<Vec<
     Ok(errors)
 }
 
-/// The error that tells of a finding in the text that was surveyed.
+/// Makes the error that reports a finding in the surveyed text.
 fn error_in<'i>(
     alloc: Global,
     survey: &mut Survey<'_>,
@@ -161,7 +161,7 @@ fn error_in<'i>(
     Error::new_in_survey(alloc, variant, survey, finding.span)
 }
 
-/// The errors of `errors_of` where all findings are in one text, which is walked over once.
+/// Makes the errors of `errors_of` where all findings are in one text, which the survey walks over once.
 pub(crate) fn errors_in<'i>(
     alloc: Global,
     text: &str,

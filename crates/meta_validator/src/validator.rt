@@ -1,4 +1,4 @@
-//! What may take nothing, and what cannot fail.
+//! The validator's public calls: nullability, failure, and the errors in rules.
 ghost use Rattle.std.specs.Prelude.{◌≡◌, ◌↔◌, [], IsTrue, IfOk, IfErr, alloc_error, map};
 ghost use Rattle.meta_base.specs.Language.WellFormed.{IsNullable, CannotFail, IsWellFormed};
 ghost use Rattle.meta_spanned.specs.Erasure.{without_spans, rules_without_spans};
@@ -18,10 +18,10 @@ use meta_base::runtime::{Error, Fault, Span};
 use meta_spanned::{ParserExpr, ParserRule};
 use std::alloc::Global;
 
-/// Whether an expression may succeed without taking anything, where its names mean these rules (the last of
-/// a name): empty strings, `SOI`, `EOI`, predicates, `e?`, `e*`, `e{,n}` and what is repeated from 0 times
-/// on may; a sequence where both sides may, a choice where one side may, a call where the rule's body may,
-/// and all else where its operand may. The only fault is a want of memory.
+/// Reports whether an expression may succeed without taking anything, where its names mean these rules
+/// (the last of a name): empty strings, `SOI`, `EOI`, predicates, `e?`, `e*`, `e{,n}` and repetitions
+/// from 0 times on may; a sequence where both sides may, a choice where one side may, a call where the
+/// rule's body may, and all else where its operand may. The only fault is an allocation failure.
 pub fn is_non_progressing<'i>(
     alloc: Global,
     expr: &ParserExpr<'i>,
@@ -34,10 +34,10 @@ pub fn is_non_progressing<'i>(
     Ok(answer_for(alloc, expr, rules.as_slice(), Question::TakesNothing)?)
 }
 
-/// Whether an expression cannot fail, where its names mean these rules (the last of a name): empty strings,
-/// `e?`, `e*`, `e{,n}` and what is repeated from 0 times on cannot; nor a sequence where both sides can't,
-/// a choice where one side can't, a call where the rule's body can't, and all else but `!e` where its
-/// operand can't. The only fault is a want of memory.
+/// Reports whether an expression cannot fail, where its names mean these rules (the last of a name):
+/// empty strings, `e?`, `e*`, `e{,n}` and repetitions from 0 times on cannot; nor a sequence where both
+/// sides can't, a choice where one side can't, a call where the rule's body can't, and all else but `!e`
+/// where its operand can't. The only fault is an allocation failure.
 pub fn is_non_failing<'i>(
     alloc: Global,
     expr: &ParserExpr<'i>,
@@ -50,7 +50,7 @@ pub fn is_non_failing<'i>(
     Ok(answer_for(alloc, expr, rules.as_slice(), Question::CannotFail)?)
 }
 
-/// All that is found in rules, by place. The only fault is a want of memory.
+/// Collects all findings in rules, sorted by span. The only fault is an allocation failure.
 fn found_in<'i>(
     alloc: Global,
     rules: &[ParserRule<'i>],
@@ -67,14 +67,14 @@ fn found_in<'i>(
     Ok(sorted_findings(alloc, rules, groundwork, endless)?)
 }
 
-/// What is wrong with rules, in the order of their places (at one place repetitions, then those of `endless`,
-/// then choices, then skipped rules, then left recursion, then tags): a repetition `e*`, `e+` or `e{n,}`
-/// whose body cannot fail or may take nothing; an alternative with others behind it that cannot fail; a rule
-/// named `WHITESPACE` or `COMMENT` that cannot fail or may take nothing; left recursion, at most one for a
-/// name: the trail of rules by which the walk over the body of its last rule comes back, at the first call of
-/// the rule to which it comes; a tag on a Silent rule, or on a builtin that is no rule's name. Each error
-/// stands where the fault does. `endless` are the places of repetitions
-/// that never end for a reason that is not looked for here. The only fault is a want of memory.
+/// Returns the errors in rules, sorted by span (at one span repetitions, then those of `endless`, then
+/// choices, then skipped rules, then left recursion, then tags): a repetition `e*`, `e+` or `e{n,}` whose
+/// body cannot fail or may take nothing; an alternative with others after it that cannot fail; a rule
+/// named `WHITESPACE` or `COMMENT` that cannot fail or may take nothing; left recursion, at most one for
+/// a name: the trail of rules by which the walk over the body of the name's last rule comes back, at the
+/// first call of the rule to which it comes; a tag on a Silent rule, or on a builtin that is no rule's
+/// name. An error has the span of its fault. `endless` are the spans of repetitions that never end for a
+/// reason that this function does not look for. The only fault is an allocation failure.
 pub fn validate_rules<'i>(
     alloc: Global,
     rules: &Vec<ParserRule<'i>>,
@@ -91,8 +91,8 @@ pub fn validate_rules<'i>(
     validate_by(alloc, rules, &groundwork, endless)
 }
 
-/// What is wrong with rules, as `validate_rules` tells it, by the groundwork that was laid for them. The only
-/// fault is a want of memory.
+/// Returns the errors of `validate_rules`, given the shared analysis of the rules. The only fault is an
+/// allocation failure.
 pub fn validate_by<'i>(
     alloc: Global,
     rules: &[ParserRule<'i>],
@@ -109,8 +109,8 @@ pub fn validate_by<'i>(
     errors_of(alloc, found.as_slice())
 }
 
-/// What is wrong with rules, as `validate_rules` tells it, where all their spans, and those of `endless`, are
-/// of one text: that is walked over once for the places of all errors. The only fault is a want of memory.
+/// Returns the errors of `validate_rules` where all spans of the rules, and those of `endless`, are of
+/// one text: one walk over it finds the locations of all errors. The only fault is an allocation failure.
 pub fn validate_rules_in<'i>(
     alloc: Global,
     text: &str,
@@ -130,8 +130,8 @@ pub fn validate_rules_in<'i>(
     validate_by_in(alloc, text, rules, &groundwork, endless)
 }
 
-/// What is wrong with rules, as `validate_rules_in` tells it, by the groundwork that was laid for them. The
-/// only fault is a want of memory.
+/// Returns the errors of `validate_rules_in`, given the shared analysis of the rules. The only fault is
+/// an allocation failure.
 pub fn validate_by_in<'i>(
     alloc: Global,
     text: &str,
