@@ -11,7 +11,7 @@ use Rattle.meta_base.specs.Language.WellFormed.{IsNullable, CannotFail, Leads}
 use Rattle.meta_spanned.specs.Erasure.{without_spans, rules_without_spans}
 use Rattle.meta_spanned.specs.Spanned.{Span, span_of, Spanned, One, Two, Unary, Rep, RepOnce, RepMin, Choice, SpannedRule}
 use Rattle.meta_analysis.specs.Nodes.{every_node}
-use Rattle.meta_validator.specs.LeftRecursion.{Closed, Means, Walks, told_trail}
+use Rattle.meta_validator.specs.LeftRecursion.{Closed, Means, Walks, trail_message}
 use Rattle.meta_validator.specs.Tags.{of_tags}
 
 -- a finding: a message about a piece of the text
@@ -90,7 +90,7 @@ module _ (rules : List SpannedRule) where
   pub data OfRecursion : ℕ → List Finding → Type 0 where
     recursive : {k : ℕ} {r : SpannedRule} {closed : Closed} → slice_get rules k ≡ Some r
         → Means rules r.name k → Walks rules k (k ∷ []) r.name r.body (Some closed)
-        → OfRecursion k (found_at closed.call (told_trail rules r closed) ∷ [])
+        → OfRecursion k (found_at closed.call (trail_message rules r closed) ∷ [])
     not_recursive : {k : ℕ} {r : SpannedRule} → slice_get rules k ≡ Some r
         → Means rules r.name k → Walks rules k (k ∷ []) r.name r.body None → OfRecursion k []
     hidden : {k : ℕ} {r : SpannedRule} → slice_get rules k ≡ Some r

@@ -8,5 +8,5 @@ abbrev pub NoneSet : List Bool → Type 0
 NoneSet flags = (k : ℕ) → is_set_at flags k ≡ false
 
 -- no other flags than these are set
-abbrev pub AreNoted : List ℕ → List Bool → Type 0
-AreNoted noted flags = (k : ℕ) → (Contains noted k → ⊥) → is_set_at flags k ≡ false
+abbrev pub AreOnlySet : List ℕ → List Bool → Type 0
+AreOnlySet noted flags = (k : ℕ) → (Contains noted k → ⊥) → is_set_at flags k ≡ false

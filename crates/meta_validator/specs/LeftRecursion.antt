@@ -72,7 +72,7 @@ module _ (rules : List SpannedRule) where
 
   -- the message of a call that closes a trail: the call as it is written, and the names of the trail up
   -- to that of the first rule again
-  abbrev pub told_trail : SpannedRule → Closed → List ℕ
-  told_trail first closed = codes "rule " ++ (written closed.call ++ (codes " is left-recursive ("
+  abbrev pub trail_message : SpannedRule → Closed → List ℕ
+  trail_message first closed = codes "rule " ++ (written closed.call ++ (codes " is left-recursive ("
       ++ (arrows closed.trail ++ (encode_utf8_all first.name
       ++ codes "); pest::pratt_parser might be useful in this case"))))

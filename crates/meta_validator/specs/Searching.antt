@@ -88,24 +88,24 @@ module _ (rules : List ParserRule) (roots : List ℕ) (start : ℕ) where
   last_name (k ∷ path) = name_of (slice_get views k)
 
   -- the result of the walk over the node of a number
-  abbrev pub Comes : List ℕ → ℕ → Option Closed → Type 0
-  Comes path i o = (x : Spanned) → slice_get (all_nodes rules) i ≡ Some x
+  abbrev pub WalkFinds : List ℕ → ℕ → Option Closed → Type 0
+  WalkFinds path i o = (x : Spanned) → slice_get (all_nodes rules) i ≡ Some x
       → Walks views start (ordered path) (last_name path) x o
 
   -- the first result of all tasks
-  abbrev pub Goes : List ℕ → List Task → Option Closed → Type 0
-  Goes path [] o = o ≡ None
-  Goes path (Leave ∷ todo) o = Goes (rest path) todo o
-  Goes path (Visit i ∷ todo) None = Comes path i None × Goes path todo None
-  Goes path (Visit i ∷ todo) (Some z) =
-      Comes path i (Some z) ⊎ (Comes path i None × Goes path todo (Some z))
+  abbrev pub TasksFind : List ℕ → List Task → Option Closed → Type 0
+  TasksFind path [] o = o ≡ None
+  TasksFind path (Leave ∷ todo) o = TasksFind (rest path) todo o
+  TasksFind path (Visit i ∷ todo) None = WalkFinds path i None × TasksFind path todo None
+  TasksFind path (Visit i ∷ todo) (Some z) =
+      WalkFinds path i (Some z) ⊎ (WalkFinds path i None × TasksFind path todo (Some z))
 
   -- a call in the body of v, the last rule of the path, to which the walk has not come yet
-  abbrev pub Owes : Text → List Task → ℕ → Type 0
-  Owes v [] k = ⊥
-  Owes v (Leave ∷ todo) k = ⊥
-  Owes v (Visit i ∷ todo) k =
-      ((x : Spanned) × (slice_get (all_nodes rules) i ≡ Some x) × Calls v x k) ⊎ Owes v todo k
+  abbrev pub AwaitsCall : Text → List Task → ℕ → Type 0
+  AwaitsCall v [] k = ⊥
+  AwaitsCall v (Leave ∷ todo) k = ⊥
+  AwaitsCall v (Visit i ∷ todo) k =
+      ((x : Spanned) × (slice_get (all_nodes rules) i ≡ Some x) × Calls v x k) ⊎ AwaitsCall v todo k
 
   -- every node in the tasks is one of the body of the last rule of its path
   abbrev pub ArePlaced : List ℕ → List Task → Type 0
@@ -123,7 +123,7 @@ module _ (rules : List ParserRule) (roots : List ℕ) (start : ℕ) where
   abbrev pub AreCovered : List Bool → List ℕ → List Task → Type 0
   AreCovered entered [] todo = ⊤
   AreCovered entered (k ∷ path) todo = ((r : SpannedRule) (m : ℕ) → slice_get views k ≡ Some r
-      → Calls r.name r.body m → IsKnown entered m ⊎ Owes r.name todo m) × AreCovered entered path (after todo)
+      → Calls r.name r.body m → IsKnown entered m ⊎ AwaitsCall r.name todo m) × AreCovered entered path (after todo)
 
   -- all calls of a rule that was entered and left are known
   abbrev pub AreSettled : List Bool → List ℕ → Type 0
@@ -131,14 +131,14 @@ module _ (rules : List ParserRule) (roots : List ℕ) (start : ℕ) where
       → (r : SpannedRule) (m : ℕ) → slice_get views k ≡ Some r → Calls r.name r.body m → IsKnown entered m
 
   -- the result of the search: that of the walk over the body of the start
-  abbrev pub IsSought : Option Closed → Type 0
-  IsSought o = (r : SpannedRule) → slice_get views start ≡ Some r
+  abbrev pub IsSearchResult : Option Closed → Type 0
+  IsSearchResult o = (r : SpannedRule) → slice_get views start ≡ Some r
       → Walks views start (start ∷ []) r.name r.body o
 
   pub record IsSearch (entered : List Bool) (todo : List Task) (path : List ℕ) : Type 0 where
     pub alike : length entered ≡ length views
     pub placed : ArePlaced path todo
-    pub answers : (o : Option Closed) → Goes path todo o → IsSought o
+    pub answers : (o : Option Closed) → TasksFind path todo o → IsSearchResult o
     pub covered : AreCovered entered path todo
     pub settled : AreSettled entered path
     pub begun : is_set_at entered start ≡ true
@@ -157,7 +157,7 @@ module _ (rules : List ParserRule) (roots : List ℕ) (start : ℕ) where
   pub record IsClosing (node : ℕ) (trail : List ℕ) : Type 0 where
     pub call : Spanned
     pub here : slice_get (all_nodes rules) node ≡ Some call
-    pub sought : IsSought (Some (record { trail = trail; call = span_of call }))
+    pub sought : IsSearchResult (Some (record { trail = trail; call = span_of call }))
 
   -- no walk from the start comes back to it
   abbrev pub NeverComesBack : Type 0

@@ -18,22 +18,22 @@ use std::alloc::{AllocError, Global};
 
 /// A step of the depth-first search.
 #[derive(Clone, Copy)]
-pub enum Step {
+pub enum SearchStep {
     Enter(usize),
     Leave(usize),
 }
 
-fn enter_root(facts: &Facts, steps: &mut Vec<Step>, rule: usize) -> Result<(), AllocError>
+fn enter_root(facts: &Facts, steps: &mut Vec<SearchStep>, rule: usize) -> Result<(), AllocError>
     ensures { OnOk result (steps.new.len ≤ steps.old.len + 1) }
 {
     if let Some(root) = facts.table.roots.get(rule) {
-        steps.push(Step::Enter(*root))?;
+        steps.push(SearchStep::Enter(*root))?;
     }
     Ok(())
 }
 
 /// Pushes the nodes to which a node's left calls lead directly on the worklist.
-fn enter_operands(facts: &Facts, steps: &mut Vec<Step>, kind: Kind) -> Result<(), AllocError>
+fn enter_operands(facts: &Facts, steps: &mut Vec<SearchStep>, kind: Kind) -> Result<(), AllocError>
     ensures { OnOk result (steps.new.len ≤ steps.old.len + 2) }
 {
     match kind {
@@ -45,19 +45,19 @@ fn enter_operands(facts: &Facts, steps: &mut Vec<Step>, kind: Kind) -> Result<()
         | Kind::Inside(body)
         | Kind::Again(body)
         | Kind::OnceAgain(body) => {
-            steps.push(Step::Enter(body))?;
+            steps.push(SearchStep::Enter(body))?;
             Ok(())
         }
         Kind::Seq(first, second) => {
-            steps.push(Step::Enter(first))?;
+            steps.push(SearchStep::Enter(first))?;
             if is_set(facts.nullable.as_slice(), first) {
-                steps.push(Step::Enter(second))?;
+                steps.push(SearchStep::Enter(second))?;
             }
             Ok(())
         }
         Kind::Choice(first, second) => {
-            steps.push(Step::Enter(first))?;
-            steps.push(Step::Enter(second))?;
+            steps.push(SearchStep::Enter(first))?;
+            steps.push(SearchStep::Enter(second))?;
             Ok(())
         }
     }
@@ -67,7 +67,7 @@ fn enter_operands(facts: &Facts, steps: &mut Vec<Step>, kind: Kind) -> Result<()
 fn enter(
     facts: &Facts,
     seen: &mut Vec<bool>,
-    steps: &mut Vec<Step>,
+    steps: &mut Vec<SearchStep>,
     node: usize,
 ) -> Result<(), AllocError>
     ensures fewer { OnOk result (4 * unset seen.new.items + length steps.new.items
@@ -80,7 +80,7 @@ fn enter(
         return Ok(());
     }
     seen[node] = true;
-    steps.push(Step::Leave(node))?;
+    steps.push(SearchStep::Leave(node))?;
     enter_operands(facts, steps, facts.table.kinds[node])?;
     Ok(())
 }
@@ -91,7 +91,7 @@ struct Search {
     /// The number of a node, greater for a node that was left later.
     order: Vec<usize>,
     seen: Vec<bool>,
-    steps: Vec<Step>,
+    steps: Vec<SearchStep>,
     /// The number of the node that is left next.
     clock: usize,
 }
@@ -109,18 +109,18 @@ fn leave(search: &mut Search, node: usize)
 
 /// Searches from a node.
 fn search_from(facts: &Facts, search: &mut Search, node: usize) -> Result<(), AllocError> {
-    search.steps.push(Step::Enter(node))?;
+    search.steps.push(SearchStep::Enter(node))?;
     while let Some(step) = search.steps.pop() {
         match step {
-            Step::Enter(node) => enter(facts, &mut search.seen, &mut search.steps, node)?,
-            Step::Leave(node) => leave(search, node),
+            SearchStep::Enter(node) => enter(facts, &mut search.seen, &mut search.steps, node)?,
+            SearchStep::Leave(node) => leave(search, node),
         }
     }
     Ok(())
 }
 
 /// Numbers all nodes in the order in which a depth-first search leaves them.
-fn ordered(alloc: Global, facts: &Facts) -> Result<Vec<usize>, AllocError> {
+fn number_nodes(alloc: Global, facts: &Facts) -> Result<Vec<usize>, AllocError> {
     let mut search = Search {
         order: vec![in alloc; 0; facts.table.kinds.len()]?,
         seen: vec![in alloc; false; facts.table.kinds.len()]?,
@@ -238,7 +238,7 @@ pub(crate) fn has_no_cycle<'i>(
     requires { AreFacts rules.now facts.now }
     ensures { IfOk result (λ yes. yes ≡ true → (n : Text) → Leads (grammar_of rules.now) n n → ⊥) }
 {
-    let order = ordered(alloc, facts)?;
+    let order = number_nodes(alloc, facts)?;
     let falls = all_fall(facts, order.as_slice());
     Ok(falls)
 }

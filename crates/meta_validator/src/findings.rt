@@ -24,7 +24,7 @@ pub struct Finding<'i> {
 }
 
 /// Concatenates two texts.
-pub(crate) fn joined(alloc: Global, first: &str, second: &str) -> Result<String, AllocError>
+pub(crate) fn concatenate(alloc: Global, first: &str, second: &str) -> Result<String, AllocError>
     ensures { IfOk result (λ text. string_bytes text ≡ first.now ++ second.now) }
 {
     let mut text = String::from_str(alloc, first)?;
@@ -43,7 +43,7 @@ fn add<'i>(
     ensures { OnOk result (findings_of found.new.items
         ≡ findings_of found.old.items ++ found_at (piece_of span.entry) (subject.now ++ said.now) ∷ []) }
 {
-    let message = joined(alloc, subject, said)?;
+    let message = concatenate(alloc, subject, said)?;
     found.push(Finding { message, span })?;
     Ok(())
 }

@@ -6,14 +6,14 @@ ghost use Rattle.meta_fixpoint.specs.Least.{unset};
 ghost use Rattle.meta_validator.specs.Cycles.{NoneRises, rank_at};
 ghost use Rattle.meta_validator.specs.Levels.{AllRest, IsRootWithin, Rests};
 
-use crate::cycles::{Step, none_rises, number_at};
+use crate::cycles::{SearchStep, none_rises, number_at};
 use meta_analysis::{Facts, Kind, listened_to};
 use meta_fixpoint::is_set;
 use std::alloc::{AllocError, Global};
 
 /// Returns the nodes that decide whether a node may take nothing, two at most. A call of a rule that
 /// takes something leads nowhere.
-fn rested_on(facts: &Facts, kind: Kind) -> (Option<usize>, Option<usize>) {
+fn deciding_nodes(facts: &Facts, kind: Kind) -> (Option<usize>, Option<usize>) {
     match kind {
         Kind::EndCall(_) => (None, None),
         Kind::Call(rule) => {
@@ -28,7 +28,7 @@ fn rested_on(facts: &Facts, kind: Kind) -> (Option<usize>, Option<usize>) {
 }
 
 /// Returns the nodes to which the left calls of a node lead directly, two at most.
-fn called_on_the_left(facts: &Facts, kind: Kind) -> (Option<usize>, Option<usize>) {
+fn left_called_nodes(facts: &Facts, kind: Kind) -> (Option<usize>, Option<usize>) {
     match kind {
         Kind::Seq(first, _) if !is_set(facts.nullable.as_slice(), first) => (Some(first), None),
         _ => listened_to(&facts.table, kind),
@@ -37,19 +37,19 @@ fn called_on_the_left(facts: &Facts, kind: Kind) -> (Option<usize>, Option<usize
 
 /// The relation that leads from a node to others.
 #[derive(Clone, Copy)]
-pub enum Ways {
+pub enum Edges {
     /// The nodes that decide whether the node may take nothing.
-    Rests,
+    Nullability,
     /// The nodes of the left calls.
     LeftCalls,
 }
 
-impl Ways {
+impl Edges {
     /// Returns the nodes to which a node leads directly, two at most.
     fn from(self, facts: &Facts, kind: Kind) -> (Option<usize>, Option<usize>) {
         match self {
-            Ways::Rests => rested_on(facts, kind),
-            Ways::LeftCalls => called_on_the_left(facts, kind),
+            Edges::Nullability => deciding_nodes(facts, kind),
+            Edges::LeftCalls => left_called_nodes(facts, kind),
         }
     }
 }
@@ -64,7 +64,7 @@ struct Search {
     /// The level of a node, 0 where it has none yet.
     levels: Vec<usize>,
     seen: Vec<bool>,
-    steps: Vec<Step>,
+    steps: Vec<SearchStep>,
     /// The nodes that were entered and have no level yet, in the order of their numbers.
     open: Vec<usize>,
     /// The number of the last node that was entered.
@@ -79,11 +79,11 @@ fn put_number(numbers: &mut Vec<usize>, node: usize, number: usize) {
     }
 }
 
-fn enter_some(steps: &mut Vec<Step>, node: Option<usize>) -> Result<(), AllocError>
+fn enter_some(steps: &mut Vec<SearchStep>, node: Option<usize>) -> Result<(), AllocError>
     ensures { OnOk result (steps.new.len ≤ steps.old.len + 1) }
 {
     if let Some(node) = node {
-        steps.push(Step::Enter(node))?;
+        steps.push(SearchStep::Enter(node))?;
     }
     Ok(())
 }
@@ -91,9 +91,9 @@ fn enter_some(steps: &mut Vec<Step>, node: Option<usize>) -> Result<(), AllocErr
 /// Enters a node that was not seen yet. Answers whether it entered one.
 fn enter(
     facts: &Facts,
-    ways: Ways,
+    ways: Edges,
     seen: &mut Vec<bool>,
-    steps: &mut Vec<Step>,
+    steps: &mut Vec<SearchStep>,
     node: usize,
 ) -> Result<bool, AllocError>
     ensures fewer { OnOk result (4 * unset seen.new.items + length steps.new.items
@@ -106,7 +106,7 @@ fn enter(
         return Ok(false);
     }
     seen[node] = true;
-    steps.push(Step::Leave(node))?;
+    steps.push(SearchStep::Leave(node))?;
     let (first, second) = ways.from(facts, facts.table.kinds[node]);
     enter_some(steps, second)?;
     enter_some(steps, first)?;
@@ -151,7 +151,7 @@ fn close(open: &mut Vec<usize>, levels: &mut Vec<usize>, level: usize, node: usi
 }
 
 /// Leaves a node, and closes its component where no node that was opened before was reached from it.
-fn leave(facts: &Facts, ways: Ways, search: &mut Search, node: usize)
+fn leave(facts: &Facts, ways: Edges, search: &mut Search, node: usize)
     ensures seen { search.new.seen ≡ search.old.seen }
     ensures steps { search.new.steps ≡ search.old.steps }
 {
@@ -172,26 +172,26 @@ fn leave(facts: &Facts, ways: Ways, search: &mut Search, node: usize)
 /// Searches from a node.
 fn search_from(
     facts: &Facts,
-    ways: Ways,
+    ways: Edges,
     search: &mut Search,
     node: usize,
 ) -> Result<(), AllocError> {
-    search.steps.push(Step::Enter(node))?;
+    search.steps.push(SearchStep::Enter(node))?;
     while let Some(step) = search.steps.pop() {
         match step {
-            Step::Enter(node) => {
+            SearchStep::Enter(node) => {
                 if enter(facts, ways, &mut search.seen, &mut search.steps, node)? {
                     open(search, node)?;
                 }
             }
-            Step::Leave(node) => leave(facts, ways, search, node),
+            SearchStep::Leave(node) => leave(facts, ways, search, node),
         }
     }
     Ok(())
 }
 
 /// Computes a level for each node. Nothing is promised of them.
-fn found_levels(alloc: Global, facts: &Facts, ways: Ways) -> Result<Vec<usize>, AllocError> {
+fn search_levels(alloc: Global, facts: &Facts, ways: Edges) -> Result<Vec<usize>, AllocError> {
     let nodes = facts.table.kinds.len();
     let mut search = Search {
         numbers: vec![in alloc; 0; nodes]?,
@@ -255,7 +255,7 @@ fn all_rest(facts: &Facts, levels: &[usize]) -> bool
 pub(crate) fn levels_of(alloc: Global, facts: &Facts) -> Result<Vec<usize>, AllocError>
     ensures { IfOk result (λ levels. AllRest facts.now levels.items) }
 {
-    let levels = found_levels(alloc, facts, Ways::Rests)?;
+    let levels = search_levels(alloc, facts, Edges::Nullability)?;
     if all_rest(facts, levels.as_slice()) {
         return Ok(levels);
     }
@@ -266,7 +266,7 @@ pub(crate) fn levels_of(alloc: Global, facts: &Facts) -> Result<Vec<usize>, Allo
 pub(crate) fn left_levels(alloc: Global, facts: &Facts) -> Result<Vec<usize>, AllocError>
     ensures { IfOk result (λ levels. NoneRises facts.now levels.items) }
 {
-    let levels = found_levels(alloc, facts, Ways::LeftCalls)?;
+    let levels = search_levels(alloc, facts, Edges::LeftCalls)?;
     if none_rises(facts, levels.as_slice()) {
         return Ok(levels);
     }

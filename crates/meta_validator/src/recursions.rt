@@ -11,13 +11,13 @@ ghost use Rattle.meta_validator.specs.Cycles.{NoneRises};
 ghost use Rattle.meta_analysis.specs.Facts.{AreFacts};
 ghost use Rattle.meta_validator.specs.Findings.{OfRecursion, Reports, places};
 ghost use Rattle.meta_validator.specs.Flags.{NoneSet};
-ghost use Rattle.meta_validator.specs.LeftRecursion.{Means, arrows, name_at, told_trail};
+ghost use Rattle.meta_validator.specs.LeftRecursion.{Means, arrows, name_at, trail_message};
 ghost use Rattle.meta_analysis.specs.NameMaps.{KnowsRules};
 ghost use Rattle.meta_analysis.specs.Names.{grammar_of};
 ghost use Rattle.meta_analysis.specs.Nodes.{all_nodes};
 ghost use Rattle.meta_validator.specs.Regions.{ArePassing};
 ghost use Rattle.meta_validator.specs.Reporting.{AreSpans, finding_of, findings_of};
-ghost use Rattle.meta_validator.specs.Searching.{ordered, called_in, inside_of, cost, unentered, IsSearch, IsGoing, IsIdle, IsSought, IsClosing, NeverComesBack};
+ghost use Rattle.meta_validator.specs.Searching.{ordered, called_in, inside_of, cost, unentered, IsSearch, IsGoing, IsIdle, IsSearchResult, IsClosing, NeverComesBack};
 
 use crate::cycles::{falls_from, has_no_cycle};
 use crate::findings::{Finding, kind_of_node};
@@ -232,7 +232,7 @@ fn end(walk: &mut Walk)
 }
 
 /// Runs a walk to the first call of its start, and returns that call with the rules by which it came.
-fn closed_by<'i>(
+fn run_walk<'i>(
     alloc: Global,
     rules: &[ParserRule<'i>],
     facts: &Facts,
@@ -245,7 +245,7 @@ fn closed_by<'i>(
     requires going { IsGoing rules.now facts.now.table.roots.items
         start walk.old.entered.all.items walk.old.tasks.items walk.old.trail.items }
     ensures none { IfOk result (λ found. IfNone found
-        (IsSought rules.now facts.now.table.roots.items start None
+        (IsSearchResult rules.now facts.now.table.roots.items start None
         × NeverComesBack rules.now facts.now.table.roots.items start)) }
     ensures some { IfOk result (λ found. IfSome found (λ closed.
         IsClosing rules.now facts.now.table.roots.items start closed.call closed.trail.items)) }
@@ -270,7 +270,7 @@ fn closed_by<'i>(
 
 /// Searches the first call of a rule to which the walk from that rule comes, and returns that call with
 /// the rules by which it came. The walk can begin again then.
-fn sought<'i>(
+fn find_trail<'i>(
     alloc: Global,
     rules: &[ParserRule<'i>],
     facts: &Facts,
@@ -285,14 +285,14 @@ fn sought<'i>(
         → Means (rule_views rules.now) r.name start }
     requires idle { IsIdle rules.now walk.old }
     ensures none { IfOk result (λ found. IfNone found
-        (IsSought rules.now facts.now.table.roots.items start None
+        (IsSearchResult rules.now facts.now.table.roots.items start None
         × NeverComesBack rules.now facts.now.table.roots.items start)) }
     ensures some { IfOk result (λ found. IfSome found (λ closed.
         IsClosing rules.now facts.now.table.roots.items start closed.call closed.trail.items)) }
     ensures idle { OnOk result (IsIdle rules.now walk.new) }
 {
     begin(rules, facts, start, walk)?;
-    let found = closed_by(alloc, rules, facts, passing, start, walk)?;
+    let found = run_walk(alloc, rules, facts, passing, start, walk)?;
     end(walk);
     Ok(found)
 }
@@ -330,7 +330,7 @@ fn arrows_of<'i>(
 
 /// Returns the message of a call that closes a trail: the call as it is written, and the names of the
 /// trail up to that of the first rule again.
-fn told<'i>(
+fn recursion_message<'i>(
     alloc: Global,
     rules: &[ParserRule<'i>],
     call: Span<'i>,
@@ -338,7 +338,7 @@ fn told<'i>(
     first: &ParserRule<'i>,
 ) -> Result<String, AllocError>
     ensures { IfOk result (λ message. string_bytes message
-        ≡ told_trail (rule_views rules.now) (rule_view first.now)
+        ≡ trail_message (rule_views rules.now) (rule_view first.now)
         (record { trail = trail.now; call = piece_of call.entry })) }
 {
     let arrows = arrows_of(alloc, rules, trail)?;
@@ -420,11 +420,17 @@ fn recursion_at<'i>(
     ensures some { IfOk result (λ found. IfSome found
         (λ finding. OfRecursion (rule_views rules.now) place (finding_of finding ∷ []))) }
 {
-    match sought(alloc, rules, guide.facts, guide.passing, place, walk)? {
+    match find_trail(alloc, rules, guide.facts, guide.passing, place, walk)? {
         None => Ok(None),
         Some(closed) => {
             let span = spans[closed.call];
-            let message = told(alloc, rules, span, closed.trail.as_slice(), &rules[place])?;
+            let message = recursion_message(
+                alloc,
+                rules,
+                span,
+                closed.trail.as_slice(),
+                &rules[place],
+            )?;
             Ok(Some(Finding { message, span }))
         }
     }

@@ -54,20 +54,20 @@ fn all_findings<'i>(
     let spans = spans_of(alloc, &groundwork.table)?;
     let found = repetitions(alloc, rules, facts, spans.as_slice())?;
     let known = endless_findings(alloc, endless)?;
-    let found = with_others(found, known)?;
+    let found = append_findings(found, known)?;
     let choices = choices(alloc, rules, facts, spans.as_slice())?;
-    let found = with_others(found, choices)?;
+    let found = append_findings(found, choices)?;
     let skips = skips(alloc, rules, facts)?;
-    let found = with_others(found, skips)?;
+    let found = append_findings(found, skips)?;
     let recursions = recursions(alloc, rules, &groundwork.names, facts, spans.as_slice())?;
-    let found = with_others(found, recursions)?;
+    let found = append_findings(found, recursions)?;
     let tags = tags(alloc, rules, &groundwork.names)?;
-    let found = with_others(found, tags)?;
+    let found = append_findings(found, tags)?;
     Ok(found)
 }
 
 /// Appends other findings.
-fn with_others<'i>(
+fn append_findings<'i>(
     found: Vec<Finding<'i>>,
     others: Vec<Finding<'i>>,
 ) -> Result<Vec<Finding<'i>>, AllocError>

@@ -51,7 +51,7 @@ pub fn is_non_failing<'i>(
 }
 
 /// Collects all findings in rules, sorted by span. The only fault is an allocation failure.
-fn found_in<'i>(
+fn findings_in<'i>(
     alloc: Global,
     rules: &[ParserRule<'i>],
     groundwork: &Groundwork<'_, 'i>,
@@ -105,7 +105,7 @@ pub fn validate_by<'i>(
     ensures accepted { IfOk result (λ errors. errors.items ≡ [] → IsWellFormed (grammar_of rules.now)) }
     ensures memory { IfErr result (λ fault. fault ≡ Fault.Memory alloc_error) }
 {
-    let found = found_in(alloc, rules, groundwork, endless)?;
+    let found = findings_in(alloc, rules, groundwork, endless)?;
     errors_of(alloc, found.as_slice())
 }
 
@@ -147,6 +147,6 @@ pub fn validate_by_in<'i>(
     ensures accepted { IfOk result (λ errors. errors.items ≡ [] → IsWellFormed (grammar_of rules.now)) }
     ensures memory { IfErr result (λ fault. fault ≡ Fault.Memory alloc_error) }
 {
-    let found = found_in(alloc, rules, groundwork, endless)?;
+    let found = findings_in(alloc, rules, groundwork, endless)?;
     errors_in(alloc, text, found.as_slice())
 }

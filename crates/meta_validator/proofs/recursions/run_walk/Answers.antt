@@ -7,7 +7,7 @@ use Rattle.meta_validator.proofs.SearchCalls.{finished}
 use Rattle.meta_validator.proofs.SearchLemmas.{left}
 use Rattle.meta_validator.proofs.WalkLists.{taken_end, nothing_left, trail_popped}
 use Rattle.meta_validator.proofs.WalkSteps.{never}
-use Rattle.meta_validator.proofs.recursions.closed_by.Goals as goal
+use Rattle.meta_validator.proofs.recursions.run_walk.Goals as goal
 
 pub loop-task-smaller-in-Leave : goal.loop-task-smaller-in-Leave
 loop-task-smaller-in-Leave c =

@@ -1,6 +1,6 @@
 use Rattle.std.proofs.Common.{◌∙◌}
 use Rattle.meta_validator.proofs.RecursionLemmas.{as_many}
-use Rattle.meta_validator.proofs.recursions.sought.Goals as goal
+use Rattle.meta_validator.proofs.recursions.find_trail.Goals as goal
 
 pub returns-clause-idle : goal.returns-clause-idle
 returns-clause-idle c = record {

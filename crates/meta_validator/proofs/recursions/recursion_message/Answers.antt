@@ -6,7 +6,7 @@ use Rattle.meta_base.specs.Pieces.Saying.{written}
 use Rattle.meta_spanned.specs.Nodes.{rule_views, piece_of}
 use Rattle.meta_validator.specs.LeftRecursion.{arrows}
 use Rattle.meta_validator.proofs.RecursionLemmas.{of_six}
-use Rattle.meta_validator.proofs.recursions.told.Goals as goal
+use Rattle.meta_validator.proofs.recursions.recursion_message.Goals as goal
 
 pub returns : goal.returns
 returns c =
