@@ -1,4 +1,4 @@
--- What is made of rules once, for all that is asked of them.
+-- The analysis of rules that the passes share.
 use Rattle.std.specs.Prelude.{List}
 use Rattle.meta_spanned.specs.declared.node.ParserRule.{ParserRule}
 use Rattle.meta_analysis.specs.Facts.{AreFacts}
@@ -6,7 +6,7 @@ use Rattle.meta_analysis.specs.declared.groundwork.Groundwork.{Groundwork}
 use Rattle.meta_analysis.specs.NameMaps.{KnowsRules}
 use Rattle.meta_analysis.specs.Roots.{IsTabled}
 
--- the names of rules, the nodes of all bodies, and what is so of these
+-- the names of rules, the nodes of all bodies, and the facts of these
 pub record IsGroundwork (rules : List ParserRule) (made : Groundwork) : Type 0 where
   pub known : KnowsRules rules made.names
   pub tabled : IsTabled rules made.table

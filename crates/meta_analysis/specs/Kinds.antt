@@ -1,4 +1,4 @@
--- What the nodes of bodies do, each behind those inside it.
+-- The kinds of the nodes of bodies, in the order of the node table.
 use Rattle.std.specs.Prelude.{◌≡◌, ℕ, suc, ◌+◌, ◌<◌, List, [], ◌∷◌, length, Some, if◌then◌else◌, slice_get, nat_eq}
 use Rattle.meta_base.specs.Language.Text.{Text}
 use Rattle.meta_base.specs.Language.Expression as bare
@@ -24,7 +24,7 @@ abbrev pub text_kind : Text → Kind
 text_kind [] = is.Still
 text_kind (c ∷ t) = is.Taking
 
--- what an expression without operands does, by what names do
+-- the kind of an expression without operands, given the kinds of names
 abbrev pub leaf_kind : (Text → Kind) → Expression → Kind
 leaf_kind kind_of (bare.Str t) = text_kind t
 leaf_kind kind_of (bare.Insens t) = text_kind t
@@ -32,7 +32,7 @@ leaf_kind kind_of (bare.Ident n) = kind_of n
 leaf_kind kind_of (bare.PushLiteral t) = is.Still
 leaf_kind kind_of _ = is.Taking
 
--- what an expression of code without operands does
+-- the kind of an expression of code without operands
 abbrev pub kind_of_code : (Text → Kind) → ParserExpr → Kind
 kind_of_code kind_of (code.Str s) = text_kind (text_of s)
 kind_of_code kind_of (code.Insens s) = text_kind (text_of s)
@@ -74,13 +74,13 @@ abbrev pub both_kind : Joint → ℕ → ℕ → Kind
 both_kind joints.Sequence j k = is.Seq j k
 both_kind joints.Choice j k = is.Choice j k
 
--- what an expression of this shape does
+-- the kind of an expression of this shape
 abbrev pub node_kind : (Text → Kind) → ParserExpr → Shape → Kind
 node_kind kind_of e shapes.Leaf = kind_of_code kind_of e
 node_kind kind_of e (shapes.One sign j) = wrap_kind (sign_wrap sign) j
 node_kind kind_of e (shapes.Two joint j k) = both_kind joint j k
 
--- a node of a list stands for an expression, those inside it in front of it
+-- a node of a list describes an expression; the nodes inside it have lower numbers
 abbrev pub Stands : (Text → Kind) → List Kind → ℕ → Spanned → Type 0
 Stands kind_of ks i (Leaf s e) = IsSimple e × (slice_get ks i ≡ Some (leaf_kind kind_of e))
 Stands kind_of ks i (One s f x) = (j : ℕ) × (j < i) × (slice_get ks i ≡ Some (wrap_kind (wrap_of f) j))
@@ -88,7 +88,7 @@ Stands kind_of ks i (One s f x) = (j : ℕ) × (j < i) × (slice_get ks i ≡ So
 Stands kind_of ks i (Two s f x y) = (j : ℕ) × (k : ℕ) × (j < i) × (k < i)
     × (slice_get ks i ≡ Some (both_kind (joint_of f) j k)) × Stands kind_of ks j x × Stands kind_of ks k y
 
--- the same, of an expression without places
+-- a node of a list describes an expression without spans
 abbrev pub Says : (Text → Kind) → List Kind → ℕ → Expression → Type 0
 Says kind_of ks i (bare.Str t) = slice_get ks i ≡ Some (text_kind t)
 Says kind_of ks i (bare.Insens t) = slice_get ks i ≡ Some (text_kind t)
@@ -125,7 +125,7 @@ Says kind_of ks i (bare.Choice a b) = (j : ℕ) × (k : ℕ) × (j < i) × (k < 
 Says kind_of ks i (bare.Skip ts) = ⊥
 Says kind_of ks i (bare.RestoreOnErr e) = ⊥
 
--- what a node at a place does, by the places of those inside it
+-- the kind of a node at an index, given the indices of those inside it
 abbrev pub Fits : (Text → Kind) → List Spanned → ℕ → Kind → Spanned → Type 0
 Fits kind_of nodes i k (Leaf s e) = IsSimple e × (k ≡ leaf_kind kind_of e)
 Fits kind_of nodes i k (One s f x) = (j : ℕ) × (j < i) × (slice_get nodes j ≡ Some x)
@@ -134,7 +134,7 @@ Fits kind_of nodes i k (Two s f x y) =
     (j : ℕ) × (l : ℕ) × (j < i) × (l < i) × (slice_get nodes j ≡ Some x) × (slice_get nodes l ≡ Some y)
     × (k ≡ both_kind (joint_of f) j l) × (suc l ≡ i) × (j + size y ≡ l)
 
--- the list says of each of these nodes what it does
+-- the list has the kinds of all these nodes
 pub record AreNodes (kind_of : Text → Kind) (nodes : List Spanned) (ks : List Kind) : Type 0 where
   pub alike : length ks ≡ length nodes
   pub fit : (i : ℕ) (x : Spanned) → slice_get nodes i ≡ Some x → (k : Kind) × (slice_get ks i ≡ Some k)

@@ -1,4 +1,4 @@
--- What names do.
+-- The kinds of names.
 use Rattle.std.specs.Prelude.{ℕ, Option, Some, None, Bool, if◌then◌else◌}
 use Rattle.meta_base.specs.Language.Text.{Text}
 use Rattle.meta_base.specs.Language.Expression.{Grammar, last_place}
@@ -10,6 +10,6 @@ abbrev pub name_kind : Bool → Option ℕ → Kind
 name_kind end None = if end then is.End else is.Taking
 name_kind end (Some r) = if end then is.EndCall r else is.Call r
 
--- what a name does
+-- the kind of a name
 abbrev pub kind_in : Grammar → Text → Kind
 kind_in g n = name_kind (is_end n) (last_place g n)

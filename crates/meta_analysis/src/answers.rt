@@ -1,4 +1,4 @@
-//! Which nodes answer a question with yes: the least flags that follow from one another.
+//! Nodes for which the answer to a question is yes: a least fixpoint, by a worklist.
 ghost use Rattle.std.specs.Prelude.{◌≡◌, ℕ, Bool, IfOk};
 ghost use Rattle.meta_analysis.specs.RightAnswers.{AreSound, AreClosed};
 ghost use Rattle.meta_analysis.specs.KindTable.{AgreeAt, fires};
@@ -8,7 +8,7 @@ use crate::kind_table::{Kind, KindTable, Question};
 use meta_fixpoint::{Inference, Listeners, Listening, Told, least_flags};
 use std::alloc::{AllocError, Global};
 
-/// The nodes on which the answers for a node depend, two at most: for any other the answers may change.
+/// Returns the nodes on which the answers for a node depend, two at most.
 pub fn listened_to(table: &KindTable, kind: Kind) -> (Option<usize>, Option<usize>)
     ensures { (q : Question) (p r : ℕ → Bool) → AgreeAt p r result.0 → AgreeAt p r result.1
         → fires q table.now.roots.items p kind ≡ fires q table.now.roots.items r kind }
@@ -70,8 +70,8 @@ impl<'a> Inference for Asked<'a> {
     }
 }
 
-/// Which nodes answer a question with yes: the least flags that follow from one another. The only fault is a
-/// want of memory.
+/// Computes for which nodes the answer to a question is yes, as a least fixpoint. The only fault is an
+/// allocation failure.
 pub fn answers_to(
     alloc: Global,
     table: &KindTable,

@@ -1,4 +1,4 @@
-//! The answer for one expression.
+//! The answer to a question for one expression.
 ghost use Rattle.std.specs.Prelude.{IfOk};
 ghost use Rattle.std.specs.Bool.{Decides};
 ghost use Rattle.meta_spanned.specs.Erasure.{without_spans};
@@ -16,8 +16,8 @@ use meta_fixpoint::{is_set, who_listens};
 use meta_spanned::{ParserExpr, ParserRule};
 use std::alloc::{AllocError, Global};
 
-/// The answer for an expression, where its names mean these rules (the last of a name): its nodes are put
-/// behind those of the rules, and then asked. The only fault is a want of memory.
+/// Answers a question about an expression, where its names mean these rules (the last of a name), by
+/// adding its nodes after those of the rules. The only fault is an allocation failure.
 pub fn answer_for<'i>(
     alloc: Global,
     expr: &ParserExpr<'i>,

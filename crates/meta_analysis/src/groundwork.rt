@@ -1,4 +1,5 @@
-//! What is made of rules once, for all that is asked of them.
+//! The analysis of rules that the validator and the stack pass share: name table, node table and
+//! nullability.
 ghost use Rattle.std.specs.Prelude.{IfOk};
 ghost use Rattle.meta_analysis.specs.Groundwork.{IsGroundwork};
 
@@ -8,19 +9,19 @@ use crate::table::{Table, tabulated};
 use meta_spanned::ParserRule;
 use std::alloc::{AllocError, Global};
 
-/// What is made of rules once, for all that is asked of them.
+/// The analysis of rules that the passes share.
 #[derive(Drop)]
 pub struct Groundwork<'n, 'i> {
-    /// Which rule a name means.
+    /// The numbers of the rules that names mean.
     pub names: Names,
     /// The nodes of all bodies.
     pub table: Table<'n, 'i>,
-    /// Which of them may take nothing, and which cannot fail.
+    /// Nullability and failure of these nodes.
     pub facts: Facts,
 }
 
-/// The names of rules, the nodes of all bodies, and which of them may take nothing and which cannot fail. The
-/// only fault is a want of memory.
+/// Analyses rules: their names, the nodes of all bodies, and which of them may take nothing and which
+/// cannot fail. The only fault is an allocation failure.
 pub fn groundwork_of<'n, 'i>(
     alloc: Global,
     rules: &'n [ParserRule<'i>],

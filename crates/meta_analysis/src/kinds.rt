@@ -1,4 +1,4 @@
-//! What the nodes of all rules do.
+//! Computes the kinds of the nodes of all rules.
 ghost use Rattle.std.specs.Prelude.{◌≡◌, IfOk, List};
 ghost use Rattle.meta_ast.specs.Ast.{text_of};
 ghost use Rattle.meta_spanned.specs.Spanned.{Spanned};
@@ -16,7 +16,7 @@ use crate::table::Node;
 use meta_spanned::{ParserExpr, ParserRule};
 use std::alloc::{AllocError, Global};
 
-/// What stands round one operand.
+/// The effect of an operator round one operand.
 #[derive(Clone, Copy)]
 pub enum Wrap {
     Ahead,
@@ -27,7 +27,7 @@ pub enum Wrap {
     OnceAgain,
 }
 
-/// What an expression without operands does.
+/// Returns the kind of an expression without operands.
 fn kind_of_leaf<'i>(rules: &[ParserRule<'i>], names: &Names, expr: &ParserExpr<'i>) -> Kind
     requires { KnowsRules rules.now names.now }
     ensures { result ≡ kind_of_code (kind_in (grammar_of rules.now)) expr.now }
@@ -121,7 +121,7 @@ fn kind_of_both(joint: Joint, first: usize, second: usize) -> Kind
     }
 }
 
-/// What an expression of this shape does.
+/// Returns the kind of an expression of this shape.
 fn kind_of_shape<'i>(
     rules: &[ParserRule<'i>],
     names: &Names,
@@ -138,7 +138,7 @@ fn kind_of_shape<'i>(
     }
 }
 
-/// What the nodes of a table do.
+/// Computes the kinds of the nodes of a table.
 pub(crate) fn kinds_of<'i>(
     alloc: Global,
     rules: &[ParserRule<'i>],

@@ -1,5 +1,5 @@
-//! What the passes over rules with spans share, made once for a grammar: rules by the names that mean them, the nodes
-//! of all bodies by number, and which nodes are nullable or cannot fail.
+//! The analysis of rules with spans that the passes share, made once for a grammar: rules by the names
+//! that mean them, the nodes of all bodies by number, and which nodes are nullable or cannot fail.
 #![tactic(auto)]
 
 mod answers;

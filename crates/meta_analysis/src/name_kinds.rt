@@ -1,4 +1,4 @@
-//! What names do.
+//! The kinds of names.
 ghost use Rattle.std.specs.Prelude.{◌≡◌};
 ghost use Rattle.meta_ast.specs.Ast.{text_of};
 ghost use Rattle.meta_analysis.specs.NameMaps.{KnowsRules};
@@ -9,7 +9,7 @@ use crate::kind_table::Kind;
 use crate::names::{Names, is_end, rule_of_name};
 use meta_spanned::ParserRule;
 
-/// What a name does.
+/// Returns the kind of a name.
 pub(crate) fn kind_of_name<'i>(rules: &[ParserRule<'i>], names: &Names, name: &String) -> Kind
     requires { KnowsRules rules.now names.now }
     ensures { result ≡ kind_in (grammar_of rules.now) (text_of name.now) }

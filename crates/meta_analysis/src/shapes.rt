@@ -1,9 +1,9 @@
-//! What nodes are made of.
+//! The shapes of nodes: operators and operands.
 ghost use Rattle.meta_analysis.specs.Shapes.{IsMadeOf};
 
 use meta_spanned::{ParserExpr, ParserNode};
 
-/// What stands round one operand.
+/// The operator round one operand.
 #[derive(Clone, Copy)]
 pub enum Sign {
     PosPred,
@@ -20,14 +20,14 @@ pub enum Sign {
     NodeTag,
 }
 
-/// What stands between two operands.
+/// The operator between two operands.
 #[derive(Clone, Copy)]
 pub enum Joint {
     Sequence,
     Choice,
 }
 
-/// How a node stands to those inside it, its operands by their numbers.
+/// The operator of a node, with its operands by their numbers.
 #[derive(Clone, Copy)]
 pub enum Shape {
     Leaf,
@@ -35,17 +35,17 @@ pub enum Shape {
     Two(Joint, usize, usize),
 }
 
-/// What an expression is made of.
+/// The operator and the operands of an expression.
 pub enum Operands<'n, 'i> {
-    /// Nothing inside.
+    /// No operand.
     Nothing,
-    /// One operand, and what stands round it.
+    /// One operand, and the operator round it.
     Inside(Sign, &'n ParserNode<'i>),
-    /// Two, and what stands between them.
+    /// Two operands, and the operator between them.
     Both(Joint, &'n ParserNode<'i>, &'n ParserNode<'i>),
 }
 
-/// What an expression is made of.
+/// Destructures an expression into its operator and operands.
 pub(crate) fn taken_apart<'n, 'i>(expr: &'n ParserExpr<'i>) -> Operands<'n, 'i>
     ensures { IsMadeOf expr.now result }
 {

@@ -1,5 +1,5 @@
-//! The nodes of all rules, numbered, each behind those inside it; by lists, so that a choice of many parts is
-//! no depth.
+//! The node table: all nodes of all rules in postorder, built iteratively, so that nesting takes no stack
+//! space.
 ghost use Rattle.std.specs.Prelude.{◌≡◌, ◌+◌, ◌-◌, ◌++◌, ◌∷◌, [], IfOk, OnOk, List, length, replicate};
 ghost use Rattle.meta_spanned.specs.Nodes.{view_at, piece_of};
 ghost use Rattle.meta_spanned.specs.Spanned as spanned;
@@ -14,28 +14,28 @@ use meta_base::runtime::Span;
 use meta_spanned::{ParserExpr, ParserNode, ParserRule};
 use std::alloc::{AllocError, Global};
 
-/// A node: an expression, where it stands, and how it stands to the nodes inside it.
+/// A node: an expression, its span, and its shape.
 #[derive(Clone, Copy)]
 pub struct Node<'n, 'i> {
     pub expr: &'n ParserExpr<'i>,
     pub span: &'n Span<'i>,
     pub shape: Shape,
-    /// The number of the first node inside it, or its own where there is none inside.
+    /// The number of the first node inside this one, or its own where there is none inside.
     pub start: usize,
-    /// The number of the rule that it stands in.
+    /// The number of the rule in which the node is.
     pub rule: usize,
 }
 
-/// The nodes of all rules, each behind those inside it.
+/// The nodes of all rules in postorder.
 #[derive(Drop)]
 pub struct Table<'n, 'i> {
     pub nodes: Vec<Node<'n, 'i>>,
-    /// The number of each rule's body.
+    /// The numbers of the rules' bodies.
     pub roots: Vec<usize>,
 }
 
 impl<'n, 'i> Table<'n, 'i> {
-    /// The numbers of the rules' bodies, once more.
+    /// Copies the numbers of the rules' bodies.
     pub fn copied_roots(&self, alloc: Global) -> Result<Vec<usize>, AllocError>
         ensures { IfOk result (λ roots. roots.items ≡ self.now.roots.items) }
     {
@@ -45,7 +45,7 @@ impl<'n, 'i> Table<'n, 'i> {
     }
 }
 
-/// The number of the first node inside a node, or the node's own where there is none inside.
+/// Returns the number of the first node inside a node, or the node's own where there is none inside.
 fn start_at<'n, 'i>(nodes: &[Node<'n, 'i>], node: usize) -> usize
     ensures { result ≡ start_at nodes.now node }
 {
@@ -62,7 +62,7 @@ pub struct Placed {
     pub start: usize,
 }
 
-/// A node round the one in front of it.
+/// Shapes a node round the one before it.
 fn placed_round<'n, 'i>(sign: Sign, own: usize, nodes: &[Node<'n, 'i>]) -> Placed
     ensures shape { result.shape ≡ shapes.One sign (own - 1) }
     ensures start { result.start ≡ start_at nodes.now (own - 1) }
@@ -74,7 +74,7 @@ fn placed_round<'n, 'i>(sign: Sign, own: usize, nodes: &[Node<'n, 'i>]) -> Place
     }
 }
 
-/// A node between two in front of it: the second one ends there, the first one in front of the second.
+/// Shapes a node with two operands before it: the second one ends there, the first one before the second.
 fn placed_between<'n, 'i>(joint: Joint, own: usize, nodes: &[Node<'n, 'i>]) -> Placed
     ensures shape { result.shape ≡ shapes.Two joint (start_at nodes.now (own - 1) - 1) (own - 1) }
     ensures start { result.start ≡ start_at nodes.now (start_at nodes.now (own - 1) - 1) }
@@ -106,8 +106,8 @@ fn push_operands<'n, 'i>(
     Ok(())
 }
 
-/// Takes the nodes of a list, and puts them and all nodes inside them on another, from behind: a node before
-/// those inside it, and a right one before the left.
+/// Moves the nodes of a list, with all nodes inside them, to another list in reverse postorder: a node
+/// before those inside it, and a right one before the left.
 fn put_backwards<'n, 'i>(
     waiting: &mut Vec<&'n ParserNode<'i>>,
     inside: &mut Vec<&'n ParserNode<'i>>,
@@ -157,7 +157,7 @@ fn add_node<'n, 'i>(
     Ok(())
 }
 
-/// Takes the nodes of a list, from its end to its start, and numbers them.
+/// Numbers the nodes of a list, from its end to its start, and empties the list.
 fn add_nodes<'n, 'i>(
     rule: usize,
     inside: &mut Vec<&'n ParserNode<'i>>,
@@ -177,18 +177,18 @@ fn add_nodes<'n, 'i>(
     Ok(())
 }
 
-/// The nodes of an expression that have no number yet. Between two expressions there are none, so that one of
-/// these serves a whole grammar.
+/// The worklist of an expression's nodes that have no number yet. Between two expressions the list is
+/// empty, so that one list serves a whole grammar.
 #[derive(Drop)]
 pub struct Unnumbered<'n, 'i> {
-    /// Those whose operands wait as well.
+    /// Nodes whose operands are not in the list yet.
     pub waiting: Vec<&'n ParserNode<'i>>,
-    /// The others, from behind.
+    /// The others, in reverse postorder.
     pub inside: Vec<&'n ParserNode<'i>>,
 }
 
 impl<'n, 'i> Unnumbered<'n, 'i> {
-    /// None.
+    /// Makes an empty worklist.
     pub fn new(alloc: Global) -> Unnumbered<'n, 'i>
         ensures { NothingWaits result }
     {
@@ -199,7 +199,8 @@ impl<'n, 'i> Unnumbered<'n, 'i> {
     }
 }
 
-/// The nodes inside an expression at the end of the list, and then the expression itself: its number.
+/// Numbers the nodes inside an expression, after those in the list, and then the expression itself, and
+/// returns its number.
 pub fn number<'n, 'i>(
     unnumbered: &mut Unnumbered<'n, 'i>,
     rule: usize,
@@ -224,7 +225,7 @@ pub fn number<'n, 'i>(
     Ok(own)
 }
 
-/// The nodes of all rules, and which of them are the rules' bodies.
+/// Makes the node table of rules: the nodes of all bodies, and the numbers of the bodies.
 pub fn tabulated<'n, 'i>(
     alloc: Global,
     rules: &'n [ParserRule<'i>],

@@ -46,7 +46,7 @@ pub enum Edges {
 
 impl Edges {
     /// Returns the nodes to which a node leads directly, two at most.
-    fn from(self, facts: &Facts, kind: Kind) -> (Option<usize>, Option<usize>) {
+    fn targets(self, facts: &Facts, kind: Kind) -> (Option<usize>, Option<usize>) {
         match self {
             Edges::Nullability => deciding_nodes(facts, kind),
             Edges::LeftCalls => left_called_nodes(facts, kind),
@@ -107,7 +107,7 @@ fn enter(
     }
     seen[node] = true;
     steps.push(SearchStep::Leave(node))?;
-    let (first, second) = ways.from(facts, facts.table.kinds[node]);
+    let (first, second) = ways.targets(facts, facts.table.kinds[node]);
     enter_some(steps, second)?;
     enter_some(steps, first)?;
     Ok(true)
@@ -157,7 +157,7 @@ fn leave(facts: &Facts, ways: Edges, search: &mut Search, node: usize)
 {
     let number = number_at(search.numbers.as_slice(), node);
     let (first, second) = match facts.table.kinds.get(node) {
-        Some(kind) => ways.from(facts, *kind),
+        Some(kind) => ways.targets(facts, *kind),
         None => (None, None),
     };
     let low = lower_of(search, number, first);
