@@ -12,7 +12,7 @@ use Rattle.meta_analysis.specs.Names.{grammar_of}
 use Rattle.meta_analysis.specs.NameKinds.{kind_in}
 use Rattle.meta_analysis.specs.Nodes.{all_nodes}
 use Rattle.meta_analysis.specs.Roots.{AreRoots}
-use Rattle.meta_analysis.specs.Kinds.{Stands, Says, AreNodes}
+use Rattle.meta_analysis.specs.Kinds.{RepresentsNode, Represents, AreNodes}
 use Rattle.meta_analysis.specs.declared.kind_table.Question.{Question}
 use Rattle.meta_analysis.specs.declared.kind_table.Question.TheVariants as asks
 use Rattle.meta_analysis.specs.declared.kind_table.KindTable.{KindTable}
@@ -28,18 +28,18 @@ pub record IsTableOf (rules : List ParserRule) (table : KindTable) : Type 0 wher
   pub alike : length table.roots.items ≡ length rules
   pub stand : (r : ℕ) (i : ℕ) (rule : ParserRule) → slice_get rules r ≡ Some rule
       → slice_get table.roots.items r ≡ Some i
-      → Stands (kind_in (grammar_of rules)) table.kinds.items i (view rule.node)
+      → RepresentsNode (kind_in (grammar_of rules)) table.kinds.items i (view rule.node)
 
 -- the property of an expression that a question is about
-abbrev pub Asked : Question → Grammar → Expression → Type 0
-Asked asks.TakesNothing g e = IsNullable g e
-Asked asks.CannotFail g e = CannotFail g e
+abbrev pub IsTrueOf : Question → Grammar → Expression → Type 0
+IsTrueOf asks.TakesNothing g e = IsNullable g e
+IsTrueOf asks.CannotFail g e = CannotFail g e
 
 -- answers to a question for all nodes of all rules
 abbrev pub AreAnswers : List ParserRule → KindTable → Question → List Bool → Type 0
 AreAnswers rules table q answers = (i : ℕ) (e : Expression)
-    → Says (kind_in (grammar_of rules)) table.kinds.items i e
-    → Decides (is_set_at answers i) (Asked q (grammar_of rules) e)
+    → Represents (kind_in (grammar_of rules)) table.kinds.items i e
+    → Decides (is_set_at answers i) (IsTrueOf q (grammar_of rules) e)
 
 -- these flags are set for the nodes of all bodies that may take nothing
 abbrev pub AreNullable : List ParserRule → List Bool → Type 0

@@ -19,10 +19,10 @@ forwards [] = []
 forwards (n ∷ ns) = forwards ns ++ view n.now ∷ []
 
 -- a node comes after these, the last of which are inside it
-abbrev pub IsBehind : List Spanned → Spanned → Type 0
-IsBehind front (Leaf s e) = ⊤
-IsBehind front (One s f x) = (others : List Spanned) × (front ≡ others ++ postorder x)
-IsBehind front (Two s f x y) = (others : List Spanned) × (front ≡ (others ++ postorder x) ++ postorder y)
+abbrev pub IsAfter : List Spanned → Spanned → Type 0
+IsAfter front (Leaf s e) = ⊤
+IsAfter front (One s f x) = (others : List Spanned) × (front ≡ others ++ postorder x)
+IsAfter front (Two s f x y) = (others : List Spanned) × (front ≡ (others ++ postorder x) ++ postorder y)
 
 -- no node waits for its number
 pub record NothingWaits (unnumbered : Unnumbered) : Type 0 where
@@ -32,7 +32,7 @@ pub record NothingWaits (unnumbered : Unnumbered) : Type 0 where
 -- every node comes after those inside it
 abbrev pub AreLaidOut : List Spanned → Type 0
 AreLaidOut nodes = (front : List Spanned) (x : Spanned) (back : List Spanned)
-    → nodes ≡ front ++ x ∷ back → IsBehind front x
+    → nodes ≡ front ++ x ∷ back → IsAfter front x
 
 -- the number of the first node inside a node, or its own
 abbrev pub start_at : List Node → ℕ → ℕ

@@ -6,8 +6,8 @@ use Rattle.meta_spanned.specs.Spanned as spanned
 use Rattle.meta_spanned.specs.Spanned.{Span, Spanned, Leaf, One, Two, Unary, Binary}
 use Rattle.meta_spanned.specs.declared.node.ParserExpr.{ParserExpr}
 use Rattle.meta_analysis.specs.Nodes.{size, IsSimple}
-use Rattle.meta_analysis.specs.declared.shapes.Sign.{Sign}
-use Rattle.meta_analysis.specs.declared.shapes.Sign.TheVariants as signs
+use Rattle.meta_analysis.specs.declared.shapes.UnaryOperator.{UnaryOperator}
+use Rattle.meta_analysis.specs.declared.shapes.UnaryOperator.TheVariants as signs
 use Rattle.meta_analysis.specs.declared.shapes.Joint.{Joint}
 use Rattle.meta_analysis.specs.declared.shapes.Joint.TheVariants as joints
 use Rattle.meta_analysis.specs.declared.shapes.Shape.{Shape}
@@ -17,7 +17,7 @@ use Rattle.meta_analysis.specs.declared.shapes.Operands.TheVariants as has
 use Rattle.meta_analysis.specs.declared.table.Node.{Node}
 
 -- the operator round one operand, of code
-abbrev pub sign_of : Unary → Sign
+abbrev pub sign_of : Unary → UnaryOperator
 sign_of spanned.PosPred = signs.PosPred
 sign_of spanned.NegPred = signs.NegPred
 sign_of spanned.Opt = signs.Opt

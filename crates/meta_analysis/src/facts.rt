@@ -25,7 +25,7 @@ pub struct Facts {
 
 impl Facts {
     /// Copies the flags `nullable`.
-    pub fn copied_nullable(&self, alloc: Global) -> Result<Vec<bool>, AllocError>
+    pub fn copy_nullable(&self, alloc: Global) -> Result<Vec<bool>, AllocError>
         ensures { IfOk result (λ flags. flags.items ≡ self.now.nullable.items) }
     {
         let mut flags = Vec::new(alloc);
@@ -46,7 +46,7 @@ fn table_with_kinds<'i>(
     ensures { IfOk result (λ made. AreTabled rules.now made) }
 {
     let kinds = kinds_of(alloc, rules, names, table.nodes.as_slice())?;
-    let roots = table.copied_roots(alloc)?;
+    let roots = table.copy_roots(alloc)?;
     Ok(KindTable { kinds, roots })
 }
 

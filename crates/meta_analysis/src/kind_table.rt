@@ -7,7 +7,7 @@ use meta_fixpoint::is_set;
 
 /// The kind of a node, with its operands by their numbers.
 #[derive(Clone, Copy)]
-pub enum Kind {
+pub enum NodeKind {
     /// Takes something, or fails.
     Taking,
     /// Takes nothing, and cannot fail.
@@ -28,7 +28,7 @@ pub enum Kind {
     Inside(usize),
     /// Repeats its operand without end, once at least.
     Again(usize),
-    /// It repeats its operand without end, once at least.
+    /// Repeats its operand without end, once at least.
     OnceAgain(usize),
     Seq(usize, usize),
     Choice(usize, usize),
@@ -46,14 +46,14 @@ pub enum Question {
 /// The kinds of the nodes of all rules, in the order of the node table.
 #[derive(Drop)]
 pub struct KindTable {
-    pub kinds: Vec<Kind>,
+    pub kinds: Vec<NodeKind>,
     /// The numbers of the rules' bodies.
     pub roots: Vec<usize>,
 }
 
 impl KindTable {
     /// Returns the kind of the node of a number.
-    pub fn kind_at(&self, node: usize) -> Kind
+    pub fn kind_at(&self, node: usize) -> NodeKind
         requires { node < self.now.kinds.len }
         ensures { slice_get self.now.kinds.items node ≡ Some result }
     {
@@ -79,19 +79,19 @@ impl KindTable {
     }
 
     /// Reports whether the answer for a node is yes by the answers for others.
-    pub fn fires(&self, question: Question, answers: &[bool], kind: Kind) -> bool
+    pub fn fires(&self, question: Question, answers: &[bool], kind: NodeKind) -> bool
         ensures { result ≡ fires question self.now.roots.items (is_set_at answers.now) kind }
     {
         match kind {
-            Kind::Taking => false,
-            Kind::Still | Kind::Free(_) | Kind::Again(_) => true,
-            Kind::End | Kind::NotAhead(_) => question.is_of_taking(),
-            Kind::Call(rule) => self.is_root_set(answers, rule),
-            Kind::EndCall(rule) => question.is_of_taking() || self.is_root_set(answers, rule),
-            Kind::Ahead(body) => question.is_of_taking() || is_set(answers, body),
-            Kind::Inside(body) | Kind::OnceAgain(body) => is_set(answers, body),
-            Kind::Seq(first, second) => is_set(answers, first) && is_set(answers, second),
-            Kind::Choice(first, second) => is_set(answers, first) || is_set(answers, second),
+            NodeKind::Taking => false,
+            NodeKind::Still | NodeKind::Free(_) | NodeKind::Again(_) => true,
+            NodeKind::End | NodeKind::NotAhead(_) => question.is_of_taking(),
+            NodeKind::Call(rule) => self.is_root_set(answers, rule),
+            NodeKind::EndCall(rule) => question.is_of_taking() || self.is_root_set(answers, rule),
+            NodeKind::Ahead(body) => question.is_of_taking() || is_set(answers, body),
+            NodeKind::Inside(body) | NodeKind::OnceAgain(body) => is_set(answers, body),
+            NodeKind::Seq(first, second) => is_set(answers, first) && is_set(answers, second),
+            NodeKind::Choice(first, second) => is_set(answers, first) || is_set(answers, second),
         }
     }
 }

@@ -5,7 +5,7 @@ use meta_spanned::{ParserExpr, ParserNode};
 
 /// The operator round one operand.
 #[derive(Clone, Copy)]
-pub enum Sign {
+pub enum UnaryOperator {
     PosPred,
     NegPred,
     Opt,
@@ -31,7 +31,7 @@ pub enum Joint {
 #[derive(Clone, Copy)]
 pub enum Shape {
     Leaf,
-    One(Sign, usize),
+    One(UnaryOperator, usize),
     Two(Joint, usize, usize),
 }
 
@@ -40,13 +40,13 @@ pub enum Operands<'n, 'i> {
     /// No operand.
     Nothing,
     /// One operand, and the operator round it.
-    Inside(Sign, &'n ParserNode<'i>),
+    Inside(UnaryOperator, &'n ParserNode<'i>),
     /// Two operands, and the operator between them.
     Both(Joint, &'n ParserNode<'i>, &'n ParserNode<'i>),
 }
 
 /// Destructures an expression into its operator and operands.
-pub(crate) fn taken_apart<'n, 'i>(expr: &'n ParserExpr<'i>) -> Operands<'n, 'i>
+pub(crate) fn destructure<'n, 'i>(expr: &'n ParserExpr<'i>) -> Operands<'n, 'i>
     ensures { IsMadeOf expr.now result }
 {
     match expr {
@@ -56,20 +56,23 @@ pub(crate) fn taken_apart<'n, 'i>(expr: &'n ParserExpr<'i>) -> Operands<'n, 'i>
         ParserExpr::Ident(_) => Operands::Nothing,
         ParserExpr::PeekSlice(_, _) => Operands::Nothing,
         ParserExpr::PushLiteral(_) => Operands::Nothing,
-        ParserExpr::PosPred(body) => Operands::Inside(Sign::PosPred, body),
-        ParserExpr::NegPred(body) => Operands::Inside(Sign::NegPred, body),
-        ParserExpr::Opt(body) => Operands::Inside(Sign::Opt, body),
-        ParserExpr::Push(body) => Operands::Inside(Sign::Push, body),
-        ParserExpr::NodeTag(body, _) => Operands::Inside(Sign::NodeTag, body),
+        ParserExpr::PosPred(body) => Operands::Inside(UnaryOperator::PosPred, body),
+        ParserExpr::NegPred(body) => Operands::Inside(UnaryOperator::NegPred, body),
+        ParserExpr::Opt(body) => Operands::Inside(UnaryOperator::Opt, body),
+        ParserExpr::Push(body) => Operands::Inside(UnaryOperator::Push, body),
+        ParserExpr::NodeTag(body, _) => Operands::Inside(UnaryOperator::NodeTag, body),
         ParserExpr::Seq(first, second) => Operands::Both(Joint::Sequence, first, second),
         ParserExpr::Choice(first, second) => Operands::Both(Joint::Choice, first, second),
-        ParserExpr::Rep(body) => Operands::Inside(Sign::Rep, body),
-        ParserExpr::RepOnce(body) => Operands::Inside(Sign::RepOnce, body),
-        ParserExpr::RepExact(body, count) => Operands::Inside(Sign::RepExact(*count), body),
-        ParserExpr::RepMin(body, count) => Operands::Inside(Sign::RepMin(*count), body),
-        ParserExpr::RepMax(body, count) => Operands::Inside(Sign::RepMax(*count), body),
+        ParserExpr::Rep(body) => Operands::Inside(UnaryOperator::Rep, body),
+        ParserExpr::RepOnce(body) => Operands::Inside(UnaryOperator::RepOnce, body),
+        ParserExpr::RepExact(body, count) => Operands::Inside(
+            UnaryOperator::RepExact(*count),
+            body,
+        ),
+        ParserExpr::RepMin(body, count) => Operands::Inside(UnaryOperator::RepMin(*count), body),
+        ParserExpr::RepMax(body, count) => Operands::Inside(UnaryOperator::RepMax(*count), body),
         ParserExpr::RepMinMax(body, low, high) => {
-            Operands::Inside(Sign::RepMinMax(*low, *high), body)
+            Operands::Inside(UnaryOperator::RepMinMax(*low, *high), body)
         }
     }
 }

@@ -4,12 +4,12 @@ ghost use Rattle.std.specs.Prelude.{◌≡◌, ◌+◌, ◌-◌, ◌++◌, ◌�
 ghost use Rattle.meta_spanned.specs.Nodes.{view_at, piece_of};
 ghost use Rattle.meta_spanned.specs.Spanned as spanned;
 ghost use Rattle.meta_spanned.specs.Spanned.{Spanned};
-ghost use Rattle.meta_analysis.specs.Layout.{AreNumbered, AreLaidOut, IsBehind, NothingWaits, start_at, all_below, forwards, rule_numbers};
+ghost use Rattle.meta_analysis.specs.Layout.{AreNumbered, AreLaidOut, IsAfter, NothingWaits, start_at, all_below, forwards, rule_numbers};
 ghost use Rattle.meta_analysis.specs.Nodes.{postorder, size};
 ghost use Rattle.meta_analysis.specs.Roots.{IsTabled};
 ghost use Rattle.meta_analysis.specs.declared.shapes.Shape.TheVariants as shapes;
 
-use crate::shapes::{Joint, Operands, Shape, Sign, taken_apart};
+use crate::shapes::{Joint, Operands, Shape, UnaryOperator, destructure};
 use meta_base::runtime::Span;
 use meta_spanned::{ParserExpr, ParserNode, ParserRule};
 use std::alloc::{AllocError, Global};
@@ -36,7 +36,7 @@ pub struct Table<'n, 'i> {
 
 impl<'n, 'i> Table<'n, 'i> {
     /// Copies the numbers of the rules' bodies.
-    pub fn copied_roots(&self, alloc: Global) -> Result<Vec<usize>, AllocError>
+    pub fn copy_roots(&self, alloc: Global) -> Result<Vec<usize>, AllocError>
         ensures { IfOk result (λ roots. roots.items ≡ self.now.roots.items) }
     {
         let mut roots = Vec::new(alloc);
@@ -57,31 +57,31 @@ fn start_at<'n, 'i>(nodes: &[Node<'n, 'i>], node: usize) -> usize
 
 /// The shape of a node, and the number of the first node inside it.
 #[derive(Clone, Copy)]
-pub struct Placed {
+pub struct Placement {
     pub shape: Shape,
     pub start: usize,
 }
 
 /// Shapes a node round the one before it.
-fn placed_round<'n, 'i>(sign: Sign, own: usize, nodes: &[Node<'n, 'i>]) -> Placed
+fn shape_unary<'n, 'i>(sign: UnaryOperator, own: usize, nodes: &[Node<'n, 'i>]) -> Placement
     ensures shape { result.shape ≡ shapes.One sign (own - 1) }
     ensures start { result.start ≡ start_at nodes.now (own - 1) }
 {
     let inside = own.saturating_sub(1);
-    Placed {
+    Placement {
         shape: Shape::One(sign, inside),
         start: start_at(nodes, inside),
     }
 }
 
 /// Shapes a node with two operands before it: the second one ends there, the first one before the second.
-fn placed_between<'n, 'i>(joint: Joint, own: usize, nodes: &[Node<'n, 'i>]) -> Placed
+fn shape_binary<'n, 'i>(joint: Joint, own: usize, nodes: &[Node<'n, 'i>]) -> Placement
     ensures shape { result.shape ≡ shapes.Two joint (start_at nodes.now (own - 1) - 1) (own - 1) }
     ensures start { result.start ≡ start_at nodes.now (start_at nodes.now (own - 1) - 1) }
 {
     let second = own.saturating_sub(1);
     let first = start_at(nodes, second).saturating_sub(1);
-    Placed {
+    Placement {
         shape: Shape::Two(joint, first, second),
         start: start_at(nodes, first),
     }
@@ -95,7 +95,7 @@ fn push_operands<'n, 'i>(
     ensures { OnOk result ((t : spanned.Span) → all_below waiting.new.items ++ view_at t expr.now ∷ []
         ≡ all_below waiting.old.items ++ postorder (view_at t expr.now)) }
 {
-    match taken_apart(expr) {
+    match destructure(expr) {
         Operands::Nothing => {}
         Operands::Inside(_, body) => waiting.push(body)?,
         Operands::Both(_, first, second) => {
@@ -108,7 +108,7 @@ fn push_operands<'n, 'i>(
 
 /// Moves the nodes of a list, with all nodes inside them, to another list in reverse postorder: a node
 /// before those inside it, and a right one before the left.
-fn put_backwards<'n, 'i>(
+fn reverse_nodes<'n, 'i>(
     waiting: &mut Vec<&'n ParserNode<'i>>,
     inside: &mut Vec<&'n ParserNode<'i>>,
 ) -> Result<(), AllocError>
@@ -135,17 +135,17 @@ fn add_node<'n, 'i>(
         ≡ rule_numbers nodes.old.items ++ rule ∷ []) }
     ensures nodes { OnOk result ((done : List Spanned)
         → AreNumbered done nodes.old.items
-        → IsBehind done (view_at (piece_of span.now) expr.now)
+        → IsAfter done (view_at (piece_of span.now) expr.now)
         → AreNumbered (done ++ view_at (piece_of span.now) expr.now ∷ []) nodes.new.items) }
 {
     let own = nodes.len();
-    let placed = match taken_apart(expr) {
-        Operands::Nothing => Placed {
+    let placed = match destructure(expr) {
+        Operands::Nothing => Placement {
             shape: Shape::Leaf,
             start: own,
         },
-        Operands::Inside(sign, _) => placed_round(sign, own, nodes.as_slice()),
-        Operands::Both(joint, _, _) => placed_between(joint, own, nodes.as_slice()),
+        Operands::Inside(sign, _) => shape_unary(sign, own, nodes.as_slice()),
+        Operands::Both(joint, _, _) => shape_binary(joint, own, nodes.as_slice()),
     };
     nodes.push(Node {
         expr,
@@ -218,7 +218,7 @@ pub fn number<'n, 'i>(
         ≡ rule_numbers nodes.old.items ++ replicate (size (view_at (piece_of span.now) expr.now)) rule) }
 {
     push_operands(expr, &mut unnumbered.waiting)?;
-    put_backwards(&mut unnumbered.waiting, &mut unnumbered.inside)?;
+    reverse_nodes(&mut unnumbered.waiting, &mut unnumbered.inside)?;
     add_nodes(rule, &mut unnumbered.inside, nodes)?;
     let own = nodes.len();
     add_node(rule, expr, span, nodes)?;
@@ -226,7 +226,7 @@ pub fn number<'n, 'i>(
 }
 
 /// Makes the node table of rules: the nodes of all bodies, and the numbers of the bodies.
-pub fn tabulated<'n, 'i>(
+pub fn tabulate<'n, 'i>(
     alloc: Global,
     rules: &'n [ParserRule<'i>],
 ) -> Result<Table<'n, 'i>, AllocError>

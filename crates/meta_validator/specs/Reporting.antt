@@ -10,8 +10,8 @@ use Rattle.meta_validator.specs.Findings.{Finding, found_at, is_skipped_name}
 use Rattle.meta_analysis.specs.Nodes.{all_nodes}
 use Rattle.meta_analysis.specs.declared.facts.Facts.{Facts}
 use Rattle.meta_validator.specs.declared.findings.Finding as code
-use Rattle.meta_analysis.specs.declared.kind_table.Kind.{Kind}
-use Rattle.meta_analysis.specs.declared.kind_table.Kind.TheVariants as is
+use Rattle.meta_analysis.specs.declared.kind_table.NodeKind.{NodeKind}
+use Rattle.meta_analysis.specs.declared.kind_table.NodeKind.TheVariants as is
 
 -- the finding that one of code denotes
 abbrev pub finding_of : code.Finding → Finding
@@ -34,7 +34,7 @@ repeated_at facts subject place j =
     else []
 
 -- of a node as a repetition
-abbrev pub repetition_at : Facts → Span → Option Kind → List Finding
+abbrev pub repetition_at : Facts → Span → Option NodeKind → List Finding
 repetition_at facts place (Some (is.Again j)) =
     repeated_at facts (codes "expression inside repetition") place j
 repetition_at facts place (Some (is.OnceAgain j)) =
@@ -42,7 +42,7 @@ repetition_at facts place (Some (is.OnceAgain j)) =
 repetition_at facts place _ = []
 
 -- the last alternative of the node j, if it is a choice, or else j
-abbrev pub alternative_of : Option Kind → ℕ → ℕ
+abbrev pub alternative_of : Option NodeKind → ℕ → ℕ
 alternative_of (Some (is.Choice a b)) j = b
 alternative_of _ j = j
 
@@ -58,7 +58,7 @@ abbrev pub unreachable_at : Facts → List code_span.Span → ℕ → List Findi
 unreachable_at facts spans a = alternative_at facts a (slice_get spans a)
 
 -- of a node as a choice
-abbrev pub choice_at : Facts → List code_span.Span → Option Kind → List Finding
+abbrev pub choice_at : Facts → List code_span.Span → Option NodeKind → List Finding
 choice_at facts spans (Some (is.Choice j k)) =
     unreachable_at facts spans (alternative_of (slice_get facts.table.kinds.items j) j)
 choice_at facts spans _ = []

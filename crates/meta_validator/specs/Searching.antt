@@ -14,8 +14,8 @@ use Rattle.meta_validator.specs.Regions.{IsNodeOf}
 use Rattle.meta_validator.specs.Walk.{Walked, WalkLeads}
 use Rattle.meta_validator.specs.declared.recursions.Task.{Task}
 use Rattle.meta_validator.specs.declared.recursions.Walk.{Walk}
-use Rattle.meta_analysis.specs.declared.kind_table.Kind.{Kind}
-use Rattle.meta_analysis.specs.declared.kind_table.Kind.TheVariants as is
+use Rattle.meta_analysis.specs.declared.kind_table.NodeKind.{NodeKind}
+use Rattle.meta_analysis.specs.declared.kind_table.NodeKind.TheVariants as is
 use Rattle.meta_validator.specs.declared.recursions.Task.TheVariants.{Visit, Leave}
 
 -- a list from its end to its start
@@ -35,13 +35,13 @@ after (Leave ∷ todo) = todo
 after (Visit i ∷ todo) = after todo
 
 -- the rule that a node calls
-abbrev pub called_in : Option Kind → Option ℕ
+abbrev pub called_in : Option NodeKind → Option ℕ
 called_in (Some (is.Call k)) = Some k
 called_in (Some (is.EndCall k)) = Some k
 called_in _ = None
 
 -- the tasks inside a node; the first in the text is the last in the list
-abbrev pub inside_of : List Bool → Option Kind → List Task
+abbrev pub inside_of : List Bool → Option NodeKind → List Task
 inside_of passing (Some (is.Ahead j)) = Visit j ∷ []
 inside_of passing (Some (is.NotAhead j)) = Visit j ∷ []
 inside_of passing (Some (is.Free j)) = Visit j ∷ []
@@ -123,7 +123,8 @@ module _ (rules : List ParserRule) (roots : List ℕ) (start : ℕ) where
   abbrev pub AreCovered : List Bool → List ℕ → List Task → Type 0
   AreCovered entered [] todo = ⊤
   AreCovered entered (k ∷ path) todo = ((r : SpannedRule) (m : ℕ) → slice_get views k ≡ Some r
-      → Calls r.name r.body m → IsKnown entered m ⊎ AwaitsCall r.name todo m) × AreCovered entered path (after todo)
+      → Calls r.name r.body m → IsKnown entered m ⊎ AwaitsCall r.name todo m)
+      × AreCovered entered path (after todo)
 
   -- all calls of a rule that was entered and left are known
   abbrev pub AreSettled : List Bool → List ℕ → Type 0

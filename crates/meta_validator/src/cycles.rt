@@ -11,7 +11,7 @@ ghost use Rattle.meta_analysis.specs.Facts.{AreFacts};
 ghost use Rattle.meta_analysis.specs.Names.{grammar_of};
 ghost use Rattle.meta_validator.specs.Cycles.{AllFall, Falls, FallsFrom, IsBelowRoot, NoneRises, rank_at};
 
-use meta_analysis::{Facts, Kind};
+use meta_analysis::{Facts, NodeKind};
 use meta_fixpoint::is_set;
 use meta_spanned::ParserRule;
 use std::alloc::{AllocError, Global};
@@ -33,29 +33,33 @@ fn enter_root(facts: &Facts, steps: &mut Vec<SearchStep>, rule: usize) -> Result
 }
 
 /// Pushes the nodes to which a node's left calls lead directly on the worklist.
-fn enter_operands(facts: &Facts, steps: &mut Vec<SearchStep>, kind: Kind) -> Result<(), AllocError>
+fn enter_operands(
+    facts: &Facts,
+    steps: &mut Vec<SearchStep>,
+    kind: NodeKind,
+) -> Result<(), AllocError>
     ensures { OnOk result (steps.new.len ≤ steps.old.len + 2) }
 {
     match kind {
-        Kind::Taking | Kind::Still | Kind::End => Ok(()),
-        Kind::Call(rule) | Kind::EndCall(rule) => enter_root(facts, steps, rule),
-        Kind::Ahead(body)
-        | Kind::NotAhead(body)
-        | Kind::Free(body)
-        | Kind::Inside(body)
-        | Kind::Again(body)
-        | Kind::OnceAgain(body) => {
+        NodeKind::Taking | NodeKind::Still | NodeKind::End => Ok(()),
+        NodeKind::Call(rule) | NodeKind::EndCall(rule) => enter_root(facts, steps, rule),
+        NodeKind::Ahead(body)
+        | NodeKind::NotAhead(body)
+        | NodeKind::Free(body)
+        | NodeKind::Inside(body)
+        | NodeKind::Again(body)
+        | NodeKind::OnceAgain(body) => {
             steps.push(SearchStep::Enter(body))?;
             Ok(())
         }
-        Kind::Seq(first, second) => {
+        NodeKind::Seq(first, second) => {
             steps.push(SearchStep::Enter(first))?;
             if is_set(facts.nullable.as_slice(), first) {
                 steps.push(SearchStep::Enter(second))?;
             }
             Ok(())
         }
-        Kind::Choice(first, second) => {
+        NodeKind::Choice(first, second) => {
             steps.push(SearchStep::Enter(first))?;
             steps.push(SearchStep::Enter(second))?;
             Ok(())
@@ -159,23 +163,23 @@ fn is_root_below(facts: &Facts, order: &[usize], rule: usize, bound: usize) -> b
 }
 
 /// Reports whether the left calls of such a node lead directly to nodes with numbers below a bound.
-fn falls(facts: &Facts, order: &[usize], bound: usize, kind: Kind) -> bool
+fn falls(facts: &Facts, order: &[usize], bound: usize, kind: NodeKind) -> bool
     ensures { result ≡ true → Falls facts.now order.now bound kind }
 {
     match kind {
-        Kind::Taking | Kind::Still | Kind::End => true,
-        Kind::Call(rule) | Kind::EndCall(rule) => is_root_below(facts, order, rule, bound),
-        Kind::Ahead(body)
-        | Kind::NotAhead(body)
-        | Kind::Free(body)
-        | Kind::Inside(body)
-        | Kind::Again(body)
-        | Kind::OnceAgain(body) => is_below(order, body, bound),
-        Kind::Seq(first, second) => {
+        NodeKind::Taking | NodeKind::Still | NodeKind::End => true,
+        NodeKind::Call(rule) | NodeKind::EndCall(rule) => is_root_below(facts, order, rule, bound),
+        NodeKind::Ahead(body)
+        | NodeKind::NotAhead(body)
+        | NodeKind::Free(body)
+        | NodeKind::Inside(body)
+        | NodeKind::Again(body)
+        | NodeKind::OnceAgain(body) => is_below(order, body, bound),
+        NodeKind::Seq(first, second) => {
             is_below(order, first, bound)
                 && (!is_set(facts.nullable.as_slice(), first) || is_below(order, second, bound))
         }
-        Kind::Choice(first, second) => is_below(order, first, bound)
+        NodeKind::Choice(first, second) => is_below(order, first, bound)
             && is_below(order, second, bound),
     }
 }
@@ -194,7 +198,7 @@ fn all_fall(facts: &Facts, order: &[usize]) -> bool
 }
 
 /// Reports whether the left calls of a node lead directly to nodes with no higher levels.
-fn stays(facts: &Facts, levels: &[usize], node: usize, kind: Kind) -> bool
+fn stays(facts: &Facts, levels: &[usize], node: usize, kind: NodeKind) -> bool
     ensures { result ≡ true → Falls facts.now levels.now (rank_at levels.now node + 1) kind }
 {
     match number_at(levels, node).checked_add(1) {

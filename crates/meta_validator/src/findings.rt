@@ -10,7 +10,7 @@ ghost use Rattle.meta_analysis.specs.Nodes.{all_nodes};
 ghost use Rattle.meta_analysis.specs.Roots.{IsTabled};
 ghost use Rattle.meta_validator.specs.Reporting.{findings_of, AreSpans, repeated_at, repetition_at, alternative_of, unreachable_at, choice_at, skipped_at};
 
-use meta_analysis::{Facts, Kind, Table, is_literal};
+use meta_analysis::{Facts, NodeKind, Table, is_literal};
 use meta_base::runtime::Span;
 use meta_fixpoint::is_set;
 use meta_spanned::ParserRule;
@@ -49,7 +49,7 @@ fn add<'i>(
 }
 
 /// Returns the kind of the node of a number, if there is one.
-pub(crate) fn kind_of_node(facts: &Facts, node: usize) -> Option<Kind>
+pub(crate) fn kind_of_node(facts: &Facts, node: usize) -> Option<NodeKind>
     ensures { result ≡ slice_get facts.now.table.kinds.items node }
 {
     facts.table.kinds.get(node).copied()
@@ -99,15 +99,15 @@ fn report_repetition<'i>(
     alloc: Global,
     facts: &Facts,
     span: Span<'i>,
-    kind: Option<Kind>,
+    kind: Option<NodeKind>,
     found: &mut Vec<Finding<'i>>,
 ) -> Result<(), AllocError>
     ensures { OnOk result (findings_of found.new.items
         ≡ findings_of found.old.items ++ repetition_at facts.now (piece_of span.entry) kind) }
 {
     let body = match kind {
-        Some(Kind::Again(body)) => body,
-        Some(Kind::OnceAgain(body)) => body,
+        Some(NodeKind::Again(body)) => body,
+        Some(NodeKind::OnceAgain(body)) => body,
         _ => return Ok(()),
     };
     report_repeated(
@@ -192,7 +192,7 @@ fn last_alternative(facts: &Facts, node: usize) -> usize
     ensures { result ≡ alternative_of (slice_get facts.now.table.kinds.items node) node }
 {
     match facts.table.kinds.get(node) {
-        Some(Kind::Choice(_, last)) => *last,
+        Some(NodeKind::Choice(_, last)) => *last,
         _ => node,
     }
 }
@@ -202,13 +202,13 @@ fn report_choice<'i>(
     alloc: Global,
     facts: &Facts,
     spans: &[Span<'i>],
-    kind: Option<Kind>,
+    kind: Option<NodeKind>,
     found: &mut Vec<Finding<'i>>,
 ) -> Result<(), AllocError>
     ensures { OnOk result (findings_of found.new.items
         ≡ findings_of found.old.items ++ choice_at facts.now spans.now kind) }
 {
-    if let Some(Kind::Choice(first, _)) = kind {
+    if let Some(NodeKind::Choice(first, _)) = kind {
         report_alternative(alloc, facts, spans, last_alternative(facts, first), found)?;
     }
     Ok(())

@@ -7,31 +7,31 @@ ghost use Rattle.meta_validator.specs.Cycles.{NoneRises, rank_at};
 ghost use Rattle.meta_validator.specs.Levels.{AllRest, IsRootWithin, Rests};
 
 use crate::cycles::{SearchStep, none_rises, number_at};
-use meta_analysis::{Facts, Kind, listened_to};
+use meta_analysis::{Facts, NodeKind, dependencies_of};
 use meta_fixpoint::is_set;
 use std::alloc::{AllocError, Global};
 
 /// Returns the nodes that decide whether a node may take nothing, two at most. A call of a rule that
 /// takes something leads nowhere.
-fn deciding_nodes(facts: &Facts, kind: Kind) -> (Option<usize>, Option<usize>) {
+fn deciding_nodes(facts: &Facts, kind: NodeKind) -> (Option<usize>, Option<usize>) {
     match kind {
-        Kind::EndCall(_) => (None, None),
-        Kind::Call(rule) => {
+        NodeKind::EndCall(_) => (None, None),
+        NodeKind::Call(rule) => {
             if facts.table.is_root_set(facts.nullable.as_slice(), rule) {
-                listened_to(&facts.table, kind)
+                dependencies_of(&facts.table, kind)
             } else {
                 (None, None)
             }
         }
-        _ => listened_to(&facts.table, kind),
+        _ => dependencies_of(&facts.table, kind),
     }
 }
 
 /// Returns the nodes to which the left calls of a node lead directly, two at most.
-fn left_called_nodes(facts: &Facts, kind: Kind) -> (Option<usize>, Option<usize>) {
+fn left_called_nodes(facts: &Facts, kind: NodeKind) -> (Option<usize>, Option<usize>) {
     match kind {
-        Kind::Seq(first, _) if !is_set(facts.nullable.as_slice(), first) => (Some(first), None),
-        _ => listened_to(&facts.table, kind),
+        NodeKind::Seq(first, _) if !is_set(facts.nullable.as_slice(), first) => (Some(first), None),
+        _ => dependencies_of(&facts.table, kind),
     }
 }
 
@@ -46,7 +46,7 @@ pub enum Edges {
 
 impl Edges {
     /// Returns the nodes to which a node leads directly, two at most.
-    fn targets(self, facts: &Facts, kind: Kind) -> (Option<usize>, Option<usize>) {
+    fn targets(self, facts: &Facts, kind: NodeKind) -> (Option<usize>, Option<usize>) {
         match self {
             Edges::Nullability => deciding_nodes(facts, kind),
             Edges::LeftCalls => left_called_nodes(facts, kind),
@@ -225,13 +225,13 @@ fn is_root_within(facts: &Facts, levels: &[usize], rule: usize, high: usize) -> 
 }
 
 /// Reports whether the nodes that decide whether a node may take nothing have no higher level.
-fn rests(facts: &Facts, levels: &[usize], node: usize, kind: Kind) -> bool
+fn rests(facts: &Facts, levels: &[usize], node: usize, kind: NodeKind) -> bool
     ensures { result ≡ true → Rests facts.now levels.now node kind }
 {
     match kind {
-        Kind::Call(rule) => is_root_within(facts, levels, rule, node),
-        Kind::Inside(body) | Kind::OnceAgain(body) => is_within(levels, body, node),
-        Kind::Seq(first, second) | Kind::Choice(first, second) => {
+        NodeKind::Call(rule) => is_root_within(facts, levels, rule, node),
+        NodeKind::Inside(body) | NodeKind::OnceAgain(body) => is_within(levels, body, node),
+        NodeKind::Seq(first, second) | NodeKind::Choice(first, second) => {
             is_within(levels, first, node) && is_within(levels, second, node)
         }
         _ => true,

@@ -9,18 +9,24 @@ ghost use Rattle.meta_validator.specs.Without.{AreAnswersWithout, IsWithout, wit
 
 use crate::cycles::number_at;
 use crate::levels::levels_of;
-use meta_analysis::{Facts, Kind, KindTable, Question, answers_to};
+use meta_analysis::{Facts, KindTable, NodeKind, Question, answers_to};
 use meta_fixpoint::{is_set, who_listens};
 use meta_spanned::ParserRule;
 use std::alloc::{AllocError, Global};
 
 /// Returns the kind of a node where calls of a rule count as neither.
-fn kind_without(kind: Kind, rule: usize) -> Kind
+fn kind_without(kind: NodeKind, rule: usize) -> NodeKind
     ensures { result ≡ without_kind rule kind }
 {
     match kind {
-        Kind::Call(called) => { if called == rule { Kind::Taking } else { kind } }
-        Kind::EndCall(called) => { if called == rule { Kind::End } else { kind } }
+        NodeKind::Call(called) => {
+            if called == rule {
+                NodeKind::Taking
+            } else {
+                kind
+            }
+        }
+        NodeKind::EndCall(called) => { if called == rule { NodeKind::End } else { kind } }
         _ => kind,
     }
 }
@@ -67,11 +73,11 @@ fn add_flags(from: &[bool], last: usize, to: &mut Vec<bool>) -> Result<(), Alloc
 
 /// Reports whether a call in a rule's body is one of the rule itself, takes something, or is of a rule
 /// with a lower level.
-fn is_settled(facts: &Facts, levels: &[usize], rule: usize, root: usize, kind: Kind) -> bool
+fn is_settled(facts: &Facts, levels: &[usize], rule: usize, root: usize, kind: NodeKind) -> bool
     ensures { result ≡ true → IsSettled facts.now levels.now rule root kind }
 {
     match kind {
-        Kind::Call(called) => {
+        NodeKind::Call(called) => {
             if called == rule {
                 return true;
             }
@@ -104,11 +110,11 @@ fn are_settled(facts: &Facts, levels: &[usize], rule: usize, first: usize, root:
 
 /// Computes whether a node of a rule's body may take nothing where calls of the rule count as neither,
 /// from the flags of its operands.
-fn own_flag(facts: &Facts, rule: usize, flags: &[bool], kind: Kind) -> bool
+fn own_flag(facts: &Facts, rule: usize, flags: &[bool], kind: NodeKind) -> bool
     ensures { result ≡ own_answer facts.now rule (is_set_at flags.now) kind }
 {
     match kind {
-        Kind::Call(called) => {
+        NodeKind::Call(called) => {
             if called == rule {
                 false
             } else {

@@ -24,7 +24,7 @@ use crate::findings::{Finding, kind_of_node};
 use crate::flags::Flags;
 use crate::levels::left_levels;
 use crate::passing::passing;
-use meta_analysis::{Facts, Kind, Names, rule_of_name};
+use meta_analysis::{Facts, Names, NodeKind, rule_of_name};
 use meta_base::runtime::Span;
 use meta_fixpoint::is_set;
 use meta_spanned::ParserRule;
@@ -77,12 +77,12 @@ fn enter_rule(walk: &mut Walk, rule: usize, root: usize) -> Result<(), AllocErro
 }
 
 /// Returns the rule that a node calls, if the node is a call.
-fn called_by(kind: Option<Kind>) -> Option<usize>
+fn called_by(kind: Option<NodeKind>) -> Option<usize>
     ensures { result ≡ called_in kind }
 {
     match kind {
-        Some(Kind::Call(rule)) => Some(rule),
-        Some(Kind::EndCall(rule)) => Some(rule),
+        Some(NodeKind::Call(rule)) => Some(rule),
+        Some(NodeKind::EndCall(rule)) => Some(rule),
         _ => None,
     }
 }
@@ -108,23 +108,24 @@ fn push_nodes(tasks: &mut Vec<Task>, first: usize, second: usize) -> Result<(), 
 fn push_inside(
     tasks: &mut Vec<Task>,
     passing: &[bool],
-    kind: Option<Kind>,
+    kind: Option<NodeKind>,
 ) -> Result<(), AllocError>
     ensures { OnOk result (tasks.new.items ≡ tasks.old.items ++ inside_of passing.now kind) }
 {
     match kind {
-        Some(Kind::Ahead(body) | Kind::NotAhead(body) | Kind::Free(body)) => push_node(tasks, body),
-        Some(Kind::Inside(body) | Kind::Again(body) | Kind::OnceAgain(body)) => push_node(
+        Some(NodeKind::Ahead(body) | NodeKind::NotAhead(body) | NodeKind::Free(body)) => push_node(
             tasks, body,
         ),
-        Some(Kind::Seq(first, second)) => {
+        Some(NodeKind::Inside(body) | NodeKind::Again(body) | NodeKind::OnceAgain(body)) =>
+            push_node(tasks, body),
+        Some(NodeKind::Seq(first, second)) => {
             if is_set(passing, first) {
                 push_nodes(tasks, first, second)
             } else {
                 push_node(tasks, first)
             }
         }
-        Some(Kind::Choice(first, second)) => push_nodes(tasks, first, second),
+        Some(NodeKind::Choice(first, second)) => push_nodes(tasks, first, second),
         _ => Ok(()),
     }
 }

@@ -6,14 +6,14 @@ ghost use Rattle.meta_base.specs.Pieces.Span.{span_text};
 ghost use Rattle.meta_base.specs.Pieces.Survey.{survey_text};
 ghost use Rattle.meta_spanned.specs.Nodes.{piece_of, rule_views};
 ghost use Rattle.meta_validator.specs.Findings.{AreFound, AreAllFound, IsSortedBySpan, endless_at};
-ghost use Rattle.meta_analysis.specs.Groundwork.{IsGroundwork};
+ghost use Rattle.meta_analysis.specs.Analysis.{IsAnalysis};
 ghost use Rattle.meta_analysis.specs.Names.{grammar_of};
 ghost use Rattle.meta_validator.specs.Reporting.{finding_of, findings_of};
 
 use crate::findings::{Finding, choices, repetitions, skips, spans_of};
 use crate::recursions::recursions;
 use crate::tags::tags;
-use meta_analysis::Groundwork;
+use meta_analysis::Analysis;
 use meta_base::grammar::Rule;
 use meta_base::runtime::{Error, ErrorVariant, Fault, Span, Survey};
 use meta_spanned::ParserRule;
@@ -41,10 +41,10 @@ fn endless_findings<'i>(alloc: Global, endless: &[Span<'i>]) -> Result<Vec<Findi
 fn all_findings<'i>(
     alloc: Global,
     rules: &[ParserRule<'i>],
-    groundwork: &Groundwork<'_, 'i>,
+    groundwork: &Analysis<'_, 'i>,
     endless: &[Span<'i>],
 ) -> Result<Vec<Finding<'i>>, AllocError>
-    requires groundwork { IsGroundwork rules.now groundwork.now }
+    requires groundwork { IsAnalysis rules.now groundwork.now }
     ensures found { IfOk result (λ found.
         AreFound (rule_views rules.now) (map piece_of endless.now) (findings_of found.items)) }
     ensures accepted { IfOk result (λ found. findings_of found.items ≡ []
@@ -92,10 +92,10 @@ fn sort_by_span<'i>(found: &mut Vec<Finding<'i>>) -> Result<(), AllocError>
 pub(crate) fn sorted_findings<'i>(
     alloc: Global,
     rules: &[ParserRule<'i>],
-    groundwork: &Groundwork<'_, 'i>,
+    groundwork: &Analysis<'_, 'i>,
     endless: &[Span<'i>],
 ) -> Result<Vec<Finding<'i>>, AllocError>
-    requires groundwork { IsGroundwork rules.now groundwork.now }
+    requires groundwork { IsAnalysis rules.now groundwork.now }
     ensures found { IfOk result (λ sorted.
         AreAllFound (rule_views rules.now) (map piece_of endless.now) (findings_of sorted.items)) }
     ensures accepted { IfOk result (λ sorted. findings_of sorted.items ≡ []

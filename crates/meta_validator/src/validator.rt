@@ -4,7 +4,7 @@ ghost use Rattle.meta_base.specs.Language.WellFormed.{IsNullable, CannotFail, Is
 ghost use Rattle.meta_spanned.specs.Erasure.{without_spans, rules_without_spans};
 ghost use Rattle.meta_spanned.specs.Nodes.{piece_of, rule_views, unplaced};
 ghost use Rattle.meta_validator.specs.Findings.{AreAllFound};
-ghost use Rattle.meta_analysis.specs.Groundwork.{IsGroundwork};
+ghost use Rattle.meta_analysis.specs.Analysis.{IsAnalysis};
 ghost use Rattle.meta_analysis.specs.Names.{grammar_of};
 ghost use Rattle.meta_validator.specs.Placed.{AreIn, ArePiecesOf};
 ghost use Rattle.meta_validator.specs.Reported.{AreReported};
@@ -12,7 +12,7 @@ ghost use Rattle.meta_validator.specs.Reporting.{findings_of};
 
 use crate::findings::Finding;
 use crate::reported::{errors_in, errors_of, sorted_findings};
-use meta_analysis::{Groundwork, Question, answer_for, groundwork_of};
+use meta_analysis::{Analysis, Question, analyze, answer_for};
 use meta_base::grammar::Rule;
 use meta_base::runtime::{Error, Fault, Span};
 use meta_spanned::{ParserExpr, ParserRule};
@@ -54,10 +54,10 @@ pub fn is_non_failing<'i>(
 fn findings_in<'i>(
     alloc: Global,
     rules: &[ParserRule<'i>],
-    groundwork: &Groundwork<'_, 'i>,
+    groundwork: &Analysis<'_, 'i>,
     endless: &[Span<'i>],
 ) -> Result<Vec<Finding<'i>>, Fault>
-    requires groundwork { IsGroundwork rules.now groundwork.now }
+    requires groundwork { IsAnalysis rules.now groundwork.now }
     ensures found { IfOk result (λ found.
         AreAllFound (rule_views rules.now) (map piece_of endless.now) (findings_of found.items)) }
     ensures accepted { IfOk result (λ found. findings_of found.items ≡ []
@@ -87,7 +87,7 @@ pub fn validate_rules<'i>(
     ensures memory { IfErr result (λ fault. fault ≡ Fault.Memory alloc_error) }
 {
     let rules = rules.as_slice();
-    let groundwork = groundwork_of(alloc, rules)?;
+    let groundwork = analyze(alloc, rules)?;
     validate_by(alloc, rules, &groundwork, endless)
 }
 
@@ -96,10 +96,10 @@ pub fn validate_rules<'i>(
 pub fn validate_by<'i>(
     alloc: Global,
     rules: &[ParserRule<'i>],
-    groundwork: &Groundwork<'_, 'i>,
+    groundwork: &Analysis<'_, 'i>,
     endless: &[Span<'i>],
 ) -> Result<Vec<Error<Rule>>, Fault>
-    requires groundwork { IsGroundwork rules.now groundwork.now }
+    requires groundwork { IsAnalysis rules.now groundwork.now }
     ensures exact { IfOk result (λ errors.
         AreReported (rule_views rules.now) (map piece_of endless.now) errors.items) }
     ensures accepted { IfOk result (λ errors. errors.items ≡ [] → IsWellFormed (grammar_of rules.now)) }
@@ -126,7 +126,7 @@ pub fn validate_rules_in<'i>(
     ensures memory { IfErr result (λ fault. fault ≡ Fault.Memory alloc_error) }
 {
     let rules = rules.as_slice();
-    let groundwork = groundwork_of(alloc, rules)?;
+    let groundwork = analyze(alloc, rules)?;
     validate_by_in(alloc, text, rules, &groundwork, endless)
 }
 
@@ -136,10 +136,10 @@ pub fn validate_by_in<'i>(
     alloc: Global,
     text: &str,
     rules: &[ParserRule<'i>],
-    groundwork: &Groundwork<'_, 'i>,
+    groundwork: &Analysis<'_, 'i>,
     endless: &[Span<'i>],
 ) -> Result<Vec<Error<Rule>>, Fault>
-    requires groundwork { IsGroundwork rules.now groundwork.now }
+    requires groundwork { IsAnalysis rules.now groundwork.now }
     requires rules_in_text { AreIn text.now (rule_views rules.now) }
     requires endless_in_text { ArePiecesOf text.now (map piece_of endless.now) }
     ensures exact { IfOk result (λ errors.

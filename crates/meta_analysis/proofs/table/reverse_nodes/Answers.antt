@@ -3,7 +3,7 @@ use Rattle.std.proofs.lemmas.List.{append-nil}
 use Rattle.meta_spanned.specs.Nodes.{piece_of}
 use Rattle.meta_analysis.specs.Layout.{all_below, forwards}
 use Rattle.meta_analysis.proofs.LayoutLemmas.{taken_one}
-use Rattle.meta_analysis.proofs.table.put_backwards.Goals as goal
+use Rattle.meta_analysis.proofs.table.reverse_nodes.Goals as goal
 
 pub loop-next-init : goal.loop-next-init
 loop-next-init c =

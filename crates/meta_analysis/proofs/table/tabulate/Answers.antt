@@ -8,7 +8,7 @@ use Rattle.meta_analysis.proofs.LayoutLemmas.{laid_none, length-postorder}
 use Rattle.meta_analysis.proofs.Numbered.{found_last}
 use Rattle.meta_analysis.proofs.RootLemmas.{root_step, nodes_more}
 use Rattle.meta_analysis.proofs.RuleNumbers.{rules_more}
-use Rattle.meta_analysis.proofs.table.tabulated.Goals as goal
+use Rattle.meta_analysis.proofs.table.tabulate.Goals as goal
 
 pub loop-place-init : goal.loop-place-init
 loop-place-init c = (

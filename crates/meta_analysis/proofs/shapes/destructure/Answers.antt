@@ -3,7 +3,7 @@ use Rattle.meta_ast.specs.Ast.{text_of}
 use Rattle.meta_base.specs.Language.Expression as bare
 use Rattle.meta_spanned.specs.Nodes.{view_at}
 use Rattle.meta_spanned.specs.Spanned as spanned
-use Rattle.meta_analysis.proofs.shapes.taken_apart.Goals as goal
+use Rattle.meta_analysis.proofs.shapes.destructure.Goals as goal
 
 pub returns-in-Str : goal.returns-in-Str
 returns-in-Str c = (bare.Str (text_of c.in-Str.field-0), tt, (λ t. ap (view_at t) c.in-Str.is))
