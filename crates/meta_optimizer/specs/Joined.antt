@@ -1,4 +1,4 @@
--- How literals in sequence are put together.
+-- The concatenation of literals in sequence.
 use Rattle.std.specs.Prelude.{ℕ, ◌+◌, ◌*◌, ◌++◌, List, [], ◌∷◌}
 use Rattle.std.specs.declared.alloc.Global.{Global}
 use Rattle.std.specs.declared.string.String.{String}
@@ -40,7 +40,7 @@ said_by (joined.Texts parts) = e.Str (in_order parts.items)
 said_by (joined.Insensitive parts) = e.Insens (in_order parts.items)
 said_by (joined.Other x) = expression_of x
 
--- an operand inside what stands around it
+-- an operand inside a frame
 abbrev pub joined_with : Around → Expression → Expression
 joined_with around.PosPred x = e.PosPred x
 joined_with around.NegPred x = e.NegPred x
@@ -59,7 +59,7 @@ joined_with (around.FirstOfChoice right) x = e.Choice x (concatenated (expressio
 joined_with (around.SecondOfSeq left) x = joined_here (e.Seq (said_by left.value) x)
 joined_with (around.SecondOfChoice left) x = e.Choice (expression_of left.value.value) x
 
--- how much there is to be done once the operand is made
+-- a bound of the steps left once the operand is rebuilt
 abbrev pub waits_of : Around → ℕ
 waits_of (around.FirstOfSeq right) = 4 * weight (expression_of right.value.value) + 3
 waits_of (around.FirstOfChoice right) = 4 * weight (expression_of right.value.value) + 3

@@ -1,4 +1,4 @@
-//! Rules as optimized rules.
+//! The conversion of rules to optimized rules.
 ghost use Rattle.std.specs.Prelude.{◌≡◌, ◌*◌, [], IfOk};
 ghost use Rattle.meta_base.specs.Language.Expression.{Expression};
 ghost use Rattle.meta_ast.specs.Ast.{expression_of, rule_of_code};
@@ -19,7 +19,7 @@ use meta_ast::rebuilt::{Rebuild, Step, rebuilt};
 use meta_ast::shape::{Joint, Shape, Shaped};
 use std::alloc::{AllocError, Global};
 
-/// The same rule, as an optimized one. The only fault is a want of memory.
+/// Converts a rule to an optimized one. The only fault is an allocation failure.
 pub(crate) fn rule_to_optimized_rule(alloc: Global, rule: Rule) -> Result<OptimizedRule, AllocError>
     requires { IsUnrolled (expression_of rule.expr) }
     ensures { IfOk result (λ r. optimized_rule_of r ≡ rule_of_code rule) }
@@ -29,13 +29,13 @@ pub(crate) fn rule_to_optimized_rule(alloc: Global, rule: Rule) -> Result<Optimi
     Ok(OptimizedRule { name, ty, expr })
 }
 
-/// What stands around an operand while that is made an optimized one.
+/// A continuation frame of the conversion.
 #[derive(Drop)]
 enum Around {
     Sign(OptimizedSign),
     /// The operand is the left one, and this the right one.
     First(Joint, Deep<Box<Expr>>),
-    /// The operand is the right one, and this the left one as it is made.
+    /// The operand is the right one, and this the converted left one.
     Second(Joint, Deep<Box<OptimizedExpr>>),
 }
 
@@ -98,7 +98,7 @@ impl Rebuild for Around {
     }
 }
 
-/// What stands round an operand, as it stands round an optimized one.
+/// Converts the operator round an operand.
 fn optimized_sign(sign: Sign) -> OptimizedSign
     requires { IsUncounted sign }
     ensures { (operand : Expression) → under_sign result operand ≡ under (unary_of sign) operand }
@@ -117,7 +117,7 @@ fn optimized_sign(sign: Sign) -> OptimizedSign
     OptimizedSign::Plain(sign)
 }
 
-/// An expression without operands.
+/// Converts an expression without operands.
 fn optimized_leaf(leaf: Expr) -> OptimizedExpr
     requires { operands (expression_of leaf) ≡ [] }
     ensures { optimized_expression_of result ≡ expression_of leaf }

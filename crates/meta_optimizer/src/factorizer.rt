@@ -1,4 +1,4 @@
-//! Takes out what two alternatives have in common.
+//! The pass `factor`, which takes out the common part of two alternatives.
 ghost use Rattle.std.specs.Prelude.{◌≡◌, ◌≤◌, IfErr, IfOk};
 ghost use Rattle.std.specs.Bool.{OnTrue};
 ghost use Rattle.meta_base.specs.Language.Expression.{Choice, Seq};
@@ -17,10 +17,10 @@ use meta_ast::ast::{Expr, Rule, RuleType};
 use meta_ast::deep::Deep;
 use std::alloc::{AllocError, Global};
 
-/// The rule with what two alternatives have in common taken out, once at each choice, from the root down:
-/// `(l ~ r) | (l ~ q)` becomes `l ~ (r | q)`; in the two atomic types `(l ~ r) | l` becomes `l ~ r?`;
-/// `l | (l ~ r)` becomes `l`. Name and type stay, and so do the outcomes from every start, in every grammar
-/// that has the rule. The only fault is a want of memory.
+/// Returns the rule with the common part of two alternatives taken out, once at each choice, from the
+/// root down: `(l ~ r) | (l ~ q)` becomes `l ~ (r | q)`; in the two atomic types `(l ~ r) | l` becomes `l
+/// ~ r?`; `l | (l ~ r)` becomes `l`. Name and type stay, and so do the outcomes from every start, in
+/// every grammar that has the rule. The only fault is an allocation failure.
 pub fn factor(alloc: Global, rule: Rule) -> Result<Rule, Fault>
     ensures name { IfOk result (λ r. text_of r.name ≡ text_of rule.name) }
     ensures ty { IfOk result (λ r. r.ty ≡ rule.ty) }
@@ -63,7 +63,7 @@ impl Shrink for Factorizer {
     }
 }
 
-// Whether `left | right` stays.
+// Reports whether `left | right` stays.
 fn has_nothing_common(ty: RuleType, left: &Expr, right: &Expr) -> bool
     ensures { OnTrue result
         (factored_choice (rule_type_of ty) (expression_of left.now) (expression_of right.now)
@@ -80,7 +80,7 @@ fn has_nothing_common(ty: RuleType, left: &Expr, right: &Expr) -> bool
     }
 }
 
-// `left | right`, factored.
+// Factors `left | right`.
 fn factored(
     alloc: Global,
     ty: RuleType,
@@ -122,7 +122,7 @@ fn factored(
     }
 }
 
-// `front ~ back`.
+// Makes `front ~ back`.
 fn before(alloc: Global, front: Box<Expr>, back: Expr) -> Result<Expr, AllocError>
     ensures { IfOk result
         (λ e. expression_of e ≡ Seq (expression_of front.value) (expression_of back)) }
@@ -132,7 +132,7 @@ fn before(alloc: Global, front: Box<Expr>, back: Expr) -> Result<Expr, AllocErro
     Ok(Expr::Seq(front.into_inner(), back.into_inner()))
 }
 
-// `left | right`.
+// Makes `left | right`.
 fn beside(alloc: Global, left: Expr, right: Expr) -> Result<Expr, AllocError>
     ensures { IfOk result
         (λ e. expression_of e ≡ Choice (expression_of left) (expression_of right)) }
@@ -140,7 +140,7 @@ fn beside(alloc: Global, left: Expr, right: Expr) -> Result<Expr, AllocError>
     choice_of(alloc, Deep { value: left }, Deep { value: right })
 }
 
-// `(front ~ back) | right` in the atomic types, factored.
+// Factors `(front ~ back) | right` in the atomic types.
 fn optional(
     alloc: Global,
     front: Box<Expr>,

@@ -1,4 +1,4 @@
-//! Literals in sequence put together by a loop, however they nest: each text is copied once.
+//! The iterative join of literals in sequence, however they nest: every text is copied once.
 ghost use Rattle.std.specs.Prelude.{◌≡◌, ◌++◌, ◌*◌, ⊤, IfOk};
 ghost use Rattle.meta_base.specs.Language.Expression.{Expression, Insens, Seq, Str};
 ghost use Rattle.meta_ast.specs.Ast.{expression_of, text_of};
@@ -12,8 +12,8 @@ use meta_ast::rebuilt::{Rebuild, Step, rebuilt};
 use std::alloc::{AllocError, Global};
 use std::collections::VecDeque;
 
-/// The expression with two literals in sequence as one, at each node from the leaves up. The only fault is a
-/// want of memory.
+/// Returns the expression with two literals in sequence as one, at each node from the leaves up. The only
+/// fault is an allocation failure.
 pub(crate) fn with_literals_joined(alloc: Global, expr: Expr) -> Result<Expr, AllocError>
     ensures { IfOk result (λ e. expression_of e ≡ concatenated (expression_of expr)) }
 {
@@ -21,8 +21,8 @@ pub(crate) fn with_literals_joined(alloc: Global, expr: Expr) -> Result<Expr, Al
     whole(alloc, joined)
 }
 
-// An expression that is made. A literal of several is kept in parts, so that others can be put before it and
-// behind it.
+// A rebuilt expression. A literal of several is kept in parts, so that others can be put before it and
+// after it.
 #[derive(Drop)]
 enum Joined {
     Texts(VecDeque<String>),
@@ -39,7 +39,7 @@ impl Release for Joined {
     }
 }
 
-// What stands around an operand.
+// A continuation frame of the join.
 #[derive(Drop)]
 enum Around {
     PosPred,
@@ -53,7 +53,8 @@ enum Around {
     RepMinMax(u32, u32),
     Push,
     NodeTag(String),
-    // A `~` or a `|` whose left side is at hand, with the right one; and with the left one as it is made.
+    // The left side of a `~` or a `|` is being rebuilt, and the right one waits; or the left one is
+    // rebuilt.
     FirstOfSeq(Deep<Box<Expr>>),
     FirstOfChoice(Deep<Box<Expr>>),
     SecondOfSeq(Deep<Joined>),
@@ -141,7 +142,7 @@ impl Rebuild for Around {
     }
 }
 
-// What is made, as an expression.
+// Makes an expression of a rebuilt one.
 fn whole(alloc: Global, joined: Joined) -> Result<Expr, AllocError>
     ensures { IfOk result (λ e. expression_of e ≡ said_by joined) }
 {
@@ -161,7 +162,7 @@ fn boxed(alloc: Global, joined: Joined) -> Result<Box<Expr>, AllocError>
     Ok(expr.boxed(alloc)?.into_inner())
 }
 
-// The texts one after another.
+// Concatenates texts.
 fn together(alloc: Global, texts: VecDeque<String>) -> Result<String, AllocError>
     ensures { IfOk result (λ text. text_of text ≡ in_order texts.items) }
 {
@@ -173,7 +174,7 @@ fn together(alloc: Global, texts: VecDeque<String>) -> Result<String, AllocError
     Ok(text)
 }
 
-// `left ~ right`, or one literal.
+// Makes `left ~ right`, or one literal.
 fn beside(alloc: Global, left: Joined, right: Joined) -> Result<Joined, AllocError>
     ensures { IfOk result
         (λ j. said_by j ≡ joined_here (Seq (said_by left) (said_by right))) }
@@ -185,7 +186,7 @@ fn beside(alloc: Global, left: Joined, right: Joined) -> Result<Joined, AllocErr
     }
 }
 
-// The same, where a literal of several stands on the left.
+// Makes `left ~ right`, or one literal, where the left side is a literal of several.
 fn behind_texts(alloc: Global, first: VecDeque<String>, right: Joined) -> Result<Joined, AllocError>
     ensures { IfOk result
         (λ j. said_by j ≡ joined_here (Seq (Str (in_order first.items)) (said_by right))) }
@@ -197,7 +198,7 @@ fn behind_texts(alloc: Global, first: VecDeque<String>, right: Joined) -> Result
     }
 }
 
-// The same of letters of either case.
+// Makes `left ~ right`, or one literal, where the left side is a case-insensitive literal of several.
 fn behind_insensitive(
     alloc: Global,
     first: VecDeque<String>,
@@ -213,7 +214,7 @@ fn behind_insensitive(
     }
 }
 
-// The same, where an expression stands on the left that was not put together.
+// Makes `left ~ right`, or one literal, where the left side is no literal of several.
 fn behind_other(alloc: Global, left: Expr, right: Joined) -> Result<Joined, AllocError>
     ensures { IfOk result
         (λ j. said_by j ≡ joined_here (Seq (expression_of left) (said_by right))) }
@@ -233,7 +234,7 @@ fn behind_other(alloc: Global, left: Expr, right: Joined) -> Result<Joined, Allo
     }
 }
 
-// `left ~ right` itself.
+// Makes `left ~ right` itself.
 fn apart(alloc: Global, left: Expr, right: Joined) -> Result<Joined, AllocError>
     ensures { IfOk result (λ j. said_by j ≡ Seq (expression_of left) (said_by right)) }
 {
@@ -243,7 +244,7 @@ fn apart(alloc: Global, left: Expr, right: Joined) -> Result<Joined, AllocError>
     Ok(Joined::Other(Expr::Seq(left.into_inner(), right)))
 }
 
-// The parts of a text of two.
+// Makes the parts of a text of two.
 fn two(alloc: Global, first: String, last: String) -> Result<VecDeque<String>, AllocError>
     ensures { IfOk result (λ all. in_order all.items ≡ text_of first ++ text_of last) }
 {
@@ -253,7 +254,7 @@ fn two(alloc: Global, first: String, last: String) -> Result<VecDeque<String>, A
     Ok(all)
 }
 
-// The parts of a text, with another one before them.
+// Puts a part before the parts of a text.
 fn before(first: String, parts: VecDeque<String>) -> Result<VecDeque<String>, AllocError>
     ensures { IfOk result (λ all. in_order all.items ≡ text_of first ++ in_order parts.items) }
 {
@@ -262,7 +263,7 @@ fn before(first: String, parts: VecDeque<String>) -> Result<VecDeque<String>, Al
     Ok(all)
 }
 
-// The parts of a text, with another one behind them.
+// Puts a part after the parts of a text.
 fn behind(parts: VecDeque<String>, last: String) -> Result<VecDeque<String>, AllocError>
     ensures { IfOk result (λ all. in_order all.items ≡ in_order parts.items ++ text_of last) }
 {
@@ -271,7 +272,7 @@ fn behind(parts: VecDeque<String>, last: String) -> Result<VecDeque<String>, All
     Ok(all)
 }
 
-// The parts of two texts, one text behind the other. The fewer of them are moved, so that no part is moved
+// Appends the parts of a text to those of another. The shorter list is moved, so that no part is moved
 // often.
 fn both(first: VecDeque<String>, last: VecDeque<String>) -> Result<VecDeque<String>, AllocError>
     ensures { IfOk result (λ all. in_order all.items ≡ in_order first.items ++ in_order last.items) }
@@ -285,7 +286,7 @@ fn both(first: VecDeque<String>, last: VecDeque<String>) -> Result<VecDeque<Stri
     Ok(all)
 }
 
-// The parts of two texts, where the first ones are moved.
+// Appends the parts of a text to those of another by moving the first ones.
 fn all_before(
     first: VecDeque<String>,
     last: VecDeque<String>,

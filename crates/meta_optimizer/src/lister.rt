@@ -1,4 +1,4 @@
-//! Lists: `(x ~ y)* ~ x` as `x ~ (y ~ x)*`.
+//! The pass `list`: `(x ~ y)* ~ x` as `x ~ (y ~ x)*`.
 ghost use Rattle.std.specs.Prelude.{◌≡◌, IfErr, IfOk};
 ghost use Rattle.std.specs.Bool.{OnTrue};
 ghost use Rattle.meta_base.specs.Language.Expression.{Rep, Seq};
@@ -15,9 +15,9 @@ use meta_ast::ast::{Expr, Rule};
 use meta_ast::deep::Deep;
 use std::alloc::{AllocError, Global};
 
-/// The rule with each `(x ~ y)* ~ x` as `x ~ (y ~ x)*`, what stands inside first. Name and type stay. Of an
-/// Atomic or CompoundAtomic rule that is such a list, what it matched is matched still; else a listed rule
-/// may match otherwise. The only fault is a want of memory.
+/// Returns the rule with each `(x ~ y)* ~ x` as `x ~ (y ~ x)*`, inner ones first. Name and type stay.
+/// Where an Atomic or CompoundAtomic rule is such a list, the result matches all that the rule matched;
+/// else a listed rule may match otherwise. The only fault is an allocation failure.
 pub fn list(alloc: Global, rule: Rule) -> Result<Rule, Fault>
     ensures name { IfOk result (λ r. text_of r.name ≡ text_of rule.name) }
     ensures ty { IfOk result (λ r. r.ty ≡ rule.ty) }
@@ -58,7 +58,7 @@ impl Finish for Lister {
     }
 }
 
-// Whether `left ~ right` stays.
+// Reports whether `left ~ right` stays.
 fn is_no_list(left: &Expr, right: &Expr) -> bool
     ensures { OnTrue result
         (listed_sequence (expression_of left.now) (expression_of right.now)
@@ -73,7 +73,7 @@ fn is_no_list(left: &Expr, right: &Expr) -> bool
     }
 }
 
-// `left ~ right`, listed.
+// Lists `left ~ right`.
 fn sequence(alloc: Global, left: Expr, right: Expr) -> Result<Expr, AllocError>
     ensures { IfOk result
         (λ e. expression_of e ≡ listed_sequence (expression_of left) (expression_of right)) }
@@ -95,7 +95,7 @@ fn sequence(alloc: Global, left: Expr, right: Expr) -> Result<Expr, AllocError>
     }
 }
 
-// `x ~ (y ~ right)*`.
+// Makes `x ~ (y ~ right)*`.
 fn turned(
     alloc: Global,
     x: Deep<Box<Expr>>,
@@ -113,7 +113,7 @@ fn turned(
     Ok(Expr::Seq(x.into_inner(), turns.into_inner()))
 }
 
-// `turn* ~ right`.
+// Makes `turn* ~ right`.
 fn again(alloc: Global, turn: Deep<Expr>, right: Deep<Expr>) -> Result<Expr, AllocError>
     ensures { IfOk result
         (λ e. expression_of e ≡ Seq (Rep (expression_of turn.value)) (expression_of right.value)) }

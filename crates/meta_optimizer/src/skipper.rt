@@ -1,4 +1,4 @@
-//! Goes to the next of some texts, in place of looking for them at each character.
+//! The pass `skip`, which makes forward searches of repetitions.
 ghost use Rattle.std.specs.Prelude.{◌≡◌, IfErr, IfOk};
 ghost use Rattle.std.specs.Bool.{OnTrue};
 ghost use Rattle.meta_base.specs.Language.Expression.{Grammar};
@@ -17,12 +17,12 @@ use meta_ast::deep::Deep;
 use std::alloc::{AllocError, Global};
 use std::collections::HashMap;
 
-/// The rule; if it is Atomic, with each `(!c ~ ANY)*` as a run to the next of the strings of `c`, or to the
-/// end. A literal stands for itself, a name for what the rule's body stands for, and `x | r`, where `x` is a
-/// literal or a name, for the strings of `x` and then those of `r`; where anything else is met, or a cycle of
-/// names, the repetition stays. Names are looked up in `bodies`, so over the grammar whose bodies they are a
-/// chain of steps leads there, and where no rule of it is named `ANY`, the outcomes from every start stay.
-/// Name and type stay. The only fault is a want of memory.
+/// Returns the rule; if it is Atomic, with each `(!c ~ ANY)*` as a forward search to the next of the
+/// strings of `c`, or to the end. A literal denotes itself, a name the strings of the rule's body, and `x
+/// | r`, where `x` is a literal or a name, the strings of `x` and then those of `r`; for anything else,
+/// or a cycle of names, the repetition stays. Names are looked up in `bodies`, so over the grammar whose
+/// bodies they are a chain of steps leads there, and where no rule of it is named `ANY`, the outcomes
+/// from every start stay. Name and type stay. The only fault is an allocation failure.
 pub fn skip(alloc: Global, rule: Rule, bodies: &HashMap<String, Expr>) -> Result<Rule, Fault>
     ensures name { IfOk result (λ r. text_of r.name ≡ text_of rule.name) }
     ensures ty { IfOk result (λ r. r.ty ≡ rule.ty) }
@@ -41,7 +41,7 @@ pub fn skip(alloc: Global, rule: Rule, bodies: &HashMap<String, Expr>) -> Result
     skip_with(alloc, rule.into_inner(), bodies, &names)
 }
 
-/// The same, where it is told already which names stand for strings.
+/// Does the same as `skip`, given the names that denote strings.
 pub(crate) fn skip_with(
     alloc: Global,
     rule: Rule,
@@ -97,7 +97,7 @@ impl Shrink for Skipper<'_> {
     }
 }
 
-/// Whether an expression is anything but `(!c ~ n)*`.
+/// Reports whether an expression is anything but `(!c ~ n)*`.
 pub(crate) fn is_no_turn(expr: &Expr) -> bool
     ensures { OnTrue result (IsTurn (expression_of expr.now) → ⊥) }
 {
@@ -116,7 +116,7 @@ pub(crate) fn is_no_turn(expr: &Expr) -> bool
     }
 }
 
-// The strings of `c`, where the expression is `!c ~ ANY`.
+// Returns the strings of `c`, where the expression is `!c ~ ANY`.
 fn texts_until(
     alloc: Global,
     bodies: &HashMap<String, Expr>,

@@ -1,4 +1,5 @@
-//! The strings that an expression stands for, where it is a literal, a name or a choice of such.
+//! The strings that an expression denotes, where it is a literal, a name or a choice of such: a
+//! depth-first search over names.
 ghost use Rattle.std.specs.Prelude.{◌≡◌, IfOk, OnOk, MatchOption, map, string_bytes};
 ghost use Rattle.meta_base.specs.Language.Expression.{Grammar};
 ghost use Rattle.meta_base.specs.Rewritings.Rewriting.{Strings};
@@ -9,17 +10,17 @@ use meta_ast::ast::Expr;
 use std::alloc::{AllocError, Global};
 use std::collections::HashMap;
 
-/// Which names of some bodies stand for strings.
+/// The names of some bodies that denote strings.
 #[derive(Drop)]
 pub(crate) struct Names<'a> {
-    /// True at a name that stands for strings; false at one that stands for none, or is looked for.
+    /// True at a name that denotes strings; false at one that denotes none, or is being searched.
     met: HashMap<&'a str, bool>,
-    /// Those that stand for strings.
+    /// The names that denote strings.
     known: Vec<&'a str>,
 }
 
-/// What comes next in an expression: it stands for no strings, all its names are known, or a name
-/// is not, with what stands behind it.
+/// The next find in an expression: no strings, or strings by known names alone, or a name that is not
+/// known, with the expression after it.
 #[derive(Drop)]
 pub(crate) enum Found<'a> {
     Nothing,
@@ -27,21 +28,22 @@ pub(crate) enum Found<'a> {
     Name(&'a str, Option<&'a Expr>),
 }
 
-/// A name whose strings are looked for, and what stands behind it where it is called.
+/// A name that is being searched, and the expression after its call.
 #[derive(Drop)]
 pub(crate) struct Caller<'a> {
     name: &'a str,
     behind: Option<&'a Expr>,
 }
 
-/// An expression whose strings are still to be told, and how many names may lie below one another.
+/// An expression whose strings are still to be collected, and how many names may be nested in each other.
 #[derive(Drop)]
 pub(crate) struct Part<'a> {
     expr: &'a Expr,
     names: usize,
 }
 
-/// Which names stand for strings, each being looked through once. The only fault is a want of memory.
+/// Finds the names that denote strings, and searches every name once. The only fault is an allocation
+/// failure.
 pub(crate) fn names_with_strings<'a>(
     alloc: Global,
     bodies: &'a HashMap<String, Expr>,
@@ -58,8 +60,8 @@ pub(crate) fn names_with_strings<'a>(
     Ok(names)
 }
 
-/// The strings of an expression, names being looked up in `bodies`; none where there is a name of no rule, a
-/// cycle of names or anything else. The only fault is a want of memory.
+/// Collects the strings of an expression, where names are looked up in `bodies`; answers none where there
+/// is a name of no rule, a cycle of names or anything else. The only fault is an allocation failure.
 pub(crate) fn strings_of(
     alloc: Global,
     bodies: &HashMap<String, Expr>,
@@ -75,7 +77,7 @@ pub(crate) fn strings_of(
     }
 }
 
-// The leaf that stands first, and what stands behind it.
+// Splits an expression into its first leaf and the expression after it.
 fn split(expr: &Expr) -> (&Expr, Option<&Expr>)
     ensures { Splits (expression_of expr.now) (expression_of result.0.now) result.1 }
 {
@@ -85,7 +87,7 @@ fn split(expr: &Expr) -> (&Expr, Option<&Expr>)
     }
 }
 
-// Goes along an expression up to a name that was not met yet.
+// Walks along an expression to the first name that is not visited yet.
 fn next_name<'a>(met: &HashMap<&'a str, bool>, expr: &'a Expr) -> Found<'a>
     ensures { FindsNext met.now (expression_of expr.now) result }
 {
@@ -108,7 +110,7 @@ fn next_name<'a>(met: &HashMap<&'a str, bool>, expr: &'a Expr) -> Found<'a>
     }
 }
 
-// Looks through a name and those that it reaches, but for those that are met already.
+// Searches a name and those that it reaches, but for visited ones.
 fn look_through<'a>(
     alloc: Global,
     bodies: &'a HashMap<String, Expr>,
@@ -156,7 +158,7 @@ fn look_through<'a>(
     }
 }
 
-// The strings, where fewer than so many names lie below one another.
+// Collects the strings, where fewer than `names` names are nested in each other.
 fn texts_within(
     alloc: Global,
     bodies: &HashMap<String, Expr>,

@@ -1,6 +1,6 @@
-//! Something done once at each node of an expression, from the root down or from the leaves up.
+//! Traversals: a pass at each node of an expression, from the root down or from the leaves up.
 //!
-//! Both go by the maps of expressions, which are loops: neither width nor depth takes the machine's stack.
+//! Both use the maps of expressions, which are iterative: neither width nor depth takes stack space.
 ghost use Rattle.std.specs.Prelude.{◌≡◌, ◌≤◌, IfOk, Ok};
 ghost use Rattle.std.specs.Bool.{OnTrue};
 ghost use Rattle.meta_base.specs.Language.Expression.{Expression};
@@ -14,16 +14,16 @@ use meta_ast::deep::Deep;
 use meta_base::runtime::Fault;
 use std::alloc::{AllocError, Global};
 
-/// What is done at each node.
+/// A pass over the nodes of an expression.
 pub(crate) trait Pass {
     ghost gives: { Self → Expression → Expression → Type 0 };
 
-    /// Whether nothing is done at a node.
+    /// Reports whether a node stays.
     fn stays_at(&self, node: &Expr) -> bool
         ensures { OnTrue result (gives self.now (expression_of node.now) (expression_of node.now)) };
 }
 
-/// What is done at a node from the root down. It makes no expression larger.
+/// A pass from the root down, which makes no expression larger.
 pub(crate) trait Shrink: Pass {
     fn shrink(&self, alloc: Global, expr: Expr) -> Result<Expr, AllocError>
         ensures gives { IfOk result (λ e. Self.gives self.now (expression_of expr) (expression_of e)) }
@@ -31,7 +31,7 @@ pub(crate) trait Shrink: Pass {
             (λ e. count_of_nodes (expression_of e) ≤ count_of_nodes (expression_of expr)) };
 }
 
-/// The expression with `pass` done at each node from the root down.
+/// Runs `pass` at each node from the root down.
 pub(crate) fn top_down<P: Shrink>(alloc: Global, pass: &P, expr: Expr) -> Result<Expr, AllocError>
     ensures { IfOk result (λ e. TopDown (P.gives pass.now) (expression_of expr) (expression_of e)) }
 {
@@ -45,13 +45,13 @@ pub(crate) fn top_down<P: Shrink>(alloc: Global, pass: &P, expr: Expr) -> Result
     only_memory(mapped)
 }
 
-/// What is done at a node from the leaves up.
+/// A pass from the leaves up.
 pub(crate) trait Finish: Pass {
     fn finish(&self, alloc: Global, expr: Expr) -> Result<Expr, AllocError>
         ensures { IfOk result (λ e. Self.gives self.now (expression_of expr) (expression_of e)) };
 }
 
-/// The expression with `pass` done at each node from the leaves up.
+/// Runs `pass` at each node from the leaves up.
 pub(crate) fn bottom_up<P: Finish>(alloc: Global, pass: &P, expr: Expr) -> Result<Expr, AllocError>
     ensures { IfOk result (λ e. BottomUp (P.gives pass.now) (expression_of expr) (expression_of e)) }
 {
@@ -65,7 +65,7 @@ pub(crate) fn bottom_up<P: Finish>(alloc: Global, pass: &P, expr: Expr) -> Resul
     only_memory(mapped)
 }
 
-/// Whether nothing is done at any node, so that no node needs to be made anew.
+/// Reports whether every node stays, so that none needs to be rebuilt.
 pub(crate) fn all_stay<P: Pass>(alloc: Global, pass: &P, expr: &Expr) -> Result<bool, AllocError>
     ensures { IfOk result (λ yes. OnTrue yes (AllStay (P.gives pass.now) (expression_of expr.now))) }
 {
@@ -97,7 +97,7 @@ pub(crate) enum Held<'a> {
     Two(&'a Expr, &'a Expr),
 }
 
-/// The operands that an expression has.
+/// Returns the operands of an expression.
 pub(crate) fn held_by<'a>(expr: &'a Expr) -> Held<'a>
     ensures { said_of result ≡ operands (expression_of expr.now) }
 {
@@ -120,7 +120,7 @@ pub(crate) fn held_by<'a>(expr: &'a Expr) -> Held<'a>
     }
 }
 
-// What a map answers whose closure knows no fault but a want of memory.
+// Unwraps the answer of a map whose closure has no fault but an allocation failure.
 fn only_memory(mapped: Result<Expr, Fault>) -> Result<Expr, AllocError>
     ensures { IfOk result (λ e. mapped ≡ Ok e) }
 {
