@@ -14,9 +14,9 @@ use Rattle.meta_base.specs.Rewritings.Rewriting.{IsLeaf, SkipsUntil, Strings}
 use Rattle.meta_ast.specs.Ast.{expression_of, text_of}
 use Rattle.meta_ast.specs.declared.ast.Expr.{Expr}
 use Rattle.meta_optimizer.specs.Traversals.{AllStay}
-use Rattle.meta_optimizer.specs.declared.strings.Names.{Names}
-use Rattle.meta_optimizer.specs.declared.strings.Found.{Found}
-use Rattle.meta_optimizer.specs.declared.strings.Found.TheVariants as found
+use Rattle.meta_optimizer.specs.declared.strings.StringNames.{StringNames}
+use Rattle.meta_optimizer.specs.declared.strings.NameSearch.{NameSearch}
+use Rattle.meta_optimizer.specs.declared.strings.NameSearch.TheVariants as found
 
 -- the map holds the body of the rule that a name means, for every name
 abbrev pub HoldsBodies : {S : Type 0} → HashMap (String Global) Expr S → Grammar → Type 0
@@ -69,17 +69,17 @@ module _ (g : Grammar) where
   HasNoStrings e = (ts : List Text) → Strings g e ts → ⊥
 
   -- the expression after a leaf, if there is one, has strings
-  abbrev pub BehindHas : ℕ → Option (Bor Expr) → Type 0
-  BehindHas k None = ⊤
-  BehindHas k (Some e) = HasStrings k (expression_of e.now)
+  abbrev pub RestHas : ℕ → Option (Bor Expr) → Type 0
+  RestHas k None = ⊤
+  RestHas k (Some e) = HasStrings k (expression_of e.now)
 
-  abbrev pub BehindHasNone : Option (Bor Expr) → Type 0
-  BehindHasNone None = ⊥
-  BehindHasNone (Some e) = HasNoStrings (expression_of e.now)
+  abbrev pub RestHasNone : Option (Bor Expr) → Type 0
+  RestHasNone None = ⊥
+  RestHasNone (Some e) = HasNoStrings (expression_of e.now)
 
-abbrev pub BehindNeeds : Option (Bor Expr) → Text → Type 0
-BehindNeeds None n = ⊥
-BehindNeeds (Some e) n = Needs (expression_of e.now) n
+abbrev pub RestNeeds : Option (Bor Expr) → Text → Type 0
+RestNeeds None n = ⊥
+RestNeeds (Some e) n = Needs (expression_of e.now) n
 
 -- the state of a name: true where its strings are known, and false where the search for them goes on
 abbrev pub met_at : {S : Type 0} → HashMap (Bor (List ℕ)) Bool S → List ℕ → Option Bool
@@ -96,13 +96,13 @@ pub record FindsName {S : Type 0} (m : HashMap (Bor (List ℕ)) Bool S) (e : Exp
   pub spelled : (s : String Global) × (string_bytes s ≡ n)
   pub needed : Needs e (chars n)
   pub gives : (g : Grammar) (k : ℕ) → KnownHave m g k → HasStrings g k (Ident (chars n))
-      → BehindHas g k behind → HasStrings g k e
-  pub behind_needed : (j : Text) → BehindNeeds behind j → Needs e j
-  pub behind_fails : (g : Grammar) → BehindHasNone g behind → HasNoStrings g e
+      → RestHas g k behind → HasStrings g k e
+  pub behind_needed : (j : Text) → RestNeeds behind j → Needs e j
+  pub behind_fails : (g : Grammar) → RestHasNone g behind → HasNoStrings g e
 
 -- an expression has no strings, unless names that are searched have some; or it has strings; or a name is
 -- to be searched
-abbrev pub FindsNext : {S : Type 0} → HashMap (Bor (List ℕ)) Bool S → Expression → Found → Type 0
+abbrev pub FindsNext : {S : Type 0} → HashMap (Bor (List ℕ)) Bool S → Expression → NameSearch → Type 0
 FindsNext m e found.Nothing =
     (g : Grammar) → ((n : List ℕ) → met_at m n ≡ Some false → Needs e (chars n)
     → HasNoStrings g (Ident (chars n))) → HasNoStrings g e
@@ -115,33 +115,33 @@ Splits e first None = (e ≡ first) × ((a b : Expression) → e ≡ Choice a b 
 Splits e first (Some others) = e ≡ Choice first (expression_of others.now)
 
 -- a name is visited
-abbrev pub IsMet : Names → List ℕ → Type 0
+abbrev pub IsMet : StringNames → List ℕ → Type 0
 IsMet names n = met_at names.met n ≡ None → ⊥
 
 -- no name that was visited is forgotten, and one is visited that has a body
-pub record HaveMet {S : Type 0} (m : HashMap (String Global) Expr S) (before after : Names) (n : List ℕ)
+pub record HaveMet {S : Type 0} (m : HashMap (String Global) Expr S) (before after : StringNames) (n : List ℕ)
     : Type 0 where
   pub kept : (q : List ℕ) → IsMet before q → IsMet after q
   pub here : (get_by_text m n ≡ None → ⊥) → IsMet after n
 
 -- the known names have strings, and the other visited names have none
-pub record AreRight (names : Names) (g : Grammar) : Type 0 where
+pub record AreRight (names : StringNames) (g : Grammar) : Type 0 where
   pub have : KnownHave names.met g (vec_len names.known)
   pub have_none : (n : List ℕ) → met_at names.met n ≡ Some false → HasNoStrings g (Ident (chars n))
 
 -- the known names have strings, and all others have none
-pub record Tells (names : Names) (g : Grammar) : Type 0 where
+pub record AreAllRight (names : StringNames) (g : Grammar) : Type 0 where
   pub right : AreRight names g
   pub unmet : (s : String Global) → met_at names.met (string_bytes s) ≡ None
       → HasNoStrings g (Ident (text_of s))
 
 -- the map holds the bodies of a grammar, and the names with strings are right for it
-abbrev pub Serve : {S : Type 0} → HashMap (String Global) Expr S → Names → Grammar → Type 0
-Serve m names g = HoldsBodies m g × Tells names g
+abbrev pub Serve : {S : Type 0} → HashMap (String Global) Expr S → StringNames → Grammar → Type 0
+Serve m names g = HoldsBodies m g × AreAllRight names g
 
 -- the names with strings are right for every grammar whose bodies the map holds
-abbrev pub AreTold : {S : Type 0} → HashMap (String Global) Expr S → Names → Type 0
-AreTold m names = (g : Grammar) → HoldsBodies m g → Tells names g
+abbrev pub AreRightForAll : {S : Type 0} → HashMap (String Global) Expr S → StringNames → Type 0
+AreRightForAll m names = (g : Grammar) → HoldsBodies m g → AreAllRight names g
 
 -- none, or all of them in order
 abbrev pub StringsOrNone : Grammar → Expression → Option (Vec (String Global) Global) → Type 0

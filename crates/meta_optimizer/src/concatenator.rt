@@ -30,7 +30,7 @@ pub fn concatenate(alloc: Global, rule: Rule) -> Result<Rule, Fault>
     let Rule { name, ty, expr } = rule;
     match ty {
         RuleType::Atomic => {
-            let expr = joined(alloc, expr)?;
+            let expr = join_literals(alloc, expr)?;
             Ok(Rule { name, ty, expr })
         }
         _ => Ok(Rule { name, ty, expr }),
@@ -55,7 +55,7 @@ impl Pass for Concatenator {
 }
 
 // Joins the literals of an expression.
-fn joined(alloc: Global, expr: Expr) -> Result<Expr, AllocError>
+fn join_literals(alloc: Global, expr: Expr) -> Result<Expr, AllocError>
     ensures { IfOk result
         (λ e. BottomUp (λ a b. joined_here a ≡ b) (expression_of expr) (expression_of e)) }
 {

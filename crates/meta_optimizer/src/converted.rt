@@ -25,13 +25,13 @@ pub(crate) fn rule_to_optimized_rule(alloc: Global, rule: Rule) -> Result<Optimi
     ensures { IfOk result (λ r. optimized_rule_of r ≡ rule_of_code rule) }
 {
     let Rule { name, ty, expr } = rule;
-    let expr = rebuilt::<Around>(alloc, expr)?;
+    let expr = rebuilt::<ConversionFrame>(alloc, expr)?;
     Ok(OptimizedRule { name, ty, expr })
 }
 
 /// A continuation frame of the conversion.
 #[derive(Drop)]
-enum Around {
+enum ConversionFrame {
     Sign(OptimizedSign),
     /// The operand is the left one, and this the right one.
     First(Joint, Deep<Box<Expr>>),
@@ -39,7 +39,7 @@ enum Around {
     Second(Joint, Deep<Box<OptimizedExpr>>),
 }
 
-impl Rebuild for Around {
+impl Rebuild for ConversionFrame {
     type Source = Expr;
 
     type Target = OptimizedExpr;
@@ -61,15 +61,15 @@ impl Rebuild for Around {
     ghost waits = { λ around. waits_of around };
 
     #[tactic(auto, using(crate::proofs::Converting::uncounted))]
-    fn open(expr: Expr) -> Result<Step<Expr, Around, OptimizedExpr>, AllocError> {
+    fn open(expr: Expr) -> Result<Step<Expr, ConversionFrame, OptimizedExpr>, AllocError> {
         match expr.open() {
-            Shape::Leaf(leaf) => Ok(Step::Made(optimized_leaf(leaf))),
+            Shape::Leaf(leaf) => Ok(Step::Made(convert_leaf(leaf))),
             Shape::One(sign, operand) => {
-                let around = Around::Sign(optimized_sign(sign));
+                let around = ConversionFrame::Sign(convert_operator(sign));
                 Ok(Step::Inside(around, Box::into_inner(operand)))
             }
             Shape::Two(joint, left, right) => {
-                let around = Around::First(joint, Deep { value: right });
+                let around = ConversionFrame::First(joint, Deep { value: right });
                 Ok(Step::Inside(around, Box::into_inner(left)))
             }
         }
@@ -79,18 +79,18 @@ impl Rebuild for Around {
         self,
         alloc: Global,
         operand: OptimizedExpr,
-    ) -> Result<Step<Expr, Around, OptimizedExpr>, AllocError> {
+    ) -> Result<Step<Expr, ConversionFrame, OptimizedExpr>, AllocError> {
         let operand = Deep { value: operand }.boxed(alloc)?;
         match self {
-            Around::Sign(sign) => {
+            ConversionFrame::Sign(sign) => {
                 let whole = OptimizedExpr::enclose(sign, operand.into_inner());
                 Ok(Step::Made(whole))
             }
-            Around::First(joint, right) => {
-                let around = Around::Second(joint, operand);
+            ConversionFrame::First(joint, right) => {
+                let around = ConversionFrame::Second(joint, operand);
                 Ok(Step::Inside(around, Box::into_inner(right.into_inner())))
             }
-            Around::Second(joint, left) => {
+            ConversionFrame::Second(joint, left) => {
                 let whole = OptimizedExpr::join(joint, left.into_inner(), operand.into_inner());
                 Ok(Step::Made(whole))
             }
@@ -99,7 +99,7 @@ impl Rebuild for Around {
 }
 
 /// Converts the operator round an operand.
-fn optimized_sign(sign: Sign) -> OptimizedSign
+fn convert_operator(sign: Sign) -> OptimizedSign
     requires { IsUncounted sign }
     ensures { (operand : Expression) → under_sign result operand ≡ under (unary_of sign) operand }
 {
@@ -118,7 +118,7 @@ fn optimized_sign(sign: Sign) -> OptimizedSign
 }
 
 /// Converts an expression without operands.
-fn optimized_leaf(leaf: Expr) -> OptimizedExpr
+fn convert_leaf(leaf: Expr) -> OptimizedExpr
     requires { operands (expression_of leaf) ≡ [] }
     ensures { optimized_expression_of result ≡ expression_of leaf }
 {

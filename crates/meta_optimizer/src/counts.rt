@@ -4,7 +4,7 @@ ghost use Rattle.meta_base.specs.Language.WellFormed.{CountIsReadable, HasReadab
 ghost use Rattle.meta_ast.specs.Ast.{expression_of, rules_of};
 ghost use Rattle.meta_optimizer.specs.Counts.{IsNoPair, PartsAreReadable};
 
-use crate::traversal::{Held, held_by};
+use crate::traversal::{Children, children_of};
 use meta_ast::ast::{Expr, Rule};
 use std::alloc::{AllocError, Global};
 
@@ -41,12 +41,12 @@ fn is_readable_by_list(alloc: Global, expr: &Expr) -> Result<bool, AllocError>
         if !has_readable_count(node) {
             return Ok(false);
         }
-        match held_by(node) {
-            Held::Nothing => {}
-            Held::One(inner) => {
+        match children_of(node) {
+            Children::Nothing => {}
+            Children::One(inner) => {
                 waiting.push(inner)?;
             }
-            Held::Two(left, right) => {
+            Children::Two(left, right) => {
                 waiting.push(right)?;
                 waiting.push(left)?;
             }

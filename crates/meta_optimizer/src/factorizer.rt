@@ -57,7 +57,7 @@ impl Pass for Factorizer {
 impl Shrink for Factorizer {
     fn shrink(&self, alloc: Global, expr: Expr) -> Result<Expr, AllocError> {
         match expr {
-            Expr::Choice(left, right) => factored(alloc, self.ty, left, right),
+            Expr::Choice(left, right) => factor_choice(alloc, self.ty, left, right),
             other => Ok(other),
         }
     }
@@ -81,7 +81,7 @@ fn has_nothing_common(ty: RuleType, left: &Expr, right: &Expr) -> bool
 }
 
 // Factors `left | right`.
-fn factored(
+fn factor_choice(
     alloc: Global,
     ty: RuleType,
     left: Box<Expr>,
@@ -96,18 +96,18 @@ fn factored(
             (_, Expr::Seq(other_front, other_back)) => {
                 if *front == *other_front {
                     Box::into_inner(other_front).release();
-                    return before(alloc, front, Expr::Choice(back, other_back));
+                    return make_sequence(alloc, front, Expr::Choice(back, other_back));
                 }
-                beside(
+                make_choice(
                     alloc,
                     Expr::Seq(front, back),
                     Expr::Seq(other_front, other_back),
                 )
             }
-            (RuleType::Atomic | RuleType::CompoundAtomic, right) => optional(
+            (RuleType::Atomic | RuleType::CompoundAtomic, right) => factor_optional(
                 alloc, front, back, right,
             ),
-            (_, right) => beside(alloc, Expr::Seq(front, back), right),
+            (_, right) => make_choice(alloc, Expr::Seq(front, back), right),
         },
         left => match Box::into_inner(right) {
             Expr::Seq(front, back) => {
@@ -115,15 +115,15 @@ fn factored(
                     Expr::Seq(front, back).release();
                     return Ok(left);
                 }
-                beside(alloc, left, Expr::Seq(front, back))
+                make_choice(alloc, left, Expr::Seq(front, back))
             }
-            right => beside(alloc, left, right),
+            right => make_choice(alloc, left, right),
         },
     }
 }
 
 // Makes `front ~ back`.
-fn before(alloc: Global, front: Box<Expr>, back: Expr) -> Result<Expr, AllocError>
+fn make_sequence(alloc: Global, front: Box<Expr>, back: Expr) -> Result<Expr, AllocError>
     ensures { IfOk result
         (λ e. expression_of e ≡ Seq (expression_of front.value) (expression_of back)) }
 {
@@ -133,7 +133,7 @@ fn before(alloc: Global, front: Box<Expr>, back: Expr) -> Result<Expr, AllocErro
 }
 
 // Makes `left | right`.
-fn beside(alloc: Global, left: Expr, right: Expr) -> Result<Expr, AllocError>
+fn make_choice(alloc: Global, left: Expr, right: Expr) -> Result<Expr, AllocError>
     ensures { IfOk result
         (λ e. expression_of e ≡ Choice (expression_of left) (expression_of right)) }
 {
@@ -141,7 +141,7 @@ fn beside(alloc: Global, left: Expr, right: Expr) -> Result<Expr, AllocError>
 }
 
 // Factors `(front ~ back) | right` in the atomic types.
-fn optional(
+fn factor_optional(
     alloc: Global,
     front: Box<Expr>,
     back: Box<Expr>,
@@ -153,7 +153,7 @@ fn optional(
 {
     if *front == right {
         right.release();
-        return before(alloc, front, Expr::Opt(back));
+        return make_sequence(alloc, front, Expr::Opt(back));
     }
-    beside(alloc, Expr::Seq(front, back), right)
+    make_choice(alloc, Expr::Seq(front, back), right)
 }

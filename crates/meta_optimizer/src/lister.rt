@@ -48,7 +48,7 @@ impl Pass for Lister {
 impl Finish for Lister {
     fn finish(&self, alloc: Global, expr: Expr) -> Result<Expr, AllocError> {
         match expr {
-            Expr::Seq(left, right) => sequence(
+            Expr::Seq(left, right) => list_sequence(
                 alloc,
                 Box::into_inner(left),
                 Box::into_inner(right),
@@ -74,7 +74,7 @@ fn is_no_list(left: &Expr, right: &Expr) -> bool
 }
 
 // Lists `left ~ right`.
-fn sequence(alloc: Global, left: Expr, right: Expr) -> Result<Expr, AllocError>
+fn list_sequence(alloc: Global, left: Expr, right: Expr) -> Result<Expr, AllocError>
     ensures { IfOk result
         (λ e. expression_of e ≡ listed_sequence (expression_of left) (expression_of right)) }
 {
@@ -84,19 +84,19 @@ fn sequence(alloc: Global, left: Expr, right: Expr) -> Result<Expr, AllocError>
             Expr::Seq(x, y) => {
                 if *x == right.value {
                     let (x, y) = (Deep { value: x }, Deep { value: y });
-                    return turned(alloc, x, y, right);
+                    return make_list(alloc, x, y, right);
                 }
                 let turn = Expr::Seq(x, y);
-                again(alloc, Deep { value: turn }, right)
+                repeat_then(alloc, Deep { value: turn }, right)
             }
-            turn => again(alloc, Deep { value: turn }, right),
+            turn => repeat_then(alloc, Deep { value: turn }, right),
         },
         left => sequence_of(alloc, Deep { value: left }, right),
     }
 }
 
 // Makes `x ~ (y ~ right)*`.
-fn turned(
+fn make_list(
     alloc: Global,
     x: Deep<Box<Expr>>,
     y: Deep<Box<Expr>>,
@@ -114,7 +114,7 @@ fn turned(
 }
 
 // Makes `turn* ~ right`.
-fn again(alloc: Global, turn: Deep<Expr>, right: Deep<Expr>) -> Result<Expr, AllocError>
+fn repeat_then(alloc: Global, turn: Deep<Expr>, right: Deep<Expr>) -> Result<Expr, AllocError>
     ensures { IfOk result
         (λ e. expression_of e ≡ Seq (Rep (expression_of turn.value)) (expression_of right.value)) }
 {

@@ -5,14 +5,14 @@ ghost use Rattle.meta_ast.specs.Optimized.{optimized_expression_of, optimized_ru
 ghost use Rattle.meta_base.specs.Language.Expression.{Grammar};
 ghost use Rattle.meta_base.specs.Rewritings.Rewriting.{EachBody};
 ghost use Rattle.meta_restorer.specs.Agreeing.{AgreesLoosely, WrappersSuffice};
-ghost use Rattle.meta_optimizer.specs.Bodies.{AreTold, SufficeFor};
+ghost use Rattle.meta_optimizer.specs.Bodies.{AreRightForAll, SufficeFor};
 ghost use Rattle.meta_base.specs.Pieces.Faults.{IsMemory};
 ghost use Rattle.meta_optimizer.specs.Passes.{AddsOptimized, IsOptimized, IsOptimizedBody};
 
 use crate::bodies::bodies_for_skip;
 use crate::converted::rule_to_optimized_rule;
 use crate::skipper::skip_with;
-use crate::strings::{Names, names_with_strings};
+use crate::strings::{StringNames, names_with_strings};
 use crate::{Fault, OptimizedRule, concatenate, factor, list, rotate, unroll};
 use meta_ast::ast::{Expr, Rule};
 use meta_ast::deep::Deep;
@@ -71,9 +71,9 @@ fn with_rule(
     answer: Result<Deep<Vec<OptimizedRule>>, Fault>,
     rule: Rule,
     bodies: &HashMap<String, Expr>,
-    names: &Names<'_>,
+    names: &StringNames<'_>,
 ) -> Result<Deep<Vec<OptimizedRule>>, Fault>
-    ensures added { AreTold bodies.now names.now → IfOk result (λ made. IsOkAnd answer
+    ensures added { AreRightForAll bodies.now names.now → IfOk result (λ made. IsOkAnd answer
         (λ so_far. AddsOptimized bodies.now (rule_of_code rule) (optimized_rules_of so_far.value.items)
         (optimized_rules_of made.value.items))) }
     ensures memory { IfErr answer IsMemory → IfErr result IsMemory }
@@ -91,12 +91,13 @@ fn optimized_rule(
     alloc: Global,
     rule: Rule,
     bodies: &HashMap<String, Expr>,
-    names: &Names<'_>,
+    names: &StringNames<'_>,
 ) -> Result<OptimizedRule, Fault>
     ensures name { IfOk result (λ r. text_of r.name ≡ text_of rule.name) }
     ensures ty { IfOk result (λ r. r.ty ≡ rule.ty) }
     ensures body { IfOk result
-        (λ r. (g : Grammar) → AreTold bodies.now names.now → SufficeFor bodies.now g (rule_of_code rule ∷ [])
+        (λ r. (g : Grammar) → AreRightForAll bodies.now names.now
+        → SufficeFor bodies.now g (rule_of_code rule ∷ [])
         → IsOptimizedBody g (rule_type_of rule.ty) (expression_of rule.expr)
         (optimized_expression_of r.expr)) }
     ensures memory { IfErr result IsMemory }

@@ -4,13 +4,13 @@ ghost use Rattle.std.specs.Bool.{OnTrue};
 ghost use Rattle.meta_base.specs.Language.Expression.{Grammar};
 ghost use Rattle.meta_base.specs.Rewritings.Rewriting.{IsDone, SkipsUntil};
 ghost use Rattle.meta_ast.specs.Ast.{text_of, expression_of, rule_of_code, rule_type_of};
-ghost use Rattle.meta_optimizer.specs.Bodies.{AreTold, HoldsBodies, IsTurn, Serve, SkippedHere, TextsUntil};
+ghost use Rattle.meta_optimizer.specs.Bodies.{AreRightForAll, HoldsBodies, IsTurn, Serve, SkippedHere, TextsUntil};
 ghost use Rattle.meta_base.specs.Pieces.Faults.{IsMemory};
 ghost use Rattle.meta_optimizer.specs.Skipped.{IsSkipChained, SkipKeepsOutcomes};
 
 use crate::Fault;
 use crate::bodies::is_free_of_turns;
-use crate::strings::{Names, names_with_strings, strings_of};
+use crate::strings::{StringNames, names_with_strings, strings_of};
 use crate::traversal::{Pass, Shrink, top_down};
 use meta_ast::ast::{Expr, Rule, RuleType};
 use meta_ast::deep::Deep;
@@ -46,15 +46,16 @@ pub(crate) fn skip_with(
     alloc: Global,
     rule: Rule,
     bodies: &HashMap<String, Expr>,
-    names: &Names<'_>,
+    names: &StringNames<'_>,
 ) -> Result<Rule, Fault>
     ensures name { IfOk result (λ r. text_of r.name ≡ text_of rule.name) }
     ensures ty { IfOk result (λ r. r.ty ≡ rule.ty) }
-    ensures done { IfOk result (λ r. AreTold bodies.now names.now → (g : Grammar) → HoldsBodies bodies.now g
+    ensures done { IfOk result (λ r. AreRightForAll bodies.now names.now → (g : Grammar)
+        → HoldsBodies bodies.now g
         → IsDone (SkipsUntil g (rule_type_of rule.ty)) (expression_of rule.expr) (expression_of r.expr)) }
-    ensures chain { IfOk result (λ r. AreTold bodies.now names.now
+    ensures chain { IfOk result (λ r. AreRightForAll bodies.now names.now
         → IsSkipChained bodies.now (rule_of_code rule) (rule_of_code r)) }
-    ensures outcomes { IfOk result (λ r. AreTold bodies.now names.now
+    ensures outcomes { IfOk result (λ r. AreRightForAll bodies.now names.now
         → SkipKeepsOutcomes bodies.now (rule_of_code rule) (rule_of_code r)) }
     ensures memory { IfErr result IsMemory }
 {
@@ -71,7 +72,7 @@ pub(crate) fn skip_with(
 #[derive(Drop)]
 struct Skipper<'a> {
     bodies: &'a HashMap<String, Expr>,
-    names: &'a Names<'a>,
+    names: &'a StringNames<'a>,
 }
 
 impl Pass for Skipper<'_> {
@@ -120,7 +121,7 @@ pub(crate) fn is_no_turn(expr: &Expr) -> bool
 fn texts_until(
     alloc: Global,
     bodies: &HashMap<String, Expr>,
-    names: &Names<'_>,
+    names: &StringNames<'_>,
     expr: &Expr,
 ) -> Result<Option<Vec<String>>, AllocError>
     ensures { IfOk result (λ found. (g : Grammar) → Serve bodies.now names.now g

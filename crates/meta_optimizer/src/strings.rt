@@ -4,7 +4,7 @@ ghost use Rattle.std.specs.Prelude.{◌≡◌, IfOk, OnOk, MatchOption, map, str
 ghost use Rattle.meta_base.specs.Language.Expression.{Grammar};
 ghost use Rattle.meta_base.specs.Rewritings.Rewriting.{Strings};
 ghost use Rattle.meta_ast.specs.Ast.{expression_of, text_of};
-ghost use Rattle.meta_optimizer.specs.Bodies.{HoldsBodies, HasStrings, FindsNext, Splits, HaveMet, AreRight, AreTold, Serve, StringsOrNone};
+ghost use Rattle.meta_optimizer.specs.Bodies.{HoldsBodies, HasStrings, FindsNext, Splits, HaveMet, AreRight, AreRightForAll, Serve, StringsOrNone};
 
 use meta_ast::ast::Expr;
 use std::alloc::{AllocError, Global};
@@ -12,7 +12,7 @@ use std::collections::HashMap;
 
 /// The names of some bodies that denote strings.
 #[derive(Drop)]
-pub(crate) struct Names<'a> {
+pub(crate) struct StringNames<'a> {
     /// True at a name that denotes strings; false at one that denotes none, or is being searched.
     met: HashMap<&'a str, bool>,
     /// The names that denote strings.
@@ -22,7 +22,7 @@ pub(crate) struct Names<'a> {
 /// The next find in an expression: no strings, or strings by known names alone, or a name that is not
 /// known, with the expression after it.
 #[derive(Drop)]
-pub(crate) enum Found<'a> {
+pub(crate) enum NameSearch<'a> {
     Nothing,
     Strings,
     Name(&'a str, Option<&'a Expr>),
@@ -47,10 +47,10 @@ pub(crate) struct Part<'a> {
 pub(crate) fn names_with_strings<'a>(
     alloc: Global,
     bodies: &'a HashMap<String, Expr>,
-) -> Result<Names<'a>, AllocError>
-    ensures { IfOk result (AreTold bodies.now) }
+) -> Result<StringNames<'a>, AllocError>
+    ensures { IfOk result (AreRightForAll bodies.now) }
 {
-    let mut names = Names {
+    let mut names = StringNames {
         met: HashMap::new(alloc),
         known: Vec::new(alloc),
     };
@@ -65,14 +65,14 @@ pub(crate) fn names_with_strings<'a>(
 pub(crate) fn strings_of(
     alloc: Global,
     bodies: &HashMap<String, Expr>,
-    names: &Names<'_>,
+    names: &StringNames<'_>,
     expr: &Expr,
 ) -> Result<Option<Vec<String>>, AllocError>
     ensures { IfOk result (λ found. (g : Grammar) → Serve bodies.now names.now g
         → StringsOrNone g (expression_of expr.now) found) }
 {
     match next_name(&names.met, expr) {
-        Found::Strings => texts_within(alloc, bodies, expr, names.known.len()),
+        NameSearch::Strings => texts_within(alloc, bodies, expr, names.known.len()),
         _ => Ok(None),
     }
 }
@@ -88,7 +88,7 @@ fn split(expr: &Expr) -> (&Expr, Option<&Expr>)
 }
 
 // Walks along an expression to the first name that is not visited yet.
-fn next_name<'a>(met: &HashMap<&'a str, bool>, expr: &'a Expr) -> Found<'a>
+fn next_name<'a>(met: &HashMap<&'a str, bool>, expr: &'a Expr) -> NameSearch<'a>
     ensures { FindsNext met.now (expression_of expr.now) result }
 {
     let mut rest = expr;
@@ -98,14 +98,14 @@ fn next_name<'a>(met: &HashMap<&'a str, bool>, expr: &'a Expr) -> Found<'a>
             Expr::Str(_) => {}
             Expr::Ident(name) => match met.get(name.as_str()) {
                 Some(true) => {}
-                Some(false) => return Found::Nothing,
-                None => return Found::Name(name.as_str(), behind),
+                Some(false) => return NameSearch::Nothing,
+                None => return NameSearch::Name(name.as_str(), behind),
             },
-            _ => return Found::Nothing,
+            _ => return NameSearch::Nothing,
         }
         match behind {
             Some(others) => rest = others,
-            None => return Found::Strings,
+            None => return NameSearch::Strings,
         }
     }
 }
@@ -114,7 +114,7 @@ fn next_name<'a>(met: &HashMap<&'a str, bool>, expr: &'a Expr) -> Found<'a>
 fn look_through<'a>(
     alloc: Global,
     bodies: &'a HashMap<String, Expr>,
-    names: &mut Names<'a>,
+    names: &mut StringNames<'a>,
     name: &'a String,
 ) -> Result<(), AllocError>
     ensures right { OnOk result ((g : Grammar) → HoldsBodies bodies.now g
@@ -135,9 +135,9 @@ fn look_through<'a>(
     'names: loop {
         match rest {
             Some(expr) => match next_name(&names.met, expr) {
-                Found::Nothing => return Ok(()),
-                Found::Strings => rest = None,
-                Found::Name(name, behind) => {
+                NameSearch::Nothing => return Ok(()),
+                NameSearch::Strings => rest = None,
+                NameSearch::Name(name, behind) => {
                     let Some(body) = bodies.get(name) else {
                         return Ok(());
                     };

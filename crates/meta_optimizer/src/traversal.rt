@@ -6,7 +6,7 @@ ghost use Rattle.std.specs.Bool.{OnTrue};
 ghost use Rattle.meta_base.specs.Language.Expression.{Expression};
 ghost use Rattle.meta_ast.specs.Ast.{expression_of};
 ghost use Rattle.meta_ast.specs.Operands.{count_of_nodes, operands};
-ghost use Rattle.meta_optimizer.specs.Held.{said_of};
+ghost use Rattle.meta_optimizer.specs.Children.{said_of};
 ghost use Rattle.meta_optimizer.specs.Traversals.{TopDown, BottomUp, AllStay};
 
 use meta_ast::ast::Expr;
@@ -75,12 +75,12 @@ pub(crate) fn all_stay<P: Pass>(alloc: Global, pass: &P, expr: &Expr) -> Result<
         if !pass.stays_at(node) {
             return Ok(false);
         }
-        match held_by(node) {
-            Held::Nothing => {}
-            Held::One(inner) => {
+        match children_of(node) {
+            Children::Nothing => {}
+            Children::One(inner) => {
                 waiting.push(inner)?;
             }
-            Held::Two(left, right) => {
+            Children::Two(left, right) => {
                 waiting.push(right)?;
                 waiting.push(left)?;
             }
@@ -91,14 +91,14 @@ pub(crate) fn all_stay<P: Pass>(alloc: Global, pass: &P, expr: &Expr) -> Result<
 
 /// The operands of an expression.
 #[derive(Drop)]
-pub(crate) enum Held<'a> {
+pub(crate) enum Children<'a> {
     Nothing,
     One(&'a Expr),
     Two(&'a Expr, &'a Expr),
 }
 
 /// Returns the operands of an expression.
-pub(crate) fn held_by<'a>(expr: &'a Expr) -> Held<'a>
+pub(crate) fn children_of<'a>(expr: &'a Expr) -> Children<'a>
     ensures { said_of result ≡ operands (expression_of expr.now) }
 {
     match expr {
@@ -112,11 +112,11 @@ pub(crate) fn held_by<'a>(expr: &'a Expr) -> Held<'a>
         | Expr::RepMax(inner, _)
         | Expr::RepMinMax(inner, _, _)
         | Expr::Push(inner)
-        | Expr::NodeTag(inner, _) => Held::One(&**inner),
-        Expr::Seq(left, right) | Expr::Choice(left, right) => Held::Two(&**left, &**right),
-        Expr::Str(_) | Expr::Insens(_) | Expr::Ident(_) => Held::Nothing,
-        Expr::Range(_, _) | Expr::PeekSlice(_, _) => Held::Nothing,
-        Expr::Skip(_) | Expr::PushLiteral(_) => Held::Nothing,
+        | Expr::NodeTag(inner, _) => Children::One(&**inner),
+        Expr::Seq(left, right) | Expr::Choice(left, right) => Children::Two(&**left, &**right),
+        Expr::Str(_) | Expr::Insens(_) | Expr::Ident(_) => Children::Nothing,
+        Expr::Range(_, _) | Expr::PeekSlice(_, _) => Children::Nothing,
+        Expr::Skip(_) | Expr::PushLiteral(_) => Children::Nothing,
     }
 }
 

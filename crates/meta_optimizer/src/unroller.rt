@@ -52,8 +52,8 @@ impl Pass for Unroller {
 impl Finish for Unroller {
     fn finish(&self, alloc: Global, expr: Expr) -> Result<Expr, AllocError> {
         match expr {
-            Expr::RepExact(inner, count) => exact(alloc, unboxed(inner), count),
-            Expr::RepMin(inner, min) => min_or_more(alloc, unboxed(inner), min),
+            Expr::RepExact(inner, count) => exact(alloc, unbox(inner), count),
+            Expr::RepMin(inner, min) => min_or_more(alloc, unbox(inner), min),
             Expr::RepMax(inner, max) => exact(
                 alloc,
                 Deep {
@@ -61,13 +61,13 @@ impl Finish for Unroller {
                 },
                 max,
             ),
-            Expr::RepMinMax(inner, min, max) => between(alloc, unboxed(inner), min, max),
+            Expr::RepMinMax(inner, min, max) => min_to_max(alloc, unbox(inner), min, max),
             other => Ok(other),
         }
     }
 }
 
-fn unboxed(inner: Box<Expr>) -> Deep<Expr>
+fn unbox(inner: Box<Expr>) -> Deep<Expr>
     ensures { result.value ≡ inner.value }
 {
     Deep {
@@ -94,7 +94,7 @@ fn min_or_more(alloc: Global, expr: Deep<Expr>, min: u32) -> Result<Expr, AllocE
     let others = Deep {
         value: Expr::Rep(copy.into_inner()),
     };
-    repeated(alloc, expr, min, others)
+    repeat_before(alloc, expr, min, others)
 }
 
 // Makes `count` copies in sequence.
@@ -108,26 +108,26 @@ fn exact(alloc: Global, expr: Deep<Expr>, count: u32) -> Result<Expr, AllocError
         return Ok(expr.into_inner());
     }
     let last = copy_of(&expr.value)?;
-    repeated(alloc, expr, count - 1, last)
+    repeat_before(alloc, expr, count - 1, last)
 }
 
 // Makes from `min` to `max` copies.
-fn between(alloc: Global, expr: Deep<Expr>, min: u32, max: u32) -> Result<Expr, AllocError>
+fn min_to_max(alloc: Global, expr: Deep<Expr>, min: u32, max: u32) -> Result<Expr, AllocError>
     ensures { IfOk result (λ e. expression_of e ≡ from_to (expression_of expr.value) min max) }
 {
     if max <= min {
         return exact(alloc, expr, max);
     }
     if min == 0 {
-        return exact(alloc, optional(alloc, expr)?, max);
+        return exact(alloc, make_optional(alloc, expr)?, max);
     }
     let copy = copy_of(&expr.value)?;
-    let others = exact(alloc, optional(alloc, copy)?, max - min)?;
-    repeated(alloc, expr, min, Deep { value: others })
+    let others = exact(alloc, make_optional(alloc, copy)?, max - min)?;
+    repeat_before(alloc, expr, min, Deep { value: others })
 }
 
 // Makes an expression optional.
-fn optional(alloc: Global, expr: Deep<Expr>) -> Result<Deep<Expr>, AllocError>
+fn make_optional(alloc: Global, expr: Deep<Expr>) -> Result<Deep<Expr>, AllocError>
     ensures { IfOk result (λ e. expression_of e.value ≡ Opt (expression_of expr.value)) }
 {
     let inner = expr.boxed(alloc)?;
@@ -138,7 +138,7 @@ fn optional(alloc: Global, expr: Deep<Expr>) -> Result<Deep<Expr>, AllocError>
 
 // Makes `count` copies, at least one, of which the first is the expression itself, and puts `others`
 // after them.
-fn repeated(
+fn repeat_before(
     alloc: Global,
     expr: Deep<Expr>,
     count: u32,

@@ -3,7 +3,7 @@ use Rattle.std.proofs.lemmas.List.{append_assoc}
 use Rattle.meta_ast.specs.Ast.{text_of}
 use Rattle.meta_optimizer.specs.Joined.{in_order}
 use Rattle.meta_optimizer.proofs.Concatenated.{in_order_last}
-use Rattle.meta_optimizer.proofs.joined.all_before.Goals as goal
+use Rattle.meta_optimizer.proofs.joined.prepend_all.Goals as goal
 
 pub parts-preserved : goal.parts-preserved
 parts-preserved c =

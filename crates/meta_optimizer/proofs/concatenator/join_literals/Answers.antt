@@ -5,7 +5,7 @@ use Rattle.meta_optimizer.specs.Traversals.{BottomUp}
 use Rattle.meta_optimizer.proofs.Concatenated.{from_the_leaves}
 use Rattle.meta_optimizer.proofs.Joining.{Joined}
 use Rattle.meta_optimizer.proofs.Staying.{stays_up}
-use Rattle.meta_optimizer.proofs.concatenator.joined.Goals as goal
+use Rattle.meta_optimizer.proofs.concatenator.join_literals.Goals as goal
 
 pub returns-then-is_done : goal.returns-then-is_done
 returns-then-is_done c = rw c.into_inner-expr.ensures (stays_up Joined c.args.expr (rw c.if-is_done.true at c.in_ok-is_done.ensures))

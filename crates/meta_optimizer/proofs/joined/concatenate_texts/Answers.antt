@@ -3,7 +3,7 @@ use Rattle.std.proofs.lemmas.List.{append_assoc}
 use Rattle.std.proofs.lemmas.Str.{chars-append, chars-nil, IsUtf8-string_bytes}
 use Rattle.meta_ast.specs.Ast.{text_of}
 use Rattle.meta_optimizer.specs.Joined.{in_order}
-use Rattle.meta_optimizer.proofs.joined.together.Goals as goal
+use Rattle.meta_optimizer.proofs.joined.concatenate_texts.Goals as goal
 
 pub parts-init : goal.parts-init
 parts-init c = rw (c.new-text.ensures.bytes, chars-nil) refl
