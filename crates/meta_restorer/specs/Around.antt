@@ -1,4 +1,4 @@
--- What stands around an operand that is restored, and what comes of a step.
+-- Continuation frames of the restorer, and the results of its steps.
 use Rattle.std.specs.Prelude.{ℕ, ◌+◌, ◌*◌, List, [], ◌++◌, Bool, true, false, ◌&&◌, ◌||◌, if◌then◌else◌}
 use Rattle.meta_base.specs.Language.Text.{Text}
 use Rattle.meta_base.specs.Language.Expression as e
@@ -36,13 +36,13 @@ is_wrapping (sign.FirstOfChoice right) = true
 is_wrapping (sign.SecondOfChoice left) = true
 is_wrapping _ = false
 
--- `p`: which names change the stack
+-- `p`: the names that change the stack
 module _ (p : Text → Bool) where
-  -- an expression that is to be restored, as it then is
+  -- an expression, once it is restored
   abbrev pub flagged_by : OptimizedExpr → Flagged
   flagged_by x = let r = restored_by p (optimized_expression_of x) in (r, changes_by p r)
 
-  -- the whole, restored, around an operand that is restored and wrapped
+  -- the restored whole of an operand that is restored and wrapped
   abbrev pub whole_of : Sign → Expression → Expression
   whole_of sign.PosPred x = e.PosPred x
   whole_of sign.NegPred x = e.NegPred x
@@ -57,7 +57,7 @@ module _ (p : Text → Bool) where
   whole_of (sign.SecondOfSeq left b) x = e.Seq (optimized_expression_of left.value.value) x
   whole_of (sign.SecondOfChoice left) x = e.Choice (optimized_expression_of left.value.value) x
 
-  -- whether it changes the stack, where it is known of the operand
+  -- whether the whole changes the stack, by whether the operand does
   abbrev pub changes_around : Sign → Bool → Bool
   changes_around sign.PosPred b = b
   changes_around sign.NegPred b = b
@@ -74,11 +74,11 @@ module _ (p : Text → Bool) where
   abbrev pub filled_in : Around → Flagged → Flagged
   filled_in a f = with_operand a.sign f
 
-  -- what comes of a step in the end
+  -- the final result of a step
   abbrev pub step_as : Step OptimizedExpr Around Restored → Flagged
   step_as step = meaning_of flagged_by flagged filled_in step
 
--- the names that are still to be met under a sign, where it is known of the operand
+-- the names still to be visited under a sign, after those of the operand
 abbrev pub names_beside : Sign → List Text → List Text
 names_beside (sign.FirstOfSeq right) ns = ns ++ names_in (optimized_expression_of right.value.value)
 names_beside (sign.FirstOfChoice right) ns = ns ++ names_in (optimized_expression_of right.value.value)
@@ -93,7 +93,7 @@ names_to_meet x = names_in (optimized_expression_of x)
 abbrev pub names_left : Step OptimizedExpr Around Restored → List Text
 names_left step = meaning_of names_to_meet (λ r. []) names_around step
 
--- how much there is to be done with an expression, under a sign once the operand is restored, and at all
+-- a bound of the steps left in an expression, under a sign once the operand is restored, and in all
 abbrev pub work_in : OptimizedExpr → ℕ
 work_in x = 4 * size (optimized_expression_of x)
 

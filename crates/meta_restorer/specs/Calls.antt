@@ -1,4 +1,4 @@
--- The names that are met in expressions, and the rules that they mean.
+-- The names that occur in expressions, and the rules that they mean.
 use Rattle.std.specs.Prelude.{◌≡◌, ⊤, ℕ, ◌+◌, List, [], ◌∷◌, ◌++◌, Option, Some, None, Bool, false, ◌||◌, slice_get, length}
 use Rattle.meta_base.specs.Language.Text.{Text}
 use Rattle.meta_base.specs.Language.Expression.{Expression, Ident, PosPred, NegPred, Seq, Choice, Opt, Rep, RepOnce, Push, NodeTag}
@@ -14,7 +14,7 @@ number_changes p (Some i) = p i
 abbrev pub name_changes : Names → (ℕ → Bool) → Text → Bool
 name_changes names p n = is_changer n || number_changes p (number_of names n)
 
--- the names that are met in an expression, not below a wrapper, in order
+-- the names that occur in an expression, not below a wrapper, in order
 abbrev pub names_in : Expression → List Text
 names_in (Ident n) = n ∷ []
 names_in (PosPred e) = names_in e
@@ -28,7 +28,7 @@ names_in (Rep e) = names_in e
 names_in (RepOnce e) = names_in e
 names_in _ = []
 
--- the numbers from a place on are those of the names that are met in an expression
+-- the numbers from an index on are those of the names that occur in an expression
 abbrev pub AreNoted : Names → Numbers → Expression → ℕ → Type 0
 AreNoted names qs (Ident n) i = slice_get qs i ≡ Some (number_of names n)
 AreNoted names qs (PosPred e) i = AreNoted names qs e i

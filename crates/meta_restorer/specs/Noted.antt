@@ -1,4 +1,4 @@
--- What is noted of expressions, and which rules change the stack by what is noted of their bodies.
+-- Summaries of bodies, and the rules that change the stack by them.
 use Rattle.std.specs.Prelude.{◌≡◌, ◌≤◌, ◌||◌, ℕ, List, [], Option, Some, None, Bool, slice_get, slice_range, length}
 use Rattle.std.specs.Borrow.{Bor}
 use Rattle.std.specs.List.{list_any}
@@ -15,7 +15,7 @@ use Rattle.meta_restorer.specs.declared.names.Names.{Names}
 use Rattle.meta_restorer.specs.declared.noted.Noted.{Noted}
 use Rattle.meta_restorer.specs.declared.noted.Share.{Share}
 
--- the numbers of a share stand in the list
+-- the numbers of a share are in the list
 pub record IsWithin (qs : Numbers) (s : Share) : Type 0 where
   pub start : s.start ≤ s.end
   pub end : s.end ≤ length qs
@@ -23,22 +23,23 @@ pub record IsWithin (qs : Numbers) (s : Share) : Type 0 where
 abbrev pub AreWithin : Noted → Type 0
 AreWithin n = (i : ℕ) (s : Share) → slice_get n.shares.items i ≡ Some s → IsWithin n.numbers.items s
 
--- a `PUSH`, `PUSH_LITERAL`, `POP`, `POP_ALL` or `DROP` is met, or a rule that changes the stack
+-- a `PUSH`, `PUSH_LITERAL`, `POP`, `POP_ALL` or `DROP` occurs, or a rule that changes the stack
 abbrev pub shows : Numbers → (ℕ → Bool) → Share → Bool
 shows qs p s = s.changes || list_any (number_changes p) (slice_range qs s.start s.end)
 
--- what is noted of names that are met: their numbers, if names are known
+-- the numbers that are collected for names, if names are known
 abbrev pub noted_by : Option (Bor Names) → List Text → Numbers
 noted_by (Some names) ns = numbers_of names.now ns
 noted_by None ns = []
 
--- what is met in an expression is noted: whether it changes the stack by itself, and the numbers of its names
+-- the share of an expression says whether the expression changes the stack by itself, and has the numbers
+-- of its names
 pub record IsNotedAs (names : Names) (e : Expression) (qs : Numbers) (s : Share) : Type 0 where
   pub changes : s.changes ≡ changes_by is_changer e
   pub within : IsWithin qs s
   pub numbers : slice_range qs s.start s.end ≡ numbers_of names (names_in e)
 
--- what is met in each body is noted
+-- the shares are those of the bodies
 pub record AreNotedOf (names : Names) (bodies : List NamedBody) (n : Noted) : Type 0 where
   pub alike : length n.shares.items ≡ length bodies
   pub noted : (i : ℕ) (b : NamedBody) (s : Share)
@@ -49,10 +50,10 @@ pub record AreNotedOf (names : Names) (bodies : List NamedBody) (n : Noted) : Ty
 abbrev pub Holds : Noted → ℕ → Type 0
 Holds n = Follows (shows n.numbers.items) n.shares.items
 
--- as many flags as rules, and each flag is right
+-- as many flags as rules, and every flag is right
 abbrev pub AreSound : Noted → List Bool → Type 0
 AreSound n = least.AreSound (shows n.numbers.items) n.shares.items
 
--- a rule that changes the stack by the flags is flagged
+-- every rule that changes the stack by the flags has its own flag set
 abbrev pub AreClosed : Noted → List Bool → Type 0
 AreClosed n = least.AreClosed (shows n.numbers.items) n.shares.items

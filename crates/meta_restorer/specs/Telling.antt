@@ -1,4 +1,4 @@
--- What is told of the rules that change the stack.
+-- The rules that change the stack, as the restorer knows them.
 use Rattle.std.specs.Prelude.{◌≡◌, ⊤, ℕ, ◌+◌, List, [], ◌∷◌, ◌++◌, Some, Bool, slice_get}
 use Rattle.std.specs.Bool.{Decides}
 use Rattle.std.specs.declared.alloc.Global.{Global}
@@ -16,26 +16,27 @@ use Rattle.meta_restorer.specs.declared.changes.Changes.{Changes}
 abbrev pub told : Changes → Text → Bool
 told c = name_changes c.names (is_set_at c.flags.items)
 
--- it is told rightly which names change the stack
+-- the restorer knows rightly which names change the stack
 abbrev pub Tells : Changes → Grammar → Type 0
 Tells c g = (n : String Global) → Decides (told c (text_of n)) (ChangesStack g (Ident (text_of n)))
 
--- from a place on the numbers of the names that are met in an expression are noted
+-- the numbers of the names in an expression are listed from an index on
 abbrev pub IsNotedFrom : Changes → Expression → ℕ → Type 0
 IsNotedFrom c e i = AreNoted c.names c.noted.numbers.items e i
 
--- the number of the first of some names, if there is one, is noted at a place
+-- the number of the first of some names, if there is one, is at an index of the list
 abbrev pub IsNext : Changes → List Text → ℕ → Type 0
 IsNext c [] i = ⊤
 IsNext c (n ∷ ns) i = slice_get c.noted.numbers.items i ≡ Some (number_of c.names n)
 
--- the numbers from one place up to another are those of names, in order
+-- the numbers from one index up to another are those of names, in order
 abbrev pub AreNumbers : Changes → List Text → ℕ → ℕ → Type 0
 AreNumbers c [] i end = i ≡ end
 AreNumbers c (n ∷ ns) i end =
     (slice_get c.noted.numbers.items i ≡ Some (number_of c.names n)) × AreNumbers c ns (i + 1) end
 
--- names `ns` from place `i` on are read down to names `ms` from place `j` on, whatever follows
+-- the names `ns` from index `i` on are read down to the names `ms` from index `j` on, with any names
+-- after them
 abbrev pub ReadsOn : Changes → List Text → ℕ → List Text → ℕ → Type 0
 ReadsOn c ns i ms j = (more : List Text) (end : ℕ)
     → AreNumbers c (ns ++ more) i end → AreNumbers c (ms ++ more) j end

@@ -1,4 +1,4 @@
-//! An expression that is restored by a loop: what stands around an operand of it, and what comes of a step.
+//! Continuation frames of the iterative restorer, and its steps.
 ghost use Rattle.std.specs.Prelude.{◌≡◌, ◌≤◌, ◌<◌, ◌+◌, [], Bool, IfOk, OnOk};
 ghost use Rattle.meta_base.specs.Language.Text.{Text};
 ghost use Rattle.meta_ast.specs.Optimized.{optimized_expression_of};
@@ -18,19 +18,19 @@ use std::mem;
 #[derive(Drop)]
 pub struct Restored {
     pub expr: Deep<OptimizedExpr>,
-    /// Whether it changes the stack.
+    /// Whether the expression changes the stack.
     pub changes: bool,
 }
 
-/// What stands around an operand while it is restored.
+/// A continuation frame of the restorer.
 #[derive(Drop)]
 pub struct Around {
     pub sign: Sign,
-    /// Where the operand has its room.
+    /// The box from which the operand was taken, for the restored operand.
     pub room: Box<OptimizedExpr>,
 }
 
-/// What an operand stands under while it is restored.
+/// The operator of a frame, with the other operand.
 #[derive(Drop)]
 pub enum Sign {
     PosPred,
@@ -40,17 +40,17 @@ pub enum Sign {
     RepOnce,
     Push,
     NodeTag(String),
-    /// A `~` or a `|` whose left side is at hand, with the right one.
+    /// The left side of a `~` or a `|` is being restored, and the right one waits.
     FirstOfSeq(Deep<Box<OptimizedExpr>>),
     FirstOfChoice(Deep<Box<OptimizedExpr>>),
-    /// A `~` or a `|` whose right side is at hand, with the left one, restored: that of a `~` with whether it
-    /// changes the stack, that of a `|` in its wrapper.
+    /// The right side of a `~` or a `|` is being restored, and the left one is: that of a `~` with
+    /// whether it changes the stack, that of a `|` in its wrapper.
     SecondOfSeq(Deep<Box<OptimizedExpr>>, bool),
     SecondOfChoice(Deep<Box<OptimizedExpr>>),
 }
 
 impl Sign {
-    /// Whether an operand that changes the stack gets a wrapper there.
+    /// Reports whether an operand that changes the stack gets a wrapper there.
     fn is_wrapping(&self) -> bool
         ensures { result ≡ is_wrapping self.now }
     {
@@ -65,7 +65,7 @@ impl Sign {
     }
 }
 
-/// What stands where an expression has been taken out.
+/// Returns a placeholder for an expression that was taken out.
 pub(crate) fn nothing() -> OptimizedExpr {
     OptimizedExpr::PeekSlice(0, None)
 }
@@ -87,7 +87,7 @@ pub(crate) fn wrap(
     Ok(())
 }
 
-/// An expression in a box that was made before.
+/// Puts an expression into a box that was made before.
 fn put(room: Box<OptimizedExpr>, expr: OptimizedExpr) -> Box<OptimizedExpr>
     ensures { result.value ≡ expr }
 {
@@ -96,7 +96,7 @@ fn put(room: Box<OptimizedExpr>, expr: OptimizedExpr) -> Box<OptimizedExpr>
     room
 }
 
-/// A step that makes an expression.
+/// Returns a step with a restored expression.
 fn made(expr: OptimizedExpr, changes: bool) -> Step<OptimizedExpr, Around, Restored>
     ensures { result ≡ Step.Made (record { expr = record { value = expr }; changes = changes }) }
 {
@@ -104,7 +104,7 @@ fn made(expr: OptimizedExpr, changes: bool) -> Step<OptimizedExpr, Around, Resto
     Step::Made(Restored { expr, changes })
 }
 
-/// A step into an operand, which is taken out of its box.
+/// Returns a step into an operand, which is taken out of its box.
 fn inside(sign: Sign, operand: Box<OptimizedExpr>) -> Step<OptimizedExpr, Around, Restored>
     ensures meaning { (p : Text → Bool)
         → step_as p result ≡ with_operand p sign (flagged_by p operand.value) }
@@ -116,8 +116,8 @@ fn inside(sign: Sign, operand: Box<OptimizedExpr>) -> Step<OptimizedExpr, Around
     Step::Inside(Around { sign, room }, operand)
 }
 
-/// What is made of an expression without operands; else its first operand, and what stands around it. The
-/// rule of a name is noted at the place, which then moves on.
+/// Restores an expression without operands, or enters its first operand. The rule of a name is read at
+/// the index `place`, which then moves on.
 pub(crate) fn opened(
     changes: &Changes,
     place: &mut usize,
@@ -149,7 +149,7 @@ pub(crate) fn opened(
     inside(sign, operand)
 }
 
-/// What is made of the whole, once its last operand is restored; else the next operand.
+/// Rebuilds the whole once its last operand is restored, or enters the next operand.
 pub(crate) fn closed(
     alloc: Global,
     around: Around,

@@ -1,5 +1,4 @@
-//! Which rules change the stack: the least flags that follow from one another, from what is noted of their
-//! bodies.
+//! The rules that change the stack, as a least fixpoint over the shares of their bodies.
 ghost use Rattle.std.specs.Prelude.{IfOk};
 ghost use Rattle.meta_restorer.specs.Noted.{AreClosed, AreSound, AreWithin};
 
@@ -24,7 +23,7 @@ impl Listening for Noted {
     }
 }
 
-/// What is noted of bodies, each share of which stands in the list.
+/// Shares of bodies, all of which are in the list.
 #[derive(Drop)]
 struct Bodies<'a> {
     noted: &'a Noted,
@@ -49,7 +48,7 @@ impl<'a> Inference for Bodies<'a> {
     }
 }
 
-/// Which rules change the stack.
+/// Finds the rules that change the stack.
 pub(crate) fn flagged(alloc: Global, noted: &Noted) -> Result<Vec<bool>, AllocError>
     requires { AreWithin noted.now }
     ensures sound { IfOk result (λ flags. AreSound noted.now flags.items) }

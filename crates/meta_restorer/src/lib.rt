@@ -1,4 +1,5 @@
-//! The restorer: wrappers round what may fail and changes the stack, where something is tried next.
+//! The restorer, which wraps expressions that may fail and change the stack, where an alternative is
+//! tried next.
 #![tactic(auto)]
 
 mod around;

@@ -1,5 +1,5 @@
-//! What the bodies of rules do to the stack by themselves, and the numbers of the rules that they call, in
-//! one list.
+//! Summaries of the bodies of rules: whether they change the stack by themselves, and the numbers of the
+//! rules that they call, in one list.
 ghost use Rattle.std.specs.Prelude.{◌≡◌, ◌++◌, ◌∷◌, [], IfOk, OnOk, map};
 ghost use Rattle.meta_base.specs.Language.Expression.{Expression};
 ghost use Rattle.meta_ast.specs.Ast.{text_of};
@@ -16,26 +16,27 @@ use crate::names::{Names, is_changer_name, number_of_name};
 use meta_ast::optimized::OptimizedExpr;
 use std::alloc::{AllocError, Global};
 
-/// What is met in an expression, not below a wrapper.
+/// The summary of an expression, without its wrappers.
 #[derive(Clone, Copy)]
 pub struct Share {
-    /// Whether a `PUSH`, `PUSH_LITERAL`, `POP`, `POP_ALL` or `DROP` is met.
+    /// Whether a `PUSH`, `PUSH_LITERAL`, `POP`, `POP_ALL` or `DROP` occurs.
     pub changes: bool,
-    /// Where the numbers of its names stand in the list.
+    /// The indices between which the numbers of the expression's names are in the list.
     pub start: usize,
     pub end: usize,
 }
 
-/// What is met in the bodies of all rules.
+/// The summaries of the bodies of all rules.
 #[derive(Drop)]
 pub struct Noted {
-    /// For each name, body by body and in order, the number of the rule that it means, if it means one.
+    /// The number of the rule that a name means, if it means one, for every name, body by body and in
+    /// order.
     pub numbers: Vec<Option<usize>>,
-    /// For each rule the share of its body.
+    /// The shares of the bodies, by rule.
     pub shares: Vec<Share>,
 }
 
-/// The number of a name goes behind the others, if names are known.
+/// Appends the number of a name, if names are known.
 fn note_name(
     names: Option<&Names>,
     name: &String,
@@ -50,8 +51,8 @@ fn note_name(
     Ok(())
 }
 
-/// Whether a `PUSH`, `PUSH_LITERAL`, `POP`, `POP_ALL` or `DROP` is met in an expression, not below a wrapper.
-/// The number of each name that is met goes behind the others, if names are known.
+/// Reports whether a `PUSH`, `PUSH_LITERAL`, `POP`, `POP_ALL` or `DROP` occurs in an expression, not
+/// below a wrapper. Appends the numbers of the names that occur, if names are known.
 #[tactic(auto, using(crate::proofs::Turns::one_more))]
 fn look(
     alloc: Global,
@@ -114,7 +115,7 @@ fn look(
     }
 }
 
-/// Whether one of these is met in an expression, not below a wrapper.
+/// Reports whether one of these occurs in an expression, not below a wrapper.
 pub(crate) fn changes_itself(alloc: Global, expr: &OptimizedExpr) -> Result<bool, AllocError>
     ensures { IfOk result (λ yes. yes ≡ changes_by is_changer (optimized_expression_of expr.now)) }
 {
@@ -122,7 +123,7 @@ pub(crate) fn changes_itself(alloc: Global, expr: &OptimizedExpr) -> Result<bool
     look(alloc, None, expr, &mut numbers)
 }
 
-/// Notes what is met in an expression.
+/// Summarizes an expression.
 pub(crate) fn note(
     alloc: Global,
     names: &Names,
@@ -143,7 +144,7 @@ pub(crate) fn note(
     })
 }
 
-/// Notes what is met in each body.
+/// Summarizes every body.
 pub(crate) fn noted_of<'a>(
     alloc: Global,
     names: &Names,
@@ -160,7 +161,8 @@ pub(crate) fn noted_of<'a>(
     Ok(Noted { numbers, shares })
 }
 
-/// Whether a `PUSH`, `PUSH_LITERAL`, `POP`, `POP_ALL` or `DROP` is met, or a rule that is flagged.
+/// Reports whether a `PUSH`, `PUSH_LITERAL`, `POP`, `POP_ALL` or `DROP` occurs, or a rule whose flag is
+/// set.
 pub(crate) fn is_shown(numbers: &[Option<usize>], share: Share, flags: &[bool]) -> bool
     requires { IsWithin numbers.now share }
     ensures { result ≡ shows numbers.now (is_set_at flags.now) share }

@@ -1,4 +1,4 @@
-//! An expression with wrappers round what changes the stack.
+//! The restoration of one expression: wrappers round operands that change the stack.
 ghost use Rattle.std.specs.Prelude.{◌≡◌, ◌+◌, IfOk, OnOk, length};
 ghost use Rattle.meta_restorer.specs.Around.{flagged, flagged_by};
 ghost use Rattle.meta_restorer.specs.Calls.{names_in};
@@ -15,12 +15,13 @@ use meta_ast::rebuilt::Step;
 use std::alloc::{AllocError, Global};
 use std::mem;
 
-/// So many levels are taken by calls; what lies deeper is restored by a loop with a list.
+/// The number of levels that are restored recursively; deeper ones are restored iteratively.
 pub(crate) const LEVELS: usize = 64;
 
-/// Restores an expression where it stands, where the rules of its names are noted from a place on: no node is
-/// made anew but for wrappers. So many levels are taken by calls. Whether it then changes the stack. Both
-/// sides of a `~` or a `|` are asked what they are before one is restored, so that memory gives both at once.
+/// Restores an expression in place, where the rules of its names are listed from the index `place` on; no
+/// node is rebuilt but for wrappers. At most `levels` levels recurse. Answers whether the expression then
+/// changes the stack. Both sides of a `~` or a `|` are tested before one is restored, so that memory
+/// gives both at once.
 #[cycle(restored)]
 pub(crate) fn restore(
     alloc: Global,
@@ -84,7 +85,7 @@ fn restore_wrapped(
     wrap(alloc, expr, is_changing)
 }
 
-// The same, where it lies deeper.
+// Restores a deeper expression.
 fn restore_deep(
     alloc: Global,
     changes: &Changes,
@@ -108,7 +109,7 @@ fn restore_deep(
     Ok(is_changing)
 }
 
-// An expression, restored by a loop: what stands around the operand at hand lies in a list.
+// Restores an expression iteratively, with a list of frames.
 fn restored(
     alloc: Global,
     changes: &Changes,
@@ -136,8 +137,7 @@ fn restored(
     }
 }
 
-// Restores an expression that is no `~` and no `|` where it stands. So many levels below it are taken by
-// calls.
+// Restores an expression in place that is no `~` and no `|`. At most `levels` levels below it recurse.
 #[cycle(restored)]
 fn restore_one(
     alloc: Global,

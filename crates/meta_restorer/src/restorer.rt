@@ -1,4 +1,4 @@
-//! Wrappers round what may fail and changes the stack.
+//! The public calls of the restorer.
 ghost use Rattle.std.specs.Prelude.{◌≡◌, IfErr, IfOk, OnOk, false, map};
 ghost use Rattle.std.specs.Bool.{Decides};
 ghost use Rattle.meta_base.specs.Rewritings.Erased.{erased};
@@ -23,9 +23,9 @@ use meta_base::runtime::Fault;
 use std::alloc::{AllocError, Global};
 use std::collections::HashMap;
 
-/// Whether an expression changes the stack: a `PUSH`, `PUSH_LITERAL`, `POP`, `POP_ALL` or `DROP` is met in
-/// it, not below a wrapper, or in the body of a rule that is named there. `rules` holds the body of each rule
-/// at its name. The only fault is a want of memory.
+/// Reports whether an expression changes the stack: a `PUSH`, `PUSH_LITERAL`, `POP`, `POP_ALL` or `DROP`
+/// occurs in it, not below a wrapper, or in the body of a rule that is named there. `rules` holds the
+/// body of each rule at its name. The only fault is an allocation failure.
 pub fn child_modifies_state(
     alloc: Global,
     expr: &OptimizedExpr,
@@ -39,10 +39,10 @@ pub fn child_modifies_state(
     Ok(is_changed(alloc, &changes, expr)?)
 }
 
-/// The rule with wrappers: from the inside out, each operand of `?`, `*` and `+` and both sides of each `|`
-/// are wrapped where they change the stack as they then stand. `rules` holds the body of each rule at its
-/// name, as it was before any was restored. Name and type stay, and so does each wrapper that stands there,
-/// with all that is below it. The only fault is a want of memory.
+/// Returns the rule with wrappers: from the inside out, each operand of `?`, `*` and `+` and both sides
+/// of each `|` are wrapped where they change the stack as they then are. `rules` holds the body of each
+/// rule at its name, as it was before any was restored. Name and type stay, and so does each wrapper that
+/// is there already, with all that is below it. The only fault is an allocation failure.
 pub fn restore_on_err(
     alloc: Global,
     rule: OptimizedRule,
@@ -66,8 +66,9 @@ pub fn restore_on_err(
     Ok(noted_rule(alloc, changes, rule)?)
 }
 
-/// All rules with wrappers, as `restore_on_err` puts them: which rules change the stack is found out once,
-/// over the rules as they are handed in. Names, types and order stay. The only fault is a want of memory.
+/// Returns all rules with wrappers, as `restore_on_err` puts them. The rules that change the stack are
+/// found once, among the rules as they are handed in. Names, types and order stay. The only fault is an
+/// allocation failure.
 pub fn restore_rules(alloc: Global, rules: Vec<OptimizedRule>) -> Result<Vec<OptimizedRule>, Fault>
     ensures restores { IfOk result (λ answer. HaveNoWrappers (optimized_rules_of rules.items)
         → EachRestored (optimized_rules_of rules.items) (optimized_rules_of answer.items)) }
@@ -85,8 +86,8 @@ pub fn restore_rules(alloc: Global, rules: Vec<OptimizedRule>) -> Result<Vec<Opt
     Ok(rules.into_inner())
 }
 
-// Whether a `PUSH`, `PUSH_LITERAL`, `POP`, `POP_ALL` or `DROP` is met in any rule; where none is, no rule
-// changes the stack.
+// Reports whether a `PUSH`, `PUSH_LITERAL`, `POP`, `POP_ALL` or `DROP` occurs in any rule; where none
+// does, no rule changes the stack.
 fn is_any_changing(alloc: Global, rules: &[OptimizedRule]) -> Result<bool, AllocError>
     ensures { IfOk result (λ yes. yes ≡ false → AreQuiet rules.now) }
 {
@@ -98,7 +99,7 @@ fn is_any_changing(alloc: Global, rules: &[OptimizedRule]) -> Result<bool, Alloc
     Ok(false)
 }
 
-// Which of the rules in a map change the stack.
+// Finds the rules in a map that change the stack.
 fn changes_in_map(
     alloc: Global,
     rules: &HashMap<String, OptimizedExpr>,
@@ -110,7 +111,7 @@ fn changes_in_map(
     changes_of(alloc, &bodies)
 }
 
-// Which rules change the stack.
+// Finds the rules that change the stack.
 fn changes_in_rules(alloc: Global, rules: &[OptimizedRule]) -> Result<Changes, AllocError>
     ensures tells { IfOk result (λ changes. Tells changes (optimized_rules_of rules.now)) }
     ensures noted { IfOk result (λ changes.
@@ -120,7 +121,7 @@ fn changes_in_rules(alloc: Global, rules: &[OptimizedRule]) -> Result<Changes, A
     changes_of(alloc, &bodies)
 }
 
-// Whether an expression changes the stack.
+// Reports whether an expression changes the stack.
 fn is_changed(alloc: Global, changes: &Changes, expr: &OptimizedExpr) -> Result<bool, AllocError>
     ensures { IfOk result
         (λ yes. yes ≡ changes_by (told changes.now) (optimized_expression_of expr.now)) }
@@ -130,7 +131,7 @@ fn is_changed(alloc: Global, changes: &Changes, expr: &OptimizedExpr) -> Result<
     Ok(is_shown(&numbers, share, &changes.flags))
 }
 
-// Puts wrappers into a rule, where what is met in its body is noted. Where that changes nothing, it stays.
+// Puts wrappers into a rule, given the share of its body. Where the body changes nothing, the rule stays.
 fn restore_rule(
     alloc: Global,
     changes: &Changes,
@@ -152,7 +153,7 @@ fn restore_rule(
     Ok(())
 }
 
-// A rule with wrappers, what is met in whose body is noted first.
+// Summarizes the body of a rule, and puts wrappers into the rule.
 fn noted_rule(
     alloc: Global,
     changes: Changes,
@@ -175,7 +176,7 @@ fn noted_rule(
     Ok(rule.into_inner())
 }
 
-// Puts wrappers into rules, where what is met in each body is noted.
+// Puts wrappers into rules, whose shares are known.
 fn restore_all(
     alloc: Global,
     changes: &Changes,
