@@ -29,15 +29,17 @@ names_in (RepOnce e) = names_in e
 names_in _ = []
 
 -- the numbers from an index on are those of the names that occur in an expression
-abbrev pub AreNoted : Names → Numbers → Expression → ℕ → Type 0
-AreNoted names qs (Ident n) i = slice_get qs i ≡ Some (number_of names n)
-AreNoted names qs (PosPred e) i = AreNoted names qs e i
-AreNoted names qs (NegPred e) i = AreNoted names qs e i
-AreNoted names qs (Push e) i = AreNoted names qs e i
-AreNoted names qs (NodeTag e t) i = AreNoted names qs e i
-AreNoted names qs (Seq a b) i = AreNoted names qs a i × AreNoted names qs b (i + length (names_in a))
-AreNoted names qs (Choice a b) i = AreNoted names qs a i × AreNoted names qs b (i + length (names_in a))
-AreNoted names qs (Opt e) i = AreNoted names qs e i
-AreNoted names qs (Rep e) i = AreNoted names qs e i
-AreNoted names qs (RepOnce e) i = AreNoted names qs e i
-AreNoted names qs _ i = ⊤
+abbrev pub AreNumbersOf : Names → Numbers → Expression → ℕ → Type 0
+AreNumbersOf names qs (Ident n) i = slice_get qs i ≡ Some (number_of names n)
+AreNumbersOf names qs (PosPred e) i = AreNumbersOf names qs e i
+AreNumbersOf names qs (NegPred e) i = AreNumbersOf names qs e i
+AreNumbersOf names qs (Push e) i = AreNumbersOf names qs e i
+AreNumbersOf names qs (NodeTag e t) i = AreNumbersOf names qs e i
+AreNumbersOf names qs (Seq a b) i = AreNumbersOf names qs a i
+    × AreNumbersOf names qs b (i + length (names_in a))
+AreNumbersOf names qs (Choice a b) i = AreNumbersOf names qs a i
+    × AreNumbersOf names qs b (i + length (names_in a))
+AreNumbersOf names qs (Opt e) i = AreNumbersOf names qs e i
+AreNumbersOf names qs (Rep e) i = AreNumbersOf names qs e i
+AreNumbersOf names qs (RepOnce e) i = AreNumbersOf names qs e i
+AreNumbersOf names qs _ i = ⊤

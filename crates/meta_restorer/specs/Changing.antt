@@ -27,8 +27,8 @@ changes_by p (RepMinMax e i j) = changes_by p e
 changes_by p _ = false
 
 -- the answer whether an expression changes the stack is right
-abbrev pub IsTold : (Text → Bool) → Bool → Expression → Type 0
-IsTold p b e = b ≡ changes_by p e
+abbrev pub IsRightAbout : (Text → Bool) → Bool → Expression → Type 0
+IsRightAbout p b e = b ≡ changes_by p e
 
 -- an expression, in a wrapper if the expression changes the stack
 abbrev pub wrapped_by : (Text → Bool) → Expression → Expression

@@ -1,12 +1,12 @@
 //! The rules that change the stack, as a least fixpoint over the shares of their bodies.
 ghost use Rattle.std.specs.Prelude.{IfOk};
-ghost use Rattle.meta_restorer.specs.Noted.{AreClosed, AreSound, AreWithin};
+ghost use Rattle.meta_restorer.specs.Summaries.{AreClosed, AreSound, AreWithin};
 
-use crate::noted::{Noted, Share, is_shown};
+use crate::summaries::{Summaries, Summary, is_shown};
 use meta_fixpoint::{Inference, Listening, Told, least_flags, who_listens};
 use std::alloc::{AllocError, Global};
 
-impl Listening for Noted {
+impl Listening for Summaries {
     fn count(&self) -> usize {
         self.shares.len()
     }
@@ -26,14 +26,14 @@ impl Listening for Noted {
 /// Shares of bodies, all of which are in the list.
 #[derive(Drop)]
 struct Bodies<'a> {
-    noted: &'a Noted,
+    noted: &'a Summaries,
     ghost within: { AreWithin noted.now },
 }
 
 impl<'a> Inference for Bodies<'a> {
-    ghost use Rattle.meta_restorer.specs.Noted.{shows};
+    ghost use Rattle.meta_restorer.specs.Summaries.{shows};
 
-    type Item = Share;
+    type Item = Summary;
 
     ghost items = { λ bodies. bodies.noted.now.shares.items };
 
@@ -49,7 +49,7 @@ impl<'a> Inference for Bodies<'a> {
 }
 
 /// Finds the rules that change the stack.
-pub(crate) fn flagged(alloc: Global, noted: &Noted) -> Result<Vec<bool>, AllocError>
+pub(crate) fn find_changing_rules(alloc: Global, noted: &Summaries) -> Result<Vec<bool>, AllocError>
     requires { AreWithin noted.now }
     ensures sound { IfOk result (λ flags. AreSound noted.now flags.items) }
     ensures closed { IfOk result (λ flags. AreClosed noted.now flags.items) }

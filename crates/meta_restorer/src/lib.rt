@@ -2,15 +2,15 @@
 //! tried next.
 #![tactic(auto)]
 
-mod around;
 mod bodies;
 mod calls;
 mod changes;
 mod flags;
+mod frames;
 pub mod laws;
 mod names;
-mod noted;
 mod restored;
 mod restorer;
+mod summaries;
 
 pub use restorer::{child_modifies_state, restore_on_err, restore_rules};

@@ -9,14 +9,14 @@ ghost use Rattle.meta_ast.specs.Optimized.{optimized_expression_of, optimized_ru
 ghost use Rattle.meta_restorer.specs.Bodies.{HoldsOptimizedBodies, named_body};
 ghost use Rattle.meta_restorer.specs.Changing.{HasNoWrappers, KeepsWrappers, changes_by};
 ghost use Rattle.meta_base.specs.Pieces.Faults.{IsMemory};
-ghost use Rattle.meta_restorer.specs.Noted.{AreNotedOf, IsNotedAs};
+ghost use Rattle.meta_restorer.specs.Summaries.{AreSummariesOf, IsSummaryOf};
 ghost use Rattle.meta_restorer.specs.Restoring.{AreQuiet, AreSameErased, HaveNoWrappers, IsRestored, restored_rule_by, restored_rules_by};
-ghost use Rattle.meta_restorer.specs.Telling.{Tells, told};
+ghost use Rattle.meta_restorer.specs.KnownChanges.{KnowsChanges, changes_stack};
 
 use crate::bodies::{bodies_of_map, bodies_of_rules};
 use crate::changes::{Changes, changes_of};
-use crate::noted::{Share, changes_itself, is_shown, note};
 use crate::restored::{LEVELS, restore};
+use crate::summaries::{Summary, changes_itself, is_shown, summarize};
 use meta_ast::deep::Deep;
 use meta_ast::optimized::{OptimizedExpr, OptimizedRule};
 use meta_base::runtime::Fault;
@@ -63,7 +63,7 @@ pub fn restore_on_err(
 {
     let rule = Deep { value: rule };
     let changes = changes_in_map(alloc, rules)?;
-    Ok(noted_rule(alloc, changes, rule)?)
+    Ok(restore_summarized(alloc, changes, rule)?)
 }
 
 /// Returns all rules with wrappers, as `restore_on_err` puts them. The rules that change the stack are
@@ -105,7 +105,7 @@ fn changes_in_map(
     rules: &HashMap<String, OptimizedExpr>,
 ) -> Result<Changes, AllocError>
     ensures { IfOk result
-        (λ changes. (g : Grammar) → HoldsOptimizedBodies rules.now g → Tells changes g) }
+        (λ changes. (g : Grammar) → HoldsOptimizedBodies rules.now g → KnowsChanges changes g) }
 {
     let bodies = bodies_of_map(alloc, rules)?;
     changes_of(alloc, &bodies)
@@ -113,9 +113,9 @@ fn changes_in_map(
 
 // Finds the rules that change the stack.
 fn changes_in_rules(alloc: Global, rules: &[OptimizedRule]) -> Result<Changes, AllocError>
-    ensures tells { IfOk result (λ changes. Tells changes (optimized_rules_of rules.now)) }
+    ensures tells { IfOk result (λ changes. KnowsChanges changes (optimized_rules_of rules.now)) }
     ensures noted { IfOk result (λ changes.
-        AreNotedOf changes.names (map named_body rules.now) changes.noted) }
+        AreSummariesOf changes.names (map named_body rules.now) changes.noted) }
 {
     let bodies = bodies_of_rules(alloc, rules)?;
     changes_of(alloc, &bodies)
@@ -124,10 +124,10 @@ fn changes_in_rules(alloc: Global, rules: &[OptimizedRule]) -> Result<Changes, A
 // Reports whether an expression changes the stack.
 fn is_changed(alloc: Global, changes: &Changes, expr: &OptimizedExpr) -> Result<bool, AllocError>
     ensures { IfOk result
-        (λ yes. yes ≡ changes_by (told changes.now) (optimized_expression_of expr.now)) }
+        (λ yes. yes ≡ changes_by (changes_stack changes.now) (optimized_expression_of expr.now)) }
 {
     let mut numbers = Vec::new(alloc);
-    let share = note(alloc, &changes.names, expr, &mut numbers)?;
+    let share = summarize(alloc, &changes.names, expr, &mut numbers)?;
     Ok(is_shown(&numbers, share, &changes.flags))
 }
 
@@ -135,15 +135,15 @@ fn is_changed(alloc: Global, changes: &Changes, expr: &OptimizedExpr) -> Result<
 fn restore_rule(
     alloc: Global,
     changes: &Changes,
-    share: Share,
+    share: Summary,
     rule: &mut OptimizedRule,
 ) -> Result<(), AllocError>
-    requires { IsNotedAs changes.now.names (optimized_expression_of rule.old.expr)
+    requires { IsSummaryOf changes.now.names (optimized_expression_of rule.old.expr)
         changes.now.noted.numbers.items share }
     ensures name { OnOk result (rule.new.name ≡ rule.old.name) }
     ensures ty { OnOk result (rule.new.ty ≡ rule.old.ty) }
     ensures whole { OnOk result (optimized_rule_of rule.new
-        ≡ restored_rule_by (told changes.now) (optimized_rule_of rule.old)) }
+        ≡ restored_rule_by (changes_stack changes.now) (optimized_rule_of rule.old)) }
 {
     if !is_shown(&changes.noted.numbers, share, &changes.flags) {
         return Ok(());
@@ -154,7 +154,7 @@ fn restore_rule(
 }
 
 // Summarizes the body of a rule, and puts wrappers into the rule.
-fn noted_rule(
+fn restore_summarized(
     alloc: Global,
     changes: Changes,
     rule: Deep<OptimizedRule>,
@@ -162,11 +162,11 @@ fn noted_rule(
     ensures name { IfOk result (λ r. r.name ≡ rule.value.name) }
     ensures ty { IfOk result (λ r. r.ty ≡ rule.value.ty) }
     ensures whole { IfOk result
-        (λ r. optimized_rule_of r ≡ restored_rule_by (told changes) (optimized_rule_of rule.value)) }
+        (λ r. optimized_rule_of r ≡ restored_rule_by (changes_stack changes) (optimized_rule_of rule.value)) }
 {
     let mut changes = changes;
     let mut rule = rule;
-    let share = note(
+    let share = summarize(
         alloc,
         &changes.names,
         &rule.value.expr,
@@ -182,9 +182,9 @@ fn restore_all(
     changes: &Changes,
     rules: &mut [OptimizedRule],
 ) -> Result<(), AllocError>
-    requires { AreNotedOf changes.now.names (map named_body rules.old) changes.now.noted }
+    requires { AreSummariesOf changes.now.names (map named_body rules.old) changes.now.noted }
     ensures { OnOk result (optimized_rules_of rules.new
-        ≡ restored_rules_by (told changes.now) (optimized_rules_of rules.old)) }
+        ≡ restored_rules_by (changes_stack changes.now) (optimized_rules_of rules.old)) }
 {
     for (place, rule) in rules.iter_mut().enumerate() {
         restore_rule(alloc, changes, changes.noted.shares[place], rule)?;

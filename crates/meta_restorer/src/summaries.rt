@@ -8,7 +8,7 @@ ghost use Rattle.meta_fixpoint.specs.Least.{is_set_at};
 ghost use Rattle.meta_restorer.specs.Bodies.{said_by};
 ghost use Rattle.meta_restorer.specs.Calls.{names_in};
 ghost use Rattle.meta_restorer.specs.Changing.{changes_by, is_changer};
-ghost use Rattle.meta_restorer.specs.Noted.{AreNotedOf, IsNotedAs, IsWithin, noted_by, shows};
+ghost use Rattle.meta_restorer.specs.Summaries.{AreSummariesOf, IsSummaryOf, IsWithin, numbers_if_known, shows};
 
 use crate::bodies::Body;
 use crate::calls::{is_flagged, is_settled};
@@ -18,7 +18,7 @@ use std::alloc::{AllocError, Global};
 
 /// The summary of an expression, without its wrappers.
 #[derive(Clone, Copy)]
-pub struct Share {
+pub struct Summary {
     /// Whether a `PUSH`, `PUSH_LITERAL`, `POP`, `POP_ALL` or `DROP` occurs.
     pub changes: bool,
     /// The indices between which the numbers of the expression's names are in the list.
@@ -28,22 +28,22 @@ pub struct Share {
 
 /// The summaries of the bodies of all rules.
 #[derive(Drop)]
-pub struct Noted {
+pub struct Summaries {
     /// The number of the rule that a name means, if it means one, for every name, body by body and in
     /// order.
     pub numbers: Vec<Option<usize>>,
     /// The shares of the bodies, by rule.
-    pub shares: Vec<Share>,
+    pub shares: Vec<Summary>,
 }
 
 /// Appends the number of a name, if names are known.
-fn note_name(
+fn push_number(
     names: Option<&Names>,
     name: &String,
     numbers: &mut Vec<Option<usize>>,
 ) -> Result<(), AllocError>
     ensures { OnOk result (numbers.new.items
-        ≡ numbers.old.items ++ noted_by names.entry (text_of name.now ∷ [])) }
+        ≡ numbers.old.items ++ numbers_if_known names.entry (text_of name.now ∷ [])) }
 {
     if let Some(names) = names {
         numbers.push(number_of_name(names, name))?;
@@ -63,7 +63,7 @@ fn look(
     ensures changes { IfOk result
         (λ yes. yes ≡ changes_by is_changer (optimized_expression_of expr.now)) }
     ensures numbers { OnOk result (numbers.new.items
-        ≡ numbers.old.items ++ noted_by names.entry (names_in (optimized_expression_of expr.now))) }
+        ≡ numbers.old.items ++ numbers_if_known names.entry (names_in (optimized_expression_of expr.now))) }
 {
     let mut is_changing = false;
     let mut waiting: Vec<&OptimizedExpr> = Vec::new(alloc);
@@ -93,7 +93,7 @@ fn look(
                 }
             }
             OptimizedExpr::Ident(name) => {
-                note_name(names, name, numbers)?;
+                push_number(names, name, numbers)?;
                 is_changing = is_changing || is_changer_name(name);
                 match waiting.pop() {
                     Some(next) => here = next,
@@ -124,20 +124,20 @@ pub(crate) fn changes_itself(alloc: Global, expr: &OptimizedExpr) -> Result<bool
 }
 
 /// Summarizes an expression.
-pub(crate) fn note(
+pub(crate) fn summarize(
     alloc: Global,
     names: &Names,
     expr: &OptimizedExpr,
     numbers: &mut Vec<Option<usize>>,
-) -> Result<Share, AllocError>
+) -> Result<Summary, AllocError>
     ensures noted { IfOk result
-        (λ share. IsNotedAs names.now (optimized_expression_of expr.now) numbers.new.items share) }
-    ensures kept { OnOk result ((e : Expression) (s : Share)
-        → IsNotedAs names.now e numbers.old.items s → IsNotedAs names.now e numbers.new.items s) }
+        (λ share. IsSummaryOf names.now (optimized_expression_of expr.now) numbers.new.items share) }
+    ensures kept { OnOk result ((e : Expression) (s : Summary)
+        → IsSummaryOf names.now e numbers.old.items s → IsSummaryOf names.now e numbers.new.items s) }
 {
     let start = numbers.len();
     let changes = look(alloc, Some(names), expr, numbers)?;
-    Ok(Share {
+    Ok(Summary {
         changes,
         start,
         end: numbers.len(),
@@ -145,25 +145,25 @@ pub(crate) fn note(
 }
 
 /// Summarizes every body.
-pub(crate) fn noted_of<'a>(
+pub(crate) fn summarize_bodies<'a>(
     alloc: Global,
     names: &Names,
     bodies: &[Body<'a>],
-) -> Result<Noted, AllocError>
-    ensures { IfOk result (AreNotedOf names.now (map said_by bodies.now)) }
+) -> Result<Summaries, AllocError>
+    ensures { IfOk result (AreSummariesOf names.now (map said_by bodies.now)) }
 {
     let mut numbers = Vec::new(alloc);
     let mut shares = Vec::with_capacity(alloc, bodies.len())?;
     for body in bodies {
-        let share = note(alloc, names, body.expr, &mut numbers)?;
+        let share = summarize(alloc, names, body.expr, &mut numbers)?;
         shares.push(share)?;
     }
-    Ok(Noted { numbers, shares })
+    Ok(Summaries { numbers, shares })
 }
 
 /// Reports whether a `PUSH`, `PUSH_LITERAL`, `POP`, `POP_ALL` or `DROP` occurs, or a rule whose flag is
 /// set.
-pub(crate) fn is_shown(numbers: &[Option<usize>], share: Share, flags: &[bool]) -> bool
+pub(crate) fn is_shown(numbers: &[Option<usize>], share: Summary, flags: &[bool]) -> bool
     requires { IsWithin numbers.now share }
     ensures { result ≡ shows numbers.now (is_set_at flags.now) share }
 {

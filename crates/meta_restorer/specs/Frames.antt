@@ -11,16 +11,16 @@ use Rattle.meta_ast.specs.declared.rebuilt.Step.{Step}
 use Rattle.meta_restorer.specs.Calls.{names_in}
 use Rattle.meta_restorer.specs.Changing.{changes_by, restored_by, wrapped_by}
 use Rattle.meta_restorer.specs.Size.{size}
-use Rattle.meta_restorer.specs.declared.around.Around.{Around}
-use Rattle.meta_restorer.specs.declared.around.Restored.{Restored}
-use Rattle.meta_restorer.specs.declared.around.Sign.{Sign}
-use Rattle.meta_restorer.specs.declared.around.Sign.TheVariants as sign
+use Rattle.meta_restorer.specs.declared.frames.RestorerFrame.{RestorerFrame}
+use Rattle.meta_restorer.specs.declared.frames.RestoredExpr.{RestoredExpr}
+use Rattle.meta_restorer.specs.declared.frames.FrameOperator.{FrameOperator}
+use Rattle.meta_restorer.specs.declared.frames.FrameOperator.TheVariants as sign
 
 -- an expression, and whether it changes the stack
 abbrev pub Flagged : Type 0
 Flagged = Expression × Bool
 
-abbrev pub flagged : Restored → Flagged
+abbrev pub flagged : RestoredExpr → Flagged
 flagged r = (optimized_expression_of r.expr.value, r.changes)
 
 -- an expression, with a wrapper or without one
@@ -28,7 +28,7 @@ abbrev pub wrapped_if : Bool → Expression → Expression
 wrapped_if b x = if b then e.RestoreOnErr x else x
 
 -- whether an operand that changes the stack gets a wrapper under a sign
-abbrev pub is_wrapping : Sign → Bool
+abbrev pub is_wrapping : FrameOperator → Bool
 is_wrapping sign.Opt = true
 is_wrapping sign.Rep = true
 is_wrapping sign.RepOnce = true
@@ -43,7 +43,7 @@ module _ (p : Text → Bool) where
   flagged_by x = let r = restored_by p (optimized_expression_of x) in (r, changes_by p r)
 
   -- the restored whole of an operand that is restored and wrapped
-  abbrev pub whole_of : Sign → Expression → Expression
+  abbrev pub whole_of : FrameOperator → Expression → Expression
   whole_of sign.PosPred x = e.PosPred x
   whole_of sign.NegPred x = e.NegPred x
   whole_of sign.Opt x = e.Opt x
@@ -58,7 +58,7 @@ module _ (p : Text → Bool) where
   whole_of (sign.SecondOfChoice left) x = e.Choice (optimized_expression_of left.value.value) x
 
   -- whether the whole changes the stack, by whether the operand does
-  abbrev pub changes_around : Sign → Bool → Bool
+  abbrev pub changes_around : FrameOperator → Bool → Bool
   changes_around sign.PosPred b = b
   changes_around sign.NegPred b = b
   changes_around sign.Push b = true
@@ -68,42 +68,42 @@ module _ (p : Text → Bool) where
   changes_around (sign.SecondOfSeq left c) b = c || b
   changes_around _ b = false
 
-  abbrev pub with_operand : Sign → Flagged → Flagged
+  abbrev pub with_operand : FrameOperator → Flagged → Flagged
   with_operand s f = (whole_of s (wrapped_if (is_wrapping s && f.1) f.0), changes_around s f.1)
 
-  abbrev pub filled_in : Around → Flagged → Flagged
+  abbrev pub filled_in : RestorerFrame → Flagged → Flagged
   filled_in a f = with_operand a.sign f
 
   -- the final result of a step
-  abbrev pub step_as : Step OptimizedExpr Around Restored → Flagged
+  abbrev pub step_as : Step OptimizedExpr RestorerFrame RestoredExpr → Flagged
   step_as step = meaning_of flagged_by flagged filled_in step
 
 -- the names still to be visited under a sign, after those of the operand
-abbrev pub names_beside : Sign → List Text → List Text
+abbrev pub names_beside : FrameOperator → List Text → List Text
 names_beside (sign.FirstOfSeq right) ns = ns ++ names_in (optimized_expression_of right.value.value)
 names_beside (sign.FirstOfChoice right) ns = ns ++ names_in (optimized_expression_of right.value.value)
 names_beside _ ns = ns
 
-abbrev pub names_around : Around → List Text → List Text
+abbrev pub names_around : RestorerFrame → List Text → List Text
 names_around a ns = names_beside a.sign ns
 
 abbrev pub names_to_meet : OptimizedExpr → List Text
 names_to_meet x = names_in (optimized_expression_of x)
 
-abbrev pub names_left : Step OptimizedExpr Around Restored → List Text
+abbrev pub names_left : Step OptimizedExpr RestorerFrame RestoredExpr → List Text
 names_left step = meaning_of names_to_meet (λ r. []) names_around step
 
 -- a bound of the steps left in an expression, under a sign once the operand is restored, and in all
 abbrev pub work_in : OptimizedExpr → ℕ
 work_in x = 4 * size (optimized_expression_of x)
 
-abbrev pub waits_of : Sign → ℕ
+abbrev pub waits_of : FrameOperator → ℕ
 waits_of (sign.FirstOfSeq right) = work_in right.value.value + 3
 waits_of (sign.FirstOfChoice right) = work_in right.value.value + 3
 waits_of _ = 1
 
-abbrev pub waits_around : Around → ℕ
+abbrev pub waits_around : RestorerFrame → ℕ
 waits_around a = waits_of a.sign
 
-abbrev pub work_left : Step OptimizedExpr Around Restored → ℕ
+abbrev pub work_left : Step OptimizedExpr RestorerFrame RestoredExpr → ℕ
 work_left step = work_of work_in waits_around step

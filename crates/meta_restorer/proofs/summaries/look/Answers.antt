@@ -7,12 +7,12 @@ use Rattle.meta_ast.specs.declared.optimized.OptimizedExpr.{OptimizedExpr}
 use Rattle.meta_ast.specs.declared.optimized.OptimizedExpr as code
 use Rattle.meta_restorer.specs.Calls.{names_in}
 use Rattle.meta_restorer.specs.Changing.{changes_by, is_changer}
-use Rattle.meta_restorer.specs.Noted.{noted_by}
+use Rattle.meta_restorer.specs.Summaries.{numbers_if_known}
 use Rattle.meta_restorer.specs.Turns.{changes_in_turn, names_in_turn}
 use Rattle.meta_restorer.proofs.Looking.{noted_first}
 use Rattle.meta_restorer.proofs.Turns.{changes_in_turn_last, names_in_turn_last}
-use Rattle.meta_restorer.proofs.noted.look.Goals.{then-is_changing, else-is_changing}
-use Rattle.meta_restorer.proofs.noted.look.Goals as goal
+use Rattle.meta_restorer.proofs.summaries.look.Goals.{then-is_changing, else-is_changing}
+use Rattle.meta_restorer.proofs.summaries.look.Goals as goal
 
 abbrev changes_of : OptimizedExpr → Bool
 changes_of x = changes_by is_changer (optimized_expression_of x)
@@ -38,13 +38,13 @@ parts-preserved-in-Ident-1 c =
     ] in
     let turn : changes_in_turn c.parts.waiting.items ≡ (changes_by is_changer next || changes_in_turn rest) = ap changes_in_turn c.in-Some.ensures.items ∙ changes_in_turn_last rest c.in-Some.next in
     let names : names_in_turn c.parts.waiting.items ≡ names_in next ++ names_in_turn rest = ap names_in_turn c.in-Some.ensures.items ∙ names_in_turn_last rest c.in-Some.next in
-    let numbers = noted_by c.args.names in
+    let numbers = numbers_if_known c.args.names in
     let own_names = names_in next ++ names_in_turn rest in
     record {
       changes = ap (λ b. b || (changes_by is_changer next || changes_in_turn rest)) flag
           ∙ (or_assoc was own (changes_by is_changer next || changes_in_turn rest)
           ∙ (ap (λ b. was || (own || b)) (sym turn) ∙ (rw c.in-Ident.is at c.parts.invariant.changes)));
-      numbers = ap (λ xs. xs ++ numbers own_names) c.in_ok-note_name-in-Ident.ensures
+      numbers = ap (λ xs. xs ++ numbers own_names) c.in_ok-push_number-in-Ident.ensures
           ∙ (append_assoc c.parts.numbers.items (numbers (text_of c.in-Ident.name ∷ [])) (numbers own_names)
           ∙ (ap (λ ns. c.parts.numbers.items ++ ns) (noted_first c.args.names (text_of c.in-Ident.name) own_names)
           ∙ (ap (λ ns. c.parts.numbers.items ++ numbers (text_of c.in-Ident.name ∷ ns)) (sym names) ∙ (rw c.in-Ident.is at c.parts.invariant.numbers))));
@@ -57,7 +57,7 @@ parts-preserved c =
     let right = c.in-Seq.right.value in
     let rest = c.parts.waiting.items in
     let numbers = c.parts.numbers.items in
-    let of = noted_by c.args.names in
+    let of = numbers_if_known c.args.names in
     let pair = both c.parts.here.now c.in-Seq.left c.in-Seq.right c.in-Seq.is in
     let first = c.deref-here-else-is_right_settled.ensures in
     let second = c.deref-else-is_right_settled.ensures in

@@ -8,21 +8,22 @@ use Rattle.meta_base.specs.Language.Expression.{Expression, Ident, Grammar}
 use Rattle.meta_base.specs.Rewritings.Wrapping.{ChangesStack}
 use Rattle.meta_ast.specs.Ast.{text_of}
 use Rattle.meta_fixpoint.specs.Least.{is_set_at}
-use Rattle.meta_restorer.specs.Calls.{AreNoted, name_changes}
+use Rattle.meta_restorer.specs.Calls.{AreNumbersOf, name_changes}
 use Rattle.meta_restorer.specs.Names.{number_of}
 use Rattle.meta_restorer.specs.declared.changes.Changes.{Changes}
 
 -- whether a name changes the stack
-abbrev pub told : Changes → Text → Bool
-told c = name_changes c.names (is_set_at c.flags.items)
+abbrev pub changes_stack : Changes → Text → Bool
+changes_stack c = name_changes c.names (is_set_at c.flags.items)
 
 -- the restorer knows rightly which names change the stack
-abbrev pub Tells : Changes → Grammar → Type 0
-Tells c g = (n : String Global) → Decides (told c (text_of n)) (ChangesStack g (Ident (text_of n)))
+abbrev pub KnowsChanges : Changes → Grammar → Type 0
+KnowsChanges c g = (n : String Global)
+    → Decides (changes_stack c (text_of n)) (ChangesStack g (Ident (text_of n)))
 
 -- the numbers of the names in an expression are listed from an index on
-abbrev pub IsNotedFrom : Changes → Expression → ℕ → Type 0
-IsNotedFrom c e i = AreNoted c.names c.noted.numbers.items e i
+abbrev pub HasNumbersFrom : Changes → Expression → ℕ → Type 0
+HasNumbersFrom c e i = AreNumbersOf c.names c.noted.numbers.items e i
 
 -- the number of the first of some names, if there is one, is at an index of the list
 abbrev pub IsNext : Changes → List Text → ℕ → Type 0

@@ -3,7 +3,7 @@ use Rattle.meta_ast.specs.Optimized.{optimized_expression_of}
 use Rattle.meta_restorer.specs.Calls.{names_in}
 use Rattle.meta_restorer.specs.Names.{numbers_of}
 use Rattle.meta_restorer.proofs.Looking.{kept, noted_last}
-use Rattle.meta_restorer.proofs.noted.note.Goals as goal
+use Rattle.meta_restorer.proofs.summaries.summarize.Goals as goal
 
 pub returns-clause-noted : goal.returns-clause-noted
 returns-clause-noted c =

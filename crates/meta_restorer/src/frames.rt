@@ -2,10 +2,10 @@
 ghost use Rattle.std.specs.Prelude.{◌≡◌, ◌≤◌, ◌<◌, ◌+◌, [], Bool, IfOk, OnOk};
 ghost use Rattle.meta_base.specs.Language.Text.{Text};
 ghost use Rattle.meta_ast.specs.Optimized.{optimized_expression_of};
-ghost use Rattle.meta_restorer.specs.Around.{flagged, flagged_by, is_wrapping, names_around, names_beside};
-ghost use Rattle.meta_restorer.specs.Around.{names_left, names_to_meet, step_as, waits_around, waits_of};
-ghost use Rattle.meta_restorer.specs.Around.{filled_in, with_operand, work_left, work_in, wrapped_if};
-ghost use Rattle.meta_restorer.specs.Telling.{IsNext, ReadsOn, told};
+ghost use Rattle.meta_restorer.specs.Frames.{flagged, flagged_by, is_wrapping, names_around, names_beside};
+ghost use Rattle.meta_restorer.specs.Frames.{names_left, names_to_meet, step_as, waits_around, waits_of};
+ghost use Rattle.meta_restorer.specs.Frames.{filled_in, with_operand, work_left, work_in, wrapped_if};
+ghost use Rattle.meta_restorer.specs.KnownChanges.{IsNext, ReadsOn, changes_stack};
 
 use crate::changes::{Changes, is_next_changing};
 use meta_ast::deep::Deep;
@@ -16,7 +16,7 @@ use std::mem;
 
 /// A restored expression.
 #[derive(Drop)]
-pub struct Restored {
+pub struct RestoredExpr {
     pub expr: Deep<OptimizedExpr>,
     /// Whether the expression changes the stack.
     pub changes: bool,
@@ -24,15 +24,15 @@ pub struct Restored {
 
 /// A continuation frame of the restorer.
 #[derive(Drop)]
-pub struct Around {
-    pub sign: Sign,
+pub struct RestorerFrame {
+    pub sign: FrameOperator,
     /// The box from which the operand was taken, for the restored operand.
     pub room: Box<OptimizedExpr>,
 }
 
 /// The operator of a frame, with the other operand.
 #[derive(Drop)]
-pub enum Sign {
+pub enum FrameOperator {
     PosPred,
     NegPred,
     Opt,
@@ -49,17 +49,17 @@ pub enum Sign {
     SecondOfChoice(Deep<Box<OptimizedExpr>>),
 }
 
-impl Sign {
+impl FrameOperator {
     /// Reports whether an operand that changes the stack gets a wrapper there.
     fn is_wrapping(&self) -> bool
         ensures { result ≡ is_wrapping self.now }
     {
         match self {
-            Sign::Opt => true,
-            Sign::Rep => true,
-            Sign::RepOnce => true,
-            Sign::FirstOfChoice(_) => true,
-            Sign::SecondOfChoice(_) => true,
+            FrameOperator::Opt => true,
+            FrameOperator::Rep => true,
+            FrameOperator::RepOnce => true,
+            FrameOperator::FirstOfChoice(_) => true,
+            FrameOperator::SecondOfChoice(_) => true,
             _ => false,
         }
     }
@@ -97,15 +97,18 @@ fn put(room: Box<OptimizedExpr>, expr: OptimizedExpr) -> Box<OptimizedExpr>
 }
 
 /// Returns a step with a restored expression.
-fn made(expr: OptimizedExpr, changes: bool) -> Step<OptimizedExpr, Around, Restored>
+fn made_step(expr: OptimizedExpr, changes: bool) -> Step<OptimizedExpr, RestorerFrame, RestoredExpr>
     ensures { result ≡ Step.Made (record { expr = record { value = expr }; changes = changes }) }
 {
     let expr = Deep { value: expr };
-    Step::Made(Restored { expr, changes })
+    Step::Made(RestoredExpr { expr, changes })
 }
 
 /// Returns a step into an operand, which is taken out of its box.
-fn inside(sign: Sign, operand: Box<OptimizedExpr>) -> Step<OptimizedExpr, Around, Restored>
+fn enter_operand(
+    sign: FrameOperator,
+    operand: Box<OptimizedExpr>,
+) -> Step<OptimizedExpr, RestorerFrame, RestoredExpr>
     ensures meaning { (p : Text → Bool)
         → step_as p result ≡ with_operand p sign (flagged_by p operand.value) }
     ensures names { names_left result ≡ names_beside sign (names_to_meet operand.value) }
@@ -113,82 +116,86 @@ fn inside(sign: Sign, operand: Box<OptimizedExpr>) -> Step<OptimizedExpr, Around
 {
     let mut room = operand;
     let operand = Box::replace(&mut room, nothing());
-    Step::Inside(Around { sign, room }, operand)
+    Step::Inside(RestorerFrame { sign, room }, operand)
 }
 
 /// Restores an expression without operands, or enters its first operand. The rule of a name is read at
 /// the index `place`, which then moves on.
-pub(crate) fn opened(
+pub(crate) fn open_expr(
     changes: &Changes,
     place: &mut usize,
     expr: OptimizedExpr,
-) -> Step<OptimizedExpr, Around, Restored>
+) -> Step<OptimizedExpr, RestorerFrame, RestoredExpr>
     requires { IsNext changes.now (names_to_meet expr) place.old }
-    ensures meaning { step_as (told changes.now) result ≡ flagged_by (told changes.now) expr }
+    ensures meaning { step_as (changes_stack changes.now) result
+        ≡ flagged_by (changes_stack changes.now) expr }
     ensures reads { ReadsOn changes.now (names_to_meet expr) place.old (names_left result) place.new }
     ensures work { work_left result ≤ work_in expr }
 {
     use OptimizedExpr as E;
     let (sign, operand) = match expr {
-        E::PosPred(inner) => (Sign::PosPred, inner),
-        E::NegPred(inner) => (Sign::NegPred, inner),
-        E::Opt(inner) => (Sign::Opt, inner),
-        E::Rep(inner) => (Sign::Rep, inner),
-        E::RepOnce(inner) => (Sign::RepOnce, inner),
-        E::Push(inner) => (Sign::Push, inner),
-        E::NodeTag(inner, tag) => (Sign::NodeTag(tag), inner),
-        E::Seq(left, right) => (Sign::FirstOfSeq(Deep { value: right }), left),
-        E::Choice(left, right) => (Sign::FirstOfChoice(Deep { value: right }), left),
+        E::PosPred(inner) => (FrameOperator::PosPred, inner),
+        E::NegPred(inner) => (FrameOperator::NegPred, inner),
+        E::Opt(inner) => (FrameOperator::Opt, inner),
+        E::Rep(inner) => (FrameOperator::Rep, inner),
+        E::RepOnce(inner) => (FrameOperator::RepOnce, inner),
+        E::Push(inner) => (FrameOperator::Push, inner),
+        E::NodeTag(inner, tag) => (FrameOperator::NodeTag(tag), inner),
+        E::Seq(left, right) => (FrameOperator::FirstOfSeq(Deep { value: right }), left),
+        E::Choice(left, right) => (FrameOperator::FirstOfChoice(Deep { value: right }), left),
         E::Ident(name) => {
             let is_changing = is_next_changing(changes, place, &name);
-            return made(E::Ident(name), is_changing);
+            return made_step(E::Ident(name), is_changing);
         }
-        E::PushLiteral(text) => return made(E::PushLiteral(text), true),
-        leaf => return made(leaf, false),
+        E::PushLiteral(text) => return made_step(E::PushLiteral(text), true),
+        leaf => return made_step(leaf, false),
     };
-    inside(sign, operand)
+    enter_operand(sign, operand)
 }
 
 /// Rebuilds the whole once its last operand is restored, or enters the next operand.
-pub(crate) fn closed(
+pub(crate) fn close_frame(
     alloc: Global,
-    around: Around,
-    operand: Restored,
-) -> Result<Step<OptimizedExpr, Around, Restored>, AllocError>
+    around: RestorerFrame,
+    operand: RestoredExpr,
+) -> Result<Step<OptimizedExpr, RestorerFrame, RestoredExpr>, AllocError>
     ensures meaning { IfOk result (λ step. (p : Text → Bool)
         → step_as p step ≡ filled_in p around (flagged operand)) }
     ensures names { IfOk result (λ step. names_left step ≡ names_around around []) }
     ensures work { IfOk result (λ step. work_left step < waits_around around) }
 {
     use OptimizedExpr as E;
-    let Around { sign, room } = around;
-    let Restored { expr, changes } = operand;
+    let RestorerFrame { sign, room } = around;
+    let RestoredExpr { expr, changes } = operand;
     let mut operand = Deep {
         value: put(room, expr.into_inner()),
     };
     wrap(alloc, &mut operand.value, sign.is_wrapping() && changes)?;
     let operand = operand.into_inner();
     let step = match sign {
-        Sign::PosPred => made(E::PosPred(operand), changes),
-        Sign::NegPred => made(E::NegPred(operand), changes),
-        Sign::Opt => made(E::Opt(operand), false),
-        Sign::Rep => made(E::Rep(operand), false),
-        Sign::RepOnce => made(E::RepOnce(operand), false),
-        Sign::Push => made(E::Push(operand), true),
-        Sign::NodeTag(tag) => made(E::NodeTag(operand, tag), changes),
-        Sign::FirstOfSeq(right) => {
-            let sign = Sign::SecondOfSeq(Deep { value: operand }, changes);
-            inside(sign, right.into_inner())
+        FrameOperator::PosPred => made_step(E::PosPred(operand), changes),
+        FrameOperator::NegPred => made_step(E::NegPred(operand), changes),
+        FrameOperator::Opt => made_step(E::Opt(operand), false),
+        FrameOperator::Rep => made_step(E::Rep(operand), false),
+        FrameOperator::RepOnce => made_step(E::RepOnce(operand), false),
+        FrameOperator::Push => made_step(E::Push(operand), true),
+        FrameOperator::NodeTag(tag) => made_step(E::NodeTag(operand, tag), changes),
+        FrameOperator::FirstOfSeq(right) => {
+            let sign = FrameOperator::SecondOfSeq(Deep { value: operand }, changes);
+            enter_operand(sign, right.into_inner())
         }
-        Sign::FirstOfChoice(right) => {
-            let sign = Sign::SecondOfChoice(Deep { value: operand });
-            inside(sign, right.into_inner())
+        FrameOperator::FirstOfChoice(right) => {
+            let sign = FrameOperator::SecondOfChoice(Deep { value: operand });
+            enter_operand(sign, right.into_inner())
         }
-        Sign::SecondOfSeq(left, is_left_changing) => made(
+        FrameOperator::SecondOfSeq(left, is_left_changing) => made_step(
             E::Seq(left.into_inner(), operand),
             is_left_changing || changes,
         ),
-        Sign::SecondOfChoice(left) => made(E::Choice(left.into_inner(), operand), false),
+        FrameOperator::SecondOfChoice(left) => made_step(
+            E::Choice(left.into_inner(), operand),
+            false,
+        ),
     };
     Ok(step)
 }
