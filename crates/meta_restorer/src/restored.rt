@@ -79,7 +79,8 @@ fn restore_wrapped(
     ensures place { OnOk result
         (place.new ≡ place.old + length (names_in (optimized_expression_of expr.old.value))) }
     ensures made { OnOk result (optimized_expression_of expr.new.value
-        ≡ wrapped_by (changes_stack changes.now) (restored_by (changes_stack changes.now) (optimized_expression_of expr.old.value))) }
+        ≡ wrapped_by (changes_stack changes.now)
+        (restored_by (changes_stack changes.now) (optimized_expression_of expr.old.value))) }
 {
     let is_changing = restore(alloc, changes, place, levels, expr)?;
     wrap(alloc, expr, is_changing)

@@ -1,6 +1,5 @@
-//! The search for left recursion from rules that are on a cycle of left calls: a depth-first search in
-//! the order of the text, with a worklist in place of calls, and a flag for each rule, so that none is
-//! entered twice. One walk serves all rules; its flags are unset after each.
+//! The search for left recursion from rules on a cycle of left calls: an iterative depth-first search in
+//! the order of the text that enters no rule twice. One walk serves all rules, and is reset after each.
 ghost use Rattle.std.specs.Prelude.{◌≡◌, ℕ, false, ◌<◌, ◌+◌, ◌++◌, ◌∷◌, [], List, Option, Some, None, true, IfOk, OnOk, IfNone, IfSome, length, slice_get, slice_set, string_bytes, codes};
 ghost use Rattle.meta_base.specs.Language.Text.{Text};
 ghost use Rattle.meta_base.specs.Language.WellFormed.{Leads};
@@ -269,8 +268,7 @@ fn run_walk<'i>(
     Ok(None)
 }
 
-/// Searches the first call of a rule to which the walk from that rule comes, and returns that call with
-/// the rules by which it came. The walk can begin again then.
+/// Returns the first call of a rule to which the walk from there comes, with the rules by which it came.
 fn find_trail<'i>(
     alloc: Global,
     rules: &[ParserRule<'i>],
@@ -367,8 +365,7 @@ fn is_last<'i>(rules: &[ParserRule<'i>], names: &Names, place: usize) -> bool
     }
 }
 
-/// Reports whether the rule at an index is the last of its name, and its left calls may lead back to it;
-/// no is definite.
+/// Reports whether a rule is the last of its name, and its left calls may return to it; no is definite.
 fn may_come_back<'i>(
     rules: &[ParserRule<'i>],
     names: &Names,
