@@ -4,7 +4,7 @@ ghost use Rattle.meta_base.specs.Language.Expression.{Expression, Insens, Seq, S
 ghost use Rattle.meta_ast.specs.Ast.{expression_of, text_of};
 ghost use Rattle.meta_ast.specs.Weight.{weight};
 ghost use Rattle.meta_optimizer.specs.Here.{joined_here};
-ghost use Rattle.meta_optimizer.specs.JoinedExpr.{concatenated, in_order, joined_with, said_by, waits_of};
+ghost use Rattle.meta_optimizer.specs.Joined.{concatenated, in_order, joined_with, said_by, waits_of};
 
 use meta_ast::ast::Expr;
 use meta_ast::deep::{Deep, Release};
