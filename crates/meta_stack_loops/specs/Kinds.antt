@@ -12,8 +12,8 @@ use Rattle.meta_ast.specs.Ast.{text_of}
 use Rattle.meta_analysis.specs.Nodes.{all_nodes, IsSimple}
 use Rattle.meta_analysis.specs.Roots.{AreRoots}
 use Rattle.meta_analysis.specs.Shapes.{sign_of, joint_of}
-use Rattle.meta_analysis.specs.declared.shapes.Sign.{Sign}
-use Rattle.meta_analysis.specs.declared.shapes.Sign.TheVariants as signs
+use Rattle.meta_analysis.specs.declared.shapes.UnaryOperator.{UnaryOperator}
+use Rattle.meta_analysis.specs.declared.shapes.UnaryOperator.TheVariants as signs
 use Rattle.meta_analysis.specs.declared.shapes.Joint.{Joint}
 use Rattle.meta_analysis.specs.declared.shapes.Joint.TheVariants as joints
 use Rattle.meta_analysis.specs.declared.shapes.Shape.{Shape}
@@ -53,7 +53,7 @@ kind_of_code kind_of (code.PeekSlice i j) = slice_kind i j
 kind_of_code kind_of (code.PushLiteral s) = is.PushLiteral (is_empty_text (text_of s))
 kind_of_code kind_of _ = is.Leaf
 
-abbrev pub wrap_kind : Sign → ℕ → Kind
+abbrev pub wrap_kind : UnaryOperator → ℕ → Kind
 wrap_kind signs.PosPred j = is.PosPred j
 wrap_kind signs.NegPred j = is.NegPred j
 wrap_kind signs.Opt j = is.Opt j

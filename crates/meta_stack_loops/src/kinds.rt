@@ -9,7 +9,7 @@ ghost use Rattle.meta_stack_loops.specs.Names.{kind_in};
 
 use crate::names::kind_of_name;
 use crate::table::{Kind, Node};
-use meta_analysis::{Joint, Names, Shape, Sign, Table};
+use meta_analysis::{Joint, Names, Shape, Table, UnaryOperator};
 use meta_spanned::{ParserExpr, ParserRule};
 use std::alloc::{AllocError, Global};
 
@@ -69,21 +69,21 @@ fn is_empty_text(text: &String) -> bool
     text.is_empty()
 }
 
-fn kind_of_wrap(sign: Sign, body: usize) -> Kind
+fn kind_of_wrap(sign: UnaryOperator, body: usize) -> Kind
     ensures { result ≡ wrap_kind sign body }
 {
     match sign {
-        Sign::PosPred => Kind::PosPred(body),
-        Sign::NegPred => Kind::NegPred(body),
-        Sign::Opt => Kind::Opt(body),
-        Sign::Push => Kind::Push(body),
-        Sign::NodeTag => Kind::Tag(body),
-        Sign::Rep => Kind::Repeat(body, 0, 0, true),
-        Sign::RepOnce => Kind::Repeat(body, 1, 0, true),
-        Sign::RepExact(count) => Kind::Repeat(body, count, 0, false),
-        Sign::RepMin(count) => Kind::Repeat(body, count, 0, true),
-        Sign::RepMax(count) => Kind::Repeat(body, 0, count, false),
-        Sign::RepMinMax(low, high) => {
+        UnaryOperator::PosPred => Kind::PosPred(body),
+        UnaryOperator::NegPred => Kind::NegPred(body),
+        UnaryOperator::Opt => Kind::Opt(body),
+        UnaryOperator::Push => Kind::Push(body),
+        UnaryOperator::NodeTag => Kind::Tag(body),
+        UnaryOperator::Rep => Kind::Repeat(body, 0, 0, true),
+        UnaryOperator::RepOnce => Kind::Repeat(body, 1, 0, true),
+        UnaryOperator::RepExact(count) => Kind::Repeat(body, count, 0, false),
+        UnaryOperator::RepMin(count) => Kind::Repeat(body, count, 0, true),
+        UnaryOperator::RepMax(count) => Kind::Repeat(body, 0, count, false),
+        UnaryOperator::RepMinMax(low, high) => {
             Kind::Repeat(body, low.min(high), high.saturating_sub(low), false)
         }
     }

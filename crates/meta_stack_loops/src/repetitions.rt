@@ -7,7 +7,7 @@ ghost use Rattle.meta_base.specs.Pieces.Saying.{AreErrorsFor};
 ghost use Rattle.meta_fixpoint.specs.Least.{is_set_at};
 ghost use Rattle.meta_spanned.specs.Nodes.{rule_views, piece_of};
 ghost use Rattle.meta_analysis.specs.Facts.{AreFacts, AreNullable};
-ghost use Rattle.meta_analysis.specs.Groundwork.{IsGroundwork};
+ghost use Rattle.meta_analysis.specs.Analysis.{IsAnalysis};
 ghost use Rattle.meta_stack_domain.specs.Reports.{skips_in};
 ghost use Rattle.meta_stack_loops.specs.Certain.{AreFound, AreReports, IsSorted, TellReports, complaint_at};
 ghost use Rattle.meta_stack_loops.specs.Expressions.{body_flag, name_flag};
@@ -28,7 +28,7 @@ use crate::recursion::{Calls, calls_of};
 use crate::reportable::{is_some_root_set, reportable_nodes};
 use crate::table::Table;
 use crate::visits::{Pending, visit};
-use meta_analysis::{Facts, Groundwork, Names, facts_of, names_of, tabulated};
+use meta_analysis::{Analysis, Facts, Names, facts_of, names_of, tabulate};
 use meta_base::grammar::Rule;
 use meta_base::runtime::{Error, ErrorVariant, Fault, Span, Survey};
 use meta_fixpoint::is_set;
@@ -109,7 +109,7 @@ fn nullable_flags<'i>(
     ensures { IfOk result (λ flags. AreNullable rules.now flags.items) }
 {
     match lent {
-        Some(facts) => facts.copied_nullable(alloc),
+        Some(facts) => facts.copy_nullable(alloc),
         None => {
             let Facts { nullable, .. } = facts_of(alloc, rules, names, table)?;
             Ok(nullable)
@@ -142,7 +142,7 @@ fn to_visit_in<'n, 'i>(
         (λ visited. IsToVisit rules.now visited)) }
 {
     let nodes = nodes_with_kinds(alloc, rules, names, table)?;
-    let roots = table.copied_roots(alloc)?;
+    let roots = table.copy_roots(alloc)?;
     let reportable = reportable_nodes(alloc, roots.as_slice(), nodes.as_slice())?;
     if !is_some_root_set(roots.as_slice(), reportable.as_slice()) {
         return Ok(None);
@@ -374,7 +374,7 @@ pub fn sorted_reports<'i>(
     ensures exact { IfOk result (λ found. AreReports (rule_views rules.now) (map piece_of found.items)) }
 {
     let names = names_of(alloc, rules)?;
-    let table = tabulated(alloc, rules)?;
+    let table = tabulate(alloc, rules)?;
     let mut found = all_reports(alloc, rules, &names, &table, None)?;
     sort_spans(&mut found)?;
     Ok(found)
@@ -384,12 +384,12 @@ pub fn sorted_reports<'i>(
 pub fn sorted_reports_in<'i>(
     alloc: Global,
     rules: &[ParserRule<'i>],
-    groundwork: &Groundwork<'_, 'i>,
+    groundwork: &Analysis<'_, 'i>,
 ) -> Result<Vec<Span<'i>>, AllocError>
-    requires { IsGroundwork rules.now groundwork.now }
+    requires { IsAnalysis rules.now groundwork.now }
     ensures exact { IfOk result (λ found. AreReports (rule_views rules.now) (map piece_of found.items)) }
 {
-    let Groundwork {
+    let Analysis {
         names,
         table,
         facts,

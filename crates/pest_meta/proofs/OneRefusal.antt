@@ -9,7 +9,7 @@ use Rattle.meta_base.specs.declared.runtime.errors.InputLocation.TheVariants as 
 use Rattle.meta_base.specs.declared.runtime.errors.LineColLocation.TheVariants as in_lines
 use Rattle.meta_base.proofs.FailurePlaces.{one_place}
 use Rattle.meta_reader.specs.Flaws.{Flaw}
-use Rattle.meta_reader.specs.Refusals.{cause_message, TellsOf}
+use Rattle.meta_reader.specs.Refusals.{cause_message, ReportsFlaw}
 use Rattle.meta_reader.proofs.Uniqueness.{rules_once}
 use Rattle.meta_syntax.specs.MetaGrammar.{meta_grammar}
 use Rattle.meta_syntax.specs.Parses.{FailsAt, IsSyntaxError}
@@ -46,9 +46,9 @@ no_grammar_once : (text : List ℕ) (errors others : List (Error Rule)) → IsNo
 no_grammar_once text errors others a b =
     same_syntax text a.says.place b.says.place errors others (one_failure text a.says.place b.says.place a.says.fails b.says.fails) a.says.says b.says.says
 
-same_flaw : (f h : Flaw) (errors others : List (Error Rule)) → f ≡ h → TellsOf f errors → TellsOf h others → AreAlike errors others
+same_flaw : (f h : Flaw) (errors others : List (Error Rule)) → f ≡ h → ReportsFlaw f errors → ReportsFlaw h others → AreAlike errors others
 same_flaw f h errors others same a b =
-    let c = subst (λ z. TellsOf z errors) same a in
+    let c = subst (λ z. ReportsFlaw z errors) same a in
     alike_ones errors others c.error b.error c.one b.one (says_alike (record { message = cause_message h.cause; span = h.span }) c.error b.error c.says b.says)
 
 -- 2. of one list of trees

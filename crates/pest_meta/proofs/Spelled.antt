@@ -20,7 +20,7 @@ use Rattle.meta_spanned.specs.Erasure.{rules_without_spans}
 use Rattle.meta_spanned.specs.Spanned.{SpannedRule}
 use Rattle.meta_reader.specs.Flaws.{Flaw, first_flaw}
 use Rattle.meta_reader.specs.Reading.{ReadsRules}
-use Rattle.meta_reader.specs.Refusals.{AreReadAs, first_flaw_of, IsReadRefusal, TellsOf}
+use Rattle.meta_reader.specs.Refusals.{AreReadAs, first_flaw_of, IsReadRefusal, ReportsFlaw}
 use Rattle.meta_reader.proofs.Uniqueness.{rules_once}
 use Rattle.meta_syntax.specs.MetaGrammar.{meta_grammar}
 use Rattle.meta_syntax.specs.Parses.{AreOfAGrammar, FailsAt, ParseRefuses}
@@ -104,7 +104,7 @@ no_grammar text (fault_is.Grammar errors) h =
     inl (record { says = h; none = λ rules s. fails_so text h.place s.trees h.fails s.of_text })
 
 -- what is refused when it is read has a flaw
-pub flawed : (text : List ℕ) (us : Trees) (errors : List (Error Rule)) (o : Option Flaw) → first_flaw text us ≡ o → MatchOption o ⊥ (λ flaw. TellsOf flaw errors) → AreFlawed text us errors
+pub flawed : (text : List ℕ) (us : Trees) (errors : List (Error Rule)) (o : Option Flaw) → first_flaw text us ≡ o → MatchOption o ⊥ (λ flaw. ReportsFlaw flaw errors) → AreFlawed text us errors
 flawed text us errors None e k = absurd k
 flawed text us errors (Some flaw) e k = record { flaw = flaw; first = e; tells = k }
 

@@ -18,7 +18,7 @@ use Rattle.meta_spanned.specs.Spanned.{SpannedRule}
 use Rattle.meta_optimizer.specs.Passes.{IsOptimized}
 use Rattle.meta_reader.specs.Flaws.{Flaw, first_flaw}
 use Rattle.meta_reader.specs.Reading.{ReadsRules}
-use Rattle.meta_reader.specs.Refusals.{TellsOf}
+use Rattle.meta_reader.specs.Refusals.{ReportsFlaw}
 use Rattle.meta_syntax.specs.Parses as parsed
 use Rattle.meta_syntax.specs.Parses.{IsRefused}
 use Rattle.meta_stack_loops.specs.Certain.{AreReports}
@@ -58,7 +58,7 @@ pub record AreAccepted (text : List ℕ) (trees : Trees) (rules : Grammar) : Typ
 pub record AreFlawed (text : List ℕ) (trees : Trees) (errors : List (Error Rule)) : Type 0 where
   pub flaw : Flaw
   pub first : first_flaw text trees ≡ Some flaw
-  pub tells : TellsOf flaw errors
+  pub tells : ReportsFlaw flaw errors
 
 -- trees of a text give rules in which something is found, reports of the stack pass among it, and the errors
 -- tell of it

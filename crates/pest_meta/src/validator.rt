@@ -7,7 +7,7 @@ ghost use Rattle.meta_stack_loops.specs.Certain.{AreReports};
 ghost use Rattle.meta_validator.specs.Placed.{AreIn};
 ghost use Rattle.pest_meta.specs.Findings.{TellFindings};
 
-use meta_analysis::groundwork_of;
+use meta_analysis::analyze;
 use meta_base::grammar::Rule;
 use meta_base::runtime::{Error, Fault};
 pub use meta_names::{
@@ -51,7 +51,7 @@ pub fn validate_ast<'i>(
     ensures memory { IfErr result (λ fault. fault ≡ Fault.Memory alloc_error) }
 {
     let rules = rules.as_slice();
-    let groundwork = groundwork_of(alloc, rules)?;
+    let groundwork = analyze(alloc, rules)?;
     let endless = sorted_reports_in(alloc, rules, &groundwork)?;
     validate_by(alloc, rules, &groundwork, endless.as_slice())
 }
@@ -71,7 +71,7 @@ pub fn validate_ast_in<'i>(
     ensures memory { IfErr result (λ fault. fault ≡ Fault.Memory alloc_error) }
 {
     let rules = rules.as_slice();
-    let groundwork = groundwork_of(alloc, rules)?;
+    let groundwork = analyze(alloc, rules)?;
     let endless = sorted_reports_in(alloc, rules, &groundwork)?;
     validate_by_in(alloc, text, rules, &groundwork, endless.as_slice())
 }
