@@ -1,4 +1,4 @@
--- What is asked of all nodes, and answered by the answers for their operands.
+-- Questions about nodes, answered for a node by the answers for its operands.
 use Rattle.std.specs.Prelude.{◌≡◌, ℕ, List, Option, Some, None, Bool, true, false, ◌&&◌, ◌||◌, slice_get, nat_eq}
 use Rattle.meta_fixpoint.specs.Least as least
 use Rattle.meta_fixpoint.specs.Least.{Follows, is_set_at}
@@ -15,7 +15,7 @@ abbrev pub at_place : (ℕ → Bool) → Option ℕ → Bool
 at_place p None = false
 at_place p (Some i) = p i
 
--- it changes the stack outside predicates
+-- a node changes the stack outside predicates, by the flags p of nodes
 abbrev pub changing_kind : List ℕ → (ℕ → Bool) → Kind → Bool
 changing_kind roots p (is.Call r) = at_place p (slice_get roots r)
 changing_kind roots p (is.Push j) = true
@@ -30,7 +30,7 @@ changing_kind roots p (is.Seq j k) = p j || p k
 changing_kind roots p (is.Choice j k) = p j || p k
 changing_kind roots p _ = false
 
--- it may be read as taking nothing, from some stack, by its operands
+-- a node may be read as taking nothing, from some stack, by the flags p of its operands
 abbrev pub still_kind : List ℕ → (ℕ → Bool) → Kind → Bool
 still_kind roots p is.Leaf = false
 still_kind roots p (is.Call r) = at_place p (slice_get roots r)
@@ -47,7 +47,7 @@ some_part p parts.Nothing = false
 some_part p (parts.Inside j required optional endless) = p j
 some_part p (parts.Both j k choice) = p j || p k
 
--- it calls a rule, or leads to a call of it by the body that it calls or by its operands
+-- a node calls a rule, or leads to a call of the rule by the body that it calls or by its operands
 abbrev pub leading : List ℕ → (ℕ → Bool) → ℕ → Option ℕ → Parts → Bool
 leading roots p r (Some s) ps = nat_eq s r || at_place p (slice_get roots s)
 leading roots p r None ps = some_part p ps
@@ -58,7 +58,7 @@ answer asks.AltersStack roots p n = changing_kind roots p n.kind
 answer asks.MayBeStill roots p n = still_kind roots p n.kind
 answer (asks.LeadsTo r) roots p n = leading roots p r (called_by n.kind) (parts_of n.kind)
 
--- each flag is the answer for its node, by the flags of others
+-- the flag of every node is its answer, by the flags of others
 abbrev pub AreAnswers : Question → List Node → List ℕ → List Bool → Type 0
 AreAnswers q ns roots flags = (i : ℕ) (n : Node) → slice_get ns i ≡ Some n
     → is_set_at flags i ≡ answer q roots (is_set_at flags) n

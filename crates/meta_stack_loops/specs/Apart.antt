@@ -1,4 +1,4 @@
--- What stays apart from the stack: it does the same from every stack, and leaves it.
+-- Nodes independent of the stack, which do the same from every stack and leave it.
 use Rattle.std.specs.Prelude.{◌≡◌, ℕ, List, Option, Some, None, Bool, true, false, ◌&&◌, nat_le, slice_get}
 use Rattle.meta_fixpoint.specs.Least.{is_set_at}
 use Rattle.meta_stack_domain.specs.Stack.{AbstractStack}

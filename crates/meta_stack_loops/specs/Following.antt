@@ -35,13 +35,13 @@ pub record IsTrace (f : says.Walk → says.Walk) (n : ℕ) (w : says.Walk) (item
   pub each : (j : ℕ) (v : Walk) → slice_get items j ≡ Some v → (walk_of v ≡ times j f w) × (j < n)
   pub all : (i : ℕ) → i < n → (j : ℕ) × Comes items (times i f w) j
 
--- each walk of a list is what an action makes of the one before it, and this is what it makes of the last one
+-- the list has the walks start, f start, f (f start), .. one by one, and w is the next of them
 pub record IsRun (f : says.Walk → says.Walk) (start : says.Walk) (items : List Walk) (w : says.Walk)
     : Type 0 where
   pub each : (j : ℕ) (v : Walk) → slice_get items j ≡ Some v → walk_of v ≡ times j f start
   pub here : w ≡ times (length items) f start
 
--- where so many more copies lead to behind a run
+-- the walk v is reached from w after `left` more copies, whatever run led to w
 pub record IsForeseen (items : List Walk) (w : says.Walk) (left : ℕ) (v : Walk) : Type 0 where
   pub value : (f : says.Walk → says.Walk) (start : says.Walk) → IsRun f start items w
       → walk_of v ≡ times left f w

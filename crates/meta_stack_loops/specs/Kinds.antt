@@ -1,4 +1,4 @@
--- What the nodes of bodies do, each behind those inside it.
+-- The operations of the nodes of all bodies, in postorder.
 use Rattle.std.specs.Prelude.{◌≡◌, ℕ, zero, ◌-◌, ◌<◌, min, List, [], ◌∷◌, length, Option, Some, None, Bool, true, false, slice_get, ℤ, pos}
 use Rattle.meta_base.specs.Language.Text.{Text}
 use Rattle.meta_base.specs.Language.Expression as bare
@@ -35,7 +35,7 @@ slice_kind (pos zero) None = is.PeekAll
 slice_kind (pos zero) (Some (pos zero)) = is.Still
 slice_kind _ _ = is.Leaf
 
--- what an expression without operands does, by what names do
+-- the operation of an expression without operands, by those of names
 abbrev pub leaf_kind : (Text → Kind) → Expression → Kind
 leaf_kind kind_of (bare.Str t) = text_kind t
 leaf_kind kind_of (bare.Insens t) = text_kind t
@@ -44,7 +44,7 @@ leaf_kind kind_of (bare.PeekSlice i j) = slice_kind i j
 leaf_kind kind_of (bare.PushLiteral t) = is.PushLiteral (is_empty_text t)
 leaf_kind kind_of _ = is.Leaf
 
--- what an expression of code without operands does
+-- the operation of an expression of code without operands
 abbrev pub kind_of_code : (Text → Kind) → ParserExpr → Kind
 kind_of_code kind_of (code.Str s) = text_kind (text_of s)
 kind_of_code kind_of (code.Insens s) = text_kind (text_of s)
@@ -70,13 +70,13 @@ abbrev pub both_kind : Joint → ℕ → ℕ → Kind
 both_kind joints.Sequence j k = is.Seq j k
 both_kind joints.Choice j k = is.Choice j k
 
--- what an expression of this shape does
+-- the operation of an expression of this shape
 abbrev pub node_kind : (Text → Kind) → ParserExpr → Shape → Kind
 node_kind kind_of e shapes.Leaf = kind_of_code kind_of e
 node_kind kind_of e (shapes.One sign j) = wrap_kind sign j
 node_kind kind_of e (shapes.Two joint j k) = both_kind joint j k
 
--- what a node at a place does, by the places of those inside it
+-- k is the operation of the node x with index i, by the indices of its operands
 abbrev pub Fits : (Text → Kind) → List Spanned → ℕ → Kind → Spanned → Type 0
 Fits kind_of nodes i k (Leaf s e) = IsSimple e × (k ≡ leaf_kind kind_of e)
 Fits kind_of nodes i k (One s f x) = (j : ℕ) × (j < i) × (slice_get nodes j ≡ Some x)

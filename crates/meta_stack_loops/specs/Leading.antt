@@ -62,7 +62,8 @@ abbrev pub AreRanked : List Node → List ℕ → List Bool → List ℕ → Typ
 AreRanked ns roots recursive ranks =
     (i : ℕ) (n : Node) → slice_get ns i ≡ Some n → IsRanked roots recursive ranks i n
 
--- these flags tell which rules reach themselves, and calls of the others lead to lower ranks
+-- the flags are set for exactly the rules that reach themselves, and calls of the others lead to lower
+-- ranks
 pub record AreCalls (ns : List Node) (roots : List ℕ) (recursive : List Bool) (ranks : List ℕ) : Type 0 where
   pub exact : (r : ℕ) → (is_set_at recursive r ≡ true) ↔ LeadsBack ns roots r
   pub ranked : AreRanked ns roots recursive ranks

@@ -1,11 +1,11 @@
--- What names do.
+-- Operations of names.
 use Rattle.std.specs.Prelude.{ℕ, Option, Some, None, if◌then◌else◌, bytes_eq, codes}
 use Rattle.meta_base.specs.Language.Text.{Text}
 use Rattle.meta_base.specs.Language.Expression.{Grammar, last_place}
 use Rattle.meta_stack_loops.specs.declared.table.Kind.{Kind}
 use Rattle.meta_stack_loops.specs.declared.table.Kind.TheVariants as is
 
--- what a name does that no rule has
+-- the operation of a name that no rule has
 abbrev pub builtin_kind : Text → Kind
 builtin_kind n =
     if bytes_eq n (codes "PEEK") then is.Peek
@@ -18,6 +18,6 @@ abbrev pub name_kind : Text → Option ℕ → Kind
 name_kind n None = builtin_kind n
 name_kind n (Some r) = is.Call r
 
--- what a name does
+-- the operation of a name
 abbrev pub kind_in : Grammar → Text → Kind
 kind_in g n = name_kind n (last_place g n)

@@ -31,7 +31,7 @@ slice_may_be_still (pos zero) None = true
 slice_may_be_still (pos zero) (Some (pos zero)) = true
 slice_may_be_still _ _ = false
 
--- it may be read as taking nothing, from some stack, where `named` says so of names
+-- e may be read as taking nothing, from some stack, by the flags `named` of names
 abbrev pub may_be_still : (Text → Bool) → Expression → Bool
 may_be_still named (Str t) = is_empty_text t
 may_be_still named (Insens t) = is_empty_text t
@@ -66,7 +66,7 @@ abbrev pub AreBehind : List Node → Type 0
 AreBehind ns = (i : ℕ) (n : Node) → slice_get ns i ≡ Some n
     → (j : ℕ) → IsOperandOf j (parts_of n.kind) → j < i
 
--- each flag tells whether the node is such a repetition, or has one inside
+-- the flag of a node is set iff the node is such a repetition, or has one inside
 abbrev pub TellLoops : List Node → List Bool → List Bool → Type 0
 TellLoops ns still flags = (i : ℕ) (n : Node) → slice_get ns i ≡ Some n
     → is_set_at flags i

@@ -28,7 +28,7 @@ pub record AddsStack (old new : List Stack) (a : AbstractStack) : Type 0 where
   pub added : In a (seen_stacks new)
   pub others : (b : AbstractStack) → In b (seen_stacks new) → In b (seen_stacks old) ⊎ (b ≡ a)
 
--- those of walks are added
+-- the stacks of walks are added
 pub record AddsAll (old new : List Stack) (trace : List Walk) : Type 0 where
   pub kept : (b : AbstractStack) → In b (seen_stacks old) → In b (seen_stacks new)
   pub added : (j : ℕ) (w : Walk) (b : AbstractStack) → slice_get trace j ≡ Some w → possible w.here
@@ -43,7 +43,7 @@ pub record AddsEach (old new more : List Stack) : Type 0 where
   pub others : (b : AbstractStack) → In b (seen_stacks new) → In b (seen_stacks old)
       ⊎ In b (seen_stacks more)
 
--- those stacks are added of which something holds
+-- the stacks that satisfy P are added
 pub record AddsWhere (t : Table) (old new : Memory) (P : Meaning → AbstractStack → Type 0)
     (before after : List Stack) : Type 0 where
   pub kept : (meaning : Meaning) → IsMeaning t meaning → IsRight meaning old → IsRight meaning new
@@ -117,7 +117,7 @@ module _ (t : Table) (meaning : Meaning) (read : Spanned → AbstractStack → s
   RootsStand [] (x ∷ xs) = ⊥
   RootsStand (i ∷ is) [] = ⊥
 
--- what is remembered stays right
+-- the memoized readings stay right
 abbrev pub Keeps : Table → Memory → Memory → Type 0
 Keeps t old new = (meaning : Meaning) → IsMeaning t meaning → IsRight meaning old → IsRight meaning new
 

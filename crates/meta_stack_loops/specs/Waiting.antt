@@ -118,7 +118,7 @@ abbrev pub AreLow : Table → ℕ → List Waiting → Type 0
 AreLow t l [] = ⊤
 AreLow t l (w ∷ ws) = IsAwaitedLow t l w.awaited × AreLow t l ws
 
--- one thing was done: what is at hand leads to the same reading of the whole, and less is left to do
+-- a step was done; the current task leads to the same reading of the whole, and less is left to do
 pub record ReadsOn (t : Table) (old new : Memory) (p : Next) (ws vs : List Waiting) (q : Next) : Type 0 where
   pub right : (meaning : Meaning) → IsMeaning t meaning → IsRight meaning old → (whole : says.Reading)
       → Lead t meaning ws whole (at_hand meaning p)
@@ -132,8 +132,8 @@ pub record IsPut (ws vs : List Waiting) (node : ℕ) (s : Stack) (a : Awaited) (
   pub items : vs ≡ ws ++ record { node = node; stack = s; awaited = a } ∷ []
   pub next : q ≡ next.Read operand s
 
--- a repetition goes on, of which this is known: what is at hand leads to its reading, and no more is left to
--- do than so many readings of what is repeated ask for
+-- a repetition goes on, of which this is known; the current task leads to its reading, and at most so many
+-- readings of its body are left to do
 pub record GoesOn (t : Table) (old new : Memory) (node : ℕ) (s : Stack) (Known : Meaning → Type 0)
     (body readings : ℕ) (ws vs : List Waiting) (q : Next) : Type 0 where
   pub right : (meaning : Meaning) → IsMeaning t meaning → IsRight meaning old → Known meaning
@@ -142,14 +142,14 @@ pub record GoesOn (t : Table) (old new : Memory) (node : ℕ) (s : Stack) (Known
   pub less : effort_next t q + effort_waiting t vs ≤ effort_times t body readings + effort_waiting t ws
   pub low : (l : ℕ) → IsLow t l body → AreLow t l ws → IsNextLow t l q × AreLow t l vs
 
--- it goes on with the reading that it waited for
+-- a repetition goes on with the reading that it waited for
 abbrev pub Resumes : Table → Memory → Memory → ℕ → Stack → Awaited → Reading → ℕ → ℕ → List Waiting
     → List Waiting → Next → Type 0
 Resumes t old new node s awaited r body readings ws vs q = GoesOn t old new node s
     (λ meaning. Fills t meaning awaited (stack_of s) (reading_of r) (meaning node (stack_of s)))
     body readings ws vs q
 
--- a repetition waits for a copy; c: what is left behind it
+-- a repetition waits for a copy; c has the copies that are left
 pub record AwaitsCopy (ws vs : List Waiting) (node : ℕ) (s : Stack) (c : Copies) (required : Bool)
     (from : Stack) (q : Next) : Type 0 where
   pub copies : Copies

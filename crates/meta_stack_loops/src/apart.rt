@@ -1,5 +1,5 @@
-//! Nodes that stay apart from the stack: they do the same from every stack, and leave it. So they are read
-//! from one stack alone.
+//! Nodes independent of the stack (greatest fixpoint, by a worklist). They do the same from every stack,
+//! and leave it, so they are interpreted from one stack alone.
 ghost use Rattle.std.specs.Prelude.{◌≡◌, ◌<◌, ℕ, IfOk, length, true};
 ghost use Rattle.meta_fixpoint.specs.Least.{is_set_at};
 ghost use Rattle.meta_stack_loops.specs.Apart as spec;
@@ -21,7 +21,7 @@ fn is_call_set(flags: &[bool], body: Option<usize>) -> bool
     }
 }
 
-/// Whether a node stays apart from the stack where those in it and the body that it calls do.
+/// Whether a node is independent of the stack, if its operands and the body that it calls are.
 fn is_apart<'n, 'i>(table: &Table<'n, 'i>, flags: &[bool], kind: Kind) -> bool
     ensures { result ≡ apart_kind table.now (is_set_at flags.now) kind }
 {
@@ -46,7 +46,7 @@ fn is_apart<'n, 'i>(table: &Table<'n, 'i>, flags: &[bool], kind: Kind) -> bool
     }
 }
 
-/// Whether that is so of each node with a flag, and each flag is that of a node.
+/// Whether every flagged node is so, and every flag is that of a node.
 fn all_apart<'n, 'i>(table: &Table<'n, 'i>, flags: &[bool]) -> bool
     ensures apart { result ≡ true → AreApart table.now flags.now }
     ensures within { result ≡ true → (i : ℕ) → is_set_at flags.now i ≡ true
@@ -63,7 +63,7 @@ fn all_apart<'n, 'i>(table: &Table<'n, 'i>, flags: &[bool]) -> bool
     true
 }
 
-/// Takes the flags of those that listen to a node, which then wait to be told on.
+/// Clears the flags of a node's listeners, and adds each listener that had one to the worklist.
 fn tell(
     listeners: &[usize],
     flags: &mut [bool],
@@ -80,7 +80,7 @@ fn tell(
     Ok(())
 }
 
-/// All nodes but those that look at the stack or change it, and those that lead to them.
+/// Returns flags of all nodes but those that read or change the stack, and those that lead to them.
 fn found_apart<'n, 'i>(alloc: Global, table: &Table<'n, 'i>) -> Result<Vec<bool>, AllocError> {
     let nodes = Nodes {
         roots: table.roots.as_slice(),
@@ -102,8 +102,8 @@ fn found_apart<'n, 'i>(alloc: Global, table: &Table<'n, 'i>) -> Result<Vec<bool>
     Ok(flags)
 }
 
-/// Flags of nodes that stay apart from the stack. They are found by a search that is looked over node by
-/// node; only what is looked over counts.
+/// Returns flags of the nodes that are independent of the stack, or no flags if the check of the fixpoint
+/// node by node fails. Only checked flags count.
 pub(crate) fn apart_of<'n, 'i>(
     alloc: Global,
     table: &Table<'n, 'i>,

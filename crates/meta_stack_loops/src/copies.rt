@@ -1,4 +1,4 @@
-//! Repetitions that wait for the reading of what they repeat: copies and turns are followed one at a time.
+//! Repetitions that wait for a reading of their body; copies and turns are followed one at a time.
 ghost use Rattle.std.specs.Prelude.{◌≡◌, ◌≤◌, ◌<◌, [], IfOk, IfSome, IfNone, not, ◌||◌};
 ghost use Rattle.meta_stack_domain.specs.Stack as is;
 ghost use Rattle.meta_stack_domain.specs.Reading as says;
@@ -26,7 +26,7 @@ pub struct Counts {
     pub endless: bool,
 }
 
-/// What is repeated, and how often.
+/// The body of a repetition, and its counts.
 #[derive(Clone, Copy)]
 pub struct Repeated {
     pub body: usize,
@@ -70,7 +70,7 @@ pub struct Turns {
     pub seen: Vec<Stack>,
 }
 
-/// A copy that was read: what is left behind it, whether it is required, and the stack from which it was
+/// A copy that was read: the copies that are left, whether it is required, and the stack from which it was
 /// read.
 #[derive(Drop)]
 pub struct LastCopy {
@@ -79,7 +79,7 @@ pub struct LastCopy {
     pub from: Stack,
 }
 
-/// A turn that was read: what is left behind it, and the stack from which it was read.
+/// A turn that was read: the turns that are left, and the stack from which it was read.
 #[derive(Drop)]
 pub struct LastTurn {
     pub turns: Turns,
@@ -98,7 +98,7 @@ pub fn is_among(stacks: &[Stack], stack: Stack) -> bool
     false
 }
 
-/// A place at which the same walk stands.
+/// Returns an index at which a walk is in the trace.
 fn place_of(trace: &[Walk], walk: Walk) -> Option<usize>
     ensures { IfSome result (Comes trace.now (walk_of walk)) }
 {
@@ -110,7 +110,7 @@ fn place_of(trace: &[Walk], walk: Walk) -> Option<usize>
     None
 }
 
-/// Where so many copies more lead to, if none is left or the walk stood in the trace before.
+/// Returns the walk after `left` more copies, if none is left or the walk is in the trace already.
 pub fn foreseen(trace: &[Walk], walk: Walk, left: usize) -> Option<Walk>
     ensures known { IfSome result (IsForeseen trace.now (walk_of walk) left) }
     ensures unknown { IfNone result (0 < left) }
@@ -156,7 +156,7 @@ pub fn all_copies(alloc: Global, table: &Table, stack: Stack, repeated: Repeated
     }
 }
 
-/// The reading of a repetition is there, and is remembered.
+/// Memoizes the reading of a repetition, and returns it as the next task.
 fn end(memory: &mut Memory, begun: Begun, alone: bool, walk: Walk) -> Result<Next, AllocError>
     ensures { IfOk result (EndsWith memory.old memory.new begun.node begun.stack alone (walk_of walk)) }
 {
@@ -165,7 +165,7 @@ fn end(memory: &mut Memory, begun: Begun, alone: bool, walk: Walk) -> Result<Nex
     Ok(Next::Done(reading))
 }
 
-/// A repetition waits for a copy, which is read from a stack; `copies`: what is left behind that copy.
+/// Waits for a copy, which is read from a stack next; `copies` has the copies that are left.
 fn wait_for_copy(
     waiting: &mut Vec<Waiting>,
     begun: Begun,
@@ -188,7 +188,7 @@ fn wait_for_copy(
     Ok(Next::Read(body, from))
 }
 
-/// The next copy of a repetition is read, or the reading of the repetition is there.
+/// Starts the next copy of a repetition, or ends the repetition if no copy is left.
 pub fn next_copy(
     table: &Table,
     memory: &mut Memory,
@@ -231,7 +231,7 @@ pub fn next_copy(
     next_turn(table, memory, waiting, begun, turns, Some(from))
 }
 
-/// A repetition goes on behind a copy that was read from a stack.
+/// Continues a repetition after a copy that was read from a stack.
 pub fn copied(
     table: &Table,
     memory: &mut Memory,
@@ -268,8 +268,7 @@ pub fn copied(
     next_copy(table, memory, waiting, begun, copies)
 }
 
-/// The next turn of a repetition is read, or the reading of the repetition is there; `next`: where the turn
-/// starts.
+/// Starts the next turn of a repetition at `next`, or ends the repetition if no further turn matters.
 fn next_turn(
     table: &Table,
     memory: &mut Memory,
@@ -310,7 +309,7 @@ fn next_turn(
     Ok(Next::Read(body, from))
 }
 
-/// A repetition goes on behind a turn that was read from a stack.
+/// Continues a repetition after a turn that was read from a stack.
 pub fn turned(
     table: &Table,
     memory: &mut Memory,

@@ -1,4 +1,5 @@
-//! Which nodes change the stack, which may be read as taking nothing, and which lead to calls of a rule.
+//! Attributes of nodes by least fixpoints: which nodes change the stack, which may be read as taking
+//! nothing, and which lead to calls of a rule.
 ghost use Rattle.std.specs.Prelude.{◌≡◌, IfOk, slice_get};
 ghost use Rattle.meta_fixpoint.specs.Least.{is_set_at};
 ghost use Rattle.meta_stack_loops.specs.Answers as spec;
@@ -9,7 +10,7 @@ use crate::table::{Kind, Node, Parts};
 use meta_fixpoint::{Inference, Listening, Told, is_set, least_flags, who_listens};
 use std::alloc::{AllocError, Global};
 
-/// What is asked of each node.
+/// An attribute of nodes.
 #[derive(Clone, Copy)]
 pub enum Question {
     /// Whether it changes the stack, outside predicates.

@@ -1,4 +1,5 @@
-//! Which rules certainly reach themselves: those that are reached from a leader from which they are reached.
+//! Rules that certainly reach themselves: their leader reaches them, and they reach their leader (a check
+//! of the components).
 ghost use Rattle.std.specs.Prelude.{◌≡◌, ℕ, IfOk, Some, false, true, slice_get};
 ghost use Rattle.meta_stack_loops.specs.Leading.{AreLed, AreLinks, IsOnward, LeadsBack, leader_in};
 
@@ -34,8 +35,8 @@ struct Ways<'l> {
     down: bool,
 }
 
-/// Sets the flag of the rule at the end of a link, if the one at its beginning is the leader of both or has
-/// its flag set. Where flags tell which rules lead up to their leaders, the link is taken from its target.
+/// Sets the flag of the rule at the end of a link, if the rule at its beginning is the leader of both or
+/// has its flag set. Where flags mean rules that lead up to their leaders, the link is reversed.
 fn go_on<'n, 'i>(
     roots: &[usize],
     nodes: &[Node<'n, 'i>],

@@ -1,4 +1,4 @@
-//! What the nodes of all rules do.
+//! Operations of the nodes of all rules.
 ghost use Rattle.std.specs.Prelude.{◌≡◌, IfOk};
 ghost use Rattle.meta_ast.specs.Ast.{text_of};
 ghost use Rattle.meta_analysis.specs.NameMaps.{KnowsRules};
@@ -13,7 +13,7 @@ use meta_analysis::{Joint, Names, Shape, Sign, Table};
 use meta_spanned::{ParserExpr, ParserRule};
 use std::alloc::{AllocError, Global};
 
-/// What an expression without operands does.
+/// Returns the operation of an expression without operands.
 fn kind_of_leaf<'i>(rules: &[ParserRule<'i>], names: &Names, expr: &ParserExpr<'i>) -> Kind
     requires { KnowsRules rules.now names.now }
     ensures { result ≡ kind_of_code (kind_in (grammar_of rules.now)) expr.now }
@@ -98,7 +98,7 @@ fn kind_of_both(joint: Joint, first: usize, second: usize) -> Kind
     }
 }
 
-/// What an expression of this shape does.
+/// Returns the operation of an expression of this shape.
 fn kind_of_node<'i>(
     rules: &[ParserRule<'i>],
     names: &Names,

@@ -1,4 +1,4 @@
-//! What names do.
+//! Operations of names.
 ghost use Rattle.std.specs.Prelude.{◌≡◌};
 ghost use Rattle.meta_ast.specs.Ast.{text_of};
 ghost use Rattle.meta_analysis.specs.NameMaps.{KnowsRules};
@@ -9,7 +9,7 @@ use crate::table::Kind;
 use meta_analysis::{Names, is_literal, rule_of_name};
 use meta_spanned::ParserRule;
 
-/// What a builtin does.
+/// Returns the operation of a builtin.
 fn kind_of_builtin(name: &String) -> Kind
     ensures { result ≡ builtin_kind (text_of name.now) }
 {
@@ -28,7 +28,7 @@ fn kind_of_builtin(name: &String) -> Kind
     }
 }
 
-/// What a name does.
+/// Returns the operation of a name.
 pub(crate) fn kind_of_name<'i>(rules: &[ParserRule<'i>], names: &Names, name: &String) -> Kind
     requires { KnowsRules rules.now names.now }
     ensures { result ≡ kind_in (grammar_of rules.now) (text_of name.now) }

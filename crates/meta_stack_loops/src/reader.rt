@@ -1,4 +1,4 @@
-//! Readings of nodes, each made once.
+//! Abstract interpretation of nodes, memoized and iterative.
 ghost use Rattle.std.specs.Prelude.{◌≡◌, ◌<◌, [], IfOk};
 ghost use Rattle.meta_stack_loops.specs.Table.{IsOrdered};
 ghost use Rattle.meta_stack_loops.specs.Memory.{ReadsNode, Steps};
@@ -13,8 +13,8 @@ use crate::waiting::{Awaited, How, Next, Waiting, go_on, wait};
 use meta_stack_domain::{Reading, Stack, Walk};
 use std::alloc::{AllocError, Global};
 
-/// The reading of a node from a stack. What waits for the reading of an operand, or of what it repeats, lies
-/// on a list, so that no depth of an expression or of calls takes the machine's stack.
+/// Returns the reading of a node from a stack. Nodes that wait for the reading of an operand or of a
+/// repetition's body are on a list, so stack use does not depend on the depth of expressions or calls.
 pub fn read(
     alloc: Global,
     table: &Table,
@@ -41,7 +41,7 @@ pub fn read(
     }
 }
 
-/// What is done to read a node: it waits for the reading of an operand, or its reading is there.
+/// Begins to read a node: waits for the reading of an operand, or returns a reading at once.
 fn begin(
     alloc: Global,
     table: &Table,
@@ -94,7 +94,7 @@ fn begin(
     }
 }
 
-/// One copy more.
+/// Follows one more copy.
 fn step(
     alloc: Global,
     table: &Table,

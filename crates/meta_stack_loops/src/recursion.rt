@@ -1,4 +1,4 @@
-//! Which rules reach themselves, and ranks by which the calls of the others come to an end.
+//! Recursive rules, and ranks by which the calls of the others come to an end.
 ghost use Rattle.std.specs.Prelude.{◌≡◌, ◌↔◌, ◌<◌, ◌≤◌, ℕ, IfOk, Some, true, length, slice_get};
 ghost use Rattle.meta_stack_loops.specs.Leading.{AreCalls, AreRaised, AreRanked, CallFalls, IsRanked, LeadsBack, PartsFall, bit, rank_in};
 ghost use Rattle.meta_stack_loops.specs.Table.{called_by, parts_of};
@@ -11,7 +11,7 @@ use crate::table::{Node, Parts};
 use meta_fixpoint::is_set;
 use std::alloc::{AllocError, Global};
 
-/// What is known of calls.
+/// The result for the call graph.
 #[derive(Drop)]
 pub struct Calls {
     /// For each rule whether it reaches itself.
@@ -67,7 +67,7 @@ fn call_falls(
     below < own || (below == own && is_set(recursive, rule))
 }
 
-/// Whether a node has its place in the order of ranks.
+/// Whether a node fits into the order of ranks.
 fn is_ranked<'n, 'i>(
     roots: &[usize],
     recursive: &[bool],
@@ -82,7 +82,7 @@ fn is_ranked<'n, 'i>(
         && call_falls(roots, recursive, ranks, place, node.kind.called())
 }
 
-/// Whether all nodes have.
+/// Whether all nodes do.
 fn are_ranked<'n, 'i>(
     roots: &[usize],
     nodes: &[Node<'n, 'i>],
@@ -106,7 +106,7 @@ fn bit(flag: bool) -> usize
     if flag { 1 } else { 0 }
 }
 
-/// The same numbers, one more at each flag that is set.
+/// Returns the ranks, each raised by one where its flag is set.
 fn raised(
     alloc: Global,
     ranks: &[usize],
@@ -127,8 +127,8 @@ fn raised(
     Ok(found)
 }
 
-/// The calls of all rules, each rule sought from everywhere: the rank of a node is how many rules it leads
-/// to.
+/// Returns the calls of all rules, by a search for each rule from every node: the rank of a node is the
+/// number of rules that it leads to.
 fn sought<'n, 'i>(
     alloc: Global,
     roots: &[usize],
@@ -146,7 +146,7 @@ fn sought<'n, 'i>(
     Ok(Calls { recursive, ranks })
 }
 
-/// For each node the rank of its rule.
+/// Returns for each node the rank of its rule.
 fn of_nodes<'n, 'i>(
     alloc: Global,
     nodes: &[Node<'n, 'i>],
@@ -163,9 +163,9 @@ fn of_nodes<'n, 'i>(
     Ok(found)
 }
 
-/// Which rules reach themselves, and the ranks of nodes. Those that certainly do are looked for by a guess;
-/// that no other does is seen by the ranks. Were that not seen, each rule would be sought by itself, which
-/// takes far longer.
+/// Returns which rules reach themselves, and the ranks of nodes. Components of the call graph give the
+/// rules that certainly do; the ranks certify that no other does. If the certificate is refused, each rule
+/// is searched for by itself, which takes far longer.
 pub(crate) fn calls_of<'n, 'i>(
     alloc: Global,
     roots: &[usize],

@@ -1,5 +1,5 @@
-//! In which nodes something may be reported: what is repeated without end takes something from every stack
-//! nearly everywhere, and there no stack needs to be looked at.
+//! Nodes in which something may be reported. Nearly every endless repetition takes something from every
+//! stack, and there no stack needs to be looked at.
 ghost use Rattle.std.specs.Prelude.{◌≡◌, ℕ, IfOk, Some, false, ◌||◌, slice_get};
 ghost use Rattle.meta_fixpoint.specs.Least.{is_set_at};
 ghost use Rattle.meta_stack_loops.specs.Answers.{some_part};
@@ -11,7 +11,7 @@ use crate::table::{Node, Parts};
 use meta_fixpoint::is_set;
 use std::alloc::{AllocError, Global};
 
-/// Whether a node repeats without end what may be read as taking nothing.
+/// Whether a node repeats without end a body that may be read as taking nothing.
 fn may_loop(still: &[bool], parts: Parts) -> bool
     ensures { result ≡ spec.may_loop (is_set_at still.now) parts }
 {

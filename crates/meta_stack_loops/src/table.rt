@@ -1,4 +1,4 @@
-//! The nodes of all rules, by number.
+//! The node table of the stack pass: all rules' nodes by index, with their operations.
 ghost use Rattle.std.specs.Prelude.{◌≡◌, ◌<◌, ℕ, slice_get};
 ghost use Rattle.meta_fixpoint.specs.Least.{is_set_at};
 ghost use Rattle.meta_stack_domain.specs.Stack as is;
@@ -7,32 +7,32 @@ ghost use Rattle.meta_stack_domain.specs.Reading as says;
 use meta_base::runtime::Span;
 use meta_fixpoint::is_set;
 
-/// What a node does, its operands by their numbers.
+/// The operation of a node, with the indices of its operands.
 #[derive(Clone, Copy)]
 pub enum Kind {
-    /// It takes nothing, and cannot fail.
+    /// Takes nothing, and cannot fail.
     Still,
-    /// It may take something, or fail, and leaves the stack.
+    /// May take something, or fail, and leaves the stack.
     Leaf,
     Peek,
     Pop,
     Drop,
     PeekAll,
     PopAll,
-    /// It pushes a text, which is empty or not.
+    /// Pushes a text, empty (`true`) or not.
     PushLiteral(bool),
-    /// A call, by the number of the rule.
+    /// A call, with the index of the rule.
     Call(usize),
     PosPred(usize),
     NegPred(usize),
     Opt(usize),
     Push(usize),
-    /// What is tagged, which does the same.
+    /// A tagged expression, which does the same without its tag.
     Tag(usize),
     Seq(usize, usize),
     Choice(usize, usize),
-    /// What is repeated, how often it has to succeed, how often more it may be tried, and whether
-    /// it then goes on without end.
+    /// A repetition: its body, the number of required and of optional copies, and whether turns without end
+    /// follow.
     Repeat(usize, u32, u32, bool),
 }
 
@@ -102,22 +102,22 @@ impl Kind {
     }
 }
 
-/// A node.
+/// A node of a rule's body.
 #[derive(Clone, Copy)]
 pub struct Node<'n, 'i> {
     pub kind: Kind,
-    /// The number of the rule that it stands in.
+    /// The index of its rule.
     pub rule: usize,
     pub span: &'n Span<'i>,
 }
 
-/// The nodes of all rules, each behind those inside it.
+/// The nodes of all rules, in postorder, and results of the analysis.
 #[derive(Drop)]
 pub struct Table<'n, 'i> {
     pub nodes: Vec<Node<'n, 'i>>,
-    /// The number of each rule's body.
+    /// The index of the root of each rule's body.
     pub roots: Vec<usize>,
-    /// Which rules reach themselves: calls of them are not followed.
+    /// Which rules reach themselves; calls of them are not followed.
     pub recursive: Vec<bool>,
     /// For each node a number: not below those of its operands, and above that of a body that it calls, where
     /// the call is followed.
@@ -145,7 +145,7 @@ impl<'n, 'i> Table<'n, 'i> {
         }
     }
 
-    /// What the node of a number does.
+    /// Returns the operation of the node with an index.
     pub fn kind_at(&self, node: usize) -> Kind
         requires inside { node < self.now.nodes.len }
         ensures means { (meaning : ℕ → is.AbstractStack → says.Reading) → IsMeaning self.now meaning
@@ -155,7 +155,7 @@ impl<'n, 'i> Table<'n, 'i> {
         self.nodes[node].kind
     }
 
-    /// The node of a number.
+    /// Returns the node with an index.
     pub fn node_at(&self, node: usize) -> Node<'n, 'i>
         requires inside { node < self.now.nodes.len }
         ensures { slice_get (nodes_of self.now) node ≡ Some result }
@@ -163,7 +163,7 @@ impl<'n, 'i> Table<'n, 'i> {
         self.nodes[node]
     }
 
-    /// The operands of the node of a number.
+    /// Returns the operands of the node with an index.
     pub fn parts_at(&self, node: usize) -> Parts
         requires inside { node < self.now.nodes.len }
         ensures parts { HasParts self.now node result }
@@ -180,7 +180,7 @@ impl<'n, 'i> Table<'n, 'i> {
         }
     }
 
-    /// The number of a rule's body, where calls of the rule are followed.
+    /// Returns the index of a rule's body, or `None` if calls of the rule are not followed.
     pub fn followed(&self, rule: usize) -> Option<usize>
         ensures { result ≡ followed_at self.now rule }
     {

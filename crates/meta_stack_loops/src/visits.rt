@@ -221,8 +221,8 @@ fn report<'n, 'i>(
     Ok(())
 }
 
-/// Visits a node: what is reported there is appended, and its operands are still to be visited, the first one
-/// next.
+/// Visits a node. Appends the report there; adds its operands to the nodes still to be visited, so that the
+/// first one is next.
 fn visit_one<'n, 'i>(
     alloc: Global,
     table: &Table<'n, 'i>,

@@ -1,4 +1,4 @@
-//! Nodes that wait for the reading of an operand, and what they make of it.
+//! Continuation frames of the interpreter: nodes that wait for the reading of an operand.
 ghost use Rattle.std.specs.Prelude.{◌≡◌, [], ◌∷◌, ◌++◌, IfOk};
 ghost use Rattle.meta_stack_loops.specs.Waiting.{ReadsOn, IsPut, whole_of};
 ghost use Rattle.meta_stack_domain.specs.Views.{reading_of, stack_of};
@@ -17,21 +17,20 @@ pub enum How {
     NotAhead,
     Optional,
     Pushed,
-    /// By the reading of the first operand, which was read before; whether it is a choice.
+    /// By the reading of the first operand, made earlier; `true` for a choice.
     Both(Reading, bool),
 }
 
 /// Which operand is waited for.
 #[derive(Drop)]
 pub enum Awaited {
-    /// The first of two: the second one, and whether it is a choice.
+    /// The first of two operands: the second one, and `true` for a choice.
     First(usize, bool),
     Last(How),
-    /// What is repeated, once more: what is left behind that copy, whether it is required, and the stack from
-    /// which it is read.
-    Copy(Copies, bool, Stack),
-    /// What is repeated, for one of the turns without end: what is left behind it, and the stack from which
+    /// A copy of a repetition: the copies that are left, whether it is required, and the stack from which
     /// it is read.
+    Copy(Copies, bool, Stack),
+    /// A turn of a repetition: the turns that are left, and the stack from which it is read.
     Turn(Turns, Stack),
 }
 
@@ -43,17 +42,17 @@ pub struct Waiting {
     pub awaited: Awaited,
 }
 
-/// What is done next.
+/// The next task of the interpreter.
 #[derive(Clone, Copy)]
 pub enum Next {
-    /// A node is read from a stack.
+    /// Read a node from a stack.
     Read(usize, Stack),
-    /// The reading of what was to be read is there.
+    /// Continue with the reading of the last task.
     Done(Reading),
 }
 
 impl How {
-    /// The reading of the node.
+    /// Returns the reading of the node.
     fn whole(self, reading: Reading, stack: Stack, skips: bool) -> Reading
         ensures { reading_of result ≡ whole_of self skips (stack_of stack) (reading_of reading) }
     {
@@ -69,7 +68,7 @@ impl How {
     }
 }
 
-/// A node waits for an operand, which is read next.
+/// Waits for an operand, which is read next.
 pub fn wait(
     waiting: &mut Vec<Waiting>,
     node: usize,
@@ -87,8 +86,8 @@ pub fn wait(
     Ok(Next::Read(operand, stack))
 }
 
-/// What is done once the operand is read that the last of the nodes was waiting for. The reading of a node is
-/// remembered.
+/// Continues the node `last` with the reading of the operand that it waited for. A complete reading of a
+/// node is memoized.
 pub fn go_on(
     table: &Table,
     memory: &mut Memory,
