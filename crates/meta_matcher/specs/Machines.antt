@@ -1,4 +1,4 @@
--- What a machine keeps, and what its functions say.
+-- The state of a machine, and the statements of its functions.
 use Rattle.std.specs.Prelude.{◌≡◌, ◌+◌, ◌*◌, ℕ, List, Option, Some, length}
 use Rattle.std.specs.Borrow.{Bor}
 use Rattle.meta_ast.specs.Ast.{text_of}
@@ -17,7 +17,7 @@ use Rattle.meta_matcher.specs.Told.{told_of}
 use Rattle.matcher_program.specs.Programs.{IsBound, IsRow, IsSound, expression_of, grammar_of, names_of, rule_of_row}
 use Rattle.meta_matcher.specs.Runs.{Gives, Now, Setting}
 
--- what a machine has so far
+-- the state of a machine without its frames and steps
 abbrev pub now_of : Machine → Now
 now_of m = record {
   entries = seen m.entries.items;
@@ -39,7 +39,7 @@ names_within scene = names_of scene.program.now.rows.items
 abbrev pub grammar_in : Scene → Grammar
 grammar_in scene = grammar_of scene.program.now.rows.items
 
--- the grammar, the sets of the property names that it names, and the place that is asked for
+-- the grammar, the sets of the property names that it names, and the position that is asked for
 abbrev pub setting_of : Scene → Setting
 setting_of scene = record {
   grammar = grammar_in scene;
@@ -56,7 +56,7 @@ abbrev pub IsSoundIn : Scene → Type 0
 IsSoundIn scene = IsSound scene.program.now.rows.items scene.program.now.properties.items
     scene.program.now.whitespace scene.program.now.comment
 
--- the names in a form mean what it says
+-- the names in a form mean what they are resolved to
 abbrev pub IsBoundIn : Scene → Form → Type 0
 IsBoundIn scene form =
     IsBound (grammar_in scene) (names_within scene) scene.program.now.properties.items form
@@ -66,7 +66,7 @@ abbrev pub IsRowIn : Scene → Row → Type 0
 IsRowIn scene row =
     IsRow (grammar_in scene) (names_within scene) scene.program.now.properties.items row
 
--- the scene has a program, a text, a place that is asked for, and the row that a name means
+-- the scene has a program, a text, a position that is asked for, and the row that a name means
 pub record IsSceneOf (program : Program) (n : Text) (text : List ℕ) (asked : ℕ) (scene : Scene) : Type 0 where
   pub same_program : scene.program.now ≡ program
   pub same_text : scene.text.now ≡ text

@@ -1,4 +1,4 @@
--- Names that are told, each once.
+-- The expected set: names without duplicates, in order.
 use Rattle.std.specs.Prelude.{ℕ, List, [], ◌∷◌, ◌++◌, Bool, false, ◌||◌, bytes_eq, chars, if◌then◌else◌, map}
 use Rattle.std.specs.Borrow.{Bor}
 use Rattle.meta_base.specs.Language.Text.{Text}

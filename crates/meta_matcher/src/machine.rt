@@ -1,4 +1,4 @@
-//! What a machine keeps, and what it matches at once.
+//! The state of a machine, and leaf expressions, which are matched without a frame.
 ghost use Rattle.std.specs.Prelude.{◌≡◌, false, true, IfErr, IfOk, OnOk, [], None, chars, codes};
 ghost use Rattle.meta_ast.specs.Ast.{text_of};
 ghost use Rattle.meta_base.specs.Language.Expression.{Ident, PeekSlice, PushLiteral, rule_of};
@@ -24,12 +24,12 @@ use matcher_program::leaves::{
 use matcher_program::sets::{is_barred, one_of};
 use std::alloc::{AllocError, Global};
 
-/// Why a run has no answer.
+/// The reason why a run has no answer.
 #[derive(Debug, Drop)]
 pub enum Stop {
-    /// Memory was wanting.
+    /// An allocation failed.
     Memory,
-    /// It takes more steps than were allowed.
+    /// More steps than were allowed are needed.
     OutOfSteps,
     /// `PEEK` or `POP` on the empty stack.
     EmptyStack,
@@ -43,37 +43,37 @@ impl From<AllocError> for Stop {
     }
 }
 
-/// Rules, the one that is called, and the text that it is run on.
+/// The compiled rules, the row of the called rule, and the text that it is run on.
 #[derive(Clone, Copy)]
 pub struct Scene<'a> {
     pub program: &'a Program,
     pub row: &'a Row,
     pub text: &'a str,
-    /// The place, in bytes, at which is told what is expected.
+    /// The position, in bytes, whose expected set is collected.
     pub asked: usize,
 }
 
-/// How many steps were taken: in whole rounds, of 2^64 - 2 steps each, and since the last.
+/// The number of steps taken: whole rounds of 2^64 - 2 steps each, and the steps since the last round.
 #[derive(Clone, Copy)]
 pub struct Steps {
     pub rounds: usize,
     pub since: u64,
 }
 
-/// What a run has written and noted so far, and what waits.
+/// The state of a run, with its continuation frames.
 #[derive(Drop)]
 pub struct Machine<'a> {
     /// The tokens, in order.
     pub entries: Vec<Entry<'a>>,
-    /// The texts that were pushed.
+    /// The pushed texts.
     pub stack: Stack<'a>,
-    /// The furthest place, in bytes, at which a call that counts has failed.
+    /// The furthest position, in bytes, at which a call that counts has failed.
     pub furthest: usize,
-    /// The names of the calls that failed at the place that is asked for, each once.
+    /// The names of the calls that failed at the position that is asked for, without duplicates.
     pub told: Vec<&'a str>,
-    /// What waits for answers: the last frame for what is run now.
+    /// The continuation frames, the innermost one last.
     pub frames: Vec<Frame<'a>>,
-    /// How many steps were taken before this one.
+    /// The number of steps taken before this one.
     pub steps: Steps,
 }
 
@@ -99,7 +99,7 @@ impl<'a> Machine<'a> {
         }
     }
 
-    /// The tokens that were written.
+    /// Returns the tokens.
     pub fn into_entries(self) -> Vec<Entry<'a>>
         ensures { result ≡ self.entry.entries }
     {
@@ -114,7 +114,7 @@ impl<'a> Machine<'a> {
         entries
     }
 
-    /// The names that were told.
+    /// Returns the expected names.
     pub fn into_told(self) -> Vec<&'a str>
         ensures { result ≡ self.entry.told }
     {
@@ -129,8 +129,9 @@ impl<'a> Machine<'a> {
         told
     }
 
-    /// Notes a call that failed at a place, where it counts. If that is the place that is asked for, its name
-    /// is told in place of what was told within it: before it so many names were told.
+    /// Records a call that failed at `place`, in bytes, if the call counts. If that position is the one
+    /// that is asked for, the name replaces the names recorded within the call, which are all but the first
+    /// `told`.
     pub fn note(
         &mut self,
         scene: &Scene<'a>,
@@ -154,7 +155,7 @@ impl<'a> Machine<'a> {
         Ok(())
     }
 
-    /// Forgets all names that were told but so many of the first.
+    /// Drops all expected names but the first `told`.
     #[inline(always)]
     pub fn forget(&mut self, told: usize)
         ensures frames { self.new.frames ≡ self.old.frames }
@@ -193,7 +194,7 @@ impl<'a> Machine<'a> {
         Ok(Some(rest))
     }
 
-    /// The text on top of the stack.
+    /// Matches the text on top of the stack.
     fn peek(
         &mut self,
         scene: &Scene<'a>,
@@ -216,7 +217,7 @@ impl<'a> Machine<'a> {
         }
     }
 
-    /// The same, which is then taken off.
+    /// Matches the text on top of the stack, and pops it.
     fn pop(&mut self, scene: &Scene<'a>, mode: Mode, rest: &'a str) -> Result<Option<&'a str>, Stop>
         requires unnamed { rule_of (grammar_in scene.now) (codes "POP") ≡ None }
         requires left { IsLeft scene.now.text.now rest.now }
@@ -241,7 +242,7 @@ impl<'a> Machine<'a> {
         }
     }
 
-    /// Takes the top text off.
+    /// Pops the text on top of the stack.
     fn discard(
         &mut self,
         scene: &Scene<'a>,
@@ -267,7 +268,7 @@ impl<'a> Machine<'a> {
         }
     }
 
-    /// All texts on the stack, from its top.
+    /// Matches all texts of the stack, from its top.
     fn peek_all(
         &mut self,
         scene: &Scene<'a>,
@@ -287,7 +288,7 @@ impl<'a> Machine<'a> {
         Ok(literals(&texts, rest))
     }
 
-    /// The same, which are then taken off.
+    /// Matches all texts of the stack, from its top, and empties it.
     fn pop_all(
         &mut self,
         scene: &Scene<'a>,
@@ -313,7 +314,7 @@ impl<'a> Machine<'a> {
         }
     }
 
-    /// A slice of the stack, from its bottom.
+    /// Matches a slice of the stack, from its bottom.
     fn peek_slice(
         &mut self,
         scene: &Scene<'a>,
@@ -335,7 +336,7 @@ impl<'a> Machine<'a> {
         Ok(slice(&texts, from, to, rest))
     }
 
-    /// Puts a text on the stack.
+    /// Pushes a text on the stack.
     fn push_text(
         &mut self,
         scene: &Scene<'a>,
@@ -357,7 +358,7 @@ impl<'a> Machine<'a> {
         Ok(Some(rest))
     }
 
-    /// What there is.
+    /// Returns the state to restore.
     #[inline(always)]
     pub fn saved(&self) -> Result<Saved<'a>, AllocError>
         ensures { IfOk result (λ saved. IsSaved saved (now_of self.now)) }
@@ -369,7 +370,7 @@ impl<'a> Machine<'a> {
         })
     }
 
-    /// Puts back what there was.
+    /// Restores a state.
     #[inline(always)]
     pub fn back_to(&mut self, saved: Saved<'a>)
         ensures frames { self.new.frames ≡ self.old.frames }
@@ -382,8 +383,8 @@ impl<'a> Machine<'a> {
         self.stack = stack;
     }
 
-    /// Whether a call of a rule is refused at once, since its body cannot begin with the character that
-    /// stands here. Its failure is then noted.
+    /// Whether a call is refused by its first character, as its rule's first set shows. The failure is
+    /// recorded then.
     #[inline(always)]
     fn is_refused(
         &mut self,
@@ -413,8 +414,8 @@ impl<'a> Machine<'a> {
         Ok(true)
     }
 
-    /// Runs a form at once where `simple` does, and an option of such a form. The answer is what is left of
-    /// the text after it, or `None` where it fails. Another form with parts is left alone.
+    /// Runs a form without a frame if `simple` does, or an option of such a form. The answer is the
+    /// remaining input, or `None` for a failure. Other forms are left alone.
     #[inline]
     pub fn at_once(
         &mut self,
@@ -444,9 +445,9 @@ impl<'a> Machine<'a> {
         }
     }
 
-    /// Runs a form that has no parts, or is as many of a set as there are, and refuses a call where its rule
-    /// cannot begin here, at the front of a sequence too. The answer is what is left of the text after it, or
-    /// `None` where it fails. Another form with parts is left alone.
+    /// Runs a leaf expression, or a repetition of a set, and refuses a call whose rule cannot begin here,
+    /// also as the first form of a sequence. The answer is the remaining input, or `None` for a failure.
+    /// Other forms are left alone.
     #[inline]
     fn simple(
         &mut self,

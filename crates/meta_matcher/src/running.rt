@@ -1,4 +1,4 @@
-//! The steps of a machine: what it does with the form at hand, and with an answer.
+//! The steps of a machine: it begins a form, or gives an answer to a continuation frame.
 ghost use Rattle.std.specs.Prelude.{◌≡◌, ◌+◌, ◌-◌, ◌*◌, ◌≤◌, IfErr, IfOk, OnOk, [], ◌∷◌, drop, length, reverse, take};
 ghost use Rattle.meta_ast.specs.Ast.{text_of};
 ghost use Rattle.meta_base.specs.Language.Expression.{Choice, Ident, NegPred, Opt, PosPred, Push, Rep, Seq, rule_of};
@@ -22,7 +22,7 @@ use crate::told::count;
 use matcher_program::form::{Form, Row};
 use std::alloc::AllocError;
 
-/// What was taken of a text, of which this is left.
+/// Returns the part of the text that was taken, between two remaining inputs.
 #[inline(always)]
 fn taken<'a>(rest: &'a str, after: &'a str) -> &'a str
     requires left { after.now ≡ drop (length rest.now - length after.now) rest.now }
@@ -33,7 +33,7 @@ fn taken<'a>(rest: &'a str, after: &'a str) -> &'a str
 }
 
 impl<'a> Machine<'a> {
-    /// Puts a frame on the list.
+    /// Pushes a frame.
     #[inline(always)]
     pub(crate) fn wait(&mut self, frame: Frame<'a>) -> Result<(), AllocError>
         ensures now { now_of self.new ≡ now_of self.old }
@@ -45,7 +45,7 @@ impl<'a> Machine<'a> {
         Ok(())
     }
 
-    /// Runs a form for a frame that waits for its answer, at once where the form has no parts.
+    /// Runs a form for a frame that waits for its answer, without the frame if `at_once` has the answer.
     #[inline(always)]
     fn enter(
         &mut self,
@@ -72,7 +72,7 @@ impl<'a> Machine<'a> {
         }
     }
 
-    /// A frame that was taken off the list gets its answer.
+    /// Gives a frame its answer, once the frame is popped.
     fn resume(
         &mut self,
         scene: &Scene<'a>,
@@ -100,7 +100,7 @@ impl<'a> Machine<'a> {
         }
     }
 
-    /// One form, the skipping, and another.
+    /// Runs a sequence: a form, the skipping, and another form.
     fn sequence(
         &mut self,
         scene: &Scene<'a>,
@@ -132,7 +132,7 @@ impl<'a> Machine<'a> {
         }
     }
 
-    /// A form of a sequence that is not the last has an answer.
+    /// Continues after a form of a sequence that is not the last.
     #[inline(always)]
     fn after_first(
         &mut self,
@@ -159,7 +159,7 @@ impl<'a> Machine<'a> {
         }
     }
 
-    /// What lies between the forms of a sequence is skipped.
+    /// Continues after the skipping between the forms of a sequence.
     #[inline]
     fn after_gap(
         &mut self,
@@ -180,7 +180,7 @@ impl<'a> Machine<'a> {
         }
     }
 
-    /// Runs what comes second in a sequence.
+    /// Runs the second operand of a sequence.
     #[inline(always)]
     fn second(
         &mut self,
@@ -210,8 +210,8 @@ impl<'a> Machine<'a> {
         }
     }
 
-    /// Runs the forms of a sequence behind the first, for as long as they are matched at once. A form that
-    /// has parts is begun.
+    /// Runs the forms of a sequence after the first while they are matched without a frame, and begins the
+    /// first one that is not.
     fn further(
         &mut self,
         scene: &Scene<'a>,
@@ -267,7 +267,7 @@ impl<'a> Machine<'a> {
         self.last(scene, form, mode, saved, rest)
     }
 
-    /// Runs the last form of a sequence, at once where it has no parts.
+    /// Runs the last form of a sequence, without a frame if it is a leaf.
     #[inline(always)]
     fn last(
         &mut self,
@@ -294,7 +294,7 @@ impl<'a> Machine<'a> {
         }
     }
 
-    /// The last form of a sequence has an answer.
+    /// Continues after the last form of a sequence.
     #[inline(always)]
     fn after_second(
         &mut self,
@@ -314,7 +314,7 @@ impl<'a> Machine<'a> {
         }
     }
 
-    /// The left side of a choice has an answer.
+    /// Continues after the left side of a choice.
     #[inline(always)]
     fn after_left(
         &mut self,
@@ -335,8 +335,8 @@ impl<'a> Machine<'a> {
         }
     }
 
-    /// Runs the alternatives of a choice behind the first, for as long as they fail at once. One that has
-    /// parts is begun.
+    /// Runs the alternatives of a choice after the first while they fail without a frame, and begins the
+    /// first one that needs a frame.
     fn alternatives(
         &mut self,
         scene: &Scene<'a>,
@@ -367,7 +367,7 @@ impl<'a> Machine<'a> {
         }
     }
 
-    /// The form of an option has an answer.
+    /// Continues after the form of an option.
     #[inline]
     fn after_optional(
         &mut self,
@@ -384,7 +384,7 @@ impl<'a> Machine<'a> {
         }
     }
 
-    /// Nothing, where a form fails.
+    /// Runs a negative predicate.
     fn negation(
         &mut self,
         scene: &Scene<'a>,
@@ -404,7 +404,7 @@ impl<'a> Machine<'a> {
         self.enter(scene, frame, body, mode, rest)
     }
 
-    /// The form of a negative predicate has an answer. What was told below it is forgotten.
+    /// Continues after the form of a negative predicate, and drops the names recorded below it.
     #[inline]
     fn after_not(
         &mut self,
@@ -426,7 +426,7 @@ impl<'a> Machine<'a> {
         }
     }
 
-    /// Nothing, where a form succeeds.
+    /// Runs a positive predicate.
     fn lookahead(
         &mut self,
         scene: &Scene<'a>,
@@ -446,7 +446,7 @@ impl<'a> Machine<'a> {
         self.enter(scene, frame, body, mode, rest)
     }
 
-    /// The form of a positive predicate has an answer.
+    /// Continues after the form of a positive predicate.
     #[inline]
     fn after_ahead(
         &mut self,
@@ -466,7 +466,7 @@ impl<'a> Machine<'a> {
         }
     }
 
-    /// A form whose text is pushed has an answer.
+    /// Continues after a form whose text is pushed.
     fn after_push(
         &mut self,
         scene: &Scene<'a>,
@@ -488,7 +488,7 @@ impl<'a> Machine<'a> {
         }
     }
 
-    /// A call of a rule.
+    /// Calls a rule.
     #[inline(always)]
     fn call(
         &mut self,
@@ -521,7 +521,7 @@ impl<'a> Machine<'a> {
         Ok(Control::Run(&row.body, inner_mode, rest))
     }
 
-    /// The body of a rule has an answer.
+    /// Continues after the body of a rule.
     #[inline(always)]
     fn after_call(
         &mut self,
@@ -602,7 +602,7 @@ impl<'a> Machine<'a> {
         }
     }
 
-    /// `WHITESPACE` has an answer.
+    /// Continues after `WHITESPACE`.
     #[inline]
     fn after_blank(
         &mut self,
@@ -620,7 +620,7 @@ impl<'a> Machine<'a> {
         }
     }
 
-    /// `COMMENT` has an answer.
+    /// Continues after `COMMENT`.
     #[inline]
     fn after_comment(
         &mut self,
@@ -638,7 +638,7 @@ impl<'a> Machine<'a> {
         }
     }
 
-    /// Begins with a form.
+    /// Begins a form.
     fn start(
         &mut self,
         scene: &Scene<'a>,
@@ -656,7 +656,7 @@ impl<'a> Machine<'a> {
         }
     }
 
-    /// Begins with the first part of a form that has parts.
+    /// Begins the first operand of a form that has operands.
     fn parts(
         &mut self,
         scene: &Scene<'a>,
@@ -694,7 +694,7 @@ impl<'a> Machine<'a> {
         }
     }
 
-    /// Goes on after so many rounds and a step, up to so many steps in all since those rounds.
+    /// Goes on from the first step after `rounds` rounds, for fewer than `steps` steps.
     fn go_on(
         &mut self,
         scene: &Scene<'a>,
@@ -721,9 +721,9 @@ impl<'a> Machine<'a> {
         Ok(Came::Going(control))
     }
 
-    /// Runs the scene's rule on its text, in NonAtomic, for so many steps at most, of which its call is the
-    /// first. The answer is what is left of the text after it, or `None` where it fails. Refused are want of
-    /// memory, a run of more steps, and `PEEK` or `POP` on the empty stack, after which there is no outcome.
+    /// Runs the scene's rule on its text, in NonAtomic, for at most `steps` steps, of which the call is the
+    /// first. Returns the remaining input, or `None` if the rule fails. Errors: an allocation failure, too
+    /// many steps, and `PEEK` or `POP` on the empty stack, after which there is no outcome.
     pub fn run(&mut self, scene: &Scene<'a>, steps: u64) -> Result<Option<&'a str>, Stop>
         requires sound { IsSoundIn scene.now }
         requires row { IsRowIn scene.now scene.now.row.now }
@@ -744,8 +744,8 @@ impl<'a> Machine<'a> {
         }
     }
 
-    /// The same for a text that has an outcome: it has no limit, and only want of memory stops it. It counts
-    /// rounds of steps, which takes a byte each.
+    /// Runs as `run` on a text that has an outcome, without a limit; only an allocation failure stops the
+    /// run. Rounds of steps are counted, which takes a byte each.
     pub fn run_to_the_end(&mut self, ending: &Ending<'a>) -> Result<Option<&'a str>, AllocError>
         requires sound { IsSoundIn ending.now.scene }
         requires row { IsRowIn ending.now.scene ending.now.scene.row.now }

@@ -1,4 +1,4 @@
-//! What is skipped at once, and what is matched at once where nothing is skipped.
+//! Implicit whitespace skipped without a frame, and repetitions of sets where nothing is skipped.
 ghost use Rattle.std.specs.Prelude.{◌≡◌, ℕ, IfNone, IfSome, true};
 ghost use Rattle.meta_base.specs.Language.Expression.{Rep, RepOnce};
 ghost use Rattle.meta_base.specs.Language.Meaning.{Skipping};
@@ -34,7 +34,7 @@ fn is_tight(scene: &Scene<'_>, mode: Mode) -> bool
     }
 }
 
-/// As many of a form as there are, where it is a set and nothing is skipped.
+/// Matches as many of a form as there are, if it is a set and nothing is skipped.
 pub(crate) fn repeated<'a>(scene: &Scene<'_>, body: &Form, mode: Mode, rest: &'a str) -> AtOnce<'a>
     requires sound { IsSoundIn scene.now }
     requires bound { IsBoundIn scene.now body.now }
@@ -52,7 +52,7 @@ pub(crate) fn repeated<'a>(scene: &Scene<'_>, body: &Form, mode: Mode, rest: &'a
     }
 }
 
-/// One or more of a form, where it is a set and nothing is skipped.
+/// Matches one or more of a form, if it is a set and nothing is skipped.
 pub(crate) fn repeated_once<'a>(
     scene: &Scene<'_>,
     body: &Form,
@@ -78,7 +78,8 @@ pub(crate) fn repeated_once<'a>(
     }
 }
 
-/// What is left behind the blanks, where there are no comments, and a blank is one character without a token.
+/// Returns the remaining input after the blanks, if there are no comments and a blank is one character
+/// without a token.
 #[inline]
 fn blanks_passed<'a>(scene: &Scene<'_>, rest: &'a str) -> Option<&'a str>
     requires sound { IsSoundIn scene.now }
@@ -101,7 +102,7 @@ fn blanks_passed<'a>(scene: &Scene<'_>, rest: &'a str) -> Option<&'a str>
     }
 }
 
-/// What is left behind what is skipped in a mode, where that is found at once.
+/// Returns the remaining input after the skipping in a mode, if that needs no frame.
 #[inline(always)]
 pub(crate) fn passed<'a>(scene: &Scene<'_>, mode: Mode, rest: &'a str) -> Option<&'a str>
     requires sound { IsSoundIn scene.now }

@@ -1,11 +1,11 @@
-//! Names that are told, each once.
+//! The expected set: names of failed calls, without duplicates.
 ghost use Rattle.std.specs.Prelude.{◌≡◌, OnOk, chars, length, take};
 ghost use Rattle.meta_matcher.specs.Told.{is_among, told_of, with_name};
 
 use matcher_program::texts::same;
 use std::alloc::AllocError;
 
-/// How many names were told.
+/// Returns the number of names.
 #[inline(always)]
 pub(crate) fn count(told: &Vec<&str>) -> usize
     ensures { result ≡ length (told_of told.now.items) }
@@ -25,7 +25,7 @@ fn is_among(told: &[&str], name: &str) -> bool
     false
 }
 
-/// Tells a name, unless it is told already.
+/// Adds a name, unless the set has it.
 pub(crate) fn tell<'a>(told: &mut Vec<&'a str>, name: &'a str) -> Result<(), AllocError>
     ensures { OnOk result
         (told_of told.new.items ≡ with_name (told_of told.old.items) (chars name.entry.now)) }
@@ -36,7 +36,7 @@ pub(crate) fn tell<'a>(told: &mut Vec<&'a str>, name: &'a str) -> Result<(), All
     Ok(())
 }
 
-/// Forgets all names but so many of the first.
+/// Drops all names but the first `first`.
 #[inline(always)]
 pub(crate) fn forget(told: &mut Vec<&str>, first: usize)
     ensures { told_of told.new.items ≡ take first (told_of told.old.items) }

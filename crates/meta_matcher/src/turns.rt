@@ -1,4 +1,4 @@
-//! Repetitions: turns of a form, with what is skipped before each but the first.
+//! Repetitions: turns of a form, with the skipping before each but the first.
 ghost use Rattle.std.specs.Prelude.{◌+◌, IfOk};
 ghost use Rattle.meta_base.specs.Language.Expression.{Rep};
 ghost use Rattle.meta_base.specs.Language.Meaning.{Run, Turns};
@@ -15,7 +15,7 @@ use matcher_program::form::Form;
 use std::alloc::AllocError;
 
 impl<'a> Machine<'a> {
-    /// As many turns as there are.
+    /// Runs as many turns as match.
     pub(crate) fn repetition(
         &mut self,
         scene: &Scene<'a>,
@@ -60,7 +60,7 @@ impl<'a> Machine<'a> {
         Ok(Control::Run(body, mode, rest))
     }
 
-    /// The form of a repetition has an answer.
+    /// Continues after the form of a repetition.
     #[inline]
     pub(crate) fn after_turn(
         &mut self,
@@ -81,7 +81,7 @@ impl<'a> Machine<'a> {
         }
     }
 
-    /// One more turn, with what is skipped before it.
+    /// Runs one more turn, with the skipping before it.
     #[inline]
     fn next_turn(
         &mut self,
@@ -114,7 +114,7 @@ impl<'a> Machine<'a> {
         }
     }
 
-    /// What lies before the form of a repetition is skipped.
+    /// Continues after the skipping before the form of a repetition.
     #[inline]
     pub(crate) fn after_turn_gap(
         &mut self,

@@ -41,7 +41,7 @@ still_kind roots p (is.Seq j k) = p j && p k
 still_kind roots p (is.Choice j k) = p j || p k
 still_kind roots p _ = true
 
--- some operand is
+-- some operand has its flag set
 abbrev pub some_part : (ℕ → Bool) → Parts → Bool
 some_part p parts.Nothing = false
 some_part p (parts.Inside j required optional endless) = p j

@@ -10,7 +10,7 @@ use Rattle.meta_stack_loops.specs.declared.table.Kind.TheVariants as is
 use Rattle.meta_stack_loops.specs.declared.table.Node.{Node}
 use Rattle.meta_stack_loops.specs.declared.table.Table.{Table}
 
--- the reading that it has from another stack
+-- the reading r of a node independent of the stack, from another stack
 abbrev pub moved : AbstractStack → says.Reading → says.Reading
 moved a r = record { ok = only_if r.ok a; err = only_if r.err a; still = r.still }
 
@@ -44,7 +44,7 @@ apart_kind t set (is.Seq j k) = set j && set k
 apart_kind t set (is.Choice j k) = set j && set k
 apart_kind t set (is.Repeat j required optional endless) = nat_le 2 t.limit && set j
 
--- flags by which that is so of each node that has one
+-- every flagged node is so
 abbrev pub AreApart : Table → List Bool → Type 0
 AreApart t flags = (i : ℕ) (n : Node) → slice_get (nodes_of t) i ≡ Some n → is_set_at flags i ≡ true
     → apart_kind t (is_set_at flags) n.kind ≡ true

@@ -72,7 +72,7 @@ pub record AreFound (rules : List SpannedRule) (spans : List Span) : Type 0 wher
   pub silent : SkippingAltersStack (rules_without_spans rules) → spans ≡ []
   pub plain : (SkippingAltersStack (rules_without_spans rules) → ⊥) → AreRead rules spans
 
--- these are the reports in the order of their places
+-- these are the reports, ordered by position
 pub record AreReports (rules : List SpannedRule) (spans : List Span) : Type 0 where
   pub reports : List Span
   pub plain : AreFound rules reports

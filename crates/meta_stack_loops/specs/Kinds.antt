@@ -85,19 +85,19 @@ Fits kind_of nodes i k (Two s f x y) =
     (j : ℕ) × (l : ℕ) × (j < i) × (l < i) × (slice_get nodes j ≡ Some x) × (slice_get nodes l ≡ Some y)
     × (k ≡ both_kind (joint_of f) j l)
 
--- a node of code stands for a node at a place
+-- the node n of code represents the node x with index i
 pub record IsNode (kind_of : Text → Kind) (nodes : List Spanned) (i : ℕ) (n : Node)
     (x : Spanned) : Type 0 where
   pub fits : Fits kind_of nodes i n.kind x
   pub place : piece_of n.span.now ≡ span_of x
 
--- the list says of each of these nodes what it does
+-- the list has the operation of every node
 pub record AreNodes (kind_of : Text → Kind) (nodes : List Spanned) (ns : List Node) : Type 0 where
   pub alike : length ns ≡ length nodes
   pub fit : (i : ℕ) (x : Spanned) → slice_get nodes i ≡ Some x → (n : Node) × (slice_get ns i ≡ Some n)
       × IsNode kind_of nodes i n x
 
--- the nodes of all bodies, and the places of the bodies among them
+-- the nodes of all bodies, and the indices of the bodies' roots
 pub record AreTabled (rules : List ParserRule) (kind_of : Text → Kind) (ns : List Node)
     (places : List ℕ) : Type 0 where
   pub nodes : AreNodes kind_of (all_nodes rules) ns

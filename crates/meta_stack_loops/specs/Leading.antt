@@ -77,11 +77,11 @@ pub record AreRaised (ranks : List ℕ) (flags : List Bool) (raised : List ℕ) 
   pub alike : length raised ≡ length flags
   pub each : (i : ℕ) → rank_in raised i ≡ rank_in ranks i + bit (is_set_at flags i)
 
--- the rule that is noted for a node
+-- the rule that is recorded for a node
 abbrev pub owner_in : List (Option ℕ) → ℕ → Option ℕ
 owner_in owners i = unwrap_or (slice_get owners i) None
 
--- the rule that is noted for a rule
+-- the leader that is recorded for a rule
 abbrev pub leader_in : List ℕ → ℕ → ℕ
 leader_in leaders r = unwrap_or (slice_get leaders r) 0
 

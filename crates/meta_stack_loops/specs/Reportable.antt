@@ -61,7 +61,7 @@ may_loop p (parts.Inside j required optional endless) = endless && p j
 may_loop p parts.Nothing = false
 may_loop p (parts.Both j k choice) = false
 
--- the operands of each node stand before it
+-- the operands of every node precede it
 abbrev pub AreBehind : List Node → Type 0
 AreBehind ns = (i : ℕ) (n : Node) → slice_get ns i ≡ Some n
     → (j : ℕ) → IsOperandOf j (parts_of n.kind) → j < i

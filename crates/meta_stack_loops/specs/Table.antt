@@ -96,7 +96,7 @@ called_by (is.Repeat j required optional endless) = None
 abbrev pub rank_at : Table → ℕ → ℕ
 rank_at t i = unwrap_or (slice_get t.ranks.items i) 0
 
--- one node stands inside another
+-- one node is inside another
 pub record Inside (t : Table) (i j : ℕ) : Type 0 where
   pub below : j < i
   pub within : j < length (nodes_of t)
@@ -112,7 +112,7 @@ abbrev pub LeadsTo : Table → ℕ → Option ℕ → Type 0
 LeadsTo t i None = ⊤
 LeadsTo t i (Some j) = Called t i j
 
--- the operands of a node stand where they should
+-- the operands of a node precede it, and have no higher ranks
 abbrev pub Lies : Table → ℕ → Kind → Type 0
 Lies t i (is.Call r) = LeadsTo t i (followed_at t r)
 Lies t i (is.PosPred j) = Inside t i j

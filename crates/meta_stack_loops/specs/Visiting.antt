@@ -99,7 +99,7 @@ module _ (t : Table) (meaning : Meaning) (read : Spanned → AbstractStack → s
     pub reads : meaning j ≡ read x
     pub null : is_set_at t.nullable.items j ≡ nullable x
 
-  -- a node of the table stands for a node of an expression, with all that is inside
+  -- a node of the table represents a node of an expression, with all nodes inside
   abbrev pub StandsFor : ℕ → Spanned → Type 0
   StandsFor i (Leaf s e) = (n : Node) × (slice_get (nodes_of t) i ≡ Some n) × (parts_of n.kind
       ≡ parts.Nothing)
@@ -110,7 +110,7 @@ module _ (t : Table) (meaning : Meaning) (read : Spanned → AbstractStack → s
       × (parts_of n.kind ≡ parts.Both j k (is_choice f))
       × DoesTheSame j x × StandsFor j x × StandsFor k y
 
-  -- nodes of the table stand for these nodes of expressions
+  -- nodes of the table represent these nodes of expressions
   abbrev pub RootsStand : List ℕ → List Spanned → Type 0
   RootsStand [] [] = ⊤
   RootsStand (i ∷ is) (x ∷ xs) = StandsFor i x × RootsStand is xs
@@ -146,7 +146,7 @@ pub record FindsAll (t : Table) (is : List ℕ) (found : List code_span.Span) : 
 
 module _ (t : Table) (meaning : Meaning) (read : Spanned → AbstractStack → says.Reading)
     (nullable : Spanned → Bool) where
-  -- nodes that are still to be visited, the next one last, stand for these nodes of expressions
+  -- nodes that are still to be visited, the next one last, represent these nodes of expressions
   abbrev pub LeftStand : List Pending → List Spanned → Type 0
   LeftStand [] [] = ⊤
   LeftStand (v ∷ vs) (x ∷ xs) = StandsFor t meaning read nullable v.node x × LeftStand vs xs

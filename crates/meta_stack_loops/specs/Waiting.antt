@@ -59,15 +59,15 @@ pub record Fills (t : Table) (meaning : Meaning) (awaited : Awaited) (a : Abstra
   pub made : filled t meaning awaited a r ≡ whole
   pub traced : IsTraced t meaning awaited r
 
--- the reading at hand is what the innermost node waits for, which is the last one, and each node is what the
--- one before it waits for; the first one has this reading
+-- the current reading is what the innermost node waits for, the last one, and every other node waits for
+-- the reading of the next one; the first one has this reading
 abbrev pub Lead : Table → Meaning → List Waiting → says.Reading → says.Reading → Type 0
 Lead t meaning [] whole r = r ≡ whole
 Lead t meaning (w ∷ ws) whole r =
     (inner : says.Reading) × (meaning w.node (stack_of w.stack) ≡ whole)
     × Fills t meaning w.awaited (stack_of w.stack) inner whole × Lead t meaning ws inner r
 
--- the reading that is at hand, or will be
+-- the reading that the next task gives
 abbrev pub at_hand : Meaning → Next → says.Reading
 at_hand meaning (next.Read node s) = meaning node (stack_of s)
 at_hand meaning (next.Done r) = reading_of r
