@@ -1,4 +1,4 @@
-//! Continuation frames: what the machine does with the answer of the form that it runs.
+//! Continuation frames: the form that is run gives its answer to the last of them.
 use crate::modes::Mode;
 use crate::stack::Stack;
 use matcher_program::form::{Form, Row};

@@ -1,4 +1,4 @@
-//! The steps of a machine: it begins a form, or gives an answer to a continuation frame.
+//! The steps of a machine, each of which begins a form, or gives an answer to a continuation frame.
 ghost use Rattle.std.specs.Prelude.{◌≡◌, ◌+◌, ◌-◌, ◌*◌, ◌≤◌, IfErr, IfOk, OnOk, [], ◌∷◌, drop, length, reverse, take};
 ghost use Rattle.meta_ast.specs.Ast.{text_of};
 ghost use Rattle.meta_base.specs.Language.Expression.{Choice, Ident, NegPred, Opt, PosPred, Push, Rep, Seq, rule_of};

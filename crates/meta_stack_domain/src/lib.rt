@@ -1,5 +1,5 @@
-//! What is known of the stack, and what an expression may do to it: the reading by which the stack pass finds
-//! repetitions that never end.
+//! The abstract domain of the stack pass: abstract stacks, and readings, the abstract outcomes of
+//! expressions.
 #![tactic(auto)]
 
 pub mod laws;

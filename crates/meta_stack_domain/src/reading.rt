@@ -1,4 +1,4 @@
-//! What an expression does from an abstract stack.
+//! Readings: abstract outcomes of expressions from an abstract stack, and their transfer functions.
 ghost use Rattle.std.specs.Prelude.{◌≡◌, true};
 ghost use Rattle.meta_stack_domain.specs.Reading as says;
 ghost use Rattle.meta_stack_domain.specs.Stack as is;
@@ -7,8 +7,8 @@ ghost use Rattle.meta_stack_domain.specs.Views.{stack_of, possible, reading_of, 
 
 use crate::stack::{Base, Stack};
 
-/// The stack after a success and after a failure, where they are possible, and whether a success
-/// takes nothing.
+/// An abstract outcome: the stack after a success and after a failure, where they are possible, and whether
+/// a success takes nothing.
 #[derive(Clone, Copy)]
 pub struct Reading {
     pub ok: Option<Stack>,
@@ -16,7 +16,8 @@ pub struct Reading {
     pub still: bool,
 }
 
-/// How far the copies of a repetition have been followed.
+/// The progress along the copies of a repetition: the stack, if it is possible, whether a required copy may
+/// have failed, and whether nothing was taken.
 #[derive(Clone, Copy)]
 pub struct Walk {
     pub here: Option<Stack>,
@@ -24,7 +25,7 @@ pub struct Walk {
     pub still: bool,
 }
 
-/// Either stack.
+/// Returns the join of two stacks that may be impossible.
 pub fn joined_any(first: Option<Stack>, second: Option<Stack>) -> Option<Stack>
     ensures { possible result ≡ is.join_any (possible first) (possible second) }
 {
@@ -35,7 +36,7 @@ pub fn joined_any(first: Option<Stack>, second: Option<Stack>) -> Option<Stack>
     }
 }
 
-/// Where a failure goes on.
+/// Returns the stack from which matching goes on after a failure: the join of those after it and before.
 pub fn failed(err: Option<Stack>, stack: Stack) -> Option<Stack>
     ensures { possible result ≡ is.failed (possible err) (stack_of stack) }
 {
@@ -116,7 +117,7 @@ impl Reading {
         }
     }
 
-    /// `PEEK` and `POP`, by what is left.
+    /// Returns the reading of `PEEK` or `POP`, with the stack `left` after a success.
     pub fn top(stack: Stack, left: Stack) -> Reading
         ensures { let a = stack_of stack in
             reading_of result ≡ says.top_reading a.marks a.base (stack_of left) }
@@ -134,7 +135,7 @@ impl Reading {
         }
     }
 
-    /// `DROP`.
+    /// Returns the reading of `DROP`.
     pub fn dropped(stack: Stack) -> Reading
         ensures { let a = stack_of stack in reading_of result ≡ says.drop_reading a.marks a.base a }
     {
@@ -188,7 +189,7 @@ impl Reading {
         }
     }
 
-    /// One after the other.
+    /// Returns the reading of a sequence.
     pub fn then(self, second: Reading, stack: Stack, skips: bool) -> Reading
         ensures { reading_of result
             ≡ says.seq_reading skips (stack_of stack) (reading_of self) (reading_of second) }
@@ -204,7 +205,7 @@ impl Reading {
         }
     }
 
-    /// The stack from which a second part is read: after a failure for a choice, else after a
+    /// Returns the stack from which a second operand is read: after a failure for a choice, else after a
     /// success.
     pub fn next_after(self, choice: bool, stack: Stack) -> Option<Stack>
         ensures { possible result ≡ walks.next_after choice (reading_of self) (stack_of stack) }
@@ -216,7 +217,7 @@ impl Reading {
         }
     }
 
-    /// The stack after it, where it cannot fail and takes nothing.
+    /// Returns the stack after an expression that cannot fail and takes nothing.
     pub fn settled(self) -> Option<Stack>
         ensures { possible result ≡ walks.settled (reading_of self) }
     {
@@ -227,14 +228,14 @@ impl Reading {
         }
     }
 
-    /// It takes nothing where it succeeds.
+    /// Whether the expression takes nothing if it succeeds.
     pub fn stays(self) -> bool
         ensures { result ≡ says.stays (reading_of self) }
     {
         self.ok.is_none() || self.still
     }
 
-    /// One, or the other where it fails.
+    /// Returns the reading of a choice.
     pub fn or(self, second: Reading, stack: Stack) -> Reading
         ensures { reading_of result
             ≡ says.choice_reading (stack_of stack) (reading_of self) (reading_of second) }
@@ -246,7 +247,7 @@ impl Reading {
         }
     }
 
-    /// Where it goes on, whether it succeeds or fails.
+    /// Returns the stack after an attempt, whether it succeeds or fails.
     pub fn tried(self, stack: Stack) -> Option<Stack>
         ensures { possible result ≡ says.tried (stack_of stack) (reading_of self) }
     {
@@ -275,7 +276,7 @@ fn is_same_option(first: Option<Stack>, second: Option<Stack>) -> bool
 }
 
 impl Walk {
-    /// Whether it is the same walk.
+    /// Whether two walks are equal.
     pub fn is_same(self, other: Walk) -> bool
         ensures { result ≡ true → walk_of self ≡ walk_of other }
     {
@@ -284,7 +285,7 @@ impl Walk {
             && self.still == other.still
     }
 
-    /// Past one copy, which is required or may fail.
+    /// Returns the walk after one more copy, which is required or may fail.
     pub fn stepped(self, reading: Reading, stack: Stack, required: bool) -> Walk
         ensures { walk_of result
             ≡ walks.stepped required (stack_of stack) (reading_of reading) (walk_of self) }
@@ -305,7 +306,7 @@ impl Walk {
         }
     }
 
-    /// Past one turn.
+    /// Returns the walk after one more turn.
     pub fn turned(self, reading: Reading, stack: Stack) -> Walk
         ensures { walk_of result ≡ walks.turned (stack_of stack) (reading_of reading) (walk_of self) }
     {
@@ -316,7 +317,7 @@ impl Walk {
         }
     }
 
-    /// The reading of the whole repetition.
+    /// Returns the reading of the whole repetition. `alone`: nothing can be skipped inside it.
     pub fn reading(self, stack: Stack, alone: bool) -> Reading
         ensures { reading_of result ≡ walks.ended (stack_of stack) alone (walk_of self) }
     {

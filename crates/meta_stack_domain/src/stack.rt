@@ -1,4 +1,4 @@
-//! What is known of a stack.
+//! Abstract stacks, the elements of the abstract domain.
 ghost use Rattle.std.specs.Prelude.{◌≡◌, ◌≤◌, ◌<◌};
 ghost use Rattle.meta_stack_domain.specs.Marks.{room};
 
@@ -14,11 +14,11 @@ pub enum Base {
     Any,
 }
 
-/// A base, and up to eight marks above it, each of which says whether the entry is the empty text.
+/// A base, and up to eight marks for the entries above it, each set if the entry is the empty text.
 #[derive(Clone, Copy)]
 pub struct Stack {
     pub base: Base,
-    /// How many marks there are.
+    /// The number of marks.
     pub count: u8,
     /// The marks as a binary number, the top one last.
     pub marks: u16,
@@ -80,7 +80,7 @@ impl Stack {
     ghost use Rattle.meta_stack_domain.specs.Stack as is;
     ghost use Rattle.meta_stack_domain.specs.Views.{stack_of};
 
-    /// Nothing is known.
+    /// Returns the greatest element, which describes all stacks.
     pub fn unknown() -> Stack
         ensures { stack_of result ≡ is.unknown }
     {
@@ -92,7 +92,7 @@ impl Stack {
         }
     }
 
-    /// Where each rule's body begins.
+    /// Returns the stack at the start of a rule's body.
     pub fn entry() -> Stack
         ensures { stack_of result ≡ is.entry }
     {
@@ -104,7 +104,7 @@ impl Stack {
         }
     }
 
-    /// Empty texts alone, possibly none.
+    /// Returns the stack of empty texts alone, possibly none.
     fn blank() -> Stack
         ensures { stack_of result ≡ is.some_blank }
     {
@@ -134,7 +134,7 @@ impl Stack {
         are_blank(self.count, self.marks, !self.base.is_any())
     }
 
-    /// With one more mark; of eight at most.
+    /// Adds a mark; the result is unknown if there would be more than eight.
     pub fn pushed(self, blank: bool) -> Stack
         ensures { stack_of result ≡ is.push_mark blank (stack_of self) }
     {
@@ -149,7 +149,7 @@ impl Stack {
         }
     }
 
-    /// Without the top entry.
+    /// Removes the top entry.
     pub fn popped(self) -> Stack
         ensures { stack_of result ≡ is.pop_one (stack_of self) }
     {
@@ -168,7 +168,7 @@ impl Stack {
         }
     }
 
-    /// Without any entry.
+    /// Removes all entries.
     pub fn emptied(self) -> Stack
         ensures { stack_of result ≡ is.pop_all (stack_of self) }
     {
@@ -180,7 +180,7 @@ impl Stack {
         }
     }
 
-    /// What both describe.
+    /// Returns the join, which describes all that either stack describes.
     pub fn joined(self, other: Stack) -> Stack
         ensures { stack_of result ≡ is.join (stack_of self) (stack_of other) }
     {

@@ -30,7 +30,7 @@ pub record Comes (ws : List Walk) (w : says.Walk) (j : ℕ) : Type 0 where
 abbrev pub copy_step : Table → Meaning → ℕ → Bool → says.Walk → says.Walk
 copy_step t meaning body required w = onward t.limit (meaning body) (copy_of required) w.here w
 
--- these are the walks from which a copy starts, in the order of their first copies
+-- these are the walks from which the copies start, every walk at the index of its first copy
 pub record IsTrace (f : says.Walk → says.Walk) (n : ℕ) (w : says.Walk) (items : List Walk) : Type 0 where
   pub each : (j : ℕ) (v : Walk) → slice_get items j ≡ Some v → (walk_of v ≡ times j f w) × (j < n)
   pub all : (i : ℕ) → i < n → (j : ℕ) × Comes items (times i f w) j
