@@ -1,5 +1,5 @@
-//! The forms of expressions. They are made by a loop with a list of what stands around an operand, so no
-//! nesting of a grammar takes the machine's stack.
+//! The compiler of expressions, iterative with continuation frames, so that stack use does not depend on
+//! the nesting of a grammar.
 ghost use Rattle.std.specs.Prelude.{◌≡◌, ◌<◌, ◌≤◌, ◌*◌, IfErr, IfOk, List};
 ghost use Rattle.meta_base.specs.Language.Expression.{Expression, Grammar};
 ghost use Rattle.meta_base.specs.Language.Text.{Text};
@@ -23,7 +23,7 @@ use meta_ast::rebuilt::Step;
 use meta_ast::texts::copy_texts;
 use std::alloc::Global;
 
-/// What an operand stands under while its form is made.
+/// A continuation frame, the operator around an operand while the form of that is made.
 #[derive(Drop)]
 pub enum Around<'e> {
     PosPred,
@@ -34,17 +34,18 @@ pub enum Around<'e> {
     Push,
     Restore,
     Tag(String),
-    /// A `~` whose left side is at hand, and the right one.
+    /// A `~` whose left side is compiled, and the right side.
     FirstOfSeq(&'e Box<OptimizedExpr>),
-    /// The same of a `|`.
+    /// A `|` whose left side is compiled, and the right side.
     FirstOfChoice(&'e Box<OptimizedExpr>),
-    /// A `~` whose right side is at hand, and the form of the left one.
+    /// A `~` whose right side is compiled, and the form of the left side.
     SecondOfSeq(Deep<Box<Form>>),
-    /// The same of a `|`.
+    /// A `|` whose right side is compiled, and the form of the left side.
     SecondOfChoice(Deep<Box<Form>>),
 }
 
-/// The form of an expression without operands; else its first operand, and what it stands under.
+/// Begins to compile: returns the form of an expression without operands, or the first operand with its
+/// frame.
 fn begun<'e>(
     alloc: Global,
     rules: &Indexed<'_>,
@@ -87,7 +88,7 @@ fn begun<'e>(
     Ok(Step::Inside(around, operand))
 }
 
-/// An operand's form in a box: a set where it is one, but in a choice, which may be one as a whole.
+/// Boxes an operand's form, made to a set if it is one, except in a choice, which may be one as a whole.
 fn in_place(alloc: Global, around: &Around<'_>, form: Form) -> Result<Deep<Box<Form>>, Unfit>
     ensures memory { IfErr result (λ unfit. unfit ≡ Memory) }
     ensures same { IfOk result (λ made. (g : Grammar) (ps : List Property) (e : Expression)
@@ -104,7 +105,7 @@ fn in_place(alloc: Global, around: &Around<'_>, form: Form) -> Result<Deep<Box<F
     }
 }
 
-/// The form of the whole, once that of its last operand is at hand; else the next operand.
+/// Continues with the boxed form of an operand: returns the form of the whole, or the next operand.
 fn closed<'e>(
     around: Around<'e>,
     form: Deep<Box<Form>>,
@@ -134,7 +135,7 @@ fn closed<'e>(
     }
 }
 
-/// The form of the whole, once its last operand has a form; else the next operand.
+/// Continues with the form of an operand: returns the form of the whole, or the next operand.
 fn ended<'e>(
     alloc: Global,
     around: Around<'e>,
@@ -154,8 +155,8 @@ fn ended<'e>(
     Ok(closed(around, form))
 }
 
-/// The form of an expression. Refused for want of memory, for a name that means nothing, and for a bound of a
-/// range that is not one character.
+/// Compiles an expression. Errors: an allocation failure, a name that means nothing, and a bound of a range
+/// that is not one character.
 pub(crate) fn form_of(
     alloc: Global,
     rules: &Indexed<'_>,

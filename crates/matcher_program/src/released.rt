@@ -1,4 +1,4 @@
-//! Letting go of forms by a loop.
+//! Iterative drop of forms.
 ghost use Rattle.std.specs.Prelude.{◌+◌, ◌*◌, ◌<◌};
 ghost use Rattle.matcher_program.specs.FormWeight.{weight};
 
@@ -28,7 +28,8 @@ impl Release for Form {
     }
 }
 
-/// What is left of two sides, with less on the left: its operator is gone, or all of it.
+/// Rotates two sides to the right, so that less is on the left. Of a left side with one operand the
+/// operator is dropped, and a left side without operands is dropped.
 fn leaned(mut left: Box<Form>, right: Box<Form>) -> Form
     ensures { weight result < 2 * weight left.value + weight right.value + 1 }
 {

@@ -78,8 +78,8 @@ pub fn limits_agree()
 /// Proves that the depth of calls is never met if no rule that reaches itself is followed: expressions have
 /// the same readings, and bodies the same reports, with any depth from the number of rules on.
 pub fn depths_agree()
-    ensures readings { (limit depth : ℕ) (recursive : Text → Bool) (g : Grammar) (e : Expression) (a : AbstractStack)
-        → LeavesOutRecursion recursive g → length g ≤ depth
+    ensures readings { (limit depth : ℕ) (recursive : Text → Bool) (g : Grammar) (e : Expression)
+        → (a : AbstractStack) → LeavesOutRecursion recursive g → length g ≤ depth
         → reading_to_depth depth limit recursive g e a ≡ reading_in limit recursive g e a }
     ensures reports { (limit depth other turns : ℕ) (recursive : Text → Bool) (g : Grammar)
         → (nullable : Spanned → Bool) (x : Spanned) (ts : List Span)

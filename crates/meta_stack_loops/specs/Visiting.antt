@@ -105,7 +105,8 @@ module _ (t : Table) (meaning : Meaning) (read : Spanned → AbstractStack → s
       ≡ parts.Nothing)
   StandsFor i (One s f x) = (n : Node) × (j : ℕ) × (r : ℕ) × (o : ℕ) × (slice_get (nodes_of t) i ≡ Some n)
       × (parts_of n.kind ≡ parts.Inside j r o (is_endless f))
-      × (copies r o (is_endless f) ≡ copies_of f) × (piece_of n.span.now ≡ s) × DoesTheSame j x × StandsFor j x
+      × (copies r o (is_endless f) ≡ copies_of f) × (piece_of n.span.now ≡ s)
+      × DoesTheSame j x × StandsFor j x
   StandsFor i (Two s f x y) = (n : Node) × (j : ℕ) × (k : ℕ) × (slice_get (nodes_of t) i ≡ Some n)
       × (parts_of n.kind ≡ parts.Both j k (is_choice f))
       × DoesTheSame j x × StandsFor j x × StandsFor k y
