@@ -6,5 +6,5 @@ pub mod laws;
 mod reading;
 mod stack;
 
-pub use crate::reading::{Reading, Walk, failed, joined_any};
+pub use crate::reading::{Reading, Walk, after_failure, join_any};
 pub use crate::stack::{Base, Stack};

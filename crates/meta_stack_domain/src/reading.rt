@@ -26,23 +26,23 @@ pub struct Walk {
 }
 
 /// Returns the join of two stacks that may be impossible.
-pub fn joined_any(first: Option<Stack>, second: Option<Stack>) -> Option<Stack>
+pub fn join_any(first: Option<Stack>, second: Option<Stack>) -> Option<Stack>
     ensures { possible result ≡ is.join_any (possible first) (possible second) }
 {
     match (first, second) {
         (None, second) => second,
         (Some(first), None) => Some(first),
-        (Some(first), Some(second)) => Some(first.joined(second)),
+        (Some(first), Some(second)) => Some(first.join(second)),
     }
 }
 
 /// Returns the stack from which matching goes on after a failure: the join of those after it and before.
-pub fn failed(err: Option<Stack>, stack: Stack) -> Option<Stack>
+pub fn after_failure(err: Option<Stack>, stack: Stack) -> Option<Stack>
     ensures { possible result ≡ is.failed (possible err) (stack_of stack) }
 {
     match err {
         None => None,
-        Some(err) => Some(err.joined(stack)),
+        Some(err) => Some(err.join(stack)),
     }
 }
 
@@ -105,7 +105,7 @@ impl Reading {
     pub fn pop_all(stack: Stack) -> Reading
         ensures { reading_of result ≡ says.pop_all_reading (stack_of stack) }
     {
-        let after = stack.emptied();
+        let after = stack.without_entries();
         if stack.is_blank() {
             Reading::surely(after)
         } else {
@@ -136,11 +136,11 @@ impl Reading {
     }
 
     /// Returns the reading of `DROP`.
-    pub fn dropped(stack: Stack) -> Reading
+    pub fn drop_top(stack: Stack) -> Reading
         ensures { let a = stack_of stack in reading_of result ≡ says.drop_reading a.marks a.base a }
     {
         if stack.count > 0 {
-            Reading::surely(stack.popped())
+            Reading::surely(stack.without_top())
         } else if stack.base.is_empty() {
             Reading {
                 ok: None,
@@ -149,20 +149,20 @@ impl Reading {
             }
         } else {
             Reading {
-                ok: Some(stack.popped()),
+                ok: Some(stack.without_top()),
                 err: Some(stack),
                 still: true,
             }
         }
     }
 
-    pub fn pushed(self) -> Reading
+    pub fn push_match(self) -> Reading
         ensures { reading_of result ≡ says.pushed_reading (reading_of self) }
     {
         Reading {
             ok: match self.ok {
                 None => None,
-                Some(after) => Some(after.pushed(self.still)),
+                Some(after) => Some(after.with_mark(self.still)),
             },
             err: self.err,
             still: self.still,
@@ -211,14 +211,14 @@ impl Reading {
         ensures { possible result ≡ walks.next_after choice (reading_of self) (stack_of stack) }
     {
         if choice {
-            failed(self.err, stack)
+            after_failure(self.err, stack)
         } else {
             self.ok
         }
     }
 
     /// Returns the stack after an expression that cannot fail and takes nothing.
-    pub fn settled(self) -> Option<Stack>
+    pub fn sure_stack(self) -> Option<Stack>
         ensures { possible result ≡ walks.settled (reading_of self) }
     {
         if self.err.is_some() || !self.still {
@@ -241,24 +241,24 @@ impl Reading {
             ≡ says.choice_reading (stack_of stack) (reading_of self) (reading_of second) }
     {
         Reading {
-            ok: joined_any(self.ok, second.ok),
-            err: failed(second.err, stack),
+            ok: join_any(self.ok, second.ok),
+            err: after_failure(second.err, stack),
             still: self.stays() && second.stays(),
         }
     }
 
     /// Returns the stack after an attempt, whether it succeeds or fails.
-    pub fn tried(self, stack: Stack) -> Option<Stack>
+    pub fn after_attempt(self, stack: Stack) -> Option<Stack>
         ensures { possible result ≡ says.tried (stack_of stack) (reading_of self) }
     {
-        joined_any(self.ok, failed(self.err, stack))
+        join_any(self.ok, after_failure(self.err, stack))
     }
 
     pub fn optional(self, stack: Stack) -> Reading
         ensures { reading_of result ≡ says.opt_reading (stack_of stack) (reading_of self) }
     {
         Reading {
-            ok: self.tried(stack),
+            ok: self.after_attempt(stack),
             err: None,
             still: self.stays(),
         }
@@ -286,7 +286,7 @@ impl Walk {
     }
 
     /// Returns the walk after one more copy, which is required or may fail.
-    pub fn stepped(self, reading: Reading, stack: Stack, required: bool) -> Walk
+    pub fn after_copy(self, reading: Reading, stack: Stack, required: bool) -> Walk
         ensures { walk_of result
             ≡ walks.stepped required (stack_of stack) (reading_of reading) (walk_of self) }
     {
@@ -299,7 +299,7 @@ impl Walk {
             }
         } else {
             Walk {
-                here: reading.tried(stack),
+                here: reading.after_attempt(stack),
                 failing: self.failing,
                 still,
             }
@@ -307,11 +307,11 @@ impl Walk {
     }
 
     /// Returns the walk after one more turn.
-    pub fn turned(self, reading: Reading, stack: Stack) -> Walk
+    pub fn after_turn(self, reading: Reading, stack: Stack) -> Walk
         ensures { walk_of result ≡ walks.turned (stack_of stack) (reading_of reading) (walk_of self) }
     {
         Walk {
-            here: joined_any(self.here, failed(reading.err, stack)),
+            here: join_any(self.here, after_failure(reading.err, stack)),
             failing: self.failing,
             still: self.still && reading.stays(),
         }

@@ -2,7 +2,7 @@
 ghost use Rattle.std.specs.Prelude.{◌≡◌, ◌≤◌, ◌<◌};
 ghost use Rattle.meta_stack_domain.specs.Marks.{room};
 
-use crate::stack::marks::{are_blank, both, pushed, same};
+use crate::stack::marks::{are_blank, both, push_mark, same};
 
 mod marks;
 
@@ -31,7 +31,7 @@ impl Base {
     ghost use Rattle.meta_stack_domain.specs.Stack.{common, is_any, is_empty, base_eq};
     ghost use Rattle.meta_stack_domain.specs.Views.{base_of};
 
-    fn joined(self, other: Base) -> Base
+    fn join(self, other: Base) -> Base
         ensures { base_of result ≡ common (base_of self) (base_of other) }
     {
         match self {
@@ -135,7 +135,7 @@ impl Stack {
     }
 
     /// Adds a mark; the result is unknown if there would be more than eight.
-    pub fn pushed(self, blank: bool) -> Stack
+    pub fn with_mark(self, blank: bool) -> Stack
         ensures { stack_of result ≡ is.push_mark blank (stack_of self) }
     {
         if self.count >= 8 {
@@ -144,13 +144,13 @@ impl Stack {
         Stack {
             base: self.base,
             count: self.count + 1,
-            marks: pushed(self.count, self.marks, blank),
+            marks: push_mark(self.count, self.marks, blank),
             intact: self.intact,
         }
     }
 
     /// Removes the top entry.
-    pub fn popped(self) -> Stack
+    pub fn without_top(self) -> Stack
         ensures { stack_of result ≡ is.pop_one (stack_of self) }
     {
         if self.count > 0 {
@@ -169,7 +169,7 @@ impl Stack {
     }
 
     /// Removes all entries.
-    pub fn emptied(self) -> Stack
+    pub fn without_entries(self) -> Stack
         ensures { stack_of result ≡ is.pop_all (stack_of self) }
     {
         Stack {
@@ -181,12 +181,12 @@ impl Stack {
     }
 
     /// Returns the join, which describes all that either stack describes.
-    pub fn joined(self, other: Stack) -> Stack
+    pub fn join(self, other: Stack) -> Stack
         ensures { stack_of result ≡ is.join (stack_of self) (stack_of other) }
     {
         if self.count == other.count {
             return Stack {
-                base: self.base.joined(other.base),
+                base: self.base.join(other.base),
                 count: self.count,
                 marks: both(self.count, self.marks, other.marks),
                 intact: self.intact && other.intact,

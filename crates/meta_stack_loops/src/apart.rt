@@ -36,7 +36,7 @@ fn is_apart<'n, 'i>(table: &Table<'n, 'i>, flags: &[bool], kind: Kind) -> bool
         Kind::Push(_) => false,
         Kind::PushLiteral(_) => false,
         Kind::Tag(body) => is_set(flags, body),
-        Kind::Call(rule) => is_call_set(flags, table.followed(rule)),
+        Kind::Call(rule) => is_call_set(flags, table.followed_body(rule)),
         Kind::PosPred(body) => is_set(flags, body),
         Kind::NegPred(body) => is_set(flags, body),
         Kind::Opt(body) => is_set(flags, body),
@@ -64,7 +64,7 @@ fn all_apart<'n, 'i>(table: &Table<'n, 'i>, flags: &[bool]) -> bool
 }
 
 /// Clears the flags of a node's listeners, and adds each listener that had one to the worklist.
-fn tell(
+fn clear_flags(
     listeners: &[usize],
     flags: &mut [bool],
     waiting: &mut Vec<usize>,
@@ -81,7 +81,7 @@ fn tell(
 }
 
 /// Returns flags of all nodes but those that read or change the stack, and those that lead to them.
-fn found_apart<'n, 'i>(alloc: Global, table: &Table<'n, 'i>) -> Result<Vec<bool>, AllocError> {
+fn search_apart<'n, 'i>(alloc: Global, table: &Table<'n, 'i>) -> Result<Vec<bool>, AllocError> {
     let nodes = Nodes {
         roots: table.roots.as_slice(),
         nodes: table.nodes.as_slice(),
@@ -91,12 +91,12 @@ fn found_apart<'n, 'i>(alloc: Global, table: &Table<'n, 'i>) -> Result<Vec<bool>
     let mut waiting = Vec::new(alloc);
     for place in 0..table.nodes.len() {
         if !is_apart(table, flags.as_slice(), table.node_at(place).kind) {
-            tell(&[place], flags.as_mut_slice(), &mut waiting)?;
+            clear_flags(&[place], flags.as_mut_slice(), &mut waiting)?;
         }
     }
     for _node in 0..table.nodes.len() {
         if let Some(place) = waiting.pop() {
-            tell(listeners.of(place), flags.as_mut_slice(), &mut waiting)?;
+            clear_flags(listeners.of(place), flags.as_mut_slice(), &mut waiting)?;
         }
     }
     Ok(flags)
@@ -112,7 +112,7 @@ pub(crate) fn apart_of<'n, 'i>(
     ensures within { IfOk result (λ flags. (i : ℕ) → is_set_at flags.items i ≡ true
         → i < length (nodes_of table.now)) }
 {
-    let flags = found_apart(alloc, table)?;
+    let flags = search_apart(alloc, table)?;
     if all_apart(table, flags.as_slice()) {
         return Ok(flags);
     }

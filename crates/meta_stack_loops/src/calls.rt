@@ -49,7 +49,7 @@ pub struct Groups {
 }
 
 /// Returns the link, or the reverse link.
-pub(crate) fn turned(link: Link, down: bool) -> Link
+pub(crate) fn orient(link: Link, down: bool) -> Link
     ensures { result ≡ spec.turned down link }
 {
     if down {
@@ -86,7 +86,7 @@ fn lists_of(
         nexts: Vec::with_capacity(alloc, links.len())?,
     };
     for (place, link) in links.iter().enumerate() {
-        put(&mut lists, place, turned(*link, down))?;
+        put(&mut lists, place, orient(*link, down))?;
     }
     Ok(lists)
 }
@@ -130,7 +130,7 @@ fn step(
         return Ok(());
     };
     if let Some(link) = links.get(place) {
-        if find(search, turned(*link, lists.down).target, origin)? {
+        if find(search, orient(*link, lists.down).target, origin)? {
             search.steps.push(place)?;
         }
     }
@@ -157,7 +157,7 @@ fn search_from(
 }
 
 /// Searches all rules depth-first, the last root of `order` first.
-fn searched(
+fn search_all(
     alloc: Global,
     links: &[Link],
     down: bool,
@@ -209,9 +209,9 @@ fn leaders_of(
 /// per root.
 pub(crate) fn groups_of(alloc: Global, links: &[Link], count: usize) -> Result<Groups, AllocError> {
     let rules = numbers(alloc, count)?;
-    let first = searched(alloc, links, true, count, rules.as_slice())?;
+    let first = search_all(alloc, links, true, count, rules.as_slice())?;
     let order = first.finished.as_slice();
-    let second = searched(alloc, links, false, count, order)?;
+    let second = search_all(alloc, links, false, count, order)?;
     let leaders = leaders_of(alloc, order, second.origins.as_slice())?;
     Ok(Groups {
         leaders,

@@ -232,7 +232,7 @@ pub fn next_copy(
 }
 
 /// Continues a repetition after a copy that was read from a stack.
-pub fn copied(
+pub fn resume_copies(
     table: &Table,
     memory: &mut Memory,
     waiting: &mut Vec<Waiting>,
@@ -249,7 +249,7 @@ pub fn copied(
         required,
         from,
     } = copy;
-    copies.walk = copies.walk.stepped(reading, from, required);
+    copies.walk = copies.walk.after_copy(reading, from, required);
     let left = if required {
         copies.required
     } else {
@@ -310,7 +310,7 @@ fn next_turn(
 }
 
 /// Continues a repetition after a turn that was read from a stack.
-pub fn turned(
+pub fn resume_turns(
     table: &Table,
     memory: &mut Memory,
     waiting: &mut Vec<Waiting>,
@@ -323,6 +323,6 @@ pub fn turned(
         waiting.old.items waiting.new.items) }
 {
     let LastTurn { mut turns, from } = turn;
-    turns.walk = turns.walk.turned(reading, from);
+    turns.walk = turns.walk.after_turn(reading, from);
     next_turn(table, memory, waiting, begun, turns, reading.ok)
 }

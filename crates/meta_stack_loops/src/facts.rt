@@ -80,7 +80,7 @@ pub(crate) fn is_part_set(flags: &[bool], parts: Parts) -> bool
 fn leads_to(roots: &[usize], flags: &[bool], rule: usize, kind: Kind) -> bool
     ensures { result ≡ spec.leading roots.now (is_set_at flags.now) rule (called_by kind) (parts_of kind) }
 {
-    match kind.called() {
+    match kind.called_rule() {
         Some(callee) => callee == rule || is_root_set(roots, flags, callee),
         None => is_part_set(flags, kind.parts()),
     }
@@ -128,7 +128,7 @@ impl<'a, 'n, 'i> Listening for Nodes<'a, 'n, 'i> {
         let Some(node) = self.nodes.get(place) else {
             return;
         };
-        if let Some(rule) = node.kind.called() {
+        if let Some(rule) = node.kind.called_rule() {
             if let Some(root) = self.roots.get(rule) {
                 told.listens_to(*root);
             }

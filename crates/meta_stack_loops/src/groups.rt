@@ -3,7 +3,7 @@
 ghost use Rattle.std.specs.Prelude.{◌≡◌, ℕ, IfOk, Some, false, true, slice_get};
 ghost use Rattle.meta_stack_loops.specs.Leading.{AreLed, AreLinks, IsOnward, LeadsBack, leader_in};
 
-use crate::calls::{Groups, Link, turned};
+use crate::calls::{Groups, Link, orient};
 use crate::table::Node;
 use meta_fixpoint::is_set;
 use std::alloc::{AllocError, Global};
@@ -56,7 +56,7 @@ fn go_on<'n, 'i>(
     if place >= links.len() {
         return;
     }
-    let link = turned(links[place], down);
+    let link = orient(links[place], down);
     if link.target < flags.len() && leads_on(leaders, flags.as_slice(), link.source, link.target) {
         flags[link.target] = true;
     }

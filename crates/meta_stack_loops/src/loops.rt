@@ -45,7 +45,7 @@ pub fn loops(
     starts.push(start)?;
     for done in 0..turns {
         let reading = read(alloc, table, memory, body, start)?;
-        let Some(after) = reading.settled() else {
+        let Some(after) = reading.sure_stack() else {
             return Ok(false);
         };
         if !after.intact {

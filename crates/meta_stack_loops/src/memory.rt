@@ -52,7 +52,7 @@ fn only_if(condition: Option<Stack>, stack: Stack) -> Option<Stack>
 }
 
 /// Converts a reading of a node independent of the stack to that from another stack.
-fn moved(reading: Reading, stack: Stack) -> Reading
+fn rebase(reading: Reading, stack: Stack) -> Reading
     ensures { reading_of result ≡ moved (stack_of stack) (reading_of reading) }
 {
     Reading {
@@ -76,16 +76,16 @@ impl Memory {
     }
 
     /// Returns the reading of a node from a stack, if it is memoized.
-    pub fn recalled(&self, node: usize, stack: Stack) -> Option<Reading>
+    pub fn recall(&self, node: usize, stack: Stack) -> Option<Reading>
         ensures { IfSome result (λ reading. (meaning : Meaning) → IsRight meaning self.now
             → reading_of reading ≡ meaning node (stack_of stack)) }
     {
         if !is_set(self.apart.as_slice(), node) {
-            return self.found(node, stack);
+            return self.look_up(node, stack);
         }
-        match self.found(node, Stack::unknown()) {
+        match self.look_up(node, Stack::unknown()) {
             None => None,
-            Some(reading) => Some(moved(reading, stack)),
+            Some(reading) => Some(rebase(reading, stack)),
         }
     }
 
@@ -103,12 +103,12 @@ impl Memory {
             return self.keep(node, stack, reading);
         }
         let unknown = Stack::unknown();
-        let kept = moved(reading, unknown);
+        let kept = rebase(reading, unknown);
         self.keep(node, unknown, kept)
     }
 
     /// Looks up the memoized reading of a node from a stack.
-    fn found(&self, node: usize, stack: Stack) -> Option<Reading>
+    fn look_up(&self, node: usize, stack: Stack) -> Option<Reading>
         ensures { IfSome result (λ reading. (meaning : Meaning) → IsRight meaning self.now
             → reading_of reading ≡ meaning node (stack_of stack)) }
     {

@@ -110,7 +110,7 @@ fn add_link<'n, 'i>(
     if place >= nodes.len() {
         return Ok(());
     }
-    let Some(target) = nodes[place].kind.called() else {
+    let Some(target) = nodes[place].kind.called_rule() else {
         return Ok(());
     };
     let Some(source) = owner_of(owners, place) else {

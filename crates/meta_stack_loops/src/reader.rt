@@ -55,19 +55,19 @@ fn begin(
     ensures { IfOk result (ReadsOn table.now memory.old memory.new (Next.Read node stack)
         waiting.old.items waiting.new.items) }
 {
-    if let Some(reading) = memory.recalled(node, stack) {
+    if let Some(reading) = memory.recall(node, stack) {
         return Ok(Next::Done(reading));
     }
     match table.kind_at(node) {
         Kind::Still => Ok(Next::Done(Reading::surely(stack))),
         Kind::Leaf => Ok(Next::Done(Reading::maybe(stack))),
         Kind::Peek => Ok(Next::Done(Reading::top(stack, stack))),
-        Kind::Pop => Ok(Next::Done(Reading::top(stack, stack.popped()))),
-        Kind::Drop => Ok(Next::Done(Reading::dropped(stack))),
+        Kind::Pop => Ok(Next::Done(Reading::top(stack, stack.without_top()))),
+        Kind::Drop => Ok(Next::Done(Reading::drop_top(stack))),
         Kind::PeekAll => Ok(Next::Done(Reading::peek_all(stack))),
         Kind::PopAll => Ok(Next::Done(Reading::pop_all(stack))),
-        Kind::PushLiteral(blank) => Ok(Next::Done(Reading::surely(stack.pushed(blank)))),
-        Kind::Call(rule) => match table.followed(rule) {
+        Kind::PushLiteral(blank) => Ok(Next::Done(Reading::surely(stack.with_mark(blank)))),
+        Kind::Call(rule) => match table.followed_body(rule) {
             None => Ok(Next::Done(Reading::anything())),
             Some(body) => wait(waiting, node, stack, Awaited::Last(How::Same), body),
         },
@@ -111,7 +111,7 @@ fn step(
         return Ok(walk);
     };
     let reading = read(alloc, table, memory, body, stack)?;
-    Ok(walk.stepped(reading, stack, required))
+    Ok(walk.after_copy(reading, stack, required))
 }
 
 /// So many copies of one kind.
@@ -184,7 +184,7 @@ pub fn turn(
         }
         seen.push(stack)?;
         let reading = read(alloc, table, memory, body, stack)?;
-        walk = walk.turned(reading, stack);
+        walk = walk.after_turn(reading, stack);
         next = reading.ok;
     }
     Ok(Walk {

@@ -79,7 +79,7 @@ fn is_ranked<'n, 'i>(
 {
     rank_of(ranks, place) <= roots.len()
         && parts_fall(ranks, place, node.kind.parts())
-        && call_falls(roots, recursive, ranks, place, node.kind.called())
+        && call_falls(roots, recursive, ranks, place, node.kind.called_rule())
 }
 
 /// Whether all nodes do.
@@ -107,7 +107,7 @@ fn bit(flag: bool) -> usize
 }
 
 /// Returns the ranks, each raised by one where its flag is set.
-fn raised(
+fn raise_ranks(
     alloc: Global,
     ranks: &[usize],
     flags: &[bool],
@@ -129,7 +129,7 @@ fn raised(
 
 /// Returns the calls of all rules, by a search for each rule from every node: the rank of a node is the
 /// number of rules that it leads to.
-fn sought<'n, 'i>(
+fn search_calls<'n, 'i>(
     alloc: Global,
     roots: &[usize],
     nodes: &[Node<'n, 'i>],
@@ -141,13 +141,13 @@ fn sought<'n, 'i>(
     for rule in 0..roots.len() {
         let flags = answers(alloc, Question::LeadsTo(rule), roots, nodes)?;
         recursive.push(is_root_set(roots, flags.as_slice(), rule))?;
-        ranks = raised(alloc, ranks.as_slice(), flags.as_slice(), rule)?;
+        ranks = raise_ranks(alloc, ranks.as_slice(), flags.as_slice(), rule)?;
     }
     Ok(Calls { recursive, ranks })
 }
 
 /// Returns for each node the rank of its rule.
-fn of_nodes<'n, 'i>(
+fn ranks_of_nodes<'n, 'i>(
     alloc: Global,
     nodes: &[Node<'n, 'i>],
     ranks: &[Option<usize>],
@@ -176,9 +176,9 @@ pub(crate) fn calls_of<'n, 'i>(
     let links = links_of(alloc, roots, nodes)?;
     let groups = groups_of(alloc, links.as_slice(), roots.len())?;
     let recursive = recursive_by(alloc, roots, nodes, links.as_slice(), &groups)?;
-    let ranks = of_nodes(alloc, nodes, groups.ranks.as_slice())?;
+    let ranks = ranks_of_nodes(alloc, nodes, groups.ranks.as_slice())?;
     if are_ranked(roots, nodes, recursive.as_slice(), ranks.as_slice()) {
         return Ok(Calls { recursive, ranks });
     }
-    sought(alloc, roots, nodes)
+    search_calls(alloc, roots, nodes)
 }

@@ -236,10 +236,10 @@ fn want_call<'n, 'i>(table: &Table<'n, 'i>, wanted: &mut Vec<bool>, place: usize
     let Some(node) = table.nodes.get(place) else {
         return;
     };
-    let Some(rule) = node.kind.called() else {
+    let Some(rule) = node.kind.called_rule() else {
         return;
     };
-    if table.followed(rule).is_some() {
+    if table.followed_body(rule).is_some() {
         want(wanted, rule);
     }
 }

@@ -50,7 +50,7 @@ impl Kind {
     ghost use Rattle.meta_stack_loops.specs.Table.{called_by, parts_of};
 
     /// The rule that is called.
-    pub(crate) fn called(self) -> Option<usize>
+    pub(crate) fn called_rule(self) -> Option<usize>
         ensures { result ≡ called_by self }
     {
         match self {
@@ -181,7 +181,7 @@ impl<'n, 'i> Table<'n, 'i> {
     }
 
     /// Returns the index of a rule's body, or `None` if calls of the rule are not followed.
-    pub fn followed(&self, rule: usize) -> Option<usize>
+    pub fn followed_body(&self, rule: usize) -> Option<usize>
         ensures { result ≡ followed_at self.now rule }
     {
         if is_set(self.recursive.as_slice(), rule) {

@@ -77,7 +77,7 @@ fn add_after(
 }
 
 /// The stacks after the first of two parts.
-fn after(
+fn stacks_after(
     alloc: Global,
     table: &Table,
     memory: &mut Memory,
@@ -243,7 +243,7 @@ fn visit_one<'n, 'i>(
                 node: first,
                 choice,
             };
-            let behind = after(alloc, table, memory, part, &next.stacks)?;
+            let behind = stacks_after(alloc, table, memory, part, &next.stacks)?;
             left.push(Pending {
                 node: second,
                 stacks: behind,

@@ -3,7 +3,7 @@ ghost use Rattle.std.specs.Prelude.{◌≡◌, [], ◌∷◌, ◌++◌, IfOk};
 ghost use Rattle.meta_stack_loops.specs.Waiting.{ReadsOn, IsPut, whole_of};
 ghost use Rattle.meta_stack_domain.specs.Views.{reading_of, stack_of};
 
-use crate::copies::{Begun, Copies, LastCopy, LastTurn, Turns, copied, turned};
+use crate::copies::{Begun, Copies, LastCopy, LastTurn, Turns, resume_copies, resume_turns};
 use crate::memory::Memory;
 use crate::table::Table;
 use meta_stack_domain::{Reading, Stack};
@@ -61,7 +61,7 @@ impl How {
             How::Ahead => reading.ahead(stack),
             How::NotAhead => reading.not_ahead(stack),
             How::Optional => reading.optional(stack),
-            How::Pushed => reading.pushed(),
+            How::Pushed => reading.push_match(),
             How::Both(before, true) => before.or(reading, stack),
             How::Both(before, false) => before.then(reading, stack, skips),
         }
@@ -126,11 +126,11 @@ pub fn go_on(
                 required,
                 from,
             };
-            copied(table, memory, waiting, Begun { node, stack }, copy, reading)
+            resume_copies(table, memory, waiting, Begun { node, stack }, copy, reading)
         }
         Awaited::Turn(turns, from) => {
             let turn = LastTurn { turns, from };
-            turned(table, memory, waiting, Begun { node, stack }, turn, reading)
+            resume_turns(table, memory, waiting, Begun { node, stack }, turn, reading)
         }
     }
 }

@@ -4,7 +4,7 @@ ghost use Rattle.meta_stack_domain.specs.Marks.{room, marks_of, blank_marks};
 ghost use Rattle.meta_stack_domain.specs.Stack.{both_marks, marks_eq};
 
 /// Returns the marks with one more on top.
-pub fn pushed(count: u8, marks: u16, blank: bool) -> u16
+pub fn push_mark(count: u8, marks: u16, blank: bool) -> u16
     requires few { count < 8 }
     requires small { marks < room count }
     ensures marks { marks_of (count + 1) result ≡ blank ∷ marks_of count marks }

@@ -18,10 +18,10 @@ pub returns-in-Peek : goal.returns-in-Peek
 returns-in-Peek c = leaf_done c.args.table.now _ c.args.node c.args.stack _ _ _ c.kind_at.ensures.means c.in-Peek.is _ (λ meaning. c.top.ensures)
 
 pub returns-in-Pop : goal.returns-in-Pop
-returns-in-Pop c = leaf_done c.args.table.now _ c.args.node c.args.stack _ _ _ c.kind_at.ensures.means c.in-Pop.is _ (λ meaning. c.top-in-Pop.ensures ∙ ap (top_reading (stack_of c.args.stack).marks (stack_of c.args.stack).base) c.popped.ensures)
+returns-in-Pop c = leaf_done c.args.table.now _ c.args.node c.args.stack _ _ _ c.kind_at.ensures.means c.in-Pop.is _ (λ meaning. c.top-in-Pop.ensures ∙ ap (top_reading (stack_of c.args.stack).marks (stack_of c.args.stack).base) c.without_top.ensures)
 
 pub returns-in-Drop : goal.returns-in-Drop
-returns-in-Drop c = leaf_done c.args.table.now _ c.args.node c.args.stack _ _ _ c.kind_at.ensures.means c.in-Drop.is _ (λ meaning. c.dropped.ensures)
+returns-in-Drop c = leaf_done c.args.table.now _ c.args.node c.args.stack _ _ _ c.kind_at.ensures.means c.in-Drop.is _ (λ meaning. c.drop_top.ensures)
 
 pub returns-in-PeekAll : goal.returns-in-PeekAll
 returns-in-PeekAll c = leaf_done c.args.table.now _ c.args.node c.args.stack _ _ _ c.kind_at.ensures.means c.in-PeekAll.is _ (λ meaning. c.peek_all.ensures)
@@ -30,7 +30,7 @@ pub returns-in-PopAll : goal.returns-in-PopAll
 returns-in-PopAll c = leaf_done c.args.table.now _ c.args.node c.args.stack _ _ _ c.kind_at.ensures.means c.in-PopAll.is _ (λ meaning. c.pop_all.ensures)
 
 pub returns-in-PushLiteral : goal.returns-in-PushLiteral
-returns-in-PushLiteral c = leaf_done c.args.table.now _ c.args.node c.args.stack _ _ _ c.kind_at.ensures.means c.in-PushLiteral.is _ (λ meaning. c.surely-in-PushLiteral.ensures ∙ ap surely c.pushed.ensures)
+returns-in-PushLiteral c = leaf_done c.args.table.now _ c.args.node c.args.stack _ _ _ c.kind_at.ensures.means c.in-PushLiteral.is _ (λ meaning. c.surely-in-PushLiteral.ensures ∙ ap surely c.with_mark.ensures)
 
 pub returns-in-Tag : goal.returns-in-Tag
 returns-in-Tag c = wait_inside c.args.table.now _ c.args.node c.args.stack _ _ c.kind_at.ensures.means c.in-Tag.is (c.kind_at.ensures.ordered c.requires.ordered) how.Same c.in-Tag.body (λ lies. lies) (λ meaning. refl) _ _ c.wait-in-Tag.result c.wait-in-Tag.ensures
@@ -40,15 +40,15 @@ returns-in-Some c = done_at_once c.args.table.now _ _ c.args.node c.args.stack _
 
 pub returns-in-None : goal.returns-in-None
 returns-in-None c = leaf_done c.args.table.now _ c.args.node c.args.stack _ _ _ c.kind_at.ensures.means c.in-Call.is _
-    (λ meaning. c.anything.ensures ∙ not_followed meaning (stack_of c.args.stack) (followed_at c.args.table.now c.in-Call.rule) c.followed.result c.followed.ensures c.in-None.is)
+    (λ meaning. c.anything.ensures ∙ not_followed meaning (stack_of c.args.stack) (followed_at c.args.table.now c.in-Call.rule) c.followed_body.result c.followed_body.ensures c.in-None.is)
 
-pub returns-in-Some-followed : goal.returns-in-Some-followed
-returns-in-Some-followed c =
+pub returns-in-Some-followed_body : goal.returns-in-Some-followed_body
+returns-in-Some-followed_body c =
     let tab = c.args.table.now in
-    let to : followed_at tab c.in-Call.rule ≡ Some c.in-Some-followed.body = sym c.followed.ensures ∙ c.in-Some-followed.is in
-    let lies : Called tab c.args.node c.in-Some-followed.body = subst (LeadsTo tab c.args.node) to (subst (Lies tab c.args.node) c.in-Call.is (c.kind_at.ensures.ordered c.requires.ordered)) in
-    where_ok c.wait.result (λ q g. wait_last tab _ c.args.node c.args.stack _ _ c.kind_at.ensures.means c.in-Call.is how.Same c.in-Some-followed.body _ _ q
-    (λ meaning. sym (ap (λ o. call_reading meaning o (stack_of c.args.stack)) to)) lies.within (level_called tab c.args.node c.in-Some-followed.body lies) g) c.wait.ensures
+    let to : followed_at tab c.in-Call.rule ≡ Some c.in-Some-followed_body.body = sym c.followed_body.ensures ∙ c.in-Some-followed_body.is in
+    let lies : Called tab c.args.node c.in-Some-followed_body.body = subst (LeadsTo tab c.args.node) to (subst (Lies tab c.args.node) c.in-Call.is (c.kind_at.ensures.ordered c.requires.ordered)) in
+    where_ok c.wait.result (λ q g. wait_last tab _ c.args.node c.args.stack _ _ c.kind_at.ensures.means c.in-Call.is how.Same c.in-Some-followed_body.body _ _ q
+    (λ meaning. sym (ap (λ o. call_reading meaning o (stack_of c.args.stack)) to)) lies.within (level_called tab c.args.node c.in-Some-followed_body.body lies) g) c.wait.ensures
 
 pub returns-in-PosPred : goal.returns-in-PosPred
 returns-in-PosPred c = wait_inside c.args.table.now _ c.args.node c.args.stack _ _ c.kind_at.ensures.means c.in-PosPred.is (c.kind_at.ensures.ordered c.requires.ordered) how.Ahead c.in-PosPred.body (λ lies. lies) (λ meaning. refl) _ _ c.wait-in-PosPred.result c.wait-in-PosPred.ensures

@@ -14,9 +14,9 @@ returns-in_ok-push-in-Both-2 c =
     let v = c.args.next in
     let w : Pending = record { node = c.in-Both.second; stacks = c.in_ok-behind-in-Both.behind } in
     let u : Pending = record { node = c.in-Both.first; stacks = v.stacks } in
-    visits_both t c.args.memory.now c.after.new.memory c.args.left.now.items _ v w u c.in-Both.choice c.args.found.now.items
+    visits_both t c.args.memory.now c.stacks_after.new.memory c.args.left.now.items _ v w u c.in-Both.choice c.args.found.now.items
     (subst (HasParts t v.node) c.in-Both.is c.parts_at.ensures.parts)
-    (subst (λ ss. Collects t c.args.memory.now c.after.new.memory (λ meaning. IsAfter (meaning c.in-Both.first) c.in-Both.choice) ss c.in_ok-behind-in-Both.behind.items) c.deref.ensures.value c.in_ok-behind-in-Both.ensures)
+    (subst (λ ss. Collects t c.args.memory.now c.stacks_after.new.memory (λ meaning. IsAfter (meaning c.in-Both.first) c.in-Both.choice) ss c.in_ok-behind-in-Both.behind.items) c.deref.ensures.value c.in_ok-behind-in-Both.ensures)
     refl (subst (PartsLie t v.node) c.in-Both.is (c.parts_at.ensures.ordered c.requires.ordered))
     (c.in_ok-push-in-Both-2.ensures.items ∙ ap (λ l. l ++ u ∷ []) c.in_ok-push-in-Both.ensures.items)
 

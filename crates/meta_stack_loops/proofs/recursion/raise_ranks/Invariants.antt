@@ -1,6 +1,6 @@
 use Rattle.std.proofs.Common.{◌≡◌, length}
 use Rattle.meta_stack_loops.proofs.RankLemmas.{AreRaisedTo}
-use Rattle.meta_stack_loops.proofs.recursion.raised.Given as goal
+use Rattle.meta_stack_loops.proofs.recursion.raise_ranks.Given as goal
 
 abbrev pub invariant-loop-place : goal.invariant-loop-place
 invariant-loop-place l = record {

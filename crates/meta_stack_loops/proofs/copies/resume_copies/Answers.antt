@@ -4,8 +4,8 @@ use Rattle.meta_stack_loops.specs.Following.{IsForeseen}
 use Rattle.meta_stack_loops.specs.declared.copies.Copies.{Copies}
 use Rattle.meta_stack_loops.proofs.Repeated.{copies_go_on, copy_leads, fewer_left, goes_on_by, kind_foreseen}
 use Rattle.meta_stack_loops.proofs.Work.{where_ok}
-use Rattle.meta_stack_loops.proofs.copies.copied.Goals as goal
-use Rattle.meta_stack_loops.proofs.copies.copied.Goals.{then-required, else-required, then-required-2, else-required-2}
+use Rattle.meta_stack_loops.proofs.copies.resume_copies.Goals as goal
+use Rattle.meta_stack_loops.proofs.copies.resume_copies.Goals.{then-required, else-required, then-required-2, else-required-2}
 
 pub returns-in_default : goal.returns-in_default
 returns-in_default c =
@@ -15,14 +15,14 @@ returns-in_default c =
     ] in
     let some : 0 < c.if-required.left = c.in_default.ensures.unknown in
     where_ok c.next_copy.result (λ q g. goes_on_by c.args.table.now _ _ _ _ _ _ _ _ _ _ _ q
-    (λ meaning f. copy_leads c.args.table.now meaning c.args.copy.copies c.args.copy.required c.args.copy.from c.stepped-copies.result _ _ _ c.if-required.left c.stepped-copies.ensures left_is some f) (omega arith) g) c.next_copy.ensures
+    (λ meaning f. copy_leads c.args.table.now meaning c.args.copy.copies c.args.copy.required c.args.copy.from c.after_copy-copies.result _ _ _ c.if-required.left c.after_copy-copies.ensures left_is some f) (omega arith) g) c.next_copy.ensures
 
 pub returns : goal.returns
 returns c =
     let tab = c.args.table.now in
     let was : Copies = c.args.copy.copies in
     let is : Copies = c.if-required-2.copies in
-    let w = c.stepped-copies.result in
+    let w = c.after_copy-copies.result in
     let v = c.in-Some.walk in
     let behind : Copies = record was { walk = v; trace = c.new.result } in
     let left_is : c.if-required.left ≡ (if c.args.copy.required then was.required else was.optional) = elim c.if-required.branch [
@@ -35,4 +35,4 @@ returns c =
     ] in
     let known : IsForeseen was.trace.items (walk_of w) c.if-required.left v = subst (λ l. IsForeseen l (walk_of w) c.if-required.left v) c.deref.ensures.value c.in-Some.ensures.known in
     let fewer = fewer_left tab was is behind c.args.copy.required v refl past in
-    where_ok c.next_copy-2.result (λ q g. copies_go_on tab _ _ _ _ _ was is _ _ q (λ meaning f. kind_foreseen tab meaning was is behind c.args.copy.required c.args.copy.from w v _ _ _ c.if-required.left c.stepped-copies.ensures left_is known refl past c.new.ensures.items f) fewer g) c.next_copy-2.ensures
+    where_ok c.next_copy-2.result (λ q g. copies_go_on tab _ _ _ _ _ was is _ _ q (λ meaning f. kind_foreseen tab meaning was is behind c.args.copy.required c.args.copy.from w v _ _ _ c.if-required.left c.after_copy-copies.ensures left_is known refl past c.new.ensures.items f) fewer g) c.next_copy-2.ensures

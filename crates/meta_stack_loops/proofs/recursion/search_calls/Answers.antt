@@ -5,7 +5,7 @@ use Rattle.meta_stack_loops.specs.Answers.{at_place}
 use Rattle.meta_stack_loops.specs.Leading.{AreRaised, LeadsBack}
 use Rattle.meta_stack_loops.proofs.LeadingLemmas.{back_told, holds_leads, leads_set}
 use Rattle.meta_stack_loops.proofs.RankLemmas.{AreSought, all_sought, one_sought}
-use Rattle.meta_stack_loops.proofs.recursion.sought.Goals as goal
+use Rattle.meta_stack_loops.proofs.recursion.search_calls.Goals as goal
 
 pub loop-rule-preserved : goal.loop-rule-preserved
 loop-rule-preserved c =

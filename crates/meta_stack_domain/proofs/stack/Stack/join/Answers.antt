@@ -3,7 +3,7 @@ use Rattle.meta_stack_domain.specs.Marks.{marks_of}
 use Rattle.meta_stack_domain.specs.Stack.{all_blank, both_marks}
 use Rattle.meta_stack_domain.specs.Views.{stack_of}
 use Rattle.meta_stack_domain.proofs.MarkLemmas.{length-marks_of, other_counts, joined_is, joined_other}
-use Rattle.meta_stack_domain.proofs.stack.Stack.joined.Goals as goal
+use Rattle.meta_stack_domain.proofs.stack.Stack.join.Goals as goal
 
 pub returns-then-self-other : goal.returns-then-self-other
 returns-then-self-other c =
@@ -11,7 +11,7 @@ returns-then-self-other c =
     let i : c.if-self.result ≡ (c.args.self.intact && c.args.other.intact) = search rules in
     joined_is (stack_of c.args.self) (stack_of c.args.other) _ _ _
     (length-marks_of _ _ ∙ e ∙ sym (length-marks_of _ _))
-    c.joined.ensures
+    c.join.ensures
     (c.both.ensures.marks ∙ ap (λ n. both_marks (marks_of c.args.self.count c.args.self.marks) (marks_of n c.args.other.marks)) e)
     i
 

@@ -2,7 +2,7 @@ use Rattle.std.proofs.Common.{◌≡◌, refl, arith, Some, slice_get, length}
 use Rattle.std.proofs.lemmas.Option.{slice_get_read}
 use Rattle.meta_stack_loops.specs.Visiting.{IsAfter}
 use Rattle.meta_stack_loops.proofs.Visited.{collects_more, collected}
-use Rattle.meta_stack_loops.proofs.visits.after.Goals as goal
+use Rattle.meta_stack_loops.proofs.visits.stacks_after.Goals as goal
 
 pub loop-stack-preserved : goal.loop-stack-preserved
 loop-stack-preserved c =
