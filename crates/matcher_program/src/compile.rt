@@ -14,9 +14,9 @@ ghost use Rattle.meta_ast.specs.Ast.{text_of};
 
 use crate::form::{Class, Form, Program, Property, Row};
 use crate::forms::form_of;
-use crate::indexed::{Indexed, numbered};
+use crate::indexed::{Indexed, index_rules};
 use crate::properties::{Properties, find_property, properties_in};
-use crate::sets::{firsts_of, gathered};
+use crate::sets::{firsts_of, to_set};
 use crate::texts::same;
 use meta_ast::optimized::OptimizedRule;
 use meta_names::unicode_property_names;
@@ -100,7 +100,7 @@ fn single(text: &str) -> Option<char>
 }
 
 /// Returns the character of a range's bound.
-pub(crate) fn bound(text: &String) -> Result<char, Unfit>
+pub(crate) fn range_bound(text: &String) -> Result<char, Unfit>
     ensures refused { IfErr result (IsWrongBound (text_of text.now)) }
     ensures character { IfOk result (λ c. text_of text.now ≡ c ∷ []) }
 {
@@ -188,7 +188,7 @@ fn builtin(properties: &[Property], name: &String) -> Result<Option<Form>, Alloc
 }
 
 /// Resolves a name to the last rule of that name, or else to a builtin.
-pub(crate) fn named(
+pub(crate) fn resolve_name(
     rules: &Indexed<'_>,
     properties: &[Property],
     name: &String,
@@ -236,7 +236,7 @@ fn row_of(
 {
     let name = rule.name.clone()?;
     let blank = is_blank(name.as_str());
-    let body = gathered(alloc, form_of(alloc, rules, properties, &rule.expr)?)?;
+    let body = to_set(alloc, form_of(alloc, rules, properties, &rule.expr)?)?;
     let firsts = firsts_of(alloc, &body)?;
     Ok(Row {
         name,
@@ -283,7 +283,7 @@ pub fn program_of<P: Properties>(
     ensures refused { IfErr result (IsReason P.knows (optimized_rules_of rules.now)) }
 {
     let properties = properties_in(alloc, rules, properties)?;
-    let rules = numbered(alloc, rules)?;
+    let rules = index_rules(alloc, rules)?;
     let rows = rows_of(alloc, &rules, &properties)?;
     let whitespace = rules.number_of("WHITESPACE");
     let comment = rules.number_of("COMMENT");

@@ -13,10 +13,10 @@ ghost use Rattle.matcher_program.specs.Refusals.{IsWrongIn};
 ghost use Rattle.matcher_program.specs.declared.compile.Unfit.TheVariants.{Memory};
 ghost use Rattle.matcher_program.specs.declared.form.Property.{Property};
 
-use crate::compile::{Unfit, bound, named};
+use crate::compile::{Unfit, range_bound, resolve_name};
 use crate::form::{Form, Property};
 use crate::indexed::Indexed;
-use crate::sets::{gathered, stops_of};
+use crate::sets::{stops_of, to_set};
 use meta_ast::deep::Deep;
 use meta_ast::optimized::OptimizedExpr;
 use meta_ast::rebuilt::Step;
@@ -46,7 +46,7 @@ pub enum Around<'e> {
 
 /// Begins to compile: returns the form of an expression without operands, or the first operand with its
 /// frame.
-fn begun<'e>(
+fn begin<'e>(
     alloc: Global,
     rules: &Indexed<'_>,
     properties: &[Property],
@@ -65,8 +65,11 @@ fn begun<'e>(
     let (around, operand) = match expr {
         E::Str(text) => return Ok(Step::Made(Form::Str(text.clone()?))),
         E::Insens(text) => return Ok(Step::Made(Form::Insens(text.clone()?))),
-        E::Range(low, high) => return Ok(Step::Made(Form::Range(bound(low)?, bound(high)?))),
-        E::Ident(name) => return Ok(Step::Made(named(rules, properties, name)?)),
+        E::Range(low, high) => return Ok(Step::Made(Form::Range(
+            range_bound(low)?,
+            range_bound(high)?,
+        ))),
+        E::Ident(name) => return Ok(Step::Made(resolve_name(rules, properties, name)?)),
         E::PeekSlice(start, end) => return Ok(Step::Made(Form::PeekSlice(*start, *end))),
         E::Skip(texts) => {
             let texts = copy_texts(texts)?;
@@ -99,14 +102,14 @@ fn in_place(alloc: Global, around: &Around<'_>, form: Form) -> Result<Deep<Box<F
             Ok(Deep { value: form }.boxed(alloc)?)
         }
         _ => {
-            let value = gathered(alloc, form)?;
+            let value = to_set(alloc, form)?;
             Ok(Deep { value }.boxed(alloc)?)
         }
     }
 }
 
 /// Continues with the boxed form of an operand: returns the form of the whole, or the next operand.
-fn closed<'e>(
+fn resume_boxed<'e>(
     around: Around<'e>,
     form: Deep<Box<Form>>,
 ) -> Step<&'e OptimizedExpr, Around<'e>, Form>
@@ -136,7 +139,7 @@ fn closed<'e>(
 }
 
 /// Continues with the form of an operand: returns the form of the whole, or the next operand.
-fn ended<'e>(
+fn resume<'e>(
     alloc: Global,
     around: Around<'e>,
     operand: Form,
@@ -152,7 +155,7 @@ fn ended<'e>(
     ensures memory { IfErr result (λ unfit. unfit ≡ Memory) }
 {
     let form = in_place(alloc, &around, operand)?;
-    Ok(closed(around, form))
+    Ok(resume_boxed(around, form))
 }
 
 /// Compiles an expression. Errors: an allocation failure, a name that means nothing, and a bound of a range
@@ -170,15 +173,15 @@ pub(crate) fn form_of(
         (optimized_expression_of expr.now)) }
 {
     let mut outside = Vec::new(alloc);
-    let mut step = begun(alloc, rules, properties, expr)?;
+    let mut step = begin(alloc, rules, properties, expr)?;
     'steps: loop {
         match step {
             Step::Inside(around, operand) => match outside.push(around) {
-                Ok(()) => step = begun(alloc, rules, properties, operand)?,
+                Ok(()) => step = begin(alloc, rules, properties, operand)?,
                 Err(_) => return Err(Unfit::Memory),
             },
             Step::Made(form) => match outside.pop() {
-                Some(around) => step = ended(alloc, around, form)?,
+                Some(around) => step = resume(alloc, around, form)?,
                 None => return Ok(form),
             },
         }

@@ -16,7 +16,7 @@ pub struct Indexed<'r> {
 }
 
 /// Builds the index. The only error is an allocation failure.
-pub(crate) fn numbered<'r>(
+pub(crate) fn index_rules<'r>(
     alloc: Global,
     rules: &'r [OptimizedRule],
 ) -> Result<Indexed<'r>, AllocError>

@@ -240,7 +240,7 @@ fn is_in_ranges(ranges: &[(u32, u32)], c: u32) -> bool
 }
 
 /// Matches one character that is in one of some ranges.
-pub fn within<'i>(ranges: &[(u32, u32)], rest: &'i str) -> Option<&'i str>
+pub fn one_in_ranges<'i>(ranges: &[(u32, u32)], rest: &'i str) -> Option<&'i str>
     ensures goes_on { (whole : List ℕ) → IsLeft whole rest.entry.now
         → Progress whole rest.entry.now result }
     ensures means { (whole : List ℕ) (ts : List Text) (set : ℕ → Bool) → IsLeft whole rest.entry.now

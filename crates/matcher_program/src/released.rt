@@ -21,7 +21,7 @@ impl Release for Form {
                     rest = Box::into_inner(inner);
                 }
                 Form::Tag(inner, _tag) => rest = Box::into_inner(inner),
-                Form::Seq(left, right) | Form::Choice(left, right) => rest = leaned(left, right),
+                Form::Seq(left, right) | Form::Choice(left, right) => rest = rotate(left, right),
                 _ => return,
             }
         }
@@ -30,7 +30,7 @@ impl Release for Form {
 
 /// Rotates two sides to the right, so that less is on the left. Of a left side with one operand the
 /// operator is dropped, and a left side without operands is dropped.
-fn leaned(mut left: Box<Form>, right: Box<Form>) -> Form
+fn rotate(mut left: Box<Form>, right: Box<Form>) -> Form
     ensures { weight result < 2 * weight left.value + weight right.value + 1 }
 {
     match Box::replace(&mut left, Form::Peek) {

@@ -207,7 +207,7 @@ pub fn is_barred(firsts: &Vec<bool>, rest: &str) -> bool
 }
 
 /// Returns a set if a form matches one character and no more, and else the form itself.
-pub(crate) fn gathered(alloc: Global, form: Form) -> Result<Form, AllocError>
+pub(crate) fn to_set(alloc: Global, form: Form) -> Result<Form, AllocError>
     ensures { IfOk result (λ made. (g : Grammar) (ps : List Property) (e : Expression)
         → Compiles g ps e form → Compiles g ps e made) }
 {

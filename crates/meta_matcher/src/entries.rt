@@ -21,7 +21,7 @@ pub enum Entry<'a> {
 
 /// Returns the number of entries.
 #[inline(always)]
-pub(crate) fn written(entries: &Vec<Entry>) -> usize
+pub(crate) fn entry_count(entries: &Vec<Entry>) -> usize
     ensures { result ≡ length (seen entries.now.items) }
 {
     entries.len()

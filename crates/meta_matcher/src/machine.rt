@@ -11,15 +11,15 @@ ghost use Rattle.meta_matcher.specs.Runs.{IsReset, forgetting, mode_of, noting};
 ghost use Rattle.meta_matcher.specs.Stacked.{stack_of};
 ghost use Rattle.meta_matcher.specs.declared.machine.Stop.TheVariants.{Memory};
 
-use crate::entries::{Entry, close, cut, open, written};
+use crate::entries::{Entry, close, cut, entry_count, open};
 use crate::frames::{AtOnce, Frame, Saved};
-use crate::modes::{Mode, call_counts, is_seen_from, noted};
-use crate::skipping::{repeated, repeated_once};
-use crate::stack::{Stack, pushed, shared, texts_of};
-use crate::told::{count, forget, tell};
+use crate::modes::{Mode, call_counts, furthest_failure, is_seen_from};
+use crate::skipping::{repeat_set, repeat_set_once};
+use crate::stack::{Stack, push_onto, share, texts_of};
+use crate::told::{add_name, count, forget};
 use matcher_program::form::{Form, Program, Row};
 use matcher_program::leaves::{
-    ahead_to, character, insens, literal, literals, newline, one, slice, within,
+    ahead_to, character, insens, literal, literals, newline, one, one_in_ranges, slice,
 };
 use matcher_program::sets::{is_barred, one_of};
 use std::alloc::{AllocError, Global};
@@ -147,10 +147,10 @@ impl<'a> Machine<'a> {
         ensures notes { OnOk result ((now_of self.new).notes
             ≡ noting scene.entry.now.asked counts (chars name.entry.now) place told (now_of self.old).notes) }
     {
-        self.furthest = noted(counts, place, self.furthest);
+        self.furthest = furthest_failure(counts, place, self.furthest);
         if counts && place == scene.asked {
             forget(&mut self.told, told);
-            tell(&mut self.told, name)?;
+            add_name(&mut self.told, name)?;
         }
         Ok(())
     }
@@ -188,7 +188,7 @@ impl<'a> Machine<'a> {
             self.note(scene, seen, "EOI", place, told)?;
             return Ok(None);
         }
-        let first = written(&self.entries);
+        let first = entry_count(&self.entries);
         open(&mut self.entries, seen, "EOI", place)?;
         close(&mut self.entries, seen, "EOI", first, place, place)?;
         Ok(Some(rest))
@@ -233,7 +233,7 @@ impl<'a> Machine<'a> {
             Stack::Empty => Err(Stop::EmptyStack),
             Stack::Pushed(top, below) => match literal(top, rest) {
                 Some(after) => {
-                    let below = shared(below.as_ref())?;
+                    let below = share(below.as_ref())?;
                     self.stack = below;
                     Ok(Some(after))
                 }
@@ -261,7 +261,7 @@ impl<'a> Machine<'a> {
         match &self.stack {
             Stack::Empty => Ok(None),
             Stack::Pushed(_, below) => {
-                let below = shared(below.as_ref())?;
+                let below = share(below.as_ref())?;
                 self.stack = below;
                 Ok(Some(rest))
             }
@@ -353,19 +353,19 @@ impl<'a> Machine<'a> {
             rest.entry.now self.old self.new) }
     {
         let alloc = *self.entries.allocator();
-        let below = shared(&self.stack)?;
-        self.stack = pushed(alloc, pushed_text.as_str(), below)?;
+        let below = share(&self.stack)?;
+        self.stack = push_onto(alloc, pushed_text.as_str(), below)?;
         Ok(Some(rest))
     }
 
     /// Returns the state to restore.
     #[inline(always)]
-    pub fn saved(&self) -> Result<Saved<'a>, AllocError>
+    pub fn save(&self) -> Result<Saved<'a>, AllocError>
         ensures { IfOk result (λ saved. IsSaved saved (now_of self.now)) }
     {
-        let stack = shared(&self.stack)?;
+        let stack = share(&self.stack)?;
         Ok(Saved {
-            entries: written(&self.entries),
+            entries: entry_count(&self.entries),
             stack,
         })
     }
@@ -487,8 +487,8 @@ impl<'a> Machine<'a> {
                 }
                 _ => Ok(AtOnce::Nested),
             },
-            Form::Rep(body) => Ok(repeated(scene, body, mode, rest)),
-            Form::RepOnce(body) => Ok(repeated_once(scene, body, mode, rest)),
+            Form::Rep(body) => Ok(repeat_set(scene, body, mode, rest)),
+            Form::RepOnce(body) => Ok(repeat_set_once(scene, body, mode, rest)),
             Form::Start => {
                 if rest.len() == scene.text.len() {
                     Ok(AtOnce::Answered(Some(rest)))
@@ -504,7 +504,7 @@ impl<'a> Machine<'a> {
             Form::Newline => Ok(AtOnce::Answered(newline(rest))),
             Form::Property(_, number) => {
                 let property = &scene.program.properties[*number];
-                Ok(AtOnce::Answered(within(&property.ranges, rest)))
+                Ok(AtOnce::Answered(one_in_ranges(&property.ranges, rest)))
             }
             Form::Skip(texts, stops) => Ok(AtOnce::Answered(Some(ahead_to(texts, stops, rest)))),
             Form::Peek => Ok(AtOnce::Answered(self.peek(scene, mode, rest)?)),

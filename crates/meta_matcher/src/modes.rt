@@ -57,7 +57,7 @@ pub fn body_mode(kind: RuleType, blank: bool, mode: Mode) -> Mode
 
 /// Returns the furthest failure, with one more at a position if it counts.
 #[inline(always)]
-pub fn noted(counts: bool, position: usize, furthest: usize) -> usize
+pub fn furthest_failure(counts: bool, position: usize, furthest: usize) -> usize
     ensures value { result ≡ noted counts position furthest }
 {
     if counts && furthest < position {

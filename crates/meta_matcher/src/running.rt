@@ -12,19 +12,19 @@ ghost use Rattle.matcher_program.specs.Rests.{IsLeft};
 ghost use Rattle.meta_matcher.specs.Runs.{mode_of};
 
 use crate::ending::Ending;
-use crate::entries::{close, cut, open, written};
+use crate::entries::{close, cut, entry_count, open};
 use crate::frames::{AtOnce, Called, Came, Control, Frame, Predicate, Saved, Second, Sequence};
 use crate::machine::{Machine, Scene, Steps, Stop};
 use crate::modes::{Mode, body_mode, call_counts, gives_token};
-use crate::skipping::passed;
-use crate::stack::{pushed, shared};
+use crate::skipping::skip_at_once;
+use crate::stack::{push_onto, share};
 use crate::told::count;
 use matcher_program::form::{Form, Row};
 use std::alloc::AllocError;
 
 /// Returns the part of the text that was taken, between two remaining inputs.
 #[inline(always)]
-fn taken<'a>(rest: &'a str, after: &'a str) -> &'a str
+fn text_between<'a>(rest: &'a str, after: &'a str) -> &'a str
     requires left { after.now ≡ drop (length rest.now - length after.now) rest.now }
     requires shorter { length after.now ≤ length rest.now }
     ensures { result.now ≡ take (length rest.entry.now - length after.entry.now) rest.entry.now }
@@ -117,7 +117,7 @@ impl<'a> Machine<'a> {
             (Run (mode_of mode) (Seq (said scene.now first.now) (said_second scene.now second))) rest.now }
         ensures { Leads scene.entry.now self.new (steps_of self.old + 1) result }
     {
-        let saved = self.saved()?;
+        let saved = self.save()?;
         let sequence = Sequence {
             second,
             mode,
@@ -145,7 +145,7 @@ impl<'a> Machine<'a> {
         ensures { Leads scene.entry.now self.new (steps_of self.old + 1) result }
     {
         match answer {
-            Some(after) => match passed(scene, sequence.mode, after) {
+            Some(after) => match skip_at_once(scene, sequence.mode, after) {
                 Some(next) => self.second(scene, sequence, next),
                 None => {
                     self.wait(Frame::Gap(sequence))?;
@@ -233,7 +233,7 @@ impl<'a> Machine<'a> {
         'forms: while let Form::Seq(first, next) = form {
             match self.at_once(scene, first, mode, rest)? {
                 AtOnce::Answered(answer) => match answer {
-                    Some(after) => match passed(scene, mode, after) {
+                    Some(after) => match skip_at_once(scene, mode, after) {
                         Some(skipped) => {
                             form = next;
                             rest = skipped;
@@ -399,7 +399,7 @@ impl<'a> Machine<'a> {
             (Run (mode_of mode) (NegPred (said scene.now body.now))) rest.now }
         ensures { Leads scene.entry.now self.new (steps_of self.old + 1) result }
     {
-        let saved = self.saved()?;
+        let saved = self.save()?;
         let frame = Frame::Not(Predicate { rest, saved }, count(&self.told));
         self.enter(scene, frame, body, mode, rest)
     }
@@ -441,7 +441,7 @@ impl<'a> Machine<'a> {
             (Run (mode_of mode) (PosPred (said scene.now body.now))) rest.now }
         ensures { Leads scene.entry.now self.new (steps_of self.old + 1) result }
     {
-        let saved = self.saved()?;
+        let saved = self.save()?;
         let frame = Frame::Ahead(Predicate { rest, saved });
         self.enter(scene, frame, body, mode, rest)
     }
@@ -478,10 +478,10 @@ impl<'a> Machine<'a> {
     {
         match answer {
             Some(after) => {
-                let taken = taken(rest, after);
+                let taken = text_between(rest, after);
                 let alloc = *self.entries.allocator();
-                let below = shared(&self.stack)?;
-                self.stack = pushed(alloc, taken, below)?;
+                let below = share(&self.stack)?;
+                self.stack = push_onto(alloc, taken, below)?;
                 Ok(Control::Answer(Some(after)))
             }
             None => Ok(Control::Answer(None)),
@@ -506,7 +506,7 @@ impl<'a> Machine<'a> {
         ensures { IfOk result (IsOnTheWay scene.entry.now self.new (steps_of self.old + 1)) }
     {
         let place = scene.text.len() - rest.len();
-        let first = written(&self.entries);
+        let first = entry_count(&self.entries);
         let told = count(&self.told);
         let gives = gives_token(row.kind, mode);
         open(&mut self.entries, gives, row.name.as_str(), place)?;

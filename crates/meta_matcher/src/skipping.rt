@@ -35,7 +35,12 @@ fn is_tight(scene: &Scene<'_>, mode: Mode) -> bool
 }
 
 /// Matches as many of a form as there are, if it is a set and nothing is skipped.
-pub(crate) fn repeated<'a>(scene: &Scene<'_>, body: &Form, mode: Mode, rest: &'a str) -> AtOnce<'a>
+pub(crate) fn repeat_set<'a>(
+    scene: &Scene<'_>,
+    body: &Form,
+    mode: Mode,
+    rest: &'a str,
+) -> AtOnce<'a>
     requires sound { IsSoundIn scene.now }
     requires bound { IsBoundIn scene.now body.now }
     requires left { IsLeft scene.now.text.now rest.now }
@@ -53,7 +58,7 @@ pub(crate) fn repeated<'a>(scene: &Scene<'_>, body: &Form, mode: Mode, rest: &'a
 }
 
 /// Matches one or more of a form, if it is a set and nothing is skipped.
-pub(crate) fn repeated_once<'a>(
+pub(crate) fn repeat_set_once<'a>(
     scene: &Scene<'_>,
     body: &Form,
     mode: Mode,
@@ -81,7 +86,7 @@ pub(crate) fn repeated_once<'a>(
 /// Returns the remaining input after the blanks, if there are no comments and a blank is one character
 /// without a token.
 #[inline]
-fn blanks_passed<'a>(scene: &Scene<'_>, rest: &'a str) -> Option<&'a str>
+fn skip_blanks<'a>(scene: &Scene<'_>, rest: &'a str) -> Option<&'a str>
     requires sound { IsSoundIn scene.now }
     requires left { IsLeft scene.now.text.now rest.now }
     ensures { IfSome result (λ after. (now : Now) (n : ℕ) → FindsFrom scene.now
@@ -104,7 +109,7 @@ fn blanks_passed<'a>(scene: &Scene<'_>, rest: &'a str) -> Option<&'a str>
 
 /// Returns the remaining input after the skipping in a mode, if that needs no frame.
 #[inline(always)]
-pub(crate) fn passed<'a>(scene: &Scene<'_>, mode: Mode, rest: &'a str) -> Option<&'a str>
+pub(crate) fn skip_at_once<'a>(scene: &Scene<'_>, mode: Mode, rest: &'a str) -> Option<&'a str>
     requires sound { IsSoundIn scene.now }
     requires left { IsLeft scene.now.text.now rest.now }
     ensures later { IfNone result (mode_of mode ≡ NonAtomicMode) }
@@ -112,7 +117,7 @@ pub(crate) fn passed<'a>(scene: &Scene<'_>, mode: Mode, rest: &'a str) -> Option
         (starting (Skipping (mode_of mode)) rest.entry.now now n) now after.now) }
 {
     match mode {
-        Mode::NonAtomic => blanks_passed(scene, rest),
+        Mode::NonAtomic => skip_blanks(scene, rest),
         Mode::Atomic | Mode::CompoundAtomic => Some(rest),
     }
 }

@@ -29,7 +29,7 @@ impl Drop for Stack<'_> {
 
 /// Copies a stack, in constant time.
 #[inline(always)]
-pub fn shared<'a>(stack: &Stack<'a>) -> Result<Stack<'a>, AllocError>
+pub fn share<'a>(stack: &Stack<'a>) -> Result<Stack<'a>, AllocError>
     ensures { IfOk result (λ copy. stack_of copy ≡ stack_of stack.now) }
 {
     match stack {
@@ -39,7 +39,11 @@ pub fn shared<'a>(stack: &Stack<'a>) -> Result<Stack<'a>, AllocError>
 }
 
 /// Returns the stack with one more text on top.
-pub fn pushed<'a>(alloc: Global, text: &'a str, below: Stack<'a>) -> Result<Stack<'a>, AllocError>
+pub fn push_onto<'a>(
+    alloc: Global,
+    text: &'a str,
+    below: Stack<'a>,
+) -> Result<Stack<'a>, AllocError>
     ensures { IfOk result (λ more. stack_of more ≡ chars text.entry.now ∷ stack_of below.entry) }
 {
     Ok(Stack::Pushed(text, Rc::new(alloc, below)?))

@@ -26,7 +26,7 @@ fn is_among(told: &[&str], name: &str) -> bool
 }
 
 /// Adds a name, unless the set has it.
-pub(crate) fn tell<'a>(told: &mut Vec<&'a str>, name: &'a str) -> Result<(), AllocError>
+pub(crate) fn add_name<'a>(told: &mut Vec<&'a str>, name: &'a str) -> Result<(), AllocError>
     ensures { OnOk result
         (told_of told.new.items ≡ with_name (told_of told.old.items) (chars name.entry.now)) }
 {

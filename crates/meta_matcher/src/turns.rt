@@ -10,7 +10,7 @@ ghost use Rattle.meta_matcher.specs.Runs.{mode_of};
 use crate::frames::{Control, Frame, Repetition};
 use crate::machine::{Machine, Scene};
 use crate::modes::Mode;
-use crate::skipping::passed;
+use crate::skipping::skip_at_once;
 use matcher_program::form::Form;
 use std::alloc::AllocError;
 
@@ -30,7 +30,7 @@ impl<'a> Machine<'a> {
             rest.now (now_of self.old) (steps_of self.old))) }
         ensures { IfOk result (IsOnTheWay scene.entry.now self.new (steps_of self.old + 1)) }
     {
-        let saved = self.saved()?;
+        let saved = self.save()?;
         let repetition = Repetition {
             body,
             mode,
@@ -98,14 +98,14 @@ impl<'a> Machine<'a> {
             rest.now (now_of self.old) (steps_of self.old))) }
         ensures { IfOk result (IsOnTheWay scene.entry.now self.new (steps_of self.old + 1)) }
     {
-        let saved = self.saved()?;
+        let saved = self.save()?;
         let repetition = Repetition {
             body,
             mode,
             rest,
             saved,
         };
-        match passed(scene, mode, rest) {
+        match skip_at_once(scene, mode, rest) {
             Some(next) => self.turn(scene, repetition, next),
             None => {
                 self.wait(Frame::TurnGap(repetition))?;

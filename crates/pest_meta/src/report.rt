@@ -24,7 +24,7 @@ pub fn unwrap_or_report<T>(alloc: Global, outcome: Result<T, Fault>) -> Result<T
     match outcome {
         Ok(value) => Ok(value),
         Err(Fault::Memory(_)) => Err(Report::Memory),
-        Err(Fault::Grammar(errors)) => match printed(alloc, &errors) {
+        Err(Fault::Grammar(errors)) => match print_errors(alloc, &errors) {
             Ok(text) => Err(Report::Text(text)),
             Err(_) => Err(Report::Memory),
         },
@@ -32,7 +32,7 @@ pub fn unwrap_or_report<T>(alloc: Global, outcome: Result<T, Fault>) -> Result<T
 }
 
 /// Prints `grammar error`, an empty line, and the errors with an empty line between two of them.
-fn printed(alloc: Global, errors: &[Error<Rule>]) -> Result<String, AllocError>
+fn print_errors(alloc: Global, errors: &[Error<Rule>]) -> Result<String, AllocError>
     ensures { IfOk result (λ text. string_bytes text ≡ report_text errors.now) }
 {
     let mut text = String::from_str(alloc, "grammar error\n\n")?;

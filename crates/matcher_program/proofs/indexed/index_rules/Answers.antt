@@ -6,7 +6,7 @@ use Rattle.std.proofs.lemmas.Str.{IsUtf8-string_bytes}
 use Rattle.meta_ast.specs.Ast.{text_of}
 use Rattle.meta_ast.proofs.Characters.{bytes_text_eq}
 use Rattle.matcher_program.proofs.Indexing.{name_step}
-use Rattle.matcher_program.proofs.indexed.numbered.Goals as goal
+use Rattle.matcher_program.proofs.indexed.index_rules.Goals as goal
 
 pub loop-number-preserved : goal.loop-number-preserved
 loop-number-preserved c = λ name u.

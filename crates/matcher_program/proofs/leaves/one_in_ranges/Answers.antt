@@ -2,7 +2,7 @@ use Rattle.std.proofs.Common.{sym, ◌∙◌}
 use Rattle.meta_syntax.proofs.LeafLemmas.{one_found, one_refused, one_at_end}
 use Rattle.matcher_program.proofs.Leaving.{one_found_with, one_missing_with, past_one_with}
 use Rattle.matcher_program.proofs.TextLemmas.{is_code_point}
-use Rattle.matcher_program.proofs.leaves.within.Goals as goal
+use Rattle.matcher_program.proofs.leaves.one_in_ranges.Goals as goal
 
 pub returns-then-is_in_ranges-clause-goes_on : goal.returns-then-is_in_ranges-clause-goes_on
 returns-then-is_in_ranges-clause-goes_on c = λ whole h. past_one_with whole _ _ _ _ _ h c.chars-characters.ensures.rest c.in-Some.ensures.steps.0 c.as_str.ensures

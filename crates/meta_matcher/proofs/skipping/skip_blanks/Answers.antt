@@ -6,7 +6,7 @@ use Rattle.matcher_program.specs.Programs.{expression_of, rule_of_row}
 use Rattle.meta_matcher.proofs.Passing.{passes_blanks}
 use Rattle.meta_matcher.proofs.Steps.{row_known, row_meant}
 use Rattle.meta_matcher.proofs.Waiting.{skipped_nowhere}
-use Rattle.meta_matcher.proofs.skipping.blanks_passed.Goals as goal
+use Rattle.meta_matcher.proofs.skipping.skip_blanks.Goals as goal
 
 pub returns-in-Silent-Set : goal.returns-in-Silent-Set
 returns-in-Silent-Set c = λ now n.

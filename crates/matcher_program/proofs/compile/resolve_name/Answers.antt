@@ -3,7 +3,7 @@ use Rattle.matcher_program.proofs.Compiling.{call_compiles}
 use Rattle.meta_ast.specs.Ast.{text_of}
 use Rattle.meta_ast.specs.Optimized.{optimized_rules_of}
 use Rattle.matcher_program.proofs.Refusing.{name_refused}
-use Rattle.matcher_program.proofs.compile.named.Goals as goal
+use Rattle.matcher_program.proofs.compile.resolve_name.Goals as goal
 
 pub returns-in-Some-clause-compiles : goal.returns-in-Some-clause-compiles
 returns-in-Some-clause-compiles c = let h = rw c.as_str.ensures.value at c.in-Some.ensures in call_compiles _ _ _ _ h

@@ -1,5 +1,5 @@
 use Rattle.meta_matcher.proofs.Passing.{finds_all}
-use Rattle.meta_matcher.proofs.skipping.repeated.Goals as goal
+use Rattle.meta_matcher.proofs.skipping.repeat_set.Goals as goal
 
 pub returns-else-not-is_tight : goal.returns-else-not-is_tight
 returns-else-not-is_tight c = λ now.

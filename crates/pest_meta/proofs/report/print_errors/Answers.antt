@@ -3,8 +3,8 @@ use Rattle.std.proofs.lemmas.List.{nil_from_length}
 use Rattle.meta_base.specs.Pieces.PrintedError.{error_text}
 use Rattle.pest_meta.specs.Reports.{empty_line}
 use Rattle.pest_meta.proofs.Reporting.{joined}
-use Rattle.pest_meta.proofs.report.printed.Goals as goal
-use Rattle.pest_meta.proofs.report.printed.Goals.{in_default, in-len1-up+in_ok-write+else-loop-error-test}
+use Rattle.pest_meta.proofs.report.print_errors.Goals as goal
+use Rattle.pest_meta.proofs.report.print_errors.Goals.{in_default, in-len1-up+in_ok-write+else-loop-error-test}
 
 pub returns : goal.returns
 returns c = elim c.if-errors-lt1.branch [

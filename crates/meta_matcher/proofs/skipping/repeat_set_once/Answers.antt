@@ -1,7 +1,7 @@
 use Rattle.std.proofs.Common.{Some, None}
 use Rattle.meta_matcher.proofs.Passing.{finds_all, finds_once, gives_one}
 use Rattle.meta_matcher.proofs.Steps.{fails_first, fails_rep_once}
-use Rattle.meta_matcher.proofs.skipping.repeated_once.Goals as goal
+use Rattle.meta_matcher.proofs.skipping.repeat_set_once.Goals as goal
 
 pub returns-in-Some : goal.returns-in-Some
 returns-in-Some c = λ now.
