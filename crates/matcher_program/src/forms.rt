@@ -25,7 +25,7 @@ use std::alloc::Global;
 
 /// A continuation frame, the operator around an operand while the form of that is made.
 #[derive(Drop)]
-pub enum Around<'e> {
+pub enum CompilerFrame<'e> {
     PosPred,
     NegPred,
     Opt,
@@ -51,7 +51,7 @@ fn begin<'e>(
     rules: &Indexed<'_>,
     properties: &[Property],
     expr: &'e OptimizedExpr,
-) -> Result<Step<&'e OptimizedExpr, Around<'e>, Form>, Unfit>
+) -> Result<Step<&'e OptimizedExpr, CompilerFrame<'e>, Form>, Unfit>
     requires { KnowsLast (optimized_rules_of rules.now.rules.now) rules.now.numbers }
     ensures says { IfOk result (λ step. comes_of (names_in (optimized_rules_of rules.now.rules.now)) step
         ≡ optimized_expression_of expr.entry.now) }
@@ -77,28 +77,28 @@ fn begin<'e>(
             return Ok(Step::Made(Form::Skip(texts, stops)));
         }
         E::PushLiteral(text) => return Ok(Step::Made(Form::PushLiteral(text.clone()?))),
-        E::PosPred(inner) => (Around::PosPred, inner),
-        E::NegPred(inner) => (Around::NegPred, inner),
-        E::Opt(inner) => (Around::Opt, inner),
-        E::Rep(inner) => (Around::Rep, inner),
-        E::RepOnce(inner) => (Around::RepOnce, inner),
-        E::Push(inner) => (Around::Push, inner),
-        E::RestoreOnErr(inner) => (Around::Restore, inner),
-        E::NodeTag(inner, tag) => (Around::Tag(tag.clone()?), inner),
-        E::Seq(left, right) => (Around::FirstOfSeq(right), left),
-        E::Choice(left, right) => (Around::FirstOfChoice(right), left),
+        E::PosPred(inner) => (CompilerFrame::PosPred, inner),
+        E::NegPred(inner) => (CompilerFrame::NegPred, inner),
+        E::Opt(inner) => (CompilerFrame::Opt, inner),
+        E::Rep(inner) => (CompilerFrame::Rep, inner),
+        E::RepOnce(inner) => (CompilerFrame::RepOnce, inner),
+        E::Push(inner) => (CompilerFrame::Push, inner),
+        E::RestoreOnErr(inner) => (CompilerFrame::Restore, inner),
+        E::NodeTag(inner, tag) => (CompilerFrame::Tag(tag.clone()?), inner),
+        E::Seq(left, right) => (CompilerFrame::FirstOfSeq(right), left),
+        E::Choice(left, right) => (CompilerFrame::FirstOfChoice(right), left),
     };
     Ok(Step::Inside(around, operand))
 }
 
 /// Boxes an operand's form, made to a set if it is one, except in a choice, which may be one as a whole.
-fn in_place(alloc: Global, around: &Around<'_>, form: Form) -> Result<Deep<Box<Form>>, Unfit>
+fn in_place(alloc: Global, around: &CompilerFrame<'_>, form: Form) -> Result<Deep<Box<Form>>, Unfit>
     ensures memory { IfErr result (λ unfit. unfit ≡ Memory) }
     ensures same { IfOk result (λ made. (g : Grammar) (ps : List Property) (e : Expression)
         → Compiles g ps e form → Compiles g ps e made.value.value) }
 {
     match around {
-        Around::FirstOfChoice(_) | Around::SecondOfChoice(_) => {
+        CompilerFrame::FirstOfChoice(_) | CompilerFrame::SecondOfChoice(_) => {
             Ok(Deep { value: form }.boxed(alloc)?)
         }
         _ => {
@@ -110,9 +110,9 @@ fn in_place(alloc: Global, around: &Around<'_>, form: Form) -> Result<Deep<Box<F
 
 /// Continues with the boxed form of an operand: returns the form of the whole, or the next operand.
 fn resume_boxed<'e>(
-    around: Around<'e>,
+    around: CompilerFrame<'e>,
     form: Deep<Box<Form>>,
-) -> Step<&'e OptimizedExpr, Around<'e>, Form>
+) -> Step<&'e OptimizedExpr, CompilerFrame<'e>, Form>
     ensures says { (names : List Text) → comes_of names result
         ≡ with_operand names around.entry (expression_of names form.value.value) }
     ensures work { effort result < waits_of around.entry }
@@ -121,18 +121,23 @@ fn resume_boxed<'e>(
     ensures within { (whole : Expression) → IsAroundWithin whole around.entry → IsStepWithin whole result }
 {
     match around {
-        Around::FirstOfSeq(right) => Step::Inside(Around::SecondOfSeq(form), right),
-        Around::FirstOfChoice(right) => Step::Inside(Around::SecondOfChoice(form), right),
-        Around::PosPred => Step::Made(Form::PosPred(form.into_inner())),
-        Around::NegPred => Step::Made(Form::NegPred(form.into_inner())),
-        Around::Opt => Step::Made(Form::Opt(form.into_inner())),
-        Around::Rep => Step::Made(Form::Rep(form.into_inner())),
-        Around::RepOnce => Step::Made(Form::RepOnce(form.into_inner())),
-        Around::Push => Step::Made(Form::Push(form.into_inner())),
-        Around::Restore => Step::Made(Form::Restore(form.into_inner())),
-        Around::Tag(tag) => Step::Made(Form::Tag(form.into_inner(), tag)),
-        Around::SecondOfSeq(left) => { Step::Made(Form::Seq(left.into_inner(), form.into_inner())) }
-        Around::SecondOfChoice(left) => {
+        CompilerFrame::FirstOfSeq(right) => Step::Inside(CompilerFrame::SecondOfSeq(form), right),
+        CompilerFrame::FirstOfChoice(right) => Step::Inside(
+            CompilerFrame::SecondOfChoice(form),
+            right,
+        ),
+        CompilerFrame::PosPred => Step::Made(Form::PosPred(form.into_inner())),
+        CompilerFrame::NegPred => Step::Made(Form::NegPred(form.into_inner())),
+        CompilerFrame::Opt => Step::Made(Form::Opt(form.into_inner())),
+        CompilerFrame::Rep => Step::Made(Form::Rep(form.into_inner())),
+        CompilerFrame::RepOnce => Step::Made(Form::RepOnce(form.into_inner())),
+        CompilerFrame::Push => Step::Made(Form::Push(form.into_inner())),
+        CompilerFrame::Restore => Step::Made(Form::Restore(form.into_inner())),
+        CompilerFrame::Tag(tag) => Step::Made(Form::Tag(form.into_inner(), tag)),
+        CompilerFrame::SecondOfSeq(left) => {
+            Step::Made(Form::Seq(left.into_inner(), form.into_inner()))
+        }
+        CompilerFrame::SecondOfChoice(left) => {
             Step::Made(Form::Choice(left.into_inner(), form.into_inner()))
         }
     }
@@ -141,9 +146,9 @@ fn resume_boxed<'e>(
 /// Continues with the form of an operand: returns the form of the whole, or the next operand.
 fn resume<'e>(
     alloc: Global,
-    around: Around<'e>,
+    around: CompilerFrame<'e>,
     operand: Form,
-) -> Result<Step<&'e OptimizedExpr, Around<'e>, Form>, Unfit>
+) -> Result<Step<&'e OptimizedExpr, CompilerFrame<'e>, Form>, Unfit>
     ensures says { IfOk result (λ step. (g : Grammar) (ps : List Property)
         → IsBound g (names_in g) ps operand → comes_of (names_in g) step
         ≡ with_operand (names_in g) around.entry (expression_of (names_in g) operand)) }

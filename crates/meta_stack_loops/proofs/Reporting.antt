@@ -14,7 +14,7 @@ use Rattle.meta_stack_loops.specs.Memory.{Meaning, IsRight}
 use Rattle.meta_stack_loops.specs.Following.{seen_stacks}
 use Rattle.meta_stack_loops.specs.Visiting.{Collects, IsAfter, IsStartOf, IsReportedWhereItLoops, SomeLoops, StandsFor}
 use Rattle.meta_stack_domain.specs.declared.stack.Stack.{Stack}
-use Rattle.meta_stack_loops.specs.declared.table.Node.{Node}
+use Rattle.meta_stack_loops.specs.declared.table.PassNode.{PassNode}
 use Rattle.meta_stack_loops.specs.declared.table.Parts.{Parts}
 use Rattle.meta_stack_loops.specs.declared.table.Parts.TheVariants as parts
 use Rattle.meta_stack_loops.specs.declared.table.Table.{Table}
@@ -36,7 +36,7 @@ module _ (limit turns : ℕ) (read : Spanned → AbstractStack → says.Reading)
   told_otherwise (Two t k x y) S T ts f g (us, vs, r, q, e) =
       (us, vs, told_otherwise x S T us f g r, told_otherwise y _ _ vs (λ b s. (s.0, f s.0 s.1, s.2)) (λ b s. (s.0, g s.0 s.1, s.2)) q, e)
 
-same_parts : (t : Table) (i : ℕ) (ps : Parts) (n : Node) → HasParts t i ps → slice_get (nodes_of t) i ≡ Some n → parts_of n.kind ≡ ps
+same_parts : (t : Table) (i : ℕ) (ps : Parts) (n : PassNode) → HasParts t i ps → slice_get (nodes_of t) i ≡ Some n → parts_of n.kind ≡ ps
 same_parts t i ps n h g = let e : Some h.node ≡ Some n = sym h.at ∙ g in let f : h.node ≡ n = cc in ap (λ n. parts_of n.kind) (sym f) ∙ h.parts
 
 module _ (t : Table) (node : ℕ) (ss : List Stack) (meaning : Meaning) (read : Spanned → AbstractStack → says.Reading) (nullable : Spanned → Bool) where

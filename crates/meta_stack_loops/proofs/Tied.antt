@@ -28,9 +28,9 @@ use Rattle.meta_stack_loops.specs.Kinds.{AreTabled, IsNode, is_empty_text, Fits,
 use Rattle.meta_stack_loops.specs.Table.{IsMeaning, IsOrdered, Lies, LeadsTo, Called, Inside, node_reading, call_reading, followed_at, nodes_of, parts_of, copies, rank_at}
 use Rattle.meta_stack_loops.specs.Told.{is_flagged}
 use Rattle.meta_stack_loops.specs.Visiting.{StandsFor, DoesTheSame}
-use Rattle.meta_stack_loops.specs.declared.table.Kind.{Kind}
-use Rattle.meta_stack_loops.specs.declared.table.Kind.TheVariants as is
-use Rattle.meta_stack_loops.specs.declared.table.Node.{Node}
+use Rattle.meta_stack_loops.specs.declared.table.NodeKind.{NodeKind}
+use Rattle.meta_stack_loops.specs.declared.table.NodeKind.TheVariants as is
+use Rattle.meta_stack_loops.specs.declared.table.PassNode.{PassNode}
 use Rattle.meta_stack_loops.specs.declared.table.Parts.TheVariants as parts
 use Rattle.meta_stack_loops.specs.declared.table.Table.{Table}
 use Rattle.meta_stack_loops.proofs.Builtins.{builtin_does, kind_by}
@@ -235,13 +235,13 @@ module _ (rules : List ParserRule) (t : Table) (tabled : AreTabled rules (kind_i
   flagged n = is_flagged G t.recursive.items n
 
   -- the node of a number
-  pub at_node : (i : ℕ) (n : Node) → slice_get (nodes_of t) i ≡ Some n → (x : Spanned) × (slice_get all i ≡ Some x) × IsNode (kind_in G) all i n x
+  pub at_node : (i : ℕ) (n : PassNode) → slice_get (nodes_of t) i ≡ Some n → (x : Spanned) × (slice_get all i ≡ Some x) × IsNode (kind_in G) all i n x
   at_node i n e =
       let (x, here) = got_alike (nodes_of t) all i n e tabled.nodes.alike in
       let (q, at, fit) = tabled.nodes.fit i x here in
       (x, here, subst (λ m. IsNode (kind_in G) all i m x) (same_item (slice_get (nodes_of t) i) q n at e) fit)
 
-  lies_at : (i : ℕ) (n : Node) (k : Kind) → slice_get (nodes_of t) i ≡ Some n → n.kind ≡ k → Lies t i k
+  lies_at : (i : ℕ) (n : PassNode) (k : NodeKind) → slice_get (nodes_of t) i ≡ Some n → n.kind ≡ k → Lies t i k
   lies_at i n k e h = subst (Lies t i) h (ordered i n e)
 
   -- calls that are followed lead to lower ranks
@@ -394,7 +394,7 @@ module _ (rules : List ParserRule) (t : Table) (tabled : AreTabled rules (kind_i
   binary_means Seq s x y j k e h a = ap₂ (λ z w. says.seq_reading t.skips a (z a) (from (z a).ok w)) e h
   binary_means Choice s x y j k e h a = ap₂ (λ z w. says.choice_reading a (z a) (from (failed (z a).err a) w)) e h
 
-  kind_means : (x : Spanned) (i : ℕ) (k : Kind) → Fits (kind_in G) all i k x → Lies t i k → (a : AbstractStack) → node_reading t meaning k a ≡ read x a
+  kind_means : (x : Spanned) (i : ℕ) (k : NodeKind) → Fits (kind_in G) all i k x → Lies t i k → (a : AbstractStack) → node_reading t meaning k a ≡ read x a
   kind_means (Leaf s e) i k f h a = ap (λ k. node_reading t meaning k a) f.1 ∙ leaf_means e s i f.0 (subst (Lies t i) f.1 h) a
   kind_means (spanned.One s f x) i k w h a = ap (λ k. node_reading t meaning k a) w.3 ∙ unary_means f s x w.0 (meaning_is w.0 x w.2) a
   kind_means (spanned.Two s f x y) i k w h a = ap (λ k. node_reading t meaning k a) w.6 ∙ binary_means f s x y w.0 w.1 (meaning_is w.0 x w.4) (meaning_is w.1 y w.5) a

@@ -34,7 +34,7 @@ use Rattle.meta_stack_loops.specs.Table.{IsMeaning}
 use Rattle.meta_stack_loops.specs.Told.{is_flagged}
 use Rattle.meta_stack_loops.specs.Visiting.{AllReported, FindsAll, FindsIn, RootsStand, StandsFor}
 use Rattle.meta_stack_loops.specs.declared.memory.Memory.{Memory}
-use Rattle.meta_stack_loops.specs.declared.table.Node.{Node}
+use Rattle.meta_stack_loops.specs.declared.table.PassNode.{PassNode}
 use Rattle.meta_stack_loops.specs.declared.table.Table.{Table}
 use Rattle.meta_stack_loops.proofs.Answered.{recursive, recursive_reaches}
 use Rattle.meta_stack_loops.proofs.Nullable.{decided, is_null, knows_nullable, null_at, settled_null}
@@ -248,7 +248,7 @@ module _ (rules : List ParserRule) (t : Table) (h : IsTableOf rules t) (flags : 
   }
 
 -- where nothing may be reported in any body, nothing is
-module _ (rules : List ParserRule) (ns : List Node) (roots : List ℕ) (tabled : AreTabled rules (kind_in (grammar_of rules)) ns roots) (flags : List Bool) (may : AreReportable ns roots flags)
+module _ (rules : List ParserRule) (ns : List PassNode) (roots : List ℕ) (tabled : AreTabled rules (kind_in (grammar_of rules)) ns roots) (flags : List Bool) (may : AreReportable ns roots flags)
     (off : (r i : ℕ) → slice_get roots r ≡ Some i → is_set_at flags i ≡ false) where
   abbrev takes_nothing : Spanned → Bool
   takes_nothing x = may_stay (is_null rules) (without_spans x)

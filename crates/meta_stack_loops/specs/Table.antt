@@ -3,14 +3,14 @@ use Rattle.std.specs.Prelude.{◌≡◌, ℕ, suc, ◌+◌, ◌*◌, ◌<◌, �
 use Rattle.meta_fixpoint.specs.Least.{is_set_at}
 use Rattle.meta_stack_domain.specs.Stack.{AbstractStack, pop_one, push_mark, failed}
 use Rattle.meta_stack_domain.specs.Reading.{Reading, surely, maybe, anything, from, peek_all_reading, pop_all_reading, top_reading, drop_reading, pushed_reading, ahead_reading, not_ahead_reading, seq_reading, choice_reading, opt_reading, Copy, Required, Optional, Endless, walked}
-use Rattle.meta_stack_loops.specs.declared.table.Kind.{Kind}
-use Rattle.meta_stack_loops.specs.declared.table.Kind.TheVariants as is
+use Rattle.meta_stack_loops.specs.declared.table.NodeKind.{NodeKind}
+use Rattle.meta_stack_loops.specs.declared.table.NodeKind.TheVariants as is
 use Rattle.meta_stack_loops.specs.declared.table.Parts.{Parts}
 use Rattle.meta_stack_loops.specs.declared.table.Parts.TheVariants as parts
-use Rattle.meta_stack_loops.specs.declared.table.Node.{Node}
+use Rattle.meta_stack_loops.specs.declared.table.PassNode.{PassNode}
 use Rattle.meta_stack_loops.specs.declared.table.Table.{Table}
 
-abbrev pub nodes_of : Table → List Node
+abbrev pub nodes_of : Table → List PassNode
 nodes_of t = t.nodes.items
 
 -- the number of a rule's body, where calls of the rule are followed
@@ -28,7 +28,7 @@ copies required optional endless = replicate required Required ++ (replicate opt
     (if endless then Endless ∷ [] else []))
 
 -- the reading of a node, by those of the others
-abbrev pub node_reading : Table → (ℕ → AbstractStack → Reading) → Kind → AbstractStack → Reading
+abbrev pub node_reading : Table → (ℕ → AbstractStack → Reading) → NodeKind → AbstractStack → Reading
 node_reading t f is.Still a = surely a
 node_reading t f is.Leaf a = maybe a
 node_reading t f is.Peek a = top_reading a.marks a.base a
@@ -49,7 +49,7 @@ node_reading t f (is.Repeat j required optional endless) a = walked t.limit (f j
     (copies required optional endless)
 
 -- the operands of a node, as they are visited
-abbrev pub parts_of : Kind → Parts
+abbrev pub parts_of : NodeKind → Parts
 parts_of (is.PosPred j) = parts.Inside j 1 0 false
 parts_of (is.NegPred j) = parts.Inside j 1 0 false
 parts_of (is.Opt j) = parts.Inside j 1 0 false
@@ -70,11 +70,11 @@ parts_of (is.Call r) = parts.Nothing
 
 -- readings of the nodes that fit together
 abbrev pub IsMeaning : Table → (ℕ → AbstractStack → Reading) → Type 0
-IsMeaning t f = (i : ℕ) (n : Node) → slice_get (nodes_of t) i ≡ Some n → (a : AbstractStack) → f i a
+IsMeaning t f = (i : ℕ) (n : PassNode) → slice_get (nodes_of t) i ≡ Some n → (a : AbstractStack) → f i a
     ≡ node_reading t f n.kind a
 
 -- the rule that a node calls
-abbrev pub called_by : Kind → Option ℕ
+abbrev pub called_by : NodeKind → Option ℕ
 called_by (is.Call r) = Some r
 called_by is.Still = None
 called_by is.Leaf = None
@@ -113,7 +113,7 @@ LeadsTo t i None = ⊤
 LeadsTo t i (Some j) = Called t i j
 
 -- the operands of a node precede it, and have no higher ranks
-abbrev pub Lies : Table → ℕ → Kind → Type 0
+abbrev pub Lies : Table → ℕ → NodeKind → Type 0
 Lies t i (is.Call r) = LeadsTo t i (followed_at t r)
 Lies t i (is.PosPred j) = Inside t i j
 Lies t i (is.NegPred j) = Inside t i j
@@ -126,7 +126,7 @@ Lies t i (is.Repeat j required optional endless) = Inside t i j
 Lies t i _ = ⊤
 
 abbrev pub IsOrdered : Table → Type 0
-IsOrdered t = (i : ℕ) (n : Node) → slice_get (nodes_of t) i ≡ Some n → Lies t i n.kind
+IsOrdered t = (i : ℕ) (n : PassNode) → slice_get (nodes_of t) i ≡ Some n → Lies t i n.kind
 
 -- the bodies of the rules are nodes
 abbrev pub AreInside : Table → Type 0
@@ -144,6 +144,6 @@ PartsLie t i parts.Nothing = ⊤
 
 -- these are the parts of a node
 pub record HasParts (t : Table) (i : ℕ) (ps : Parts) : Type 0 where
-  pub node : Node
+  pub node : PassNode
   pub at : slice_get (nodes_of t) i ≡ Some node
   pub parts : parts_of node.kind ≡ ps

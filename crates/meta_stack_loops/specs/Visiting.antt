@@ -15,7 +15,7 @@ use Rattle.meta_stack_domain.specs.Reported.{starts, copies_of, is_endless, is_c
 use Rattle.meta_stack_domain.specs.Views.{possible}
 use Rattle.meta_stack_domain.specs.declared.stack.Stack.{Stack}
 use Rattle.meta_stack_domain.specs.declared.reading.Walk.{Walk}
-use Rattle.meta_stack_loops.specs.declared.table.Node.{Node}
+use Rattle.meta_stack_loops.specs.declared.table.PassNode.{PassNode}
 use Rattle.meta_stack_loops.specs.declared.table.Parts.TheVariants as parts
 use Rattle.meta_stack_loops.specs.declared.table.Table.{Table}
 use Rattle.meta_stack_loops.specs.declared.memory.Memory.{Memory}
@@ -85,7 +85,7 @@ SomeLoops t meaning body ss = (a : AbstractStack) × In a (seen_stacks ss)
 pub record IsReportedWhereItLoops (t : Table) (old new : Memory) (node body : ℕ) (endless : Bool)
     (ss : List Stack) (before after : List code_span.Span) : Type 0 where
   pub kept : (meaning : Meaning) → IsMeaning t meaning → IsRight meaning old → IsRight meaning new
-  pub value : (meaning : Meaning) → IsMeaning t meaning → IsRight meaning old → (n : Node)
+  pub value : (meaning : Meaning) → IsMeaning t meaning → IsRight meaning old → (n : PassNode)
       → slice_get (nodes_of t) node ≡ Some n
       → ((endless ≡ true) × (is_set_at t.nullable.items body ≡ false) × SomeLoops t meaning body ss
       × (after ≡ before ++ n.span.now ∷ []))
@@ -101,13 +101,13 @@ module _ (t : Table) (meaning : Meaning) (read : Spanned → AbstractStack → s
 
   -- a node of the table represents a node of an expression, with all nodes inside
   abbrev pub StandsFor : ℕ → Spanned → Type 0
-  StandsFor i (Leaf s e) = (n : Node) × (slice_get (nodes_of t) i ≡ Some n) × (parts_of n.kind
+  StandsFor i (Leaf s e) = (n : PassNode) × (slice_get (nodes_of t) i ≡ Some n) × (parts_of n.kind
       ≡ parts.Nothing)
-  StandsFor i (One s f x) = (n : Node) × (j : ℕ) × (r : ℕ) × (o : ℕ) × (slice_get (nodes_of t) i ≡ Some n)
+  StandsFor i (One s f x) = (n : PassNode) × (j : ℕ) × (r : ℕ) × (o : ℕ) × (slice_get (nodes_of t) i ≡ Some n)
       × (parts_of n.kind ≡ parts.Inside j r o (is_endless f))
       × (copies r o (is_endless f) ≡ copies_of f) × (piece_of n.span.now ≡ s)
       × DoesTheSame j x × StandsFor j x
-  StandsFor i (Two s f x y) = (n : Node) × (j : ℕ) × (k : ℕ) × (slice_get (nodes_of t) i ≡ Some n)
+  StandsFor i (Two s f x y) = (n : PassNode) × (j : ℕ) × (k : ℕ) × (slice_get (nodes_of t) i ≡ Some n)
       × (parts_of n.kind ≡ parts.Both j k (is_choice f))
       × DoesTheSame j x × StandsFor j x × StandsFor k y
 

@@ -17,8 +17,8 @@ use Rattle.meta_stack_loops.specs.declared.waiting.Awaited.{Awaited}
 use Rattle.meta_stack_loops.specs.declared.waiting.Awaited.TheVariants as awaits
 use Rattle.meta_stack_loops.specs.declared.waiting.How.{How}
 use Rattle.meta_stack_loops.specs.declared.waiting.How.TheVariants as how
-use Rattle.meta_stack_loops.specs.declared.waiting.Next.{Next}
-use Rattle.meta_stack_loops.specs.declared.waiting.Next.TheVariants as next
+use Rattle.meta_stack_loops.specs.declared.waiting.ReadTask.{ReadTask}
+use Rattle.meta_stack_loops.specs.declared.waiting.ReadTask.TheVariants as next
 use Rattle.meta_stack_loops.specs.declared.waiting.Waiting.{Waiting}
 
 -- of a choice or a sequence, from the readings of both parts
@@ -68,7 +68,7 @@ Lead t meaning (w ∷ ws) whole r =
     × Fills t meaning w.awaited (stack_of w.stack) inner whole × Lead t meaning ws inner r
 
 -- the reading that the next task gives
-abbrev pub at_hand : Meaning → Next → says.Reading
+abbrev pub at_hand : Meaning → ReadTask → says.Reading
 at_hand meaning (next.Read node s) = meaning node (stack_of s)
 at_hand meaning (next.Done r) = reading_of r
 
@@ -85,7 +85,7 @@ effort_of t node = effort (most_readings t) (level t node)
 abbrev pub effort_times : Table → ℕ → ℕ → ℕ
 effort_times t node n = n * (effort_of t node + 1)
 
-abbrev pub effort_next : Table → Next → ℕ
+abbrev pub effort_next : Table → ReadTask → ℕ
 effort_next t (next.Read node s) = effort_of t node
 effort_next t (next.Done r) = 0
 
@@ -104,7 +104,7 @@ pub record IsLow (t : Table) (l node : ℕ) : Type 0 where
   pub within : node < length (nodes_of t)
   pub low : level t node ≤ l
 
-abbrev pub IsNextLow : Table → ℕ → Next → Type 0
+abbrev pub IsNextLow : Table → ℕ → ReadTask → Type 0
 IsNextLow t l (next.Read node s) = IsLow t l node
 IsNextLow t l (next.Done r) = ⊤
 
@@ -119,7 +119,8 @@ AreLow t l [] = ⊤
 AreLow t l (w ∷ ws) = IsAwaitedLow t l w.awaited × AreLow t l ws
 
 -- a step was done; the current task leads to the same reading of the whole, and less is left to do
-pub record ReadsOn (t : Table) (old new : Memory) (p : Next) (ws vs : List Waiting) (q : Next) : Type 0 where
+pub record ReadsOn (t : Table) (old new : Memory) (p : ReadTask) (ws vs : List Waiting) (q : ReadTask)
+    : Type 0 where
   pub right : (meaning : Meaning) → IsMeaning t meaning → IsRight meaning old → (whole : says.Reading)
       → Lead t meaning ws whole (at_hand meaning p)
       → IsRight meaning new × Lead t meaning vs whole (at_hand meaning q)
@@ -127,7 +128,7 @@ pub record ReadsOn (t : Table) (old new : Memory) (p : Next) (ws vs : List Waiti
   pub low : (l : ℕ) → IsNextLow t l p → AreLow t l ws → IsNextLow t l q × AreLow t l vs
 
 -- a node waits for an operand, which is read next
-pub record IsPut (ws vs : List Waiting) (node : ℕ) (s : Stack) (a : Awaited) (operand : ℕ) (q : Next)
+pub record IsPut (ws vs : List Waiting) (node : ℕ) (s : Stack) (a : Awaited) (operand : ℕ) (q : ReadTask)
     : Type 0 where
   pub items : vs ≡ ws ++ record { node = node; stack = s; awaited = a } ∷ []
   pub next : q ≡ next.Read operand s
@@ -135,7 +136,7 @@ pub record IsPut (ws vs : List Waiting) (node : ℕ) (s : Stack) (a : Awaited) (
 -- a repetition goes on, of which this is known; the current task leads to its reading, and at most so many
 -- readings of its body are left to do
 pub record GoesOn (t : Table) (old new : Memory) (node : ℕ) (s : Stack) (Known : Meaning → Type 0)
-    (body readings : ℕ) (ws vs : List Waiting) (q : Next) : Type 0 where
+    (body readings : ℕ) (ws vs : List Waiting) (q : ReadTask) : Type 0 where
   pub right : (meaning : Meaning) → IsMeaning t meaning → IsRight meaning old → Known meaning
       → (whole : says.Reading) → Lead t meaning ws whole (meaning node (stack_of s))
       → IsRight meaning new × Lead t meaning vs whole (at_hand meaning q)
@@ -144,14 +145,14 @@ pub record GoesOn (t : Table) (old new : Memory) (node : ℕ) (s : Stack) (Known
 
 -- a repetition goes on with the reading that it waited for
 abbrev pub Resumes : Table → Memory → Memory → ℕ → Stack → Awaited → Reading → ℕ → ℕ → List Waiting
-    → List Waiting → Next → Type 0
+    → List Waiting → ReadTask → Type 0
 Resumes t old new node s awaited r body readings ws vs q = GoesOn t old new node s
     (λ meaning. Fills t meaning awaited (stack_of s) (reading_of r) (meaning node (stack_of s)))
     body readings ws vs q
 
 -- a repetition waits for a copy; c has the copies that are left
 pub record AwaitsCopy (ws vs : List Waiting) (node : ℕ) (s : Stack) (c : Copies) (required : Bool)
-    (from : Stack) (q : Next) : Type 0 where
+    (from : Stack) (q : ReadTask) : Type 0 where
   pub copies : Copies
   pub items : vs ≡ ws ++ record { node = node; stack = s; awaited = awaits.Copy copies required from } ∷ []
   pub same : copies ≡ record c { trace = copies.trace }
@@ -159,7 +160,7 @@ pub record AwaitsCopy (ws vs : List Waiting) (node : ℕ) (s : Stack) (c : Copie
   pub next : q ≡ next.Read c.body from
 
 -- the reading of a repetition is there, and was remembered
-pub record EndsWith (old new : Memory) (node : ℕ) (s : Stack) (alone : Bool) (w : says.Walk) (q : Next)
+pub record EndsWith (old new : Memory) (node : ℕ) (s : Stack) (alone : Bool) (w : says.Walk) (q : ReadTask)
     : Type 0 where
   pub reading : Reading
   pub next : q ≡ next.Done reading

@@ -7,7 +7,7 @@ ghost use Rattle.meta_stack_loops.specs.Apart.{AreApart, apart_kind};
 ghost use Rattle.meta_stack_loops.specs.Table.{nodes_of};
 
 use crate::facts::Nodes;
-use crate::table::{Kind, Table};
+use crate::table::{NodeKind, Table};
 use meta_fixpoint::{is_set, who_listens};
 use std::alloc::{AllocError, Global};
 
@@ -22,27 +22,27 @@ fn is_call_set(flags: &[bool], body: Option<usize>) -> bool
 }
 
 /// Whether a node is independent of the stack, if its operands and the body that it calls are.
-fn is_apart<'n, 'i>(table: &Table<'n, 'i>, flags: &[bool], kind: Kind) -> bool
+fn is_apart<'n, 'i>(table: &Table<'n, 'i>, flags: &[bool], kind: NodeKind) -> bool
     ensures { result ≡ apart_kind table.now (is_set_at flags.now) kind }
 {
     match kind {
-        Kind::Still => true,
-        Kind::Leaf => true,
-        Kind::Peek => false,
-        Kind::Pop => false,
-        Kind::Drop => false,
-        Kind::PeekAll => false,
-        Kind::PopAll => false,
-        Kind::Push(_) => false,
-        Kind::PushLiteral(_) => false,
-        Kind::Tag(body) => is_set(flags, body),
-        Kind::Call(rule) => is_call_set(flags, table.followed_body(rule)),
-        Kind::PosPred(body) => is_set(flags, body),
-        Kind::NegPred(body) => is_set(flags, body),
-        Kind::Opt(body) => is_set(flags, body),
-        Kind::Seq(first, second) => is_set(flags, first) && is_set(flags, second),
-        Kind::Choice(first, second) => is_set(flags, first) && is_set(flags, second),
-        Kind::Repeat(body, _, _, _) => 2 <= table.limit && is_set(flags, body),
+        NodeKind::Still => true,
+        NodeKind::Leaf => true,
+        NodeKind::Peek => false,
+        NodeKind::Pop => false,
+        NodeKind::Drop => false,
+        NodeKind::PeekAll => false,
+        NodeKind::PopAll => false,
+        NodeKind::Push(_) => false,
+        NodeKind::PushLiteral(_) => false,
+        NodeKind::Tag(body) => is_set(flags, body),
+        NodeKind::Call(rule) => is_call_set(flags, table.followed_body(rule)),
+        NodeKind::PosPred(body) => is_set(flags, body),
+        NodeKind::NegPred(body) => is_set(flags, body),
+        NodeKind::Opt(body) => is_set(flags, body),
+        NodeKind::Seq(first, second) => is_set(flags, first) && is_set(flags, second),
+        NodeKind::Choice(first, second) => is_set(flags, first) && is_set(flags, second),
+        NodeKind::Repeat(body, _, _, _) => 2 <= table.limit && is_set(flags, body),
     }
 }
 

@@ -11,13 +11,13 @@ ghost use Rattle.meta_stack_loops.specs.Waiting.{AwaitsCopy, EndsWith, GoesOn, R
 
 use crate::memory::Memory;
 use crate::table::Table;
-use crate::waiting::{Awaited, Next, Waiting};
+use crate::waiting::{Awaited, ReadTask, Waiting};
 use meta_stack_domain::{Reading, Stack, Walk};
 use std::alloc::{AllocError, Global};
 
 /// How often something is repeated.
 #[derive(Clone, Copy)]
-pub struct Counts {
+pub struct CopyCounts {
     /// How many copies are required.
     pub required: u32,
     /// How many more there may be, each of which may fail.
@@ -30,7 +30,7 @@ pub struct Counts {
 #[derive(Clone, Copy)]
 pub struct Repeated {
     pub body: usize,
-    pub counts: Counts,
+    pub counts: CopyCounts,
 }
 
 /// A node whose reading is begun, and the stack from which it is read.
@@ -123,7 +123,7 @@ pub fn foreseen(trace: &[Walk], walk: Walk, left: usize) -> Option<Walk>
 }
 
 /// Whether nothing can be skipped between the copies.
-fn stands_alone(skips: bool, counts: Counts) -> bool
+fn stands_alone(skips: bool, counts: CopyCounts) -> bool
     ensures { result
         ≡ (not skips || says.is_single (copies counts.required counts.optional counts.endless)) }
 {
@@ -157,12 +157,12 @@ pub fn all_copies(alloc: Global, table: &Table, stack: Stack, repeated: Repeated
 }
 
 /// Memoizes the reading of a repetition, and returns it as the next task.
-fn end(memory: &mut Memory, begun: Begun, alone: bool, walk: Walk) -> Result<Next, AllocError>
+fn end(memory: &mut Memory, begun: Begun, alone: bool, walk: Walk) -> Result<ReadTask, AllocError>
     ensures { IfOk result (EndsWith memory.old memory.new begun.node begun.stack alone (walk_of walk)) }
 {
     let reading = walk.reading(begun.stack, alone);
     memory.remember(begun.node, begun.stack, reading)?;
-    Ok(Next::Done(reading))
+    Ok(ReadTask::Done(reading))
 }
 
 /// Waits for a copy, which is read from a stack next; `copies` has the copies that are left.
@@ -172,7 +172,7 @@ fn wait_for_copy(
     mut copies: Copies,
     required: bool,
     from: Stack,
-) -> Result<Next, AllocError>
+) -> Result<ReadTask, AllocError>
     ensures { IfOk result
         (AwaitsCopy waiting.old.items waiting.new.items begun.node begun.stack copies required from) }
 {
@@ -185,7 +185,7 @@ fn wait_for_copy(
         stack,
         awaited: Awaited::Copy(copies, required, from),
     })?;
-    Ok(Next::Read(body, from))
+    Ok(ReadTask::Read(body, from))
 }
 
 /// Starts the next copy of a repetition, or ends the repetition if no copy is left.
@@ -195,7 +195,7 @@ pub fn next_copy(
     waiting: &mut Vec<Waiting>,
     begun: Begun,
     mut copies: Copies,
-) -> Result<Next, AllocError>
+) -> Result<ReadTask, AllocError>
     ensures { IfOk result (GoesOn table.now memory.old memory.new begun.node begun.stack
         (λ meaning. CopiesLead table.now meaning copies (stack_of begun.stack)
         (meaning begun.node (stack_of begun.stack)))
@@ -239,7 +239,7 @@ pub fn resume_copies(
     begun: Begun,
     copy: LastCopy,
     reading: Reading,
-) -> Result<Next, AllocError>
+) -> Result<ReadTask, AllocError>
     ensures { IfOk result (Resumes table.now memory.old memory.new begun.node begun.stack
         (Awaited.Copy copy.copies copy.required copy.from) reading copy.copies.body
         (copies_left table.now copy.copies) waiting.old.items waiting.new.items) }
@@ -276,7 +276,7 @@ fn next_turn(
     begun: Begun,
     mut turns: Turns,
     next: Option<Stack>,
-) -> Result<Next, AllocError>
+) -> Result<ReadTask, AllocError>
     ensures { IfOk result (GoesOn table.now memory.old memory.new begun.node begun.stack
         (λ meaning. TurnsLead table.now meaning turns (stack_of begun.stack) (possible next)
         (meaning begun.node (stack_of begun.stack)))
@@ -306,7 +306,7 @@ fn next_turn(
         stack,
         awaited: Awaited::Turn(turns, from),
     })?;
-    Ok(Next::Read(body, from))
+    Ok(ReadTask::Read(body, from))
 }
 
 /// Continues a repetition after a turn that was read from a stack.
@@ -317,7 +317,7 @@ pub fn resume_turns(
     begun: Begun,
     turn: LastTurn,
     reading: Reading,
-) -> Result<Next, AllocError>
+) -> Result<ReadTask, AllocError>
     ensures { IfOk result (Resumes table.now memory.old memory.new begun.node begun.stack
         (Awaited.Turn turn.turns turn.from) reading turn.turns.body turn.turns.left
         waiting.old.items waiting.new.items) }

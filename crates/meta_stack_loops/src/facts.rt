@@ -6,7 +6,7 @@ ghost use Rattle.meta_stack_loops.specs.Answers as spec;
 ghost use Rattle.meta_stack_loops.specs.Answers.{AreSound, AreClosed};
 ghost use Rattle.meta_stack_loops.specs.Table.{called_by, parts_of};
 
-use crate::table::{Kind, Node, Parts};
+use crate::table::{NodeKind, Parts, PassNode};
 use meta_fixpoint::{Inference, Listening, Told, is_set, least_flags, who_listens};
 use std::alloc::{AllocError, Global};
 
@@ -32,35 +32,42 @@ pub(crate) fn is_root_set(roots: &[usize], flags: &[bool], rule: usize) -> bool
 }
 
 /// Whether a node changes the stack by the flags of its operands.
-fn changes_stack(roots: &[usize], flags: &[bool], kind: Kind) -> bool
+fn changes_stack(roots: &[usize], flags: &[bool], kind: NodeKind) -> bool
     ensures { result ≡ spec.changing_kind roots.now (is_set_at flags.now) kind }
 {
     match kind {
-        Kind::Push(_) | Kind::PushLiteral(_) | Kind::Pop | Kind::Drop | Kind::PopAll => true,
-        Kind::Call(rule) => is_root_set(roots, flags, rule),
-        Kind::Tag(body) | Kind::Opt(body) | Kind::Repeat(body, _, _, _) => is_set(flags, body),
-        Kind::Seq(first, second) | Kind::Choice(first, second) => {
+        NodeKind::Push(_)
+        | NodeKind::PushLiteral(_)
+        | NodeKind::Pop
+        | NodeKind::Drop
+        | NodeKind::PopAll => true,
+        NodeKind::Call(rule) => is_root_set(roots, flags, rule),
+        NodeKind::Tag(body) | NodeKind::Opt(body) | NodeKind::Repeat(body, _, _, _) => is_set(
+            flags, body,
+        ),
+        NodeKind::Seq(first, second) | NodeKind::Choice(first, second) => {
             is_set(flags, first) || is_set(flags, second)
         }
-        Kind::Still | Kind::Leaf | Kind::Peek | Kind::PeekAll => false,
-        Kind::PosPred(_) | Kind::NegPred(_) => false,
+        NodeKind::Still | NodeKind::Leaf | NodeKind::Peek | NodeKind::PeekAll => false,
+        NodeKind::PosPred(_) | NodeKind::NegPred(_) => false,
     }
 }
 
 /// Whether a node may be read as taking nothing, from some stack, by the flags of its operands.
-fn may_be_still(roots: &[usize], flags: &[bool], kind: Kind) -> bool
+fn may_be_still(roots: &[usize], flags: &[bool], kind: NodeKind) -> bool
     ensures { result ≡ spec.still_kind roots.now (is_set_at flags.now) kind }
 {
     match kind {
-        Kind::Leaf => false,
-        Kind::Call(rule) => is_root_set(roots, flags, rule),
-        Kind::Push(body) | Kind::Tag(body) => is_set(flags, body),
-        Kind::Repeat(body, required, _, _) => required == 0 || is_set(flags, body),
-        Kind::Seq(first, second) => is_set(flags, first) && is_set(flags, second),
-        Kind::Choice(first, second) => is_set(flags, first) || is_set(flags, second),
-        Kind::Still | Kind::PosPred(_) | Kind::NegPred(_) | Kind::Opt(_) => true,
-        Kind::Peek | Kind::Pop | Kind::Drop | Kind::PeekAll | Kind::PopAll => true,
-        Kind::PushLiteral(_) => true,
+        NodeKind::Leaf => false,
+        NodeKind::Call(rule) => is_root_set(roots, flags, rule),
+        NodeKind::Push(body) | NodeKind::Tag(body) => is_set(flags, body),
+        NodeKind::Repeat(body, required, _, _) => required == 0 || is_set(flags, body),
+        NodeKind::Seq(first, second) => is_set(flags, first) && is_set(flags, second),
+        NodeKind::Choice(first, second) => is_set(flags, first) || is_set(flags, second),
+        NodeKind::Still | NodeKind::PosPred(_) | NodeKind::NegPred(_) | NodeKind::Opt(_) => true,
+        NodeKind::Peek | NodeKind::Pop | NodeKind::Drop | NodeKind::PeekAll | NodeKind::PopAll =>
+            true,
+        NodeKind::PushLiteral(_) => true,
     }
 }
 
@@ -77,7 +84,7 @@ pub(crate) fn is_part_set(flags: &[bool], parts: Parts) -> bool
 
 /// Whether a node calls a rule, or leads to a call of it by the flags of its operands and of the body that it
 /// calls.
-fn leads_to(roots: &[usize], flags: &[bool], rule: usize, kind: Kind) -> bool
+fn leads_to(roots: &[usize], flags: &[bool], rule: usize, kind: NodeKind) -> bool
     ensures { result ≡ spec.leading roots.now (is_set_at flags.now) rule (called_by kind) (parts_of kind) }
 {
     match kind.called_rule() {
@@ -87,7 +94,12 @@ fn leads_to(roots: &[usize], flags: &[bool], rule: usize, kind: Kind) -> bool
 }
 
 /// The answer for a node, by those for its operands.
-fn answer<'n, 'i>(question: Question, roots: &[usize], flags: &[bool], node: Node<'n, 'i>) -> bool
+fn answer<'n, 'i>(
+    question: Question,
+    roots: &[usize],
+    flags: &[bool],
+    node: PassNode<'n, 'i>,
+) -> bool
     ensures { result ≡ spec.answer question roots.now (is_set_at flags.now) node.entry }
 {
     match question {
@@ -116,7 +128,7 @@ pub(crate) fn nodes_of_rule(roots: &[usize], rule: usize) -> (usize, usize) {
 #[derive(Drop)]
 pub(crate) struct Nodes<'a, 'n, 'i> {
     pub roots: &'a [usize],
-    pub nodes: &'a [Node<'n, 'i>],
+    pub nodes: &'a [PassNode<'n, 'i>],
 }
 
 impl<'a, 'n, 'i> Listening for Nodes<'a, 'n, 'i> {
@@ -150,11 +162,11 @@ impl<'a, 'n, 'i> Listening for Nodes<'a, 'n, 'i> {
 struct Asked<'a, 'n, 'i> {
     question: Question,
     roots: &'a [usize],
-    nodes: &'a [Node<'n, 'i>],
+    nodes: &'a [PassNode<'n, 'i>],
 }
 
 impl<'a, 'n, 'i> Inference for Asked<'a, 'n, 'i> {
-    type Item = Node<'n, 'i>;
+    type Item = PassNode<'n, 'i>;
 
     ghost items = { λ asked. asked.nodes.now };
 
@@ -174,7 +186,7 @@ pub(crate) fn answers<'n, 'i>(
     alloc: Global,
     question: Question,
     roots: &[usize],
-    nodes: &[Node<'n, 'i>],
+    nodes: &[PassNode<'n, 'i>],
 ) -> Result<Vec<bool>, AllocError>
     ensures sound { IfOk result (λ flags. AreSound question nodes.now roots.now flags.items) }
     ensures closed { IfOk result (λ flags. AreClosed question nodes.now roots.now flags.items) }

@@ -4,7 +4,7 @@ ghost use Rattle.std.specs.Prelude.{◌≡◌, ℕ, IfOk, Some, false, true, sli
 ghost use Rattle.meta_stack_loops.specs.Leading.{AreLed, AreLinks, IsOnward, LeadsBack, leader_in};
 
 use crate::calls::{Groups, Link, orient};
-use crate::table::Node;
+use crate::table::PassNode;
 use meta_fixpoint::is_set;
 use std::alloc::{AllocError, Global};
 
@@ -39,7 +39,7 @@ struct Ways<'l> {
 /// has its flag set. Where flags mean rules that lead up to their leaders, the link is reversed.
 fn go_on<'n, 'i>(
     roots: &[usize],
-    nodes: &[Node<'n, 'i>],
+    nodes: &[PassNode<'n, 'i>],
     ways: Ways<'_>,
     flags: &mut Vec<bool>,
     place: usize,
@@ -66,7 +66,7 @@ fn go_on<'n, 'i>(
 fn led_by<'n, 'i>(
     alloc: Global,
     roots: &[usize],
-    nodes: &[Node<'n, 'i>],
+    nodes: &[PassNode<'n, 'i>],
     ways: Ways<'_>,
     steps: &[usize],
 ) -> Result<Vec<bool>, AllocError>
@@ -85,7 +85,7 @@ fn led_by<'n, 'i>(
 fn reached_by<'n, 'i>(
     alloc: Global,
     roots: &[usize],
-    nodes: &[Node<'n, 'i>],
+    nodes: &[PassNode<'n, 'i>],
     links: &[Link],
     leaders: &[usize],
     steps: &[usize],
@@ -109,7 +109,7 @@ fn reached_by<'n, 'i>(
 #[tactic(auto, using(crate::proofs::GroupLemmas::back_by_leader))]
 fn is_recursive<'n, 'i>(
     roots: &[usize],
-    nodes: &[Node<'n, 'i>],
+    nodes: &[PassNode<'n, 'i>],
     leaders: &[usize],
     reached: &[bool],
     returning: &[bool],
@@ -126,7 +126,7 @@ fn is_recursive<'n, 'i>(
 pub(crate) fn recursive_by<'n, 'i>(
     alloc: Global,
     roots: &[usize],
-    nodes: &[Node<'n, 'i>],
+    nodes: &[PassNode<'n, 'i>],
     links: &[Link],
     groups: &Groups,
 ) -> Result<Vec<bool>, AllocError>

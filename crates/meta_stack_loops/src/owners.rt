@@ -3,7 +3,7 @@ ghost use Rattle.std.specs.Prelude.{◌≡◌, IfOk, OnOk, Some};
 ghost use Rattle.meta_stack_loops.specs.Leading.{AreLinks, AreOwned, LeadsFrom, Owns, owner_in};
 
 use crate::calls::Link;
-use crate::table::{Kind, Node, Parts};
+use crate::table::{NodeKind, Parts, PassNode};
 use std::alloc::{AllocError, Global};
 
 /// Returns the rule whose body is known to have a node.
@@ -19,7 +19,7 @@ fn owner_of(owners: &[Option<usize>], node: usize) -> Option<usize>
 /// Records the rule whose body has a node.
 fn own<'n, 'i>(
     roots: &[usize],
-    nodes: &[Node<'n, 'i>],
+    nodes: &[PassNode<'n, 'i>],
     owners: &mut Vec<Option<usize>>,
     node: usize,
     rule: usize,
@@ -36,7 +36,7 @@ fn own<'n, 'i>(
 /// Records a node's rule for its operands.
 fn own_parts<'n, 'i>(
     roots: &[usize],
-    nodes: &[Node<'n, 'i>],
+    nodes: &[PassNode<'n, 'i>],
     owners: &mut Vec<Option<usize>>,
     place: usize,
 )
@@ -61,7 +61,7 @@ fn own_parts<'n, 'i>(
 
 /// Records every rule for the root of its body.
 #[tactic(auto, using(crate::proofs::GroupLemmas::root_owned))]
-fn own_roots<'n, 'i>(roots: &[usize], nodes: &[Node<'n, 'i>], owners: &mut Vec<Option<usize>>)
+fn own_roots<'n, 'i>(roots: &[usize], nodes: &[PassNode<'n, 'i>], owners: &mut Vec<Option<usize>>)
     requires { AreOwned nodes.now roots.now owners.old.items }
     ensures { AreOwned nodes.now roots.now owners.new.items }
 {
@@ -71,7 +71,7 @@ fn own_roots<'n, 'i>(roots: &[usize], nodes: &[Node<'n, 'i>], owners: &mut Vec<O
 }
 
 /// Records the rules of all operands, from the last node to the first.
-fn own_all<'n, 'i>(roots: &[usize], nodes: &[Node<'n, 'i>], owners: &mut Vec<Option<usize>>)
+fn own_all<'n, 'i>(roots: &[usize], nodes: &[PassNode<'n, 'i>], owners: &mut Vec<Option<usize>>)
     requires { AreOwned nodes.now roots.now owners.old.items }
     ensures { AreOwned nodes.now roots.now owners.new.items }
 {
@@ -85,7 +85,7 @@ fn own_all<'n, 'i>(roots: &[usize], nodes: &[Node<'n, 'i>], owners: &mut Vec<Opt
 fn owners_of<'n, 'i>(
     alloc: Global,
     roots: &[usize],
-    nodes: &[Node<'n, 'i>],
+    nodes: &[PassNode<'n, 'i>],
 ) -> Result<Vec<Option<usize>>, AllocError>
     ensures { IfOk result (λ owners. AreOwned nodes.now roots.now owners.items) }
 {
@@ -98,7 +98,7 @@ fn owners_of<'n, 'i>(
 /// Appends the link of a call: from the rule whose body has the node to the rule that it calls.
 fn add_link<'n, 'i>(
     roots: &[usize],
-    nodes: &[Node<'n, 'i>],
+    nodes: &[PassNode<'n, 'i>],
     owners: &[Option<usize>],
     place: usize,
     links: &mut Vec<Link>,
@@ -124,7 +124,7 @@ fn add_link<'n, 'i>(
 pub(crate) fn links_of<'n, 'i>(
     alloc: Global,
     roots: &[usize],
-    nodes: &[Node<'n, 'i>],
+    nodes: &[PassNode<'n, 'i>],
 ) -> Result<Vec<Link>, AllocError>
     ensures { IfOk result (λ links. AreLinks nodes.now roots.now links.items) }
 {

@@ -7,7 +7,7 @@ use crate::calls::groups_of;
 use crate::facts::{Question, answers, is_root_set};
 use crate::groups::recursive_by;
 use crate::owners::links_of;
-use crate::table::{Node, Parts};
+use crate::table::{Parts, PassNode};
 use meta_fixpoint::is_set;
 use std::alloc::{AllocError, Global};
 
@@ -73,7 +73,7 @@ fn is_ranked<'n, 'i>(
     recursive: &[bool],
     ranks: &[usize],
     place: usize,
-    node: Node<'n, 'i>,
+    node: PassNode<'n, 'i>,
 ) -> bool
     ensures { result ≡ true → IsRanked roots.now recursive.now ranks.now place node.entry }
 {
@@ -85,7 +85,7 @@ fn is_ranked<'n, 'i>(
 /// Whether all nodes do.
 fn are_ranked<'n, 'i>(
     roots: &[usize],
-    nodes: &[Node<'n, 'i>],
+    nodes: &[PassNode<'n, 'i>],
     recursive: &[bool],
     ranks: &[usize],
 ) -> bool
@@ -132,7 +132,7 @@ fn raise_ranks(
 fn search_calls<'n, 'i>(
     alloc: Global,
     roots: &[usize],
-    nodes: &[Node<'n, 'i>],
+    nodes: &[PassNode<'n, 'i>],
 ) -> Result<Calls, AllocError>
     ensures { IfOk result (λ calls. AreCalls nodes.now roots.now calls.recursive.items calls.ranks.items) }
 {
@@ -149,7 +149,7 @@ fn search_calls<'n, 'i>(
 /// Returns for each node the rank of its rule.
 fn ranks_of_nodes<'n, 'i>(
     alloc: Global,
-    nodes: &[Node<'n, 'i>],
+    nodes: &[PassNode<'n, 'i>],
     ranks: &[Option<usize>],
 ) -> Result<Vec<usize>, AllocError> {
     let mut found = Vec::with_capacity(alloc, nodes.len())?;
@@ -169,7 +169,7 @@ fn ranks_of_nodes<'n, 'i>(
 pub(crate) fn calls_of<'n, 'i>(
     alloc: Global,
     roots: &[usize],
-    nodes: &[Node<'n, 'i>],
+    nodes: &[PassNode<'n, 'i>],
 ) -> Result<Calls, AllocError>
     ensures { IfOk result (λ calls. AreCalls nodes.now roots.now calls.recursive.items calls.ranks.items) }
 {

@@ -7,7 +7,7 @@ ghost use Rattle.meta_stack_loops.specs.Reportable as spec;
 ghost use Rattle.meta_stack_loops.specs.Reportable.{AreBehind, AreReportable, TellLoops};
 
 use crate::facts::{Question, answers, is_part_set, is_root_set};
-use crate::table::{Node, Parts};
+use crate::table::{Parts, PassNode};
 use meta_fixpoint::is_set;
 use std::alloc::{AllocError, Global};
 
@@ -32,7 +32,7 @@ fn has_loop(still: &[bool], flags: &[bool], parts: Parts) -> bool
 /// Which nodes are such repetitions, or have one inside.
 fn with_loops<'n, 'i>(
     alloc: Global,
-    nodes: &[Node<'n, 'i>],
+    nodes: &[PassNode<'n, 'i>],
     still: &[bool],
 ) -> Result<Vec<bool>, AllocError>
     requires { AreBehind nodes.now }
@@ -51,7 +51,7 @@ fn with_loops<'n, 'i>(
 pub(crate) fn reportable_nodes<'n, 'i>(
     alloc: Global,
     roots: &[usize],
-    nodes: &[Node<'n, 'i>],
+    nodes: &[PassNode<'n, 'i>],
 ) -> Result<Vec<bool>, AllocError>
     requires { AreBehind nodes.now }
     ensures { IfOk result (λ flags. AreReportable nodes.now roots.now flags.items) }

@@ -1,4 +1,4 @@
-//! The node table of the stack pass: all rules' nodes by index, with their operations.
+//! The node table of the stack pass: all rules' nodes by index, with their kinds.
 ghost use Rattle.std.specs.Prelude.{◌≡◌, ◌<◌, ℕ, slice_get};
 ghost use Rattle.meta_fixpoint.specs.Least.{is_set_at};
 ghost use Rattle.meta_stack_domain.specs.Stack as is;
@@ -7,9 +7,9 @@ ghost use Rattle.meta_stack_domain.specs.Reading as says;
 use meta_base::runtime::Span;
 use meta_fixpoint::is_set;
 
-/// The operation of a node, with the indices of its operands.
+/// The kind of a node: its operation, with the indices of its operands.
 #[derive(Clone, Copy)]
-pub enum Kind {
+pub enum NodeKind {
     /// Takes nothing, and cannot fail.
     Still,
     /// May take something, or fail, and leaves the stack.
@@ -46,7 +46,7 @@ pub enum Parts {
     Both(usize, usize, bool),
 }
 
-impl Kind {
+impl NodeKind {
     ghost use Rattle.meta_stack_loops.specs.Table.{called_by, parts_of};
 
     /// The rule that is called.
@@ -54,23 +54,23 @@ impl Kind {
         ensures { result ≡ called_by self }
     {
         match self {
-            Kind::Call(rule) => Some(rule),
-            Kind::PosPred(_) => None,
-            Kind::NegPred(_) => None,
-            Kind::Opt(_) => None,
-            Kind::Push(_) => None,
-            Kind::Tag(_) => None,
-            Kind::Repeat(_, _, _, _) => None,
-            Kind::Seq(_, _) => None,
-            Kind::Choice(_, _) => None,
-            Kind::Still => None,
-            Kind::Leaf => None,
-            Kind::Peek => None,
-            Kind::Pop => None,
-            Kind::Drop => None,
-            Kind::PeekAll => None,
-            Kind::PopAll => None,
-            Kind::PushLiteral(_) => None,
+            NodeKind::Call(rule) => Some(rule),
+            NodeKind::PosPred(_) => None,
+            NodeKind::NegPred(_) => None,
+            NodeKind::Opt(_) => None,
+            NodeKind::Push(_) => None,
+            NodeKind::Tag(_) => None,
+            NodeKind::Repeat(_, _, _, _) => None,
+            NodeKind::Seq(_, _) => None,
+            NodeKind::Choice(_, _) => None,
+            NodeKind::Still => None,
+            NodeKind::Leaf => None,
+            NodeKind::Peek => None,
+            NodeKind::Pop => None,
+            NodeKind::Drop => None,
+            NodeKind::PeekAll => None,
+            NodeKind::PopAll => None,
+            NodeKind::PushLiteral(_) => None,
         }
     }
 
@@ -79,33 +79,33 @@ impl Kind {
         ensures { result ≡ parts_of self }
     {
         match self {
-            Kind::PosPred(body) => Parts::Inside(body, 1, 0, false),
-            Kind::NegPred(body) => Parts::Inside(body, 1, 0, false),
-            Kind::Opt(body) => Parts::Inside(body, 1, 0, false),
-            Kind::Push(body) => Parts::Inside(body, 1, 0, false),
-            Kind::Tag(body) => Parts::Inside(body, 1, 0, false),
-            Kind::Repeat(body, required, optional, endless) => {
+            NodeKind::PosPred(body) => Parts::Inside(body, 1, 0, false),
+            NodeKind::NegPred(body) => Parts::Inside(body, 1, 0, false),
+            NodeKind::Opt(body) => Parts::Inside(body, 1, 0, false),
+            NodeKind::Push(body) => Parts::Inside(body, 1, 0, false),
+            NodeKind::Tag(body) => Parts::Inside(body, 1, 0, false),
+            NodeKind::Repeat(body, required, optional, endless) => {
                 Parts::Inside(body, required, optional, endless)
             }
-            Kind::Seq(first, second) => Parts::Both(first, second, false),
-            Kind::Choice(first, second) => Parts::Both(first, second, true),
-            Kind::Still => Parts::Nothing,
-            Kind::Leaf => Parts::Nothing,
-            Kind::Peek => Parts::Nothing,
-            Kind::Pop => Parts::Nothing,
-            Kind::Drop => Parts::Nothing,
-            Kind::PeekAll => Parts::Nothing,
-            Kind::PopAll => Parts::Nothing,
-            Kind::PushLiteral(_) => Parts::Nothing,
-            Kind::Call(_) => Parts::Nothing,
+            NodeKind::Seq(first, second) => Parts::Both(first, second, false),
+            NodeKind::Choice(first, second) => Parts::Both(first, second, true),
+            NodeKind::Still => Parts::Nothing,
+            NodeKind::Leaf => Parts::Nothing,
+            NodeKind::Peek => Parts::Nothing,
+            NodeKind::Pop => Parts::Nothing,
+            NodeKind::Drop => Parts::Nothing,
+            NodeKind::PeekAll => Parts::Nothing,
+            NodeKind::PopAll => Parts::Nothing,
+            NodeKind::PushLiteral(_) => Parts::Nothing,
+            NodeKind::Call(_) => Parts::Nothing,
         }
     }
 }
 
 /// A node of a rule's body.
 #[derive(Clone, Copy)]
-pub struct Node<'n, 'i> {
-    pub kind: Kind,
+pub struct PassNode<'n, 'i> {
+    pub kind: NodeKind,
     /// The index of its rule.
     pub rule: usize,
     pub span: &'n Span<'i>,
@@ -114,7 +114,7 @@ pub struct Node<'n, 'i> {
 /// The nodes of all rules, in postorder, and results of the analysis.
 #[derive(Drop)]
 pub struct Table<'n, 'i> {
-    pub nodes: Vec<Node<'n, 'i>>,
+    pub nodes: Vec<PassNode<'n, 'i>>,
     /// The index of the root of each rule's body.
     pub roots: Vec<usize>,
     /// Which rules reach themselves; calls of them are not followed.
@@ -145,8 +145,8 @@ impl<'n, 'i> Table<'n, 'i> {
         }
     }
 
-    /// Returns the operation of the node with an index.
-    pub fn kind_at(&self, node: usize) -> Kind
+    /// Returns the kind of the node with an index.
+    pub fn kind_at(&self, node: usize) -> NodeKind
         requires inside { node < self.now.nodes.len }
         ensures means { (meaning : ℕ → is.AbstractStack → says.Reading) → IsMeaning self.now meaning
             → (a : is.AbstractStack) → meaning node a ≡ node_reading self.now meaning result a }
@@ -156,7 +156,7 @@ impl<'n, 'i> Table<'n, 'i> {
     }
 
     /// Returns the node with an index.
-    pub fn node_at(&self, node: usize) -> Node<'n, 'i>
+    pub fn node_at(&self, node: usize) -> PassNode<'n, 'i>
         requires inside { node < self.now.nodes.len }
         ensures { slice_get (nodes_of self.now) node ≡ Some result }
     {

@@ -4,7 +4,7 @@ ghost use Rattle.meta_stack_loops.specs.Table.{IsOrdered, copies};
 ghost use Rattle.meta_stack_loops.specs.Visiting.{AddsStack, AddsAll, AddsEach, AddsWhere, Collects, IsAfter, IsReportedWhereItLoops, IsStartOf, FindsLoop, FindsIn, VisitsOn};
 ghost use Rattle.meta_stack_domain.specs.Views.{stack_of};
 
-use crate::copies::{Counts, Repeated, is_among};
+use crate::copies::{CopyCounts, Repeated, is_among};
 use crate::loops::loops;
 use crate::memory::Memory;
 use crate::reader::{Series, follow, read, turn};
@@ -255,7 +255,7 @@ fn visit_one<'n, 'i>(
             Ok(())
         }
         Parts::Inside(body, required, optional, endless) => {
-            let counts = Counts {
+            let counts = CopyCounts {
                 required,
                 optional,
                 endless,

@@ -44,7 +44,7 @@ pub struct Waiting {
 
 /// The next task of the interpreter.
 #[derive(Clone, Copy)]
-pub enum Next {
+pub enum ReadTask {
     /// Read a node from a stack.
     Read(usize, Stack),
     /// Continue with the reading of the last task.
@@ -75,7 +75,7 @@ pub fn wait(
     stack: Stack,
     awaited: Awaited,
     operand: usize,
-) -> Result<Next, AllocError>
+) -> Result<ReadTask, AllocError>
     ensures { IfOk result (IsPut waiting.old.items waiting.new.items node stack awaited operand) }
 {
     waiting.push(Waiting {
@@ -83,7 +83,7 @@ pub fn wait(
         stack,
         awaited,
     })?;
-    Ok(Next::Read(operand, stack))
+    Ok(ReadTask::Read(operand, stack))
 }
 
 /// Continues the node `last` with the reading of the operand that it waited for. A complete reading of a
@@ -94,8 +94,8 @@ pub fn go_on(
     waiting: &mut Vec<Waiting>,
     last: Waiting,
     reading: Reading,
-) -> Result<Next, AllocError>
-    ensures { IfOk result (ReadsOn table.now memory.old memory.new (Next.Done reading)
+) -> Result<ReadTask, AllocError>
+    ensures { IfOk result (ReadsOn table.now memory.old memory.new (ReadTask.Done reading)
         (waiting.old.items ++ last ∷ []) waiting.new.items) }
 {
     let Waiting {
@@ -111,14 +111,14 @@ pub fn go_on(
                 awaited: Awaited::Last(How::Both(reading, choice)),
             })?;
             match reading.next_after(choice, stack) {
-                Some(after) => Ok(Next::Read(second, after)),
-                None => Ok(Next::Done(Reading::impossible())),
+                Some(after) => Ok(ReadTask::Read(second, after)),
+                None => Ok(ReadTask::Done(Reading::impossible())),
             }
         }
         Awaited::Last(how) => {
             let whole = how.whole(reading, stack, table.skips);
             memory.remember(node, stack, whole)?;
-            Ok(Next::Done(whole))
+            Ok(ReadTask::Done(whole))
         }
         Awaited::Copy(copies, required, from) => {
             let copy = LastCopy {
