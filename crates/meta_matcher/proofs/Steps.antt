@@ -29,7 +29,7 @@ use Rattle.meta_matcher.specs.Machines.{IsBlankName, is_whitespace, is_comment}
 use Rattle.meta_matcher.specs.Frames.{blanks, comments}
 use Rattle.matcher_program.specs.Rests.{IsLeft, leaving, standing}
 use Rattle.meta_matcher.specs.Runs.{Fails, Finds, Gives, IsReset, Notes, Now, Ran, Setting, forgetting, mode_of, noting}
-use Rattle.meta_matcher.specs.Told.{with_names}
+use Rattle.meta_matcher.specs.ExpectedNames.{with_names}
 
 -- what a builtin's name does in a mode of the code
 pub by_builtin : (classes : Classes) (m : mode.Mode) (n : Text) (b : Builtin) (s : State) → builtin_of n ≡ Some b → other_outcome classes (mode_of m) n s ≡ builtin_outcome classes (mode_of m) b s

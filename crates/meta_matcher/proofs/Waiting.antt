@@ -249,7 +249,7 @@ module _ {scene : Scene} where
   within_call {n = n} meant e bs = rw e (within_one (n + 1) (omega arith) bs (λ classes o d. body_of_call meant d))
 
   -- a call, whose entry was opened
-  pub follows_call : (k : Called) {inner : Mode} {rest : List ℕ} {a b : Now} {n : ℕ} {whole : Start} → rule_of (grammar_in scene) (text_of k.row.now.name) ≡ Some (rule_of_row (names_within scene) k.row.now) → inner ≡ body_mode (rule_of_row (names_within scene) k.row.now) (mode_of k.mode) → k.place ≡ length scene.text.now - length rest → b.entries ≡ a.entries ++ open_start (gives_in scene k) (text_of k.row.now.name) k.place → b.stack ≡ a.stack → b.notes ≡ a.notes → k.first ≡ length a.entries → k.told ≡ length a.notes.told → Decides scene (starting (Run (mode_of k.mode) (Ident (text_of k.row.now.name))) rest a n) whole → IsCall scene k (starting (Run inner (said scene k.row.now.body)) rest b (n + 1)) whole
+  pub follows_call : (k : Called) {inner : Mode} {rest : List ℕ} {a b : Now} {n : ℕ} {whole : Start} → rule_of (grammar_in scene) (text_of k.row.now.name) ≡ Some (rule_of_row (names_within scene) k.row.now) → inner ≡ body_mode (rule_of_row (names_within scene) k.row.now) (mode_of k.mode) → k.place ≡ length scene.text.now - length rest → b.entries ≡ a.entries ++ open_start (gives_in scene k) (text_of k.row.now.name) k.place → b.stack ≡ a.stack → b.notes ≡ a.notes → k.first ≡ length a.entries → k.expected_count ≡ length a.notes.told → Decides scene (starting (Run (mode_of k.mode) (Ident (text_of k.row.now.name))) rest a n) whole → IsCall scene k (starting (Run inner (said scene k.row.now.body)) rest b (n + 1)) whole
   follows_call k {inner} {rest} {a} {b} meant same_mode place opened bs bf first told d = record {
     opened = λ e. let o = rw e at opened in let l = ap length o ∙ length-append a.entries _ in omega (arith, l, first);
     within = within_then (within_call meant same_mode bs) d.within;
@@ -257,7 +257,7 @@ module _ {scene : Scene} where
       found = found_row (setting_of scene) (mode_of k.mode) inner (names_within scene) k.row.now scene.text.now rest after a b c z (gives_in scene k) (text_of k.row.now.name) k.place (length scene.text.now - length after) k.first refl meant same_mode refl place refl opened bs bf f.found first closes cs cf;
       goes_on = f.goes_on;
     });
-    failed = λ c z f cut cs cf. d.failed z (failed_row (setting_of scene) (mode_of k.mode) inner (names_within scene) k.row.now scene.text.now rest a b c z (gives_in scene k) (seen_from (mode_of k.mode) && gives_in scene k) (text_of k.row.now.name) k.place k.first k.told meant same_mode refl place opened bs bf f first cut cs told cf);
+    failed = λ c z f cut cs cf. d.failed z (failed_row (setting_of scene) (mode_of k.mode) inner (names_within scene) k.row.now scene.text.now rest a b c z (gives_in scene k) (seen_from (mode_of k.mode) && gives_in scene k) (text_of k.row.now.name) k.place k.first k.expected_count meant same_mode refl place opened bs bf f first cut cs told cf);
   }
 
   -- the entry that a call opened is there at its end

@@ -17,7 +17,7 @@ use Rattle.meta_matcher.specs.declared.machine.Stop.{Stop}
 use Rattle.meta_matcher.specs.declared.machine.Stop.TheVariants as stop
 use Rattle.matcher_program.specs.Programs.{Fits, IsSound}
 use Rattle.meta_matcher.specs.Sizes.{most_steps}
-use Rattle.meta_matcher.specs.Told.{each_once, told_of}
+use Rattle.meta_matcher.specs.ExpectedNames.{each_once, name_texts}
 use Rattle.meta_matcher.specs.Written.{seen}
 
 -- the names of its rules mean what they are resolved to
@@ -80,4 +80,4 @@ IsUnanswered g ps n text steps why = IsRefusedAs g n (λ place. ⊥) (IsStopped 
 -- the calls, where the rule fails or matches
 abbrev pub AreExpectedAt : Grammar → List Property → Text → List ℕ → ℕ → List (Bor (List ℕ)) → Type 0
 AreExpectedAt g ps n text place names = (classes : Classes) → Fits ps classes
-    → (o : Outcome) × (d : Has g n text classes o) × (told_of names ≡ each_once (expected_at place d))
+    → (o : Outcome) × (d : Has g n text classes o) × (name_texts names ≡ each_once (expected_at place d))

@@ -254,7 +254,7 @@ module _ (scene : Scene) where
         → c.stack ≡ b.stack → c.notes ≡ b.notes → FindsFrom whole c after
     pub failed : (b c : Now) → FailsFrom part b → c.entries ≡ take k.first b.entries → c.stack ≡ b.stack
         → c.notes ≡ noting scene.asked (seen_from (mode_of k.mode) && gives_in k) (text_of k.row.now.name)
-        k.place k.told b.notes → FailsFrom whole c
+        k.place k.expected_count b.notes → FailsFrom whole c
 
   -- the part is run for the sake of the whole, and this frame waits for it
   abbrev pub Follows : Frame → Start → Start → Type 0

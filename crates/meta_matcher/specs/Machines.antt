@@ -13,7 +13,7 @@ use Rattle.meta_matcher.specs.declared.machine.Machine.{Machine}
 use Rattle.meta_matcher.specs.declared.machine.Scene.{Scene}
 use Rattle.meta_matcher.specs.Written.{seen}
 use Rattle.meta_matcher.specs.Stacked.{stack_of}
-use Rattle.meta_matcher.specs.Told.{told_of}
+use Rattle.meta_matcher.specs.ExpectedNames.{name_texts}
 use Rattle.matcher_program.specs.Programs.{IsBound, IsRow, IsSound, expression_of, grammar_of, names_of, rule_of_row}
 use Rattle.meta_matcher.specs.Runs.{Gives, Now, Setting}
 
@@ -22,7 +22,7 @@ abbrev pub now_of : Machine → Now
 now_of m = record {
   entries = seen m.entries.items;
   stack = stack_of m.stack;
-  notes = record { furthest = m.furthest; told = told_of m.told.items };
+  notes = record { furthest = m.furthest; told = name_texts m.expected.items };
 }
 
 -- how many steps a round has, and how many were taken

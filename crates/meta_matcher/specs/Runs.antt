@@ -11,7 +11,7 @@ use Rattle.meta_syntax.specs.Entries.{Entry, entries_of}
 use Rattle.matcher_program.specs.declared.form.Property.{Property}
 use Rattle.matcher_program.specs.Programs.{Fits}
 use Rattle.matcher_program.specs.Rests.{standing}
-use Rattle.meta_matcher.specs.Told.{with_name, with_names}
+use Rattle.meta_matcher.specs.ExpectedNames.{with_name, with_names}
 use Rattle.meta_matcher.specs.declared.modes.Mode as mode
 use Rattle.meta_matcher.specs.declared.modes.Mode.TheVariants as in_mode
 

@@ -61,7 +61,7 @@ pub struct Called<'a> {
     /// The number of entries before it.
     pub first: usize,
     /// The number of expected names before it.
-    pub told: usize,
+    pub expected_count: usize,
 }
 
 /// A continuation frame.

@@ -12,11 +12,11 @@ ghost use Rattle.meta_matcher.specs.Stacked.{stack_of};
 ghost use Rattle.meta_matcher.specs.declared.machine.Stop.TheVariants.{Memory};
 
 use crate::entries::{Entry, close, cut, entry_count, open};
+use crate::expected_names::{add_name, count, forget};
 use crate::frames::{AtOnce, Frame, Saved};
 use crate::modes::{Mode, call_counts, furthest_failure, is_seen_from};
 use crate::skipping::{repeat_set, repeat_set_once};
 use crate::stack::{Stack, push_onto, share, texts_of};
-use crate::told::{add_name, count, forget};
 use matcher_program::form::{Form, Program, Row};
 use matcher_program::leaves::{
     ahead_to, character, insens, literal, literals, newline, one, one_in_ranges, slice,
@@ -70,7 +70,7 @@ pub struct Machine<'a> {
     /// The furthest position, in bytes, at which a call that counts has failed.
     pub furthest: usize,
     /// The names of the calls that failed at the position that is asked for, without duplicates.
-    pub told: Vec<&'a str>,
+    pub expected: Vec<&'a str>,
     /// The continuation frames, the innermost one last.
     pub frames: Vec<Frame<'a>>,
     /// The number of steps taken before this one.
@@ -90,7 +90,7 @@ impl<'a> Machine<'a> {
             entries: Vec::new(alloc),
             stack: Stack::Empty,
             furthest: 0,
-            told: Vec::new(alloc),
+            expected: Vec::new(alloc),
             frames: Vec::new(alloc),
             steps: Steps {
                 rounds: 0,
@@ -107,7 +107,7 @@ impl<'a> Machine<'a> {
             entries,
             stack: _,
             furthest: _,
-            told: _,
+            expected: _,
             frames: _,
             steps: _,
         } = self;
@@ -115,18 +115,18 @@ impl<'a> Machine<'a> {
     }
 
     /// Returns the expected names.
-    pub fn into_told(self) -> Vec<&'a str>
-        ensures { result ≡ self.entry.told }
+    pub fn into_expected(self) -> Vec<&'a str>
+        ensures { result ≡ self.entry.expected }
     {
         let Machine {
             entries: _,
             stack: _,
             furthest: _,
-            told,
+            expected,
             frames: _,
             steps: _,
         } = self;
-        told
+        expected
     }
 
     /// Records a call that failed at `place`, in bytes, if the call counts. If that position is the one
@@ -149,8 +149,8 @@ impl<'a> Machine<'a> {
     {
         self.furthest = furthest_failure(counts, place, self.furthest);
         if counts && place == scene.asked {
-            forget(&mut self.told, told);
-            add_name(&mut self.told, name)?;
+            forget(&mut self.expected, told);
+            add_name(&mut self.expected, name)?;
         }
         Ok(())
     }
@@ -162,7 +162,7 @@ impl<'a> Machine<'a> {
         ensures steps { self.new.steps ≡ self.old.steps }
         ensures now { now_of self.new ≡ forgetting told (now_of self.old) }
     {
-        forget(&mut self.told, told);
+        forget(&mut self.expected, told);
     }
 
     /// Matches the end of the text, with a token.
@@ -184,7 +184,7 @@ impl<'a> Machine<'a> {
         let seen = is_seen_from(mode);
         let place = scene.text.len() - rest.len();
         if !rest.is_empty() {
-            let told = count(&self.told);
+            let told = count(&self.expected);
             self.note(scene, seen, "EOI", place, told)?;
             return Ok(None);
         }
@@ -408,7 +408,7 @@ impl<'a> Machine<'a> {
             return Ok(false);
         }
         let place = scene.text.len() - rest.len();
-        let told = count(&self.told);
+        let told = count(&self.expected);
         let counts = call_counts(row.kind, mode);
         self.note(scene, counts, row.name.as_str(), place, told)?;
         Ok(true)

@@ -202,7 +202,7 @@ impl Matcher {
         };
         let mut machine = Machine::new(alloc);
         match machine.run(&scene, steps) {
-            Ok(_) => Ok(machine.into_told()),
+            Ok(_) => Ok(machine.into_expected()),
             Err(stop) => Err(Refusal::Stopped(stop)),
         }
     }

@@ -13,12 +13,12 @@ ghost use Rattle.meta_matcher.specs.Runs.{mode_of};
 
 use crate::ending::Ending;
 use crate::entries::{close, cut, entry_count, open};
+use crate::expected_names::count;
 use crate::frames::{AtOnce, Called, Came, Control, Frame, Predicate, Saved, Second, Sequence};
 use crate::machine::{Machine, Scene, Steps, Stop};
 use crate::modes::{Mode, body_mode, call_counts, gives_token};
 use crate::skipping::skip_at_once;
 use crate::stack::{push_onto, share};
-use crate::told::count;
 use matcher_program::form::{Form, Row};
 use std::alloc::AllocError;
 
@@ -400,7 +400,7 @@ impl<'a> Machine<'a> {
         ensures { Leads scene.entry.now self.new (steps_of self.old + 1) result }
     {
         let saved = self.save()?;
-        let frame = Frame::Not(Predicate { rest, saved }, count(&self.told));
+        let frame = Frame::Not(Predicate { rest, saved }, count(&self.expected));
         self.enter(scene, frame, body, mode, rest)
     }
 
@@ -507,7 +507,7 @@ impl<'a> Machine<'a> {
     {
         let place = scene.text.len() - rest.len();
         let first = entry_count(&self.entries);
-        let told = count(&self.told);
+        let told = count(&self.expected);
         let gives = gives_token(row.kind, mode);
         open(&mut self.entries, gives, row.name.as_str(), place)?;
         self.wait(Frame::Call(Called {
@@ -515,7 +515,7 @@ impl<'a> Machine<'a> {
             mode,
             place,
             first,
-            told,
+            expected_count: told,
         }))?;
         let inner_mode = body_mode(row.kind, row.blank, mode);
         Ok(Control::Run(&row.body, inner_mode, rest))
@@ -537,7 +537,7 @@ impl<'a> Machine<'a> {
             mode,
             place,
             first,
-            told,
+            expected_count: told,
         } = called;
         match answer {
             Some(after) => {

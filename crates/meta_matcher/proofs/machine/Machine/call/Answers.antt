@@ -10,7 +10,7 @@ use Rattle.meta_matcher.proofs.machine.Machine.call.Goals as goal
 
 pub returns : goal.returns
 returns c =
-    let k : Called = record { row = c.args.row; mode = c.args.mode; place = length c.args.scene.now.text.now - length c.args.rest.now; first = c.entry_count-first.result; told = c.count-told.result } in
+    let k : Called = record { row = c.args.row; mode = c.args.mode; place = length c.args.scene.now.text.now - length c.args.rest.now; first = c.entry_count-first.result; expected_count = c.count-told.result } in
     record {
       bound = c.requires.row.bound;
       left = c.requires.left;

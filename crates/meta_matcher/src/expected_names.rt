@@ -1,6 +1,6 @@
 //! The expected set: names of failed calls, without duplicates.
 ghost use Rattle.std.specs.Prelude.{◌≡◌, OnOk, chars, length, take};
-ghost use Rattle.meta_matcher.specs.Told.{is_among, told_of, with_name};
+ghost use Rattle.meta_matcher.specs.ExpectedNames.{is_among, name_texts, with_name};
 
 use matcher_program::texts::same;
 use std::alloc::AllocError;
@@ -8,14 +8,14 @@ use std::alloc::AllocError;
 /// Returns the number of names.
 #[inline(always)]
 pub(crate) fn count(told: &Vec<&str>) -> usize
-    ensures { result ≡ length (told_of told.now.items) }
+    ensures { result ≡ length (name_texts told.now.items) }
 {
     told.len()
 }
 
 /// Whether a name is among these.
 fn is_among(told: &[&str], name: &str) -> bool
-    ensures { result ≡ is_among (told_of told.now) (chars name.now) }
+    ensures { result ≡ is_among (name_texts told.now) (chars name.now) }
 {
     for other in told {
         if same(other, name) {
@@ -28,7 +28,7 @@ fn is_among(told: &[&str], name: &str) -> bool
 /// Adds a name, unless the set has it.
 pub(crate) fn add_name<'a>(told: &mut Vec<&'a str>, name: &'a str) -> Result<(), AllocError>
     ensures { OnOk result
-        (told_of told.new.items ≡ with_name (told_of told.old.items) (chars name.entry.now)) }
+        (name_texts told.new.items ≡ with_name (name_texts told.old.items) (chars name.entry.now)) }
 {
     if !is_among(told, name) {
         told.push(name)?;
@@ -39,7 +39,7 @@ pub(crate) fn add_name<'a>(told: &mut Vec<&'a str>, name: &'a str) -> Result<(),
 /// Drops all names but the first `first`.
 #[inline(always)]
 pub(crate) fn forget(told: &mut Vec<&str>, first: usize)
-    ensures { told_of told.new.items ≡ take first (told_of told.old.items) }
+    ensures { name_texts told.new.items ≡ take first (name_texts told.old.items) }
 {
     told.truncate(first);
 }

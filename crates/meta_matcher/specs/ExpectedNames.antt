@@ -22,5 +22,5 @@ abbrev pub each_once : List Text → List Text
 each_once names = with_names [] names
 
 -- names of the code
-abbrev pub told_of : List (Bor (List ℕ)) → List Text
-told_of names = map (λ n. chars n.now) names
+abbrev pub name_texts : List (Bor (List ℕ)) → List Text
+name_texts names = map (λ n. chars n.now) names
