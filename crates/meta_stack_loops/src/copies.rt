@@ -15,12 +15,12 @@ use crate::waiting::{Awaited, ReadTask, Waiting};
 use meta_stack_domain::{Reading, Stack, Walk};
 use std::alloc::{AllocError, Global};
 
-/// How often something is repeated.
+/// The number of copies of a repetition.
 #[derive(Clone, Copy)]
 pub struct CopyCounts {
-    /// How many copies are required.
+    /// The number of required copies.
     pub required: u32,
-    /// How many more there may be, each of which may fail.
+    /// The number of further copies, which may fail.
     pub optional: u32,
     /// Whether turns without end follow.
     pub endless: bool,
@@ -44,17 +44,17 @@ pub struct Begun {
 #[derive(Drop)]
 pub struct Copies {
     pub body: usize,
-    /// How many required copies are left.
+    /// The number of required copies that are left.
     pub required: u32,
-    /// How many copies are left that may fail.
+    /// The number of optional copies that are left.
     pub optional: u32,
     /// Whether turns without end follow.
     pub endless: bool,
     /// Whether nothing can be skipped between the copies.
     pub alone: bool,
-    /// How far the copies have been followed.
+    /// The walk along the copies so far.
     pub walk: Walk,
-    /// The walks from which those of the last kind started, each once.
+    /// The walks from which those of the last kind started, without duplicates.
     pub trace: Vec<Walk>,
 }
 
@@ -63,7 +63,7 @@ pub struct Copies {
 pub struct Turns {
     pub body: usize,
     pub alone: bool,
-    /// How many more turns are followed at most.
+    /// The greatest number of turns that are left.
     pub left: usize,
     pub walk: Walk,
     /// The stacks from which turns started.

@@ -93,7 +93,7 @@ fn leads_to(roots: &[usize], flags: &[bool], rule: usize, kind: NodeKind) -> boo
     }
 }
 
-/// The answer for a node, by those for its operands.
+/// Returns the answer for a node, by those for its operands.
 fn answer<'n, 'i>(
     question: Question,
     roots: &[usize],
@@ -109,7 +109,7 @@ fn answer<'n, 'i>(
     }
 }
 
-/// The first node of a rule, and its body.
+/// Returns the indices of a rule's first node and of its body.
 pub(crate) fn nodes_of_rule(roots: &[usize], rule: usize) -> (usize, usize) {
     let first = match rule.checked_sub(1) {
         None => 0,
@@ -181,7 +181,7 @@ impl<'a, 'n, 'i> Inference for Asked<'a, 'n, 'i> {
     }
 }
 
-/// The answers for all nodes: the least flags that follow from one another.
+/// Returns the answers for all nodes, a least fixpoint.
 pub(crate) fn answers<'n, 'i>(
     alloc: Global,
     question: Question,

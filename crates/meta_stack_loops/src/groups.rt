@@ -8,7 +8,7 @@ use crate::table::PassNode;
 use meta_fixpoint::is_set;
 use std::alloc::{AllocError, Global};
 
-/// The leader of a rule.
+/// Returns the leader of a rule.
 fn leader_of(leaders: &[usize], rule: usize) -> usize
     ensures { result ≡ leader_in leaders.now rule }
 {
@@ -26,7 +26,7 @@ fn leads_on(leaders: &[usize], flags: &[bool], first: usize, second: usize) -> b
     leader_of(leaders, first) == leader && (first == leader || is_set(flags, first))
 }
 
-/// Links in some order and the leaders of the rules, and whether the links are followed down from the leaders
+/// Links in some order, the leaders of the rules, and whether the links are followed down from the leaders
 /// or up to them.
 #[derive(Clone, Copy)]
 struct Ways<'l> {
@@ -62,7 +62,8 @@ fn go_on<'n, 'i>(
     }
 }
 
-/// Which rules are reached from their leaders, or else from which rules these are, by links in this order.
+/// Returns flags of the rules that their leaders reach, or else that reach their leaders, by links in this
+/// order.
 fn led_by<'n, 'i>(
     alloc: Global,
     roots: &[usize],
@@ -81,7 +82,7 @@ fn led_by<'n, 'i>(
     Ok(flags)
 }
 
-/// Which rules are reached from their leaders, these themselves too.
+/// Returns flags of the rules that their leaders reach, the leaders included.
 fn reached_by<'n, 'i>(
     alloc: Global,
     roots: &[usize],
@@ -122,7 +123,7 @@ fn is_recursive<'n, 'i>(
     is_set(reached, rule) && (leader_of(leaders, rule) == rule || is_set(returning, rule))
 }
 
-/// For each rule whether it certainly reaches itself.
+/// Returns for each rule whether it certainly reaches itself.
 pub(crate) fn recursive_by<'n, 'i>(
     alloc: Global,
     roots: &[usize],

@@ -119,7 +119,7 @@ fn kind_of_node<'i>(
     }
 }
 
-/// The nodes of the table of rules, with what they do.
+/// Returns the nodes of the table of rules, with their kinds.
 pub(crate) fn nodes_with_kinds<'n, 'i>(
     alloc: Global,
     rules: &[ParserRule<'i>],

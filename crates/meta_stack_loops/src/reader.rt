@@ -114,7 +114,7 @@ fn step(
     Ok(walk.after_copy(reading, stack, required))
 }
 
-/// So many copies of one kind.
+/// A number of copies of one kind.
 #[derive(Clone, Copy)]
 pub struct Series {
     pub body: usize,
@@ -122,8 +122,8 @@ pub struct Series {
     pub count: u32,
 }
 
-/// So many copies, followed until they come back to a walk that was seen. `trace` has the walks
-/// from which one of them starts, each once.
+/// Follows copies until they come back to a walk that was seen; `trace` gets the walks from which one of
+/// them starts, without duplicates.
 pub fn follow(
     alloc: Global,
     table: &Table,
@@ -151,8 +151,8 @@ pub fn follow(
     Ok(walk)
 }
 
-/// Turns without end, followed until one starts as an earlier one. `seen` has the stacks from which
-/// they start.
+/// Follows turns without end until one starts as an earlier one; `seen` gets the stacks from which they
+/// start.
 pub fn turn(
     alloc: Global,
     table: &Table,

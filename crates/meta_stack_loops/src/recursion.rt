@@ -11,7 +11,7 @@ use crate::table::{Parts, PassNode};
 use meta_fixpoint::is_set;
 use std::alloc::{AllocError, Global};
 
-/// The result for the call graph.
+/// Recursive rules and the ranks of nodes.
 #[derive(Drop)]
 pub struct Calls {
     /// For each rule whether it reaches itself.
@@ -21,7 +21,7 @@ pub struct Calls {
     pub ranks: Vec<usize>,
 }
 
-/// The rank of a node.
+/// Returns the rank of a node.
 fn rank_of(ranks: &[usize], node: usize) -> usize
     ensures { result ≡ rank_in ranks.now node }
 {

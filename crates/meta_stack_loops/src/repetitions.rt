@@ -36,13 +36,14 @@ use meta_spanned::ParserRule;
 use meta_stack_domain::Stack;
 use std::alloc::{AllocError, Global};
 
-/// How many abstract stacks there are.
+/// The number of abstract stacks.
 const ABSTRACT_STACKS: usize = 3066;
 
-/// How many turns of a repetition are followed at most: of so many, one starts from a stack that was seen.
+/// The greatest number of turns of a repetition that are followed; among so many, one starts from a stack
+/// that was seen.
 const MOST_TURNS: usize = ABSTRACT_STACKS + 1;
 
-/// How many turns the loop search follows.
+/// The number of turns that the loop search follows.
 const SEARCHED_TURNS: usize = 64;
 
 /// Whether the flag of the body of the rule of that name is set.
@@ -171,7 +172,7 @@ fn to_visit_in<'n, 'i>(
     Ok(Some(ToVisit { table, reportable }))
 }
 
-/// The rules by their ranks, the lowest first.
+/// Returns the rules by their ranks, the lowest first.
 fn by_rank<'n, 'i>(alloc: Global, table: &Table<'n, 'i>) -> Result<Vec<usize>, AllocError> {
     let mut order = numbers(alloc, table.roots.len())?;
     order.sort_by_key(|rule| table.rank_of_rule(*rule))?;

@@ -29,7 +29,7 @@ fn has_loop(still: &[bool], flags: &[bool], parts: Parts) -> bool
     may_loop(still, parts) || is_part_set(flags, parts)
 }
 
-/// Which nodes are such repetitions, or have one inside.
+/// Returns which nodes are such repetitions, or have one inside.
 fn with_loops<'n, 'i>(
     alloc: Global,
     nodes: &[PassNode<'n, 'i>],
@@ -47,7 +47,7 @@ fn with_loops<'n, 'i>(
     Ok(flags)
 }
 
-/// In which nodes something may be reported.
+/// Returns in which nodes something may be reported.
 pub(crate) fn reportable_nodes<'n, 'i>(
     alloc: Global,
     roots: &[usize],

@@ -49,7 +49,7 @@ pub enum Parts {
 impl NodeKind {
     ghost use Rattle.meta_stack_loops.specs.Table.{called_by, parts_of};
 
-    /// The rule that is called.
+    /// Returns the index of the rule that is called.
     pub(crate) fn called_rule(self) -> Option<usize>
         ensures { result ≡ called_by self }
     {
@@ -74,7 +74,7 @@ impl NodeKind {
         }
     }
 
-    /// The operands, as they are visited.
+    /// Returns the operands, as they are visited.
     pub(crate) fn parts(self) -> Parts
         ensures { result ≡ parts_of self }
     {
@@ -126,16 +126,16 @@ pub struct Table<'n, 'i> {
     pub nullable: Vec<bool>,
     /// Whether something is skipped between the parts of a sequence.
     pub skips: bool,
-    /// How many turns of a repetition are followed at most.
+    /// The greatest number of turns of a repetition that are followed.
     pub limit: usize,
-    /// How many turns the loop search follows.
+    /// The number of turns that the loop search follows.
     pub turns: usize,
 }
 
 impl<'n, 'i> Table<'n, 'i> {
     ghost use Rattle.meta_stack_loops.specs.Table.{IsMeaning, IsOrdered, Lies, HasParts, PartsLie, node_reading, nodes_of, followed_at, rank_at};
 
-    /// The rank of a node.
+    /// Returns the rank of a node.
     pub(crate) fn rank_of(&self, node: usize) -> usize
         ensures { result ≡ rank_at self.now node }
     {
@@ -172,7 +172,7 @@ impl<'n, 'i> Table<'n, 'i> {
         self.node_at(node).kind.parts()
     }
 
-    /// The rank of a rule's body.
+    /// Returns the rank of a rule's body.
     pub(crate) fn rank_of_rule(&self, rule: usize) -> usize {
         match self.roots.get(rule) {
             Some(body) => self.rank_of(*body),

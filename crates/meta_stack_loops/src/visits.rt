@@ -1,4 +1,4 @@
-//! The stacks from which the nodes of a rule's body are visited, and what is reported.
+//! The visit of a rule's body: the stacks from which its nodes are visited, and the reports.
 ghost use Rattle.std.specs.Prelude.{◌≡◌, ◌<◌, [], ◌∷◌, ◌++◌, IfOk, OnOk};
 ghost use Rattle.meta_stack_loops.specs.Table.{IsOrdered, copies};
 ghost use Rattle.meta_stack_loops.specs.Visiting.{AddsStack, AddsAll, AddsEach, AddsWhere, Collects, IsAfter, IsReportedWhereItLoops, IsStartOf, FindsLoop, FindsIn, VisitsOn};
@@ -24,7 +24,7 @@ fn add(stacks: &mut Vec<Stack>, stack: Stack) -> Result<(), AllocError>
     Ok(())
 }
 
-/// The stacks from which walks of a trace start.
+/// Adds the stacks from which walks of a trace start.
 fn add_all(stacks: &mut Vec<Stack>, trace: &[Walk]) -> Result<(), AllocError>
     ensures { OnOk result (AddsAll stacks.old.items stacks.new.items trace.now) }
 {
@@ -46,7 +46,7 @@ fn add_each(stacks: &mut Vec<Stack>, more: &[Stack]) -> Result<(), AllocError>
     Ok(())
 }
 
-/// The first of two parts, and whether they are a choice.
+/// The first of two operands, and whether they are a choice.
 #[derive(Clone, Copy)]
 struct First {
     node: usize,
@@ -76,7 +76,7 @@ fn add_after(
     Ok(())
 }
 
-/// The stacks after the first of two parts.
+/// Returns the stacks after the first of two operands.
 fn stacks_after(
     alloc: Global,
     table: &Table,
@@ -142,7 +142,7 @@ fn add_starts(
     add_each(found, &seen)
 }
 
-/// The stacks from which the copies of a repetition start.
+/// Returns the stacks from which the copies of a repetition start.
 fn starts(
     alloc: Global,
     table: &Table,
