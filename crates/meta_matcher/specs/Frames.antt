@@ -30,7 +30,7 @@ use Rattle.meta_matcher.specs.declared.machine.Stop.TheVariants as stop
 use Rattle.meta_matcher.specs.Machines.{IsBoundIn, grammar_in, now_of, said, setting_of, steps_of}
 use Rattle.matcher_program.specs.Programs.{Fits}
 use Rattle.matcher_program.specs.Rests.{GoesOn, IsLeft, standing}
-use Rattle.meta_matcher.specs.Runs.{Fails, Finds, IsReset, Now, forgetting, mode_of, noting}
+use Rattle.meta_matcher.specs.Runs.{Fails, Finds, IsReset, Now, forgetting, mode_of, with_failure}
 use Rattle.meta_matcher.specs.Sizes.{most_steps}
 use Rattle.meta_matcher.specs.Stacked.{stack_of}
 use Rattle.meta_matcher.specs.Written.{Closes}
@@ -104,9 +104,9 @@ module _ (scene : Scene) where
   abbrev pub FailsFrom : Start → Now → Type 0
   FailsFrom s later = Fails (setting_of scene) s.task scene.text.now s.rest s.now later
 
-  abbrev pub GivesFrom : Start → Now → Option (Bor (List ℕ)) → Type 0
-  GivesFrom s later None = FailsFrom s later
-  GivesFrom s later (Some after) = FindsFrom s later after.now
+  abbrev pub HasResultFrom : Start → Now → Option (Bor (List ℕ)) → Type 0
+  HasResultFrom s later None = FailsFrom s later
+  HasResultFrom s later (Some after) = FindsFrom s later after.now
 
   -- the task has this outcome from its start
   abbrev pub HasFrom : Classes → Start → Outcome → Type 0
@@ -253,8 +253,8 @@ module _ (scene : Scene) where
         b.entries c.entries
         → c.stack ≡ b.stack → c.notes ≡ b.notes → FindsFrom whole c after
     pub failed : (b c : Now) → FailsFrom part b → c.entries ≡ take k.first b.entries → c.stack ≡ b.stack
-        → c.notes ≡ noting scene.asked (seen_from (mode_of k.mode) && gives_in k) (text_of k.row.now.name)
-        k.place k.expected_count b.notes → FailsFrom whole c
+        → c.notes ≡ with_failure scene.asked (seen_from (mode_of k.mode) && gives_in k)
+        (text_of k.row.now.name) k.place k.expected_count b.notes → FailsFrom whole c
 
   -- the part is run for the sake of the whole, and this frame waits for it
   abbrev pub Follows : Frame → Start → Start → Type 0
@@ -294,7 +294,7 @@ module _ (scene : Scene) where
     pub whole : Start
     pub waiting : IsWaiting (reverse m.frames.items) whole
     pub follows : relation part whole
-    pub gives : GivesFrom part (now_of m) answer
+    pub gives : HasResultFrom part (now_of m) answer
     pub in_time : IsInTime part (steps_of m + 1)
 
   -- the form that is run once n steps were taken
@@ -310,7 +310,7 @@ module _ (scene : Scene) where
 
   -- the answer that is given once n steps were taken, which the next one takes
   pub record IsAnswered (m : Machine) (n : ℕ) (answer : Option (Bor (List ℕ))) (whole : Start) : Type 0 where
-    pub gives : GivesFrom whole (now_of m) answer
+    pub gives : HasResultFrom whole (now_of m) answer
     pub in_time : IsInTime whole (n + 1)
 
   -- after n steps, the next task of the machine leads to the answer of the rule that is called
@@ -333,13 +333,13 @@ module _ (scene : Scene) where
   Leads m n (Err why) = IsStuck why
 
   -- the result of several steps, n steps in all
-  abbrev pub Comes : Machine → ℕ → Result Came Stop → Type 0
-  Comes m n (Ok (came.Ended answer)) = GivesFrom (top_of scene) (now_of m) answer
-  Comes m n (Ok (came.Going c)) = IsOnTheWay m n c
-  Comes m n (Err why) = IsStuck why
+  abbrev pub StepsLead : Machine → ℕ → Result Came Stop → Type 0
+  StepsLead m n (Ok (came.Ended answer)) = HasResultFrom (top_of scene) (now_of m) answer
+  StepsLead m n (Ok (came.Going c)) = IsOnTheWay m n c
+  StepsLead m n (Err why) = IsStuck why
 
   -- the result of a form that is run without a frame: an answer, or nothing if the form has operands
-  abbrev pub ComesAtOnce : Form → Mode → List ℕ → Machine → Machine → AtOnce → Type 0
-  ComesAtOnce f mode rest old new (at_once.Answered answer) =
-      GivesFrom (starting (Run (mode_of mode) (said scene f)) rest (now_of old) 0) (now_of new) answer
-  ComesAtOnce f mode rest old new at_once.Nested = (now_of new ≡ now_of old) × IsNested f
+  abbrev pub LeadsAtOnce : Form → Mode → List ℕ → Machine → Machine → AtOnce → Type 0
+  LeadsAtOnce f mode rest old new (at_once.Answered answer) =
+      HasResultFrom (starting (Run (mode_of mode) (said scene f)) rest (now_of old) 0) (now_of new) answer
+  LeadsAtOnce f mode rest old new at_once.Nested = (now_of new ≡ now_of old) × IsNested f

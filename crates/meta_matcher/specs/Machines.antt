@@ -15,7 +15,7 @@ use Rattle.meta_matcher.specs.Written.{seen}
 use Rattle.meta_matcher.specs.Stacked.{stack_of}
 use Rattle.meta_matcher.specs.ExpectedNames.{name_texts}
 use Rattle.matcher_program.specs.Programs.{IsBound, IsRow, IsSound, expression_of, grammar_of, names_of, rule_of_row}
-use Rattle.meta_matcher.specs.Runs.{Gives, Now, Setting}
+use Rattle.meta_matcher.specs.Runs.{HasResult, Now, Setting}
 
 -- the state of a machine without its frames and steps
 abbrev pub now_of : Machine → Now
@@ -77,9 +77,9 @@ pub record IsSceneOf (program : Program) (n : Text) (text : List ℕ) (asked : �
       ≡ Some (rule_of_row (names_within scene) scene.row.now)
 
 -- the task was found to fail, or to succeed, as the answer says
-abbrev pub GivesIn : Scene → Task → List ℕ → Machine → Machine → Option (Bor (List ℕ)) → Type 0
-GivesIn scene k rest old new answer =
-    Gives (setting_of scene) k scene.text.now rest (now_of old) (now_of new) answer
+abbrev pub HasResultIn : Scene → Task → List ℕ → Machine → Machine → Option (Bor (List ℕ)) → Type 0
+HasResultIn scene k rest old new answer =
+    HasResult (setting_of scene) k scene.text.now rest (now_of old) (now_of new) answer
 
 -- how many entries there were, and which stack
 pub record IsSaved (saved : Saved) (now : Now) : Type 0 where

@@ -62,9 +62,9 @@ pub record Finds (g : Setting) (k : Task) (text rest : List ℕ) (a b : Now) (af
       → Ran g.grammar classes g.asked k (standing text rest a.stack)
       (Success (standing text after b.stack) trees) a.notes b.notes
 
-abbrev pub Gives : Setting → Task → List ℕ → List ℕ → Now → Now → Option (Bor (List ℕ)) → Type 0
-Gives g k text rest a b None = Fails g k text rest a b
-Gives g k text rest a b (Some after) = Finds g k text rest a b after.now
+abbrev pub HasResult : Setting → Task → List ℕ → List ℕ → Now → Now → Option (Bor (List ℕ)) → Type 0
+HasResult g k text rest a b None = Fails g k text rest a b
+HasResult g k text rest a b (Some after) = Finds g k text rest a b after.now
 
 -- the furthest failure, with one more at a position if it counts
 abbrev pub noted : Bool → ℕ → ℕ → ℕ
@@ -72,8 +72,8 @@ noted counts position old = max old (if counts then position else 0)
 
 -- the record after a call of a name failed at a position, if the call counts: the position, and, if it is
 -- the one that is asked for, the name, instead of all recorded names but the first ones
-abbrev pub noting : ℕ → Bool → Text → ℕ → ℕ → Notes → Notes
-noting asked counts n place first old = record {
+abbrev pub with_failure : ℕ → Bool → Text → ℕ → ℕ → Notes → Notes
+with_failure asked counts n place first old = record {
   furthest = noted counts place old.furthest;
   told = if counts && nat_eq place asked then with_name (take first old.told) n else old.told;
 }

@@ -4,10 +4,10 @@ ghost use Rattle.meta_ast.specs.Ast.{text_of};
 ghost use Rattle.meta_base.specs.Language.Expression.{Ident, PeekSlice, PushLiteral, rule_of};
 ghost use Rattle.meta_base.specs.Language.Meaning.{Run};
 ghost use Rattle.matcher_program.specs.declared.form.Form.TheVariants.{Call};
-ghost use Rattle.meta_matcher.specs.Frames.{ComesAtOnce, FailsFrom, IsOutOfTexts, IsStuckAtOnce, starting};
-ghost use Rattle.meta_matcher.specs.Machines.{GivesIn, IsBoundIn, IsSaved, IsSoundIn, grammar_in, now_of, said, steps_of};
+ghost use Rattle.meta_matcher.specs.Frames.{LeadsAtOnce, FailsFrom, IsOutOfTexts, IsStuckAtOnce, starting};
+ghost use Rattle.meta_matcher.specs.Machines.{HasResultIn, IsBoundIn, IsSaved, IsSoundIn, grammar_in, now_of, said, steps_of};
 ghost use Rattle.matcher_program.specs.Rests.{IsLeft, Progress};
-ghost use Rattle.meta_matcher.specs.Runs.{IsReset, forgetting, mode_of, noting};
+ghost use Rattle.meta_matcher.specs.Runs.{IsReset, forgetting, mode_of, with_failure};
 ghost use Rattle.meta_matcher.specs.Stacked.{stack_of};
 ghost use Rattle.meta_matcher.specs.declared.machine.Stop.TheVariants.{Memory};
 
@@ -145,7 +145,8 @@ impl<'a> Machine<'a> {
         ensures frames { self.new.frames ≡ self.old.frames }
         ensures steps { self.new.steps ≡ self.old.steps }
         ensures notes { OnOk result ((now_of self.new).notes
-            ≡ noting scene.entry.now.asked counts (chars name.entry.now) place told (now_of self.old).notes) }
+            ≡ with_failure scene.entry.now.asked counts (chars name.entry.now) place told
+            (now_of self.old).notes) }
     {
         self.furthest = furthest_failure(counts, place, self.furthest);
         if counts && place == scene.asked {
@@ -178,7 +179,7 @@ impl<'a> Machine<'a> {
         ensures steps { self.new.steps ≡ self.old.steps }
         ensures goes_on { IfOk result (Progress scene.entry.now.text.now rest.entry.now) }
         ensures means { IfOk result
-            (GivesIn scene.entry.now (Run (mode_of mode) (Ident (codes "EOI")))
+            (HasResultIn scene.entry.now (Run (mode_of mode) (Ident (codes "EOI")))
             rest.entry.now self.old self.new) }
     {
         let seen = is_seen_from(mode);
@@ -208,7 +209,7 @@ impl<'a> Machine<'a> {
         ensures stopped { IfErr result (λ stop. IsOutOfTexts stop self.old) }
         ensures goes_on { IfOk result (Progress scene.entry.now.text.now rest.entry.now) }
         ensures means { IfOk result
-            (GivesIn scene.entry.now (Run (mode_of mode) (Ident (codes "PEEK")))
+            (HasResultIn scene.entry.now (Run (mode_of mode) (Ident (codes "PEEK")))
             rest.entry.now self.old self.new) }
     {
         match &self.stack {
@@ -226,7 +227,7 @@ impl<'a> Machine<'a> {
         ensures stopped { IfErr result (λ stop. IsOutOfTexts stop self.old) }
         ensures goes_on { IfOk result (Progress scene.entry.now.text.now rest.entry.now) }
         ensures means { IfOk result
-            (GivesIn scene.entry.now (Run (mode_of mode) (Ident (codes "POP")))
+            (HasResultIn scene.entry.now (Run (mode_of mode) (Ident (codes "POP")))
             rest.entry.now self.old self.new) }
     {
         match &self.stack {
@@ -255,7 +256,7 @@ impl<'a> Machine<'a> {
         ensures steps { self.new.steps ≡ self.old.steps }
         ensures goes_on { IfOk result (Progress scene.entry.now.text.now rest.entry.now) }
         ensures means { IfOk result
-            (GivesIn scene.entry.now (Run (mode_of mode) (Ident (codes "DROP")))
+            (HasResultIn scene.entry.now (Run (mode_of mode) (Ident (codes "DROP")))
             rest.entry.now self.old self.new) }
     {
         match &self.stack {
@@ -281,7 +282,7 @@ impl<'a> Machine<'a> {
         ensures steps { self.new.steps ≡ self.old.steps }
         ensures goes_on { IfOk result (Progress scene.entry.now.text.now rest.entry.now) }
         ensures means { IfOk result
-            (GivesIn scene.entry.now (Run (mode_of mode) (Ident (codes "PEEK_ALL")))
+            (HasResultIn scene.entry.now (Run (mode_of mode) (Ident (codes "PEEK_ALL")))
             rest.entry.now self.old self.new) }
     {
         let texts = texts_of(*self.entries.allocator(), &self.stack)?;
@@ -301,7 +302,7 @@ impl<'a> Machine<'a> {
         ensures steps { self.new.steps ≡ self.old.steps }
         ensures goes_on { IfOk result (Progress scene.entry.now.text.now rest.entry.now) }
         ensures means { IfOk result
-            (GivesIn scene.entry.now (Run (mode_of mode) (Ident (codes "POP_ALL")))
+            (HasResultIn scene.entry.now (Run (mode_of mode) (Ident (codes "POP_ALL")))
             rest.entry.now self.old self.new) }
     {
         let texts = texts_of(*self.entries.allocator(), &self.stack)?;
@@ -328,7 +329,7 @@ impl<'a> Machine<'a> {
         ensures steps { self.new.steps ≡ self.old.steps }
         ensures goes_on { IfOk result (Progress scene.entry.now.text.now rest.entry.now) }
         ensures means { IfOk result
-            (GivesIn scene.entry.now (Run (mode_of mode) (PeekSlice from to))
+            (HasResultIn scene.entry.now (Run (mode_of mode) (PeekSlice from to))
             rest.entry.now self.old self.new) }
     {
         let mut texts = texts_of(*self.entries.allocator(), &self.stack)?;
@@ -349,7 +350,7 @@ impl<'a> Machine<'a> {
         ensures steps { self.new.steps ≡ self.old.steps }
         ensures goes_on { IfOk result (Progress scene.entry.now.text.now rest.entry.now) }
         ensures means { IfOk result
-            (GivesIn scene.entry.now (Run (mode_of mode) (PushLiteral (text_of pushed_text.entry.now)))
+            (HasResultIn scene.entry.now (Run (mode_of mode) (PushLiteral (text_of pushed_text.entry.now)))
             rest.entry.now self.old self.new) }
     {
         let alloc = *self.entries.allocator();
@@ -431,7 +432,7 @@ impl<'a> Machine<'a> {
         ensures steps { self.new.steps ≡ self.old.steps }
         ensures stopped { IfErr result (IsStuckAtOnce form.entry.now self.old) }
         ensures means { IfOk result
-            (ComesAtOnce scene.entry.now form.entry.now mode rest.entry.now self.old self.new) }
+            (LeadsAtOnce scene.entry.now form.entry.now mode rest.entry.now self.old self.new) }
     {
         match form {
             Form::Opt(body) => match self.simple(scene, body, mode, rest)? {
@@ -463,7 +464,7 @@ impl<'a> Machine<'a> {
         ensures steps { self.new.steps ≡ self.old.steps }
         ensures stopped { IfErr result (IsStuckAtOnce form.entry.now self.old) }
         ensures means { IfOk result
-            (ComesAtOnce scene.entry.now form.entry.now mode rest.entry.now self.old self.new) }
+            (LeadsAtOnce scene.entry.now form.entry.now mode rest.entry.now self.old self.new) }
     {
         match form {
             Form::Str(literally) => Ok(AtOnce::Answered(literal(literally.as_str(), rest))),

@@ -4,7 +4,7 @@ ghost use Rattle.meta_ast.specs.Ast.{text_of};
 ghost use Rattle.meta_base.specs.Language.Expression.{Choice, Ident, NegPred, Opt, PosPred, Push, Rep, Seq, rule_of};
 ghost use Rattle.meta_base.specs.Language.Meaning.{Run};
 ghost use Rattle.meta_matcher.specs.Answers.{IsStopped};
-ghost use Rattle.meta_matcher.specs.Frames.{Awaits, Comes, Finishes, Follows, GivesFrom, IsAhead, IsBlank, IsBoundSecond, IsCall, IsComment, IsFirst, IsGap, IsLeftSide, IsNegated, IsNested, IsOnTheWay, IsOptional, IsPushed, IsResumed, IsRunning, IsSecond, IsStarting, Leads, Skips, comments, said_second, starting, top_of};
+ghost use Rattle.meta_matcher.specs.Frames.{Awaits, StepsLead, Finishes, Follows, HasResultFrom, IsAhead, IsBlank, IsBoundSecond, IsCall, IsComment, IsFirst, IsGap, IsLeftSide, IsNegated, IsNested, IsOnTheWay, IsOptional, IsPushed, IsResumed, IsRunning, IsSecond, IsStarting, Leads, Skips, comments, said_second, starting, top_of};
 ghost use Rattle.meta_matcher.specs.Endings.{classes_in};
 ghost use Rattle.meta_matcher.specs.Machines.{IsBoundIn, IsRowIn, IsSoundIn, grammar_in, names_within, now_of, round, said, steps_of};
 ghost use Rattle.matcher_program.specs.Programs.{Fits, rule_of_row};
@@ -704,7 +704,7 @@ impl<'a> Machine<'a> {
     ) -> Result<Came<'a>, Stop>
         requires sound { IsSoundIn scene.now }
         requires on_the_way { IsOnTheWay scene.now self.old (rounds * round + 1) first }
-        ensures { Comes scene.entry.now self.new (rounds * round + steps) result }
+        ensures { StepsLead scene.entry.now self.new (rounds * round + steps) result }
     {
         let mut control = first;
         'steps: for since in 1..steps {
@@ -732,7 +732,8 @@ impl<'a> Machine<'a> {
         requires fresh { now_of self.old ≡ (top_of scene.now).now }
         requires no_frames { self.old.frames.items ≡ [] }
         requires no_steps { steps_of self.old ≡ 0 }
-        ensures gives { IfOk result (GivesFrom scene.entry.now (top_of scene.entry.now) (now_of self.new)) }
+        ensures gives { IfOk result
+            (HasResultFrom scene.entry.now (top_of scene.entry.now) (now_of self.new)) }
         ensures stopped { IfErr result (IsStopped (grammar_in scene.entry.now)
             scene.entry.now.program.now.properties.items (text_of scene.entry.now.row.now.name)
             scene.entry.now.text.now steps) }
@@ -756,7 +757,7 @@ impl<'a> Machine<'a> {
         requires fresh { now_of self.old ≡ (top_of ending.now.scene).now }
         requires no_frames { self.old.frames.items ≡ [] }
         requires no_steps { steps_of self.old ≡ 0 }
-        ensures { IfOk result (GivesFrom ending.entry.now.scene (top_of ending.entry.now.scene)
+        ensures { IfOk result (HasResultFrom ending.entry.now.scene (top_of ending.entry.now.scene)
             (now_of self.new)) }
     {
         let mut control = self.call(

@@ -7,7 +7,7 @@ ghost use Rattle.meta_matcher.specs.Frames.{FindsFrom, starting};
 ghost use Rattle.meta_matcher.specs.Machines.{IsBoundIn, IsSoundIn, said};
 ghost use Rattle.matcher_program.specs.Rests.{IsLeft};
 ghost use Rattle.meta_matcher.specs.Runs.{Now, mode_of};
-ghost use Rattle.meta_matcher.specs.Tight.{GivesAtOnce, IsTight};
+ghost use Rattle.meta_matcher.specs.Tight.{HasPureResult, IsTight};
 
 use crate::frames::AtOnce;
 use crate::machine::Scene;
@@ -44,7 +44,7 @@ pub(crate) fn repeat_set<'a>(
     requires sound { IsSoundIn scene.now }
     requires bound { IsBoundIn scene.now body.now }
     requires left { IsLeft scene.now.text.now rest.now }
-    ensures { GivesAtOnce scene.now (Rep (said scene.now body.now)) mode rest.entry.now result }
+    ensures { HasPureResult scene.now (Rep (said scene.now body.now)) mode rest.entry.now result }
 {
     match body {
         Form::Set(flags, form) => {
@@ -67,7 +67,7 @@ pub(crate) fn repeat_set_once<'a>(
     requires sound { IsSoundIn scene.now }
     requires bound { IsBoundIn scene.now body.now }
     requires left { IsLeft scene.now.text.now rest.now }
-    ensures { GivesAtOnce scene.now (RepOnce (said scene.now body.now)) mode rest.entry.now result }
+    ensures { HasPureResult scene.now (RepOnce (said scene.now body.now)) mode rest.entry.now result }
 {
     match body {
         Form::Set(flags, form) => {

@@ -10,9 +10,9 @@ use Rattle.meta_stack_domain.specs.Reading.{from}
 use Rattle.meta_stack_domain.specs.Views.{reading_of, stack_of, possible}
 use Rattle.meta_stack_domain.specs.Walks.{next_after}
 use Rattle.meta_stack_loops.specs.Memory.{Meaning, IsRight, ReadsNode}
-use Rattle.meta_stack_loops.specs.Table.{IsMeaning, Inside, Called, Lies, level, nodes_of, node_reading, rank_at}
+use Rattle.meta_stack_loops.specs.Table.{IsMeaning, Inside, Called, HasOrderedOperands, level, nodes_of, node_reading, rank_at}
 use Rattle.meta_stack_loops.specs.Repeating.{most_readings}
-use Rattle.meta_stack_loops.specs.Waiting.{both_reading, whole_of, filled, Fills, IsTraced, Lead, at_hand, effort, effort_of, effort_next, effort_awaited, effort_waiting, IsLow, IsNextLow, IsAwaitedLow, AreLow, ReadsOn, IsPut}
+use Rattle.meta_stack_loops.specs.Waiting.{both_reading, whole_of, filled, Fills, IsTraced, Lead, next_reading, effort, effort_of, effort_next, effort_awaited, effort_waiting, IsLow, IsNextLow, IsAwaitedLow, AreLow, ReadsOn, IsPut}
 use Rattle.meta_stack_domain.specs.declared.reading.Reading.{Reading}
 use Rattle.meta_stack_domain.specs.declared.stack.Stack.{Stack}
 use Rattle.meta_stack_loops.specs.declared.memory.Memory.{Memory}
@@ -129,10 +129,10 @@ pub put_on : (t : Table) (m : Memory) (node : ℕ) (s : Stack) (k l : NodeKind) 
     → IsPut ws vs node s a operand q → ReadsOn t m m (next.Read node s) ws vs q
 put_on t m node s k l means is a operand ws vs q fits none less within below low put =
     let w : Waiting = record { node = node; stack = s; awaited = a } in
-    let at : (meaning : Meaning) → meaning operand (stack_of s) ≡ at_hand meaning q = λ meaning. sym (ap (at_hand meaning) put.next) in record {
+    let at : (meaning : Meaning) → meaning operand (stack_of s) ≡ next_reading meaning q = λ meaning. sym (ap (next_reading meaning) put.next) in record {
       right = λ meaning h i whole lead. (
         i,
-        subst (λ z. Lead t meaning z whole (at_hand meaning q)) (sym put.items) (subst (Lead t meaning (ws ++ w ∷ []) whole) (at meaning)
+        subst (λ z. Lead t meaning z whole (next_reading meaning q)) (sym put.items) (subst (Lead t meaning (ws ++ w ∷ []) whole) (at meaning)
             (lead_push t meaning ws w whole (meaning operand (stack_of s)) lead (record {
               made = fits meaning ∙ sym (means meaning h (stack_of s) ∙ ap (λ k. node_reading t meaning k (stack_of s)) is);
               traced = none meaning;
@@ -153,11 +153,11 @@ wait_last t m node s k l means is h operand ws vs q fits within below put =
 
 -- a node waits for its only operand, which stands inside it
 pub wait_inside : (t : Table) (m : Memory) (node : ℕ) (s : Stack) (k l : NodeKind) → ((meaning : Meaning) → IsMeaning t meaning → (a : AbstractStack) → meaning node a ≡ node_reading t meaning k a) → k ≡ l
-    → Lies t node k → (h : How) (operand : ℕ) → (Lies t node l → Inside t node operand)
+    → HasOrderedOperands t node k → (h : How) (operand : ℕ) → (HasOrderedOperands t node l → Inside t node operand)
     → ((meaning : Meaning) → filled t meaning (awaits.Last h) (stack_of s) (meaning operand (stack_of s)) ≡ node_reading t meaning l (stack_of s))
     → (ws vs : List Waiting) (q : Result ReadTask AllocError) → IfOk q (IsPut ws vs node s (awaits.Last h) operand) → IfOk q (ReadsOn t m m (next.Read node s) ws vs)
 wait_inside t m node s k l means is lies h operand inside fits ws vs q =
-    let below : Inside t node operand = inside (subst (Lies t node) is lies) in
+    let below : Inside t node operand = inside (subst (HasOrderedOperands t node) is lies) in
     where_ok q (λ n put. wait_last t m node s k l means is h operand ws vs n fits below.within (level_inside t node operand below) put)
 
 pub wait_first : (t : Table) (m : Memory) (node : ℕ) (s : Stack) (k l : NodeKind) → ((meaning : Meaning) → IsMeaning t meaning → (a : AbstractStack) → meaning node a ≡ node_reading t meaning k a) → k ≡ l
@@ -174,7 +174,7 @@ wait_first t m node s k l means is first second choice ws vs q fits inside put =
 -- the first of two operands is read
 pub first_done : (t : Table) (m : Memory) (ws vs : List Waiting) (w : Waiting) (r : Reading) (second : ℕ) (choice : Bool) (q : ReadTask) → w.awaited ≡ awaits.First second choice
     → vs ≡ ws ++ record { node = w.node; stack = w.stack; awaited = awaits.Last (how.Both r choice) } ∷ []
-    → ((meaning : Meaning) → at_hand meaning q ≡ from (next_after choice (reading_of r) (stack_of w.stack)) (meaning second)) → effort_next t q ≤ effort_of t second → ((l : ℕ) → IsLow t l second → IsNextLow t l q)
+    → ((meaning : Meaning) → next_reading meaning q ≡ from (next_after choice (reading_of r) (stack_of w.stack)) (meaning second)) → effort_next t q ≤ effort_of t second → ((l : ℕ) → IsLow t l second → IsNextLow t l q)
     → ReadsOn t m m (next.Done r) (ws ++ w ∷ []) vs q
 first_done t m ws vs w r second choice q is items at less low =
     let v : Waiting = record { node = w.node; stack = w.stack; awaited = awaits.Last (how.Both r choice) } in
@@ -182,7 +182,7 @@ first_done t m ws vs w r second choice q is items at less low =
       right = λ meaning h i whole lead.
           let z = lead_pop t meaning ws w whole (reading_of r) lead in (
             i,
-            subst (λ y. Lead t meaning y whole (at_hand meaning q)) (sym items) (lead_push t meaning ws v whole (at_hand meaning q) z.0 (record {
+            subst (λ y. Lead t meaning y whole (next_reading meaning q)) (sym items) (lead_push t meaning ws v whole (next_reading meaning q) z.0 (record {
               made = ap (both_reading choice t.skips a (reading_of r)) (at meaning) ∙ (ap (λ x. filled t meaning x a (reading_of r)) (sym is) ∙ z.1.made);
               traced = tt;
             })),
@@ -219,7 +219,7 @@ last_done t old new ws w r q h is made keep = record {
 
 -- a node is read so far
 pub record ReadSoFar (t : Table) (old now : Memory) (node : ℕ) (s : Stack) (p : ReadTask) (ws : List Waiting) : Type 0 where
-  pub right : (meaning : Meaning) → IsMeaning t meaning → IsRight meaning old → IsRight meaning now × Lead t meaning ws (meaning node (stack_of s)) (at_hand meaning p)
+  pub right : (meaning : Meaning) → IsMeaning t meaning → IsRight meaning old → IsRight meaning now × Lead t meaning ws (meaning node (stack_of s)) (next_reading meaning p)
   pub next_low : IsNextLow t (level t node) p
   pub low : AreLow t (level t node) ws
 
@@ -241,6 +241,6 @@ pub read_done : (t : Table) (old now : Memory) (node : ℕ) (s : Stack) (p : Rea
 read_done t old now node s p ws r so is none = record {
   value = λ meaning h i.
       let l = (so.right meaning h i).1 in
-      subst (λ q. at_hand meaning q ≡ meaning node (stack_of s)) is (subst (λ z. Lead t meaning z (meaning node (stack_of s)) (at_hand meaning p)) none l);
+      subst (λ q. next_reading meaning q ≡ meaning node (stack_of s)) is (subst (λ z. Lead t meaning z (meaning node (stack_of s)) (next_reading meaning p)) none l);
   kept = λ meaning h i. (so.right meaning h i).0;
 }

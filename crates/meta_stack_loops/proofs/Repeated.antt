@@ -12,7 +12,7 @@ use Rattle.meta_stack_loops.specs.Memory.{Meaning}
 use Rattle.meta_stack_loops.specs.Following.{IsForeseen, IsRun, copy_step, seen_stacks, times}
 use Rattle.meta_stack_loops.specs.Repeating.{CopiesLead, HasTrace, TurnsLead, copied_reading, copies_left, most_readings, turned_reading}
 use Rattle.meta_stack_loops.specs.Table.{IsMeaning, Inside, copies, node_reading}
-use Rattle.meta_stack_loops.specs.Waiting.{AreLow, AwaitsCopy, EndsWith, Fills, GoesOn, IsAwaitedLow, IsLow, IsNextLow, Lead, ReadsOn, Resumes, at_hand, effort_awaited, effort_next, effort_of, effort_times, effort_waiting}
+use Rattle.meta_stack_loops.specs.Waiting.{AreLow, AwaitsCopy, EndsWith, Fills, GoesOn, IsAwaitedLow, IsLow, IsNextLow, Lead, ReadsOn, Resumes, next_reading, effort_awaited, effort_next, effort_of, effort_times, effort_waiting}
 use Rattle.meta_stack_domain.specs.declared.reading.Reading.{Reading}
 use Rattle.meta_stack_domain.specs.declared.reading.Walk.{Walk}
 use Rattle.meta_stack_domain.specs.declared.stack.Stack.{Stack}
@@ -53,7 +53,7 @@ pub goes_on_ended : (t : Table) (old new : Memory) (node : ℕ) (s : Stack) (P :
 goes_on_ended t old new node s P body n ws q alone w f d = record {
   right = λ meaning h i k whole lead.
       let e : reading_of d.reading ≡ meaning node (stack_of s) = d.value ∙ f meaning k in
-      (d.kept meaning i e, subst (λ p. Lead t meaning ws whole (at_hand meaning p)) (sym d.next) (subst (Lead t meaning ws whole) (sym e) lead));
+      (d.kept meaning i e, subst (λ p. Lead t meaning ws whole (next_reading meaning p)) (sym d.next) (subst (Lead t meaning ws whole) (sym e) lead));
   less = let e = ap (effort_next t) d.next in omega arith;
   low = λ l b a. (subst (IsNextLow t l) (sym d.next) tt, a);
 }
@@ -67,8 +67,8 @@ goes_on_again t m node s P body n k a from ws vs q fills effort more low items i
     let w : Waiting = record { node = node; stack = s; awaited = a } in record {
       right = λ meaning h i p whole lead. (
         i,
-        subst (λ z. Lead t meaning z whole (at_hand meaning q)) (sym items)
-            (subst (λ p. Lead t meaning (ws ++ w ∷ []) whole (at_hand meaning p)) (sym is) (lead_push t meaning ws w whole (meaning body (stack_of from)) lead (fills meaning p))),
+        subst (λ z. Lead t meaning z whole (next_reading meaning q)) (sym items)
+            (subst (λ p. Lead t meaning (ws ++ w ∷ []) whole (next_reading meaning p)) (sym is) (lead_push t meaning ws w whole (meaning body (stack_of from)) lead (fills meaning p))),
       );
       less =
           let e = ap (effort_next t) is in

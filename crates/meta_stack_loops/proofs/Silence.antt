@@ -25,7 +25,7 @@ use Rattle.meta_analysis.specs.Names.{grammar_of, rule_said}
 use Rattle.meta_stack_loops.specs.Names.{kind_in, name_kind}
 use Rattle.meta_analysis.specs.Nodes.{IsSimple, all_nodes}
 use Rattle.meta_stack_loops.specs.Kinds.{AreTabled, Fits, is_empty_text, leaf_kind, text_kind, slice_kind, wrap_kind, both_kind}
-use Rattle.meta_stack_loops.specs.Reportable.{AreBehind, AreReportable, AreSilent, may_be_still, may_loop, slice_may_be_still, TellLoops}
+use Rattle.meta_stack_loops.specs.Reportable.{AreInPostorder, AreReportable, AreSilent, may_be_still, may_loop, slice_may_be_still, AreLoopFlags}
 use Rattle.meta_stack_loops.specs.Table.{parts_of}
 use Rattle.meta_stack_loops.specs.declared.facts.Question.TheVariants as asks
 use Rattle.meta_stack_loops.specs.declared.table.PassNode.{PassNode}
@@ -59,7 +59,7 @@ same_parts p q parts.Nothing f = refl
 same_parts p q (parts.Inside j required optional endless) f = f j refl
 same_parts p q (parts.Both j k choice) f = ap₂ (λ y z. y || z) (f j (inl refl)) (f k (inr refl))
 
-pub told_more : (ns : List PassNode) (still flags : List Bool) (k : ℕ) (n : PassNode) (b : Bool) → AreBehind ns → length flags ≡ k → slice_get ns k ≡ Some n → b ≡ rest_told still flags (parts_of n.kind)
+pub told_more : (ns : List PassNode) (still flags : List Bool) (k : ℕ) (n : PassNode) (b : Bool) → AreInPostorder ns → length flags ≡ k → slice_get ns k ≡ Some n → b ≡ rest_told still flags (parts_of n.kind)
     → AreToldTo ns still flags k → AreToldTo ns still (flags ++ b ∷ []) (k + 1)
 told_more ns still flags k n b before l at e h i m less is = elim (cases_lt i k) [
   | inl w ↦ set_before flags b i (omega arith) ∙ (h i m w is ∙ as_before i m is (omega arith))
@@ -100,7 +100,7 @@ module _ (rules : List ParserRule) (ns : List PassNode) (roots : List ℕ) (tabl
       ]
 
   -- operands stand before what they are operands of
-  pub behind : AreBehind ns
+  pub behind : AreInPostorder ns
   behind i n at j o = let (x, here) = got_alike ns all i n at tabled.nodes.alike in below i n x at here j o
 
   module _ (still : List Bool) (right : AreAnswers asks.MayBeStill ns roots still) where
@@ -191,7 +191,7 @@ module _ (rules : List ParserRule) (ns : List PassNode) (roots : List ℕ) (tabl
         go o l (absent f) = ap (λ q. still_kind roots P (name_kind n q)) l ∙ (ap (still_kind roots P) (builtin_does n) ∙ by_still (builtin_of n) a h)
         go o l (named rule at f) = let z = sym e ∙ f in cc
 
-    module _ (flags : List Bool) (told : TellLoops ns still flags) (limit turns : ℕ) (recursive : Text → Bool) (nullable : Spanned → Bool) where
+    module _ (flags : List Bool) (told : AreLoopFlags ns still flags) (limit turns : ℕ) (recursive : Text → Bool) (nullable : Spanned → Bool) where
       abbrev read : Spanned → AbstractStack → says.Reading
       read y = reading_in limit recursive G (without_spans y)
 

@@ -10,7 +10,7 @@ use Rattle.meta_stack_domain.proofs.Turning.{is_in}
 use Rattle.meta_stack_domain.proofs.Bases.{common_same}
 use Rattle.meta_stack_loops.specs.Apart.{moved, AreMovable, AreApart, apart_kind, apart_call}
 use Rattle.meta_stack_loops.specs.Memory.{Meaning}
-use Rattle.meta_stack_loops.specs.Table.{IsMeaning, IsOrdered, Inside, Lies, LeadsTo, call_reading, copies, followed_at, level, node_reading, nodes_of}
+use Rattle.meta_stack_loops.specs.Table.{IsMeaning, IsOrdered, Inside, HasOrderedOperands, LeadsTo, call_reading, copies, followed_at, level, node_reading, nodes_of}
 use Rattle.meta_stack_loops.specs.declared.table.NodeKind.{NodeKind}
 use Rattle.meta_stack_loops.specs.declared.table.NodeKind.TheVariants as is
 use Rattle.meta_stack_loops.specs.declared.table.PassNode.{PassNode}
@@ -207,7 +207,7 @@ module _ (t : Table) (meaning : Meaning) (set : ℕ → Bool) where
   shaped_call i None b h e = cc
   shaped_call i (Some j) b h e = b j (level_called t i j h) h.within e
 
-  shaped_kind : (i : ℕ) (k : NodeKind) → Below i → Lies t i k → apart_kind t set k ≡ true → IsShaped (node_reading t meaning k)
+  shaped_kind : (i : ℕ) (k : NodeKind) → Below i → HasOrderedOperands t i k → apart_kind t set k ≡ true → IsShaped (node_reading t meaning k)
   shaped_kind i is.Still b h e = record { shape = record { ok = true; err = false; still = true }; is = λ a. refl }
   shaped_kind i is.Leaf b h e = record { shape = record { ok = true; err = true; still = false }; is = λ a. refl }
   shaped_kind i is.Peek b h e = cc

@@ -79,7 +79,7 @@ pub record AreReports (rules : List SpannedRule) (spans : List Span) : Type 0 wh
   pub sorted : IsSorted reports spans
 
 -- the errors are those of the reports, ordered by position
-pub record TellReports (rules : List SpannedRule) (errors : List (Error Rule)) : Type 0 where
+pub record AreErrorsOfReports (rules : List SpannedRule) (errors : List (Error Rule)) : Type 0 where
   pub spans : List Span
   pub found : AreReports rules spans
   pub told : Tell (map complaint_at spans) errors

@@ -21,7 +21,7 @@ abbrev pub seen_stacks : List Stack → List AbstractStack
 seen_stacks ss = map stack_of ss
 
 -- the walk with index j in a list is this one
-pub record Comes (ws : List Walk) (w : says.Walk) (j : ℕ) : Type 0 where
+pub record IsWalkAt (ws : List Walk) (w : says.Walk) (j : ℕ) : Type 0 where
   pub walk : Walk
   pub at : slice_get ws j ≡ Some walk
   pub same : walk_of walk ≡ w
@@ -33,7 +33,7 @@ copy_step t meaning body required w = onward t.limit (meaning body) (copy_of req
 -- these are the walks from which the copies start, every walk at the index of its first copy
 pub record IsTrace (f : says.Walk → says.Walk) (n : ℕ) (w : says.Walk) (items : List Walk) : Type 0 where
   pub each : (j : ℕ) (v : Walk) → slice_get items j ≡ Some v → (walk_of v ≡ times j f w) × (j < n)
-  pub all : (i : ℕ) → i < n → (j : ℕ) × Comes items (times i f w) j
+  pub all : (i : ℕ) → i < n → (j : ℕ) × IsWalkAt items (times i f w) j
 
 -- the list has the walks start, f start, f (f start), .. one by one, and w is the next of them
 pub record IsRun (f : says.Walk → says.Walk) (start : says.Walk) (items : List Walk) (w : says.Walk)

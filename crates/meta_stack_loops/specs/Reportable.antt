@@ -62,13 +62,13 @@ may_loop p parts.Nothing = false
 may_loop p (parts.Both j k choice) = false
 
 -- the operands of every node precede it
-abbrev pub AreBehind : List PassNode → Type 0
-AreBehind ns = (i : ℕ) (n : PassNode) → slice_get ns i ≡ Some n
+abbrev pub AreInPostorder : List PassNode → Type 0
+AreInPostorder ns = (i : ℕ) (n : PassNode) → slice_get ns i ≡ Some n
     → (j : ℕ) → IsOperandOf j (parts_of n.kind) → j < i
 
 -- the flag of a node is set iff the node is such a repetition, or has one inside
-abbrev pub TellLoops : List PassNode → List Bool → List Bool → Type 0
-TellLoops ns still flags = (i : ℕ) (n : PassNode) → slice_get ns i ≡ Some n
+abbrev pub AreLoopFlags : List PassNode → List Bool → List Bool → Type 0
+AreLoopFlags ns still flags = (i : ℕ) (n : PassNode) → slice_get ns i ≡ Some n
     → is_set_at flags i
     ≡ (may_loop (is_set_at still) (parts_of n.kind) || some_part (is_set_at flags) (parts_of n.kind))
 
@@ -76,7 +76,7 @@ TellLoops ns still flags = (i : ℕ) (n : PassNode) → slice_get ns i ≡ Some 
 pub record AreReportable (ns : List PassNode) (roots : List ℕ) (flags : List Bool) : Type 0 where
   pub still : List Bool
   pub answers : AreAnswers asks.MayBeStill ns roots still
-  pub told : TellLoops ns still flags
+  pub told : AreLoopFlags ns still flags
 
 -- nothing is reported in a rule's body, whichever calls are followed, and however far
 abbrev pub IsSilent : Grammar → Spanned → Type 0

@@ -113,20 +113,20 @@ LeadsTo t i None = ⊤
 LeadsTo t i (Some j) = Called t i j
 
 -- the operands of a node precede it, and have no higher ranks
-abbrev pub Lies : Table → ℕ → NodeKind → Type 0
-Lies t i (is.Call r) = LeadsTo t i (followed_at t r)
-Lies t i (is.PosPred j) = Inside t i j
-Lies t i (is.NegPred j) = Inside t i j
-Lies t i (is.Opt j) = Inside t i j
-Lies t i (is.Push j) = Inside t i j
-Lies t i (is.Tag j) = Inside t i j
-Lies t i (is.Seq j k) = Inside t i j × Inside t i k
-Lies t i (is.Choice j k) = Inside t i j × Inside t i k
-Lies t i (is.Repeat j required optional endless) = Inside t i j
-Lies t i _ = ⊤
+abbrev pub HasOrderedOperands : Table → ℕ → NodeKind → Type 0
+HasOrderedOperands t i (is.Call r) = LeadsTo t i (followed_at t r)
+HasOrderedOperands t i (is.PosPred j) = Inside t i j
+HasOrderedOperands t i (is.NegPred j) = Inside t i j
+HasOrderedOperands t i (is.Opt j) = Inside t i j
+HasOrderedOperands t i (is.Push j) = Inside t i j
+HasOrderedOperands t i (is.Tag j) = Inside t i j
+HasOrderedOperands t i (is.Seq j k) = Inside t i j × Inside t i k
+HasOrderedOperands t i (is.Choice j k) = Inside t i j × Inside t i k
+HasOrderedOperands t i (is.Repeat j required optional endless) = Inside t i j
+HasOrderedOperands t i _ = ⊤
 
 abbrev pub IsOrdered : Table → Type 0
-IsOrdered t = (i : ℕ) (n : PassNode) → slice_get (nodes_of t) i ≡ Some n → Lies t i n.kind
+IsOrdered t = (i : ℕ) (n : PassNode) → slice_get (nodes_of t) i ≡ Some n → HasOrderedOperands t i n.kind
 
 -- the bodies of the rules are nodes
 abbrev pub AreInside : Table → Type 0
@@ -137,10 +137,10 @@ abbrev pub level : Table → ℕ → ℕ
 level t i = rank_at t i * suc (length (nodes_of t)) + i
 
 -- and so do these
-abbrev pub PartsLie : Table → ℕ → Parts → Type 0
-PartsLie t i (parts.Inside j required optional endless) = Inside t i j
-PartsLie t i (parts.Both j k choice) = Inside t i j × Inside t i k
-PartsLie t i parts.Nothing = ⊤
+abbrev pub AreOrderedParts : Table → ℕ → Parts → Type 0
+AreOrderedParts t i (parts.Inside j required optional endless) = Inside t i j
+AreOrderedParts t i (parts.Both j k choice) = Inside t i j × Inside t i k
+AreOrderedParts t i parts.Nothing = ⊤
 
 -- these are the parts of a node
 pub record HasParts (t : Table) (i : ℕ) (ps : Parts) : Type 0 where

@@ -68,9 +68,9 @@ Lead t meaning (w ∷ ws) whole r =
     × Fills t meaning w.awaited (stack_of w.stack) inner whole × Lead t meaning ws inner r
 
 -- the reading that the next task gives
-abbrev pub at_hand : Meaning → ReadTask → says.Reading
-at_hand meaning (next.Read node s) = meaning node (stack_of s)
-at_hand meaning (next.Done r) = reading_of r
+abbrev pub next_reading : Meaning → ReadTask → says.Reading
+next_reading meaning (next.Read node s) = meaning node (stack_of s)
+next_reading meaning (next.Done r) = reading_of r
 
 -- how much there is to do for a node of a level: more than for two of lower levels, or for so many readings
 -- of one of them
@@ -122,8 +122,8 @@ AreLow t l (w ∷ ws) = IsAwaitedLow t l w.awaited × AreLow t l ws
 pub record ReadsOn (t : Table) (old new : Memory) (p : ReadTask) (ws vs : List Waiting) (q : ReadTask)
     : Type 0 where
   pub right : (meaning : Meaning) → IsMeaning t meaning → IsRight meaning old → (whole : says.Reading)
-      → Lead t meaning ws whole (at_hand meaning p)
-      → IsRight meaning new × Lead t meaning vs whole (at_hand meaning q)
+      → Lead t meaning ws whole (next_reading meaning p)
+      → IsRight meaning new × Lead t meaning vs whole (next_reading meaning q)
   pub less : effort_next t q + effort_waiting t vs < effort_next t p + effort_waiting t ws
   pub low : (l : ℕ) → IsNextLow t l p → AreLow t l ws → IsNextLow t l q × AreLow t l vs
 
@@ -139,7 +139,7 @@ pub record GoesOn (t : Table) (old new : Memory) (node : ℕ) (s : Stack) (Known
     (body readings : ℕ) (ws vs : List Waiting) (q : ReadTask) : Type 0 where
   pub right : (meaning : Meaning) → IsMeaning t meaning → IsRight meaning old → Known meaning
       → (whole : says.Reading) → Lead t meaning ws whole (meaning node (stack_of s))
-      → IsRight meaning new × Lead t meaning vs whole (at_hand meaning q)
+      → IsRight meaning new × Lead t meaning vs whole (next_reading meaning q)
   pub less : effort_next t q + effort_waiting t vs ≤ effort_times t body readings + effort_waiting t ws
   pub low : (l : ℕ) → IsLow t l body → AreLow t l ws → IsNextLow t l q × AreLow t l vs
 

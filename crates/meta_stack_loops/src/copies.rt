@@ -5,7 +5,7 @@ ghost use Rattle.meta_stack_domain.specs.Reading as says;
 ghost use Rattle.meta_stack_domain.specs.Views.{stack_of, walk_of, possible};
 ghost use Rattle.meta_stack_loops.specs.Table.{copies};
 ghost use Rattle.meta_stack_loops.specs.Memory.{Meaning};
-ghost use Rattle.meta_stack_loops.specs.Following.{Comes, IsForeseen, seen_stacks};
+ghost use Rattle.meta_stack_loops.specs.Following.{IsWalkAt, IsForeseen, seen_stacks};
 ghost use Rattle.meta_stack_loops.specs.Repeating.{CopiesLead, TurnsLead, copied_reading, copies_left, most_readings};
 ghost use Rattle.meta_stack_loops.specs.Waiting.{AwaitsCopy, EndsWith, GoesOn, Resumes};
 
@@ -100,7 +100,7 @@ pub fn is_among(stacks: &[Stack], stack: Stack) -> bool
 
 /// Returns an index at which a walk is in the trace.
 fn place_of(trace: &[Walk], walk: Walk) -> Option<usize>
-    ensures { IfSome result (Comes trace.now (walk_of walk)) }
+    ensures { IfSome result (IsWalkAt trace.now (walk_of walk)) }
 {
     for (place, earlier) in trace.iter().enumerate() {
         if earlier.is_same(walk) {

@@ -9,7 +9,7 @@ ghost use Rattle.meta_spanned.specs.Nodes.{rule_views, piece_of};
 ghost use Rattle.meta_analysis.specs.Facts.{AreFacts, AreNullable};
 ghost use Rattle.meta_analysis.specs.Groundwork.{IsGroundwork};
 ghost use Rattle.meta_stack_domain.specs.Reports.{skips_in};
-ghost use Rattle.meta_stack_loops.specs.Certain.{AreFound, AreReports, IsSorted, TellReports, complaint_at};
+ghost use Rattle.meta_stack_loops.specs.Certain.{AreFound, AreReports, IsSorted, AreErrorsOfReports, complaint_at};
 ghost use Rattle.meta_stack_loops.specs.Expressions.{body_flag, name_flag};
 ghost use Rattle.meta_analysis.specs.NameMaps.{KnowsRules};
 ghost use Rattle.meta_analysis.specs.Names.{grammar_of};
@@ -446,7 +446,7 @@ pub fn validate_stack_repetition<'i>(
     alloc: Global,
     rules: &Vec<ParserRule<'i>>,
 ) -> Result<Vec<Error<Rule>>, Fault>
-    ensures exact { IfOk result (λ errors. TellReports (rule_views rules.now.items) errors.items) }
+    ensures exact { IfOk result (λ errors. AreErrorsOfReports (rule_views rules.now.items) errors.items) }
     ensures memory { IfErr result (λ fault. fault ≡ Fault.Memory alloc_error) }
 {
     let found = sorted_reports(alloc, rules.as_slice())?;

@@ -4,7 +4,7 @@ ghost use Rattle.std.specs.Prelude.{◌≡◌, ℕ, IfOk, Some, false, ◌||◌,
 ghost use Rattle.meta_fixpoint.specs.Least.{is_set_at};
 ghost use Rattle.meta_stack_loops.specs.Answers.{some_part};
 ghost use Rattle.meta_stack_loops.specs.Reportable as spec;
-ghost use Rattle.meta_stack_loops.specs.Reportable.{AreBehind, AreReportable, TellLoops};
+ghost use Rattle.meta_stack_loops.specs.Reportable.{AreInPostorder, AreReportable, AreLoopFlags};
 
 use crate::facts::{Question, answers, is_part_set, is_root_set};
 use crate::table::{Parts, PassNode};
@@ -35,8 +35,8 @@ fn with_loops<'n, 'i>(
     nodes: &[PassNode<'n, 'i>],
     still: &[bool],
 ) -> Result<Vec<bool>, AllocError>
-    requires { AreBehind nodes.now }
-    ensures { IfOk result (λ flags. TellLoops nodes.now still.now flags.items) }
+    requires { AreInPostorder nodes.now }
+    ensures { IfOk result (λ flags. AreLoopFlags nodes.now still.now flags.items) }
 {
     let mut flags = Vec::with_capacity(alloc, nodes.len())?;
     for place in 0..nodes.len() {
@@ -53,7 +53,7 @@ pub(crate) fn reportable_nodes<'n, 'i>(
     roots: &[usize],
     nodes: &[PassNode<'n, 'i>],
 ) -> Result<Vec<bool>, AllocError>
-    requires { AreBehind nodes.now }
+    requires { AreInPostorder nodes.now }
     ensures { IfOk result (λ flags. AreReportable nodes.now roots.now flags.items) }
 {
     let still = answers(alloc, Question::MayBeStill, roots, nodes)?;

@@ -133,7 +133,7 @@ pub struct Table<'n, 'i> {
 }
 
 impl<'n, 'i> Table<'n, 'i> {
-    ghost use Rattle.meta_stack_loops.specs.Table.{IsMeaning, IsOrdered, Lies, HasParts, PartsLie, node_reading, nodes_of, followed_at, rank_at};
+    ghost use Rattle.meta_stack_loops.specs.Table.{IsMeaning, IsOrdered, HasOrderedOperands, HasParts, AreOrderedParts, node_reading, nodes_of, followed_at, rank_at};
 
     /// Returns the rank of a node.
     pub(crate) fn rank_of(&self, node: usize) -> usize
@@ -150,7 +150,7 @@ impl<'n, 'i> Table<'n, 'i> {
         requires inside { node < self.now.nodes.len }
         ensures means { (meaning : ℕ → is.AbstractStack → says.Reading) → IsMeaning self.now meaning
             → (a : is.AbstractStack) → meaning node a ≡ node_reading self.now meaning result a }
-        ensures ordered { IsOrdered self.now → Lies self.now node result }
+        ensures ordered { IsOrdered self.now → HasOrderedOperands self.now node result }
     {
         self.nodes[node].kind
     }
@@ -167,7 +167,7 @@ impl<'n, 'i> Table<'n, 'i> {
     pub fn parts_at(&self, node: usize) -> Parts
         requires inside { node < self.now.nodes.len }
         ensures parts { HasParts self.now node result }
-        ensures ordered { IsOrdered self.now → PartsLie self.now node result }
+        ensures ordered { IsOrdered self.now → AreOrderedParts self.now node result }
     {
         self.node_at(node).kind.parts()
     }

@@ -8,7 +8,7 @@ use Rattle.meta_validator.specs.Reported.{AreReported}
 
 -- the errors are those of the rules, ordered by position; the repetitions that the stack pass reports are
 -- among them, and there are no others that are known to be endless
-pub record TellFindings (rules : List SpannedRule) (errors : List (Error Rule)) : Type 0 where
+pub record AreErrorsOfFindings (rules : List SpannedRule) (errors : List (Error Rule)) : Type 0 where
   pub endless : List Span
   pub reports : AreReports rules endless
   pub tell : AreReported rules endless errors

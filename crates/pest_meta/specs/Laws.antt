@@ -9,7 +9,7 @@ use Rattle.meta_base.specs.declared.grammar.Rule.{Rule}
 use Rattle.meta_base.specs.declared.runtime.errors.Error.{Error}
 use Rattle.meta_optimizer.specs.Passes.{IsOptimized}
 use Rattle.meta_validator.specs.Alike.{AreAlike}
-use Rattle.pest_meta.specs.Spelling.{AreFlawed, Give, HasAnswer, HasRefusal, HasTrees, HasWrongRules, IsAnswer, IsMisnamed, IsNoGrammar, IsRefusedWith, SpellsGrammar}
+use Rattle.pest_meta.specs.Spelling.{AreFlawed, AreReadAsRules, HasAnswer, HasRefusal, HasTrees, HasWrongRules, IsAnswer, IsMisnamed, IsNoGrammar, IsRefusedWith, SpellsGrammar}
 
 -- a text has one list of trees at most
 abbrev pub HasOneListOfTrees : Type 0
@@ -24,7 +24,7 @@ HasTreesOrFails = (text : List ℕ) (trees : Trees) (errors : List (Error Rule))
 -- trees that have a flaw give no rules
 abbrev pub FlawedGiveNothing : Type 0
 FlawedGiveNothing = (text : List ℕ) (trees : Trees) (errors : List (Error Rule)) (rules : Grammar)
-    → AreFlawed text trees errors → Give text trees rules → ⊥
+    → AreFlawed text trees errors → AreReadAsRules text trees rules → ⊥
 
 -- a text spells one list of rules at most
 abbrev pub SpellsOneGrammar : Type 0

@@ -23,14 +23,14 @@ use Rattle.meta_syntax.specs.Parses as parsed
 use Rattle.meta_syntax.specs.Parses.{IsRefused}
 use Rattle.meta_stack_loops.specs.Certain.{AreReports}
 use Rattle.meta_validator.specs.Reported.{AreReported}
-use Rattle.pest_meta.specs.Findings.{TellFindings}
+use Rattle.pest_meta.specs.Findings.{AreErrorsOfFindings}
 
 -- the trees of a text, which the meta-grammar gives for the whole of it
 abbrev pub HasTrees : List ℕ → Trees → Type 0
 HasTrees text trees = parsed.Spells rule_is.grammar_rules text trees
 
 -- trees of a text have no flaw and are read as these rules, spans left out
-pub record Give (text : List ℕ) (trees : Trees) (rules : Grammar) : Type 0 where
+pub record AreReadAsRules (text : List ℕ) (trees : Trees) (rules : Grammar) : Type 0 where
   pub flawless : first_flaw text trees ≡ None
   pub read : List SpannedRule
   pub reads : ReadsRules text trees read
@@ -40,7 +40,7 @@ pub record Give (text : List ℕ) (trees : Trees) (rules : Grammar) : Type 0 whe
 pub record SpellsGrammar (text : List ℕ) (rules : Grammar) : Type 0 where
   pub trees : Trees
   pub of_text : HasTrees text trees
-  pub give : Give text trees rules
+  pub give : AreReadAsRules text trees rules
 
 -- the text spells no rules
 abbrev pub SpellsNone : List ℕ → Type 0
@@ -49,7 +49,7 @@ SpellsNone text = (rules : Grammar) → SpellsGrammar text rules → ⊥
 -- trees of a text give these rules, the stack pass reports nothing of them, nothing else is found in them,
 -- and they are well-formed
 pub record AreAccepted (text : List ℕ) (trees : Trees) (rules : Grammar) : Type 0 where
-  pub give : Give text trees rules
+  pub give : AreReadAsRules text trees rules
   pub no_reports : AreReports give.read []
   pub nothing_found : AreReported give.read [] []
   pub well_formed : IsWellFormed rules
@@ -64,9 +64,9 @@ pub record AreFlawed (text : List ℕ) (trees : Trees) (errors : List (Error Rul
 -- errors report it
 pub record HaveFindings (text : List ℕ) (trees : Trees) (errors : List (Error Rule)) : Type 0 where
   pub rules : Grammar
-  pub give : Give text trees rules
+  pub give : AreReadAsRules text trees rules
   pub some : errors ≢ []
-  pub tell : TellFindings give.read errors
+  pub tell : AreErrorsOfFindings give.read errors
 
 -- why trees of a text are not accepted: an allocation failed, or they have a flaw, or something is found in
 -- their rules

@@ -5,7 +5,7 @@ ghost use Rattle.meta_spanned.specs.Erasure.{rules_without_spans};
 ghost use Rattle.meta_spanned.specs.Nodes.{rule_views};
 ghost use Rattle.meta_stack_loops.specs.Certain.{AreReports};
 ghost use Rattle.meta_validator.specs.Placed.{AreIn};
-ghost use Rattle.pest_meta.specs.Findings.{TellFindings};
+ghost use Rattle.pest_meta.specs.Findings.{AreErrorsOfFindings};
 
 use meta_analysis::groundwork_of;
 use meta_base::grammar::Rule;
@@ -44,7 +44,7 @@ pub fn validate_ast<'i>(
     alloc: Global,
     rules: &Vec<ParserRule<'i>>,
 ) -> Result<Vec<Error<Rule>>, Fault>
-    ensures exact { IfOk result (λ errors. TellFindings (rule_views rules.now.items) errors.items) }
+    ensures exact { IfOk result (λ errors. AreErrorsOfFindings (rule_views rules.now.items) errors.items) }
     ensures accepted { IfOk result (λ errors. errors.items ≡ []
         → IsWellFormed (rules_without_spans (rule_views rules.now.items))) }
     ensures silent { IfOk result (λ errors. errors.items ≡ [] → AreReports (rule_views rules.now.items) []) }
@@ -64,7 +64,7 @@ pub fn validate_ast_in<'i>(
     rules: &Vec<ParserRule<'i>>,
 ) -> Result<Vec<Error<Rule>>, Fault>
     requires in_text { AreIn text.now (rule_views rules.now.items) }
-    ensures exact { IfOk result (λ errors. TellFindings (rule_views rules.now.items) errors.items) }
+    ensures exact { IfOk result (λ errors. AreErrorsOfFindings (rule_views rules.now.items) errors.items) }
     ensures accepted { IfOk result (λ errors. errors.items ≡ []
         → IsWellFormed (rules_without_spans (rule_views rules.now.items))) }
     ensures silent { IfOk result (λ errors. errors.items ≡ [] → AreReports (rule_views rules.now.items) []) }

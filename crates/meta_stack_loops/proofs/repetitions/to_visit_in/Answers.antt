@@ -6,7 +6,7 @@ use Rattle.meta_stack_loops.specs.Answers.{AreSound, AreClosed}
 use Rattle.meta_stack_loops.specs.Expressions.{name_flag}
 use Rattle.meta_stack_loops.specs.Leading.{AreCalls}
 use Rattle.meta_analysis.specs.Names.{grammar_of}
-use Rattle.meta_stack_loops.specs.Reportable.{AreBehind, AreReportable}
+use Rattle.meta_stack_loops.specs.Reportable.{AreInPostorder, AreReportable}
 use Rattle.meta_stack_loops.specs.declared.facts.Question.{Question}
 use Rattle.meta_stack_loops.specs.declared.facts.Question.TheVariants as asks
 use Rattle.meta_stack_loops.specs.declared.table.NodeKind.{NodeKind}
@@ -32,7 +32,7 @@ calls_at : (ns ms : List PassNode) (rs ts : List ℕ) (recursive : List Bool) (r
 calls_at ns ms rs ts recursive ranks e f h = subst (λ z. AreCalls z ts recursive ranks) e (subst (λ z. AreCalls ns z recursive ranks) f h)
 
 pub reportable_nodes-requires : goal.reportable_nodes-requires
-reportable_nodes-requires c = subst AreBehind (sym c.as_slice-2.ensures.value) (behind c.args.rules.now c.in_ok-nodes.nodes.items c.in_ok-roots.roots.items (tabled_at _ _ _ _ _ c.in_ok-roots.ensures c.in_ok-nodes.ensures))
+reportable_nodes-requires c = subst AreInPostorder (sym c.as_slice-2.ensures.value) (behind c.args.rules.now c.in_ok-nodes.nodes.items c.in_ok-roots.roots.items (tabled_at _ _ _ _ _ c.in_ok-roots.ensures c.in_ok-nodes.ensures))
 
 may_at : (ns ms : List PassNode) (rs ts : List ℕ) (flags : List Bool) → ns ≡ ms → rs ≡ ts → AreReportable ns rs flags → AreReportable ms ts flags
 may_at ns ms rs ts flags e f h = subst (λ z. AreReportable z ts flags) e (subst (λ z. AreReportable ns z flags) f h)
