@@ -69,8 +69,8 @@ module _ (limit turns : ℕ) (read : Spanned → AbstractStack → says.Reading)
   abbrev pub Inside : (AbstractStack → Type 0) → Unary → Spanned → AbstractStack → Type 0
   Inside S f x b = (a : AbstractStack) × S a × In b (starts limit (read x) (copies_of f) (Some a))
 
-  abbrev pub Behind : (AbstractStack → Type 0) → Binary → Spanned → AbstractStack → Type 0
-  Behind S f x b = (a : AbstractStack) × S a × (next_after (is_choice f) (read x a) a ≡ Some b)
+  abbrev pub AfterFirst : (AbstractStack → Type 0) → Binary → Spanned → AbstractStack → Type 0
+  AfterFirst S f x b = (a : AbstractStack) × S a × (next_after (is_choice f) (read x a) a ≡ Some b)
 
   -- the reports in a node that is visited from these stacks, one for a repetition, an outer one before
   -- those inside
@@ -81,7 +81,7 @@ module _ (limit turns : ℕ) (read : Spanned → AbstractStack → says.Reading)
       × Own S t f x inside ts
   ReportedIn S (Two t f x y) ts = (first : List Span) × (second : List Span)
       × ReportedIn S x first
-      × ReportedIn (Behind S f x) y second
+      × ReportedIn (AfterFirst S f x) y second
       × (ts ≡ first ++ second)
 
 -- the node at a route

@@ -90,19 +90,19 @@ HasTurn (Optional ∷ cs) (suc i) = HasTurn cs i
 HasTurn (Endless ∷ cs) i = ⊤
 
 -- the part at a route, on which each turn is one that its repetition has
-pub data StandsAt : Expression → Route → Expression → Type 0 where
-  to_itself : {e : Expression} → StandsAt e Here e
-  to_seq_first : {a b p : Expression} {r : Route} → StandsAt a r p → StandsAt (Seq a b) (First r) p
-  to_seq_second : {a b p : Expression} {r : Route} → StandsAt b r p → StandsAt (Seq a b) (Second r) p
-  to_choice_first : {a b p : Expression} {r : Route} → StandsAt a r p → StandsAt (Choice a b) (First r) p
-  to_choice_second : {a b p : Expression} {r : Route} → StandsAt b r p → StandsAt (Choice a b) (Second r) p
-  to_opt : {e p : Expression} {r : Route} → StandsAt e r p → StandsAt (Opt e) (Inner r) p
-  to_push : {e p : Expression} {r : Route} → StandsAt e r p → StandsAt (Push e) (Inner r) p
-  to_tag : {e p : Expression} {t : Text} {r : Route} → StandsAt e r p → StandsAt (NodeTag e t) (Inner r) p
-  to_pos_pred : {e p : Expression} {r : Route} → StandsAt e r p → StandsAt (PosPred e) (Inner r) p
-  to_neg_pred : {e p : Expression} {r : Route} → StandsAt e r p → StandsAt (NegPred e) (Inner r) p
+pub data IsPartAt : Expression → Route → Expression → Type 0 where
+  to_itself : {e : Expression} → IsPartAt e Here e
+  to_seq_first : {a b p : Expression} {r : Route} → IsPartAt a r p → IsPartAt (Seq a b) (First r) p
+  to_seq_second : {a b p : Expression} {r : Route} → IsPartAt b r p → IsPartAt (Seq a b) (Second r) p
+  to_choice_first : {a b p : Expression} {r : Route} → IsPartAt a r p → IsPartAt (Choice a b) (First r) p
+  to_choice_second : {a b p : Expression} {r : Route} → IsPartAt b r p → IsPartAt (Choice a b) (Second r) p
+  to_opt : {e p : Expression} {r : Route} → IsPartAt e r p → IsPartAt (Opt e) (Inner r) p
+  to_push : {e p : Expression} {r : Route} → IsPartAt e r p → IsPartAt (Push e) (Inner r) p
+  to_tag : {e p : Expression} {t : Text} {r : Route} → IsPartAt e r p → IsPartAt (NodeTag e t) (Inner r) p
+  to_pos_pred : {e p : Expression} {r : Route} → IsPartAt e r p → IsPartAt (PosPred e) (Inner r) p
+  to_neg_pred : {e p : Expression} {r : Route} → IsPartAt e r p → IsPartAt (NegPred e) (Inner r) p
   to_turn : {e p : Expression} {q : Repetition} {i : ℕ} {r : Route} → repetition e ≡ Some q
-      → HasTurn q.copies i → StandsAt q.body r p → StandsAt e (Turn i r) p
+      → HasTurn q.copies i → IsPartAt q.body r p → IsPartAt e (Turn i r) p
 
 -- where the reading goes on from a stack that may be impossible
 abbrev pub next : Option AbstractStack → (AbstractStack → Option AbstractStack) → Option AbstractStack
@@ -187,7 +187,7 @@ module _ (g : Grammar) (classes : Classes) (m : Mode) where
 -- the repetition p at a route in the rule's body e is definite, without an outcome wherever a start of the
 -- rule reaches it on this route
 pub record IsCertain (g : Grammar) (e p : Expression) (r : Route) (a : AbstractStack) : Type 0 where
-  pub leads : StandsAt e r p
+  pub leads : IsPartAt e r p
   -- p repeats it, and has no greatest number
   pub body : Expression
   pub repeats : Repeats p body
@@ -224,6 +224,6 @@ pub record IsReport (limit turns : ℕ) (recursive : Text → Bool) (g : Grammar
   pub not_null : IsNullable g body → ⊥
   pub not_sure : CannotFail g body → ⊥
   pub calm : SkippingAltersStack g → ⊥
-  pub leads : StandsAt e r p
+  pub leads : IsPartAt e r p
   pub visits : Visits (reading_in limit recursive g) e r entry a
   pub loops_there : loops turns (reading_in limit recursive g body) a ≡ true

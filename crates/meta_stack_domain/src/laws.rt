@@ -10,7 +10,7 @@ ghost use Rattle.meta_stack_domain.specs.Reading.{Reading, Walk, turns, reading,
 ghost use Rattle.meta_stack_domain.specs.Reported.{KnowsNullable, ReportedToDepth, ReportedFrom, IsCertainAt, turn_starts};
 ghost use Rattle.meta_stack_domain.specs.Recursion.{LeavesOutRecursion};
 ghost use Rattle.meta_stack_domain.specs.Refuted.{peeked, peeked_twice, top, top_of_none, alone};
-ghost use Rattle.meta_stack_domain.specs.Reports.{Route, StandsAt, ReachesRoute, IsReport, IsCertain, NeverEnds, SkippingAltersStack, reading_in, reading_to_depth};
+ghost use Rattle.meta_stack_domain.specs.Reports.{Route, IsPartAt, ReachesRoute, IsReport, IsCertain, NeverEnds, SkippingAltersStack, reading_in, reading_to_depth};
 ghost use Rattle.meta_stack_domain.specs.Turns.{HasFewMarks, most_stacks, AreDistinct, KeepsFewMarks, TurnsEnd};
 
 /// Proves that every report is definite: its repetition has no greatest number, and no outcome where a
@@ -26,7 +26,7 @@ pub fn certain()
 /// has an outcome, and no call of the rule.
 pub fn certain_never_ends()
     ensures parts { (g : Grammar) (classes : Classes) (m : Mode) (e p : Expression) (r : Route) (s t : State)
-        → StandsAt e r p → ReachesRoute g classes m e r s t
+        → IsPartAt e r p → ReachesRoute g classes m e r s t
         → ((o : Outcome) → Matches g classes p m t o → ⊥)
         → (o : Outcome) → Matches g classes e m s o → ⊥ }
     ensures rules { (g : Grammar) (e p : Expression) (r : Route) (a : AbstractStack)
@@ -96,7 +96,7 @@ pub fn others_are_not_certain()
     ensures ends { (r : Route) (a : AbstractStack)
         → IsCertain (alone peeked_twice) peeked_twice peeked r a → ⊥ }
     ensures reached { (r : Route)
-        → StandsAt peeked_twice r peeked → NeverEnds (alone peeked_twice) peeked_twice r → ⊥ }
+        → IsPartAt peeked_twice r peeked → NeverEnds (alone peeked_twice) peeked_twice r → ⊥ }
     ensures once { (r : Route) (a : AbstractStack)
         → IsCertain (alone top_of_none) top_of_none top r a → ⊥ }
 {}
