@@ -7,17 +7,17 @@ use std::alloc::AllocError;
 
 /// Returns the number of names.
 #[inline(always)]
-pub(crate) fn count(told: &Vec<&str>) -> usize
-    ensures { result ≡ length (name_texts told.now.items) }
+pub(crate) fn count(names: &Vec<&str>) -> usize
+    ensures { result ≡ length (name_texts names.now.items) }
 {
-    told.len()
+    names.len()
 }
 
 /// Whether a name is among these.
-fn is_among(told: &[&str], name: &str) -> bool
-    ensures { result ≡ is_among (name_texts told.now) (chars name.now) }
+fn is_among(names: &[&str], name: &str) -> bool
+    ensures { result ≡ is_among (name_texts names.now) (chars name.now) }
 {
-    for other in told {
+    for other in names {
         if same(other, name) {
             return true;
         }
@@ -26,20 +26,20 @@ fn is_among(told: &[&str], name: &str) -> bool
 }
 
 /// Adds a name, unless the set has it.
-pub(crate) fn add_name<'a>(told: &mut Vec<&'a str>, name: &'a str) -> Result<(), AllocError>
+pub(crate) fn add_name<'a>(names: &mut Vec<&'a str>, name: &'a str) -> Result<(), AllocError>
     ensures { OnOk result
-        (name_texts told.new.items ≡ with_name (name_texts told.old.items) (chars name.entry.now)) }
+        (name_texts names.new.items ≡ with_name (name_texts names.old.items) (chars name.entry.now)) }
 {
-    if !is_among(told, name) {
-        told.push(name)?;
+    if !is_among(names, name) {
+        names.push(name)?;
     }
     Ok(())
 }
 
 /// Drops all names but the first `first`.
 #[inline(always)]
-pub(crate) fn forget(told: &mut Vec<&str>, first: usize)
-    ensures { name_texts told.new.items ≡ take first (name_texts told.old.items) }
+pub(crate) fn forget(names: &mut Vec<&str>, first: usize)
+    ensures { name_texts names.new.items ≡ take first (name_texts names.old.items) }
 {
-    told.truncate(first);
+    names.truncate(first);
 }

@@ -131,39 +131,39 @@ impl<'a> Machine<'a> {
 
     /// Records a call that failed at `place`, in bytes, if the call counts. If that position is the one
     /// that is asked for, the name replaces the names recorded within the call, which are all but the first
-    /// `told`.
+    /// `mark`.
     pub fn note(
         &mut self,
         scene: &Scene<'a>,
         counts: bool,
         name: &'a str,
         place: usize,
-        told: usize,
+        mark: usize,
     ) -> Result<(), AllocError>
         ensures entries { self.new.entries ≡ self.old.entries }
         ensures stack { self.new.stack ≡ self.old.stack }
         ensures frames { self.new.frames ≡ self.old.frames }
         ensures steps { self.new.steps ≡ self.old.steps }
         ensures notes { OnOk result ((now_of self.new).notes
-            ≡ with_failure scene.entry.now.asked counts (chars name.entry.now) place told
+            ≡ with_failure scene.entry.now.asked counts (chars name.entry.now) place mark
             (now_of self.old).notes) }
     {
         self.furthest = furthest_failure(counts, place, self.furthest);
         if counts && place == scene.asked {
-            forget(&mut self.expected, told);
+            forget(&mut self.expected, mark);
             add_name(&mut self.expected, name)?;
         }
         Ok(())
     }
 
-    /// Drops all expected names but the first `told`.
+    /// Drops all expected names but the first `mark`.
     #[inline(always)]
-    pub fn forget(&mut self, told: usize)
+    pub fn forget(&mut self, mark: usize)
         ensures frames { self.new.frames ≡ self.old.frames }
         ensures steps { self.new.steps ≡ self.old.steps }
-        ensures now { now_of self.new ≡ forgetting told (now_of self.old) }
+        ensures now { now_of self.new ≡ forgetting mark (now_of self.old) }
     {
-        forget(&mut self.expected, told);
+        forget(&mut self.expected, mark);
     }
 
     /// Matches the end of the text, with a token.
@@ -185,8 +185,8 @@ impl<'a> Machine<'a> {
         let seen = is_seen_from(mode);
         let place = scene.text.len() - rest.len();
         if !rest.is_empty() {
-            let told = count(&self.expected);
-            self.note(scene, seen, "EOI", place, told)?;
+            let mark = count(&self.expected);
+            self.note(scene, seen, "EOI", place, mark)?;
             return Ok(None);
         }
         let first = entry_count(&self.entries);
@@ -409,9 +409,9 @@ impl<'a> Machine<'a> {
             return Ok(false);
         }
         let place = scene.text.len() - rest.len();
-        let told = count(&self.expected);
+        let mark = count(&self.expected);
         let counts = call_counts(row.kind, mode);
-        self.note(scene, counts, row.name.as_str(), place, told)?;
+        self.note(scene, counts, row.name.as_str(), place, mark)?;
         Ok(true)
     }
 

@@ -91,7 +91,7 @@ impl<'a> Machine<'a> {
             Frame::Optional(rest) => Ok(self.after_optional(scene, rest, answer)),
             Frame::Turn(repetition) => Ok(self.after_turn(scene, repetition, answer)?),
             Frame::TurnGap(repetition) => Ok(self.after_turn_gap(scene, repetition, answer)?),
-            Frame::Not(predicate, told) => Ok(self.after_not(scene, predicate, told, answer)),
+            Frame::Not(predicate, mark) => Ok(self.after_not(scene, predicate, mark, answer)),
             Frame::Ahead(predicate) => Ok(self.after_ahead(scene, predicate, answer)),
             Frame::Push(rest) => Ok(self.after_push(scene, rest, answer)?),
             Frame::Call(called) => Ok(self.after_call(scene, called, answer)?),
@@ -410,13 +410,13 @@ impl<'a> Machine<'a> {
         &mut self,
         scene: &Scene<'a>,
         predicate: Predicate<'a>,
-        told: usize,
+        mark: usize,
         answer: Option<&'a str>,
     ) -> Control<'a>
-        requires follows { IsResumed scene.now self.old (IsNegated scene.now predicate told) answer }
+        requires follows { IsResumed scene.now self.old (IsNegated scene.now predicate mark) answer }
         ensures { IsOnTheWay scene.entry.now self.new (steps_of self.old + 1) result }
     {
-        self.forget(told);
+        self.forget(mark);
         match answer {
             Some(_) => {
                 self.back_to(predicate.saved);
@@ -507,7 +507,7 @@ impl<'a> Machine<'a> {
     {
         let place = scene.text.len() - rest.len();
         let first = entry_count(&self.entries);
-        let told = count(&self.expected);
+        let mark = count(&self.expected);
         let gives = gives_token(row.kind, mode);
         open(&mut self.entries, gives, row.name.as_str(), place)?;
         self.wait(Frame::Call(Called {
@@ -515,7 +515,7 @@ impl<'a> Machine<'a> {
             mode,
             place,
             first,
-            expected_count: told,
+            expected_count: mark,
         }))?;
         let inner_mode = body_mode(row.kind, row.blank, mode);
         Ok(Control::Run(&row.body, inner_mode, rest))
@@ -537,7 +537,7 @@ impl<'a> Machine<'a> {
             mode,
             place,
             first,
-            expected_count: told,
+            expected_count: mark,
         } = called;
         match answer {
             Some(after) => {
@@ -556,7 +556,7 @@ impl<'a> Machine<'a> {
             None => {
                 cut(&mut self.entries, first);
                 let counts = call_counts(row.kind, mode);
-                self.note(scene, counts, row.name.as_str(), place, told)?;
+                self.note(scene, counts, row.name.as_str(), place, mark)?;
                 Ok(Control::Answer(None))
             }
         }

@@ -5,4 +5,4 @@ use Rattle.meta_matcher.specs.ExpectedNames.{name_texts}
 use Rattle.meta_matcher.proofs.expected_names.forget.Goals as goal
 
 pub returns : goal.returns
-returns c = ap name_texts c.truncate.ensures.items ∙ sym (take-map (λ n. chars n.now) c.args.first c.args.told.now.items)
+returns c = ap name_texts c.truncate.ensures.items ∙ sym (take-map (λ n. chars n.now) c.args.first c.args.names.now.items)

@@ -12,7 +12,7 @@ returns-then-not-is_empty-clause-means c =
     record {
       kept = ap (λ es. seen es.items) c.note.ensures.entries;
       same = ap stack_of c.note.ensures.stack;
-      ran = λ classes fits. ran_not_end c.args.mode _ _ c.requires.unnamed (end_missing _ _ _ _ _ c.utf8.rest c.is_empty.ensures c.if-not-is_empty.true) c.is_seen_from-seen.ensures c.count-told.ensures n;
+      ran = λ classes fits. ran_not_end c.args.mode _ _ c.requires.unnamed (end_missing _ _ _ _ _ c.utf8.rest c.is_empty.ensures c.if-not-is_empty.true) c.is_seen_from-seen.ensures c.count-mark.ensures n;
     }
 
 pub returns-clause-means : goal.returns-clause-means
