@@ -17,7 +17,7 @@ use Rattle.meta_base.specs.declared.grammar.Rule.TheVariants as rule_is
 use Rattle.meta_validator.specs.Alike.{AreAlike, IsAlike}
 use Rattle.meta_validator.specs.Reported.{AreReported}
 use Rattle.meta_validator.proofs.OneFindingList.{one_list_of_errors, says_alike, tell_alike}
-use Rattle.pest_meta.specs.Findings.{TellFindings}
+use Rattle.pest_meta.specs.Findings.{AreErrorsOfFindings}
 use Rattle.pest_meta.specs.Spelling.{AreFlawed, complaints_in, HaveFindings, HasWrongRules, IsMisnamed, IsNoGrammar, IsRefusedWith}
 use Rattle.pest_meta.proofs.OneReportList.{one_list_of_reports}
 use Rattle.pest_meta.proofs.OneText.{rules_stand}
@@ -65,7 +65,7 @@ module _ (text : List ℕ) (trees : Trees) (errors others : List (Error Rule)) w
   findings_once : HaveFindings text trees errors → HaveFindings text trees others → AreAlike errors others
   findings_once a b =
       let read = rules_once a.give.reads b.give.reads in
-      let told = subst (λ rs. TellFindings rs errors) read a.tell in
+      let told = subst (λ rs. AreErrorsOfFindings rs errors) read a.tell in
       let endless = one_list_of_reports text b.give.read (rules_stand text b.give.reads) told.endless b.tell.endless told.reports b.tell.reports in
       one_list_of_errors b.give.read b.tell.endless errors others (subst (λ us. AreReported b.give.read us errors) endless told.tell) b.tell.tell
 

@@ -13,7 +13,7 @@ use Rattle.matcher_program.specs.declared.compile.Unfit.{Unfit}
 use Rattle.matcher_program.specs.declared.compile.Unfit.TheVariants as unfit
 use Rattle.meta_matcher.specs.Answers.{Has}
 use Rattle.meta_matcher.specs.Sizes.{most_steps}
-use Rattle.meta_matcher.specs.Told.{each_once}
+use Rattle.meta_matcher.specs.ExpectedNames.{each_once}
 use Rattle.meta_matcher.specs.declared.machine.Stop.{Stop}
 use Rattle.meta_matcher.specs.declared.machine.Stop.TheVariants as stop
 use Rattle.matcher_support.specs.Sets.{is_in_property}

@@ -1,7 +1,7 @@
 //! What is said of a text on which a rule fails.
 ghost use Rattle.std.specs.Prelude.{◌≡◌, ◌==◌, ◌++◌, IfOk, OnOk, encode_utf8_all, length, string_bytes};
 ghost use Rattle.std.specs.Str.{chars};
-ghost use Rattle.meta_matcher.specs.Told.{told_of};
+ghost use Rattle.meta_matcher.specs.ExpectedNames.{name_texts};
 ghost use Rattle.pest_run.specs.Messages.{before_name, failure_message, other_names};
 
 use std::alloc::{AllocError, Global};
@@ -9,7 +9,7 @@ use std::alloc::{AllocError, Global};
 /// What is said of a text where these names are expected, in pest's words. The only error is a want of
 /// memory.
 pub fn failure_message(alloc: Global, names: &[&str]) -> Result<String, AllocError>
-    ensures { IfOk result (λ message. string_bytes message ≡ failure_message (told_of names.now)) }
+    ensures { IfOk result (λ message. string_bytes message ≡ failure_message (name_texts names.now)) }
 {
     let mut message = String::new(alloc);
     match names.split_first() {
@@ -46,7 +46,7 @@ fn before_name(of_two: bool, last: bool) -> &'static str
 /// Adds the names behind the first one.
 fn add_others(message: &mut String, names: &[&str]) -> Result<(), AllocError>
     ensures { OnOk result (string_bytes message.new
-        ≡ string_bytes message.old ++ other_names (length names.now == 1) (told_of names.now)) }
+        ≡ string_bytes message.old ++ other_names (length names.now == 1) (name_texts names.now)) }
 {
     let of_two = names.len() == 1;
     let mut following = names.len();

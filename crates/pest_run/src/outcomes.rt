@@ -3,7 +3,7 @@ ghost use Rattle.std.specs.Prelude.{◌≡◌, IfOk, string_bytes};
 ghost use Rattle.meta_ast.specs.Optimized.{optimized_rules_of};
 ghost use Rattle.meta_base.specs.Language.State.{Trees};
 ghost use Rattle.meta_base.specs.Pieces.Span.{position_offset, position_text};
-ghost use Rattle.meta_matcher.specs.Told.{told_of};
+ghost use Rattle.meta_matcher.specs.ExpectedNames.{name_texts};
 ghost use Rattle.meta_matcher.specs.Written.{seen};
 ghost use Rattle.meta_syntax.specs.Entries.{entries_of};
 ghost use Rattle.std.specs.Str.{IsCharBoundary};
@@ -115,7 +115,7 @@ fn json_line(
 /// expected.
 fn failed_outcome(alloc: Global, text: &str, place: usize, names: &[&str]) -> Outcome
     requires { IsCharBoundary text.now place }
-    ensures { TellsOf text.now place (told_of names.now) result }
+    ensures { TellsOf text.now place (name_texts names.now) result }
 {
     let Some(position) = Position::new(text, place) else {
         unreachable!()
@@ -130,7 +130,7 @@ fn failed_outcome(alloc: Global, text: &str, place: usize, names: &[&str]) -> Ou
 /// memory.
 fn report_at(alloc: Global, place: Position<'_>, names: &[&str]) -> Result<String, Fault>
     ensures { IfOk result (λ report. string_bytes report
-        ≡ failure_text (position_text place.entry) (position_offset place.entry) (told_of names.now)) }
+        ≡ failure_text (position_text place.entry) (position_offset place.entry) (name_texts names.now)) }
 {
     let message = failure_message(alloc, names)?;
     let error: Error<Rule> = Error::new_from_pos(

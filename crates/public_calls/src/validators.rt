@@ -4,9 +4,9 @@ ghost use Rattle.meta_analysis.specs.NamedPlaces.{last_name};
 ghost use Rattle.meta_base.specs.Language.WellFormed.{CannotFail, IsWellFormed};
 ghost use Rattle.meta_spanned.specs.Erasure.{rules_without_spans, without_spans};
 ghost use Rattle.meta_spanned.specs.Nodes.{piece_of, rule_views, unplaced};
-ghost use Rattle.meta_stack_loops.specs.Certain.{AreReports, TellReports};
+ghost use Rattle.meta_stack_loops.specs.Certain.{AreReports, AreErrorsOfReports};
 ghost use Rattle.meta_validator.specs.Reported.{AreReported};
-ghost use Rattle.pest_meta.specs.Findings.{TellFindings};
+ghost use Rattle.pest_meta.specs.Findings.{AreErrorsOfFindings};
 
 use meta_base::grammar::Rule;
 use meta_base::runtime::{Error, Fault, Span};
@@ -46,7 +46,7 @@ pub fn validate_ast<'i>(
     alloc: Global,
     rules: &Vec<ParserRule<'i>>,
 ) -> Result<Vec<Error<Rule>>, Fault>
-    ensures exact { IfOk result (λ errors. TellFindings (rule_views rules.now.items) errors.items) }
+    ensures exact { IfOk result (λ errors. AreErrorsOfFindings (rule_views rules.now.items) errors.items) }
     ensures accepted { IfOk result (λ errors. errors.items ≡ []
         → IsWellFormed (rules_without_spans (rule_views rules.now.items))) }
     ensures silent { IfOk result (λ errors. errors.items ≡ [] → AreReports (rule_views rules.now.items) []) }
@@ -67,7 +67,7 @@ pub fn validate_stack_repetition<'i>(
     alloc: Global,
     rules: &Vec<ParserRule<'i>>,
 ) -> Result<Vec<Error<Rule>>, Fault>
-    ensures exact { IfOk result (λ errors. TellReports (rule_views rules.now.items) errors.items) }
+    ensures exact { IfOk result (λ errors. AreErrorsOfReports (rule_views rules.now.items) errors.items) }
     ensures memory { IfErr result (λ fault. fault ≡ Fault.Memory alloc_error) }
 {
     meta_stack_loops::validate_stack_repetition(alloc, rules)
