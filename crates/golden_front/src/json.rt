@@ -4,8 +4,8 @@ use meta_ast::{ast, optimized};
 use meta_base::grammar::Rule;
 use meta_base::runtime::Fault;
 use meta_json::{
-    Place, Refusal, Why, errors_text, nodes_text, optimized_rules_text, read_optimized_rules,
-    read_rules, refusal_text, rule_named, rules_text, tokens_text,
+    Refusal, RefusalLocation, RefusalReason, errors_text, nodes_text, optimized_rules_text,
+    read_optimized_rules, read_rules, refusal_text, rule_named, rules_text, tokens_text,
 };
 use meta_spanned::release;
 use meta_syntax::grammar::PestParser;
@@ -57,7 +57,7 @@ pub(crate) fn tokens(alloc: Global, name: &str, text: &str, out: &mut String) ->
 
 fn tokens_of(alloc: Global, name: &str, text: &str) -> Result<String, AllocError> {
     let Some(rule) = rule_named(name) else {
-        return refusal_text(alloc, Place::Whole, Why::UnknownRule);
+        return refusal_text(alloc, RefusalLocation::Whole, RefusalReason::UnknownRule);
     };
     match PestParser::tokens(alloc, rule, text) {
         Ok(entries) => tokens_text(alloc, &entries),

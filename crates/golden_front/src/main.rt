@@ -1,8 +1,8 @@
 //! Runs golden cases: calls of the crates below on texts, and their answers.
 //!
-//! Standard input has a line for each case: the name of a call, its arguments, a bar, and the text. A line that
-//! begins with `#` is a heading of the cases below. The program prints each line unchanged, and below a case
-//! the answer of its call, indented by four blanks. So its output can be read alone.
+//! Standard input has a line for each case: the name of a call, its arguments, a bar, and the text. A line
+//! that begins with `#` is a heading of the cases below. The program prints each line unchanged, and below a
+//! case the answer of its call, indented by four blanks. So its output can be read alone.
 #![tactic(auto)]
 
 mod calls;

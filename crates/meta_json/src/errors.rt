@@ -9,7 +9,7 @@ use meta_base::runtime::{Error, ErrorVariant, InputLocation, LineColLocation};
 use serde_json::{Value, json};
 use std::alloc::{AllocError, Global};
 
-/// Errors as JSON, those of syntax with the rules that were expected. The only error is a want of memory.
+/// Returns errors as JSON; syntax errors have the expected rules. The only error is an allocation failure.
 #[tactic(auto, using(crate::proofs::Floats::errors_without_floats))]
 pub fn errors_text(
     alloc: Global,
@@ -21,7 +21,7 @@ pub fn errors_text(
     errors_value(alloc, errors, expected)?.to_string(alloc)
 }
 
-/// Names as JSON. The only error is a want of memory.
+/// Returns names as JSON. The only error is an allocation failure.
 #[tactic(auto, using(crate::proofs::Floats::names_without_floats))]
 pub fn names_text(alloc: Global, names: &[&str]) -> Result<String, AllocError>
     ensures { IfOk result (λ text. string_bytes text ≡ compact_text (names_data names.now)) }
@@ -94,7 +94,7 @@ fn error_value(alloc: Global, error: &Error<Rule>, expected: &[Rule]) -> Result<
     }
 }
 
-/// Where an error stands, as a value.
+/// Returns the location of an error, as a value.
 fn location_value(alloc: Global, location: InputLocation) -> Result<Value, AllocError>
     ensures { IfOk result (λ value. view value ≡ location_data location) }
 {

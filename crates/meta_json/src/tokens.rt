@@ -8,7 +8,7 @@ use meta_syntax::grammar::Entry;
 use serde_json::{Value, json};
 use std::alloc::{AllocError, Global};
 
-/// Tokens as JSON. The only error is a want of memory.
+/// Returns tokens as JSON. The only error is an allocation failure.
 #[tactic(auto, using(crate::proofs::Floats::tokens_without_floats))]
 pub fn tokens_text(alloc: Global, entries: &[Entry]) -> Result<String, AllocError>
     ensures { IfOk result (λ text. string_bytes text ≡ compact_text (tokens_data entries.now)) }

@@ -39,8 +39,8 @@ pub struct Exit {
 ///
 /// Otherwise one text with a line break at its end goes to `err`: the report of a text that is refused (1),
 /// `out of memory` (2), `cannot read` where there is no input or it isn't UTF-8 (3), `cannot write` where
-/// `out` refuses a write (4), which keeps the part that it took before. All lines are made before the first of
-/// them is written. A write that `err` refuses changes no status.
+/// `out` refuses a write (4), which keeps the part that it took before. All lines are made before the first
+/// one is written. A write that `err` refuses changes no status.
 pub fn run<W: Write, E: Write>(
     alloc: Global,
     input: Option<&[u8]>,

@@ -72,7 +72,8 @@ pub fn run_files<W: Write, E: Write>(
     ensures refused_write { result.status ≡ 4 → out.new.refused ≡ true }
     ensures silent { result.status ≡ 0 → err.new ≡ err.old }
     ensures reason { result.status ≡ 1
-        → ReportsReason grammar.now.bytes.items request.entry.rule.now text.now.bytes.items result.write_result
+        → ReportsReason grammar.now.bytes.items request.entry.rule.now text.now.bytes.items
+        result.write_result
         (E.contents err.old.writer) (E.contents err.new.writer) }
     ensures tells_memory { result.status ≡ 2
         → WritesLine (codes "out of memory") result.write_result
