@@ -42,7 +42,7 @@ fn is_same_rule(rule: Rule, other: Rule) -> bool
     rule == other
 }
 
-/// Whether two entries are the same, but for their places.
+/// Returns whether two entries are equal, but for their positions.
 fn is_same_entry(entry: Entry, other: Entry) -> bool
     ensures { result ≡ true → token.unplaced entry ≡ token.unplaced other }
 {
@@ -66,7 +66,7 @@ fn is_same_entry(entry: Entry, other: Entry) -> bool
     }
 }
 
-/// Whether two pieces, of tokens that hold no others, are the same: of doc comments without the blanks at
+/// Returns whether two pieces, of tokens without children, are equal: of doc comments without the blanks at
 /// their ends.
 fn is_same_token(
     alloc: Global,

@@ -61,7 +61,7 @@ fn are_same(rules: &[ast::Rule], others: &[ast::Rule]) -> bool
     other_rest.is_empty()
 }
 
-/// Whether a text of a grammar is read as what another one is read as, where that has no flaw.
+/// Returns whether a text of a grammar is read as all rules that another one is read as, if that has no flaw.
 #[tactic(auto, using(crate::proofs::Readings::same_rules, crate::proofs::Readings::not_read_same))]
 pub fn has_same_rules(
     alloc: Global,

@@ -20,7 +20,7 @@ pub fn rules_text(alloc: Global, rules: &[Rule]) -> Result<String, AllocError>
     meta_json::rules_text(alloc, rules)
 }
 
-/// The rules that a text says.
+/// Reads the rules of a text in JSON.
 pub fn read_rules(alloc: Global, text: &str) -> Result<Vec<Rule>, Refusal>
     ensures { IfOk result (λ rules. AreRules text.now rules.items) }
 {
@@ -38,7 +38,7 @@ pub fn errors_text(
     meta_json::errors_text(alloc, errors, expected)
 }
 
-/// The rule of the meta-grammar that has a name.
+/// Returns the rule of the meta-grammar of that name.
 pub fn rule_named(name: &str) -> Option<grammar::Rule>
     ensures found { IfSome result (λ rule. name_of rule ≡ name.now) }
     ensures none { IfNone result (IsOfNoRule name.now) }

@@ -29,8 +29,8 @@ pub fn matcher_of<P: Properties>(
     Matcher::new(alloc, rules, properties)
 }
 
-/// What a rule matches of a text, within some steps.
-pub fn matched<'a>(
+/// Matches a text by a rule, with at most so many steps.
+pub fn match_text<'a>(
     matcher: &'a Matcher,
     alloc: Global,
     rule: &'a str,

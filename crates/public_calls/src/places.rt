@@ -1,4 +1,4 @@
-//! The runtime's places, errors and pairs.
+//! The runtime's positions, spans, errors and pairs.
 ghost use Rattle.std.specs.Prelude.{IfErr, IfOk, IfSome, IsSome, alloc_error, ◌↔◌, ◌≡◌, ◌≤◌};
 ghost use Rattle.std.specs.Str.{IsCharBoundary};
 ghost use Rattle.meta_base.specs.declared.runtime.errors.InputLocation.TheVariants as InputLocation;
@@ -13,7 +13,7 @@ use meta_base::grammar;
 use meta_base::runtime::{Error, ErrorVariant, Fault, FlatPairs, Pairs, Position, Span};
 use std::alloc::Global;
 
-/// The span of two places in a text.
+/// Returns the span of two positions in a text.
 pub fn span_of<'i>(text: &'i str, start: usize, end: usize) -> Option<Span<'i>>
     ensures accepted { IsSome result
         ↔ (start ≤ end) × IsCharBoundary text.now start × IsCharBoundary text.now end }

@@ -1,4 +1,4 @@
-//! What is wrong with rules.
+//! The errors of rules.
 ghost use Rattle.std.specs.Prelude.{IfErr, IfOk, IsTrue, [], alloc_error, map, ◌↔◌, ◌≡◌};
 ghost use Rattle.meta_analysis.specs.NamedPlaces.{last_name};
 ghost use Rattle.meta_base.specs.Language.WellFormed.{CannotFail, IsWellFormed};
@@ -55,7 +55,7 @@ pub fn validate_ast<'i>(
     pest_meta::validator::validate_ast(alloc, rules)
 }
 
-/// The place of the last of some names that is equal to one.
+/// Returns the index of the last of some names that is equal to one.
 pub fn rule_number(names: &Vec<&str>, name: &str) -> Option<usize>
     ensures { result ≡ last_name names.now.items name.now }
 {

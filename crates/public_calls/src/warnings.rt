@@ -1,4 +1,4 @@
-//! Warnings that are certain.
+//! Warnings that are definite.
 ghost use Rattle.std.specs.Prelude.{◌≡◌, IfOk, map};
 ghost use Rattle.meta_spanned.specs.Nodes.{piece_of, rule_views};
 ghost use Rattle.meta_warnings.specs.Choices.{unreachable_alternatives};
