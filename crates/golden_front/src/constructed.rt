@@ -18,7 +18,7 @@ fn write_values<T: fmt::Display + PartialEq + Clone + Drop>(
     write_equalities(out, name, values, &values.clone()?)
 }
 
-/// The two bounds of `LOW..HIGH`.
+/// Returns the two bounds of `LOW..HIGH`.
 fn bounds(alloc: Global, word: &str) -> Result<(String, String), AllocError> {
     let (low, high) = word.split_once("..").unwrap_or((word, ""));
     let low = String::from_str(alloc, low)?;
@@ -45,7 +45,7 @@ pub(crate) fn optimized_ranges(alloc: Global, words: &str, out: &mut String) -> 
     Ok(write_values(out, "ranges", &values)?)
 }
 
-/// The strings of a word, between commas. `-` has none.
+/// Returns the strings of a word, between commas. `-` has none.
 fn strings(alloc: Global, word: &str) -> Result<Vec<String>, AllocError> {
     let mut strings = Vec::new(alloc);
     if word != "-" {

@@ -5,7 +5,7 @@ use meta_base::runtime::Fault;
 use std::alloc::{AllocError, Global};
 use std::fmt;
 
-/// The sign of a rule's type before its brace.
+/// Returns the modifier of a rule's type before its brace.
 fn modifier(ty: RuleType) -> &'static str {
     match ty {
         RuleType::Normal => "",

@@ -6,7 +6,7 @@ use pest_meta::parse_and_optimize;
 use std::alloc::{AllocError, Global};
 use std::fmt;
 
-/// The sign of a rule's type before its brace.
+/// Returns the modifier of a rule's type before its brace.
 fn modifier(ty: RuleType) -> &'static str {
     match ty {
         RuleType::Normal => "",

@@ -16,7 +16,7 @@ pub enum GapState {
     InBlockAfterStar(usize),
 }
 
-/// Whether a byte is a blank: a space, a tab, or the carriage return of a line end.
+/// Returns whether a byte is a blank: a space, a tab, or the carriage return of a line end.
 pub fn is_blank(byte: u8) -> bool
     ensures { result ≡ spec.is_blank byte }
 {
@@ -98,7 +98,7 @@ fn state_after(place: GapState, byte: u8) -> GapState
     }
 }
 
-/// Whether a byte is more than white space outside of comments.
+/// Returns whether a byte is more than white space outside of comments.
 fn is_kept(place: GapState, byte: u8) -> bool
     ensures { result ≡ spec.is_kept place byte }
 {
@@ -127,7 +127,7 @@ pub fn trim_lines(alloc: Global, text: &[u8]) -> Result<Vec<u8>, AllocError>
     Ok(bytes)
 }
 
-/// The comments of a gap, and the words that have no token of their own.
+/// Returns the comments of a gap, and the words that have no token of their own.
 pub fn comments_of(alloc: Global, gap: &[u8]) -> Result<Vec<u8>, AllocError>
     ensures { IfOk result (λ kept. kept.items ≡ spec.comments_of gap.now) }
 {

@@ -97,7 +97,7 @@ fn at(list: &[usize], i: usize) -> usize {
 }
 
 impl Measures {
-    /// Whether the pieces `first..end` have a line end that cannot be left out.
+    /// Returns whether the pieces `first..end` have a line end that cannot be left out.
     fn has_line_end(&self, first: usize, end: usize) -> bool {
         at(&self.line_ends, first) < at(&self.line_ends, end)
     }
@@ -108,7 +108,7 @@ impl Measures {
         at(&self.next_line, at(&self.closing, first)).saturating_sub(at(&self.columns, first))
     }
 
-    /// Whether an item takes more than one line of a width.
+    /// Returns whether an item takes more than one line of a width.
     fn is_broken(&self, item: &Item, width: usize) -> bool {
         let columns = at(&self.columns, item.end).saturating_sub(at(&self.columns, item.first));
         self.has_line_end(item.first, item.end) || columns > width

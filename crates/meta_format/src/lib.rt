@@ -114,7 +114,7 @@ fn line_end_of(text: &str, line_ends: LineEnds) -> &'static str {
     }
 }
 
-/// Whether a text is the formatted text of a grammar with these tokens.
+/// Returns whether a text is the formatted text of a grammar with these tokens.
 fn is_formatted(
     alloc: Global,
     text: &str,
@@ -140,7 +140,7 @@ fn is_formatted(
     is_same(alloc, text.as_bytes(), entries, bytes, &others)
 }
 
-/// Whether no line outside of literals ends with a blank, where lines are to end with line feeds.
+/// Returns whether no line outside of literals ends with a blank, where lines are to end with line feeds.
 fn has_lines(text: &[u8], entries: &[Entry], line_ends: LineEnds) -> bool
     ensures { result ≡ true → line_ends ≡ LineFeed
         → token.has_clean_lines text.now (End 0 0) entries.now ≡ true }

@@ -36,7 +36,7 @@ pub(crate) enum JsonNode<'a> {
 }
 
 impl<'a> JsonNode<'a> {
-    /// The node as a value.
+    /// Returns the node as a value.
     pub(crate) fn to_value(&self, alloc: Global) -> Result<Value, AllocError>
         ensures { IfOk result (λ value. view value ≡ node_data self.now) }
     {
@@ -83,28 +83,28 @@ impl<'a> JsonNode<'a> {
     }
 }
 
-/// A form without arguments.
+/// Returns a form without arguments.
 fn alone(alloc: Global, form: &str) -> Result<Value, AllocError>
     ensures { IfOk result (λ value. view value ≡ form_data form.now) }
 {
     json!(in alloc; [form])
 }
 
-/// A form with a text.
+/// Returns a form with a text.
 fn with_text(alloc: Global, form: &str, text: &str) -> Result<Value, AllocError>
     ensures { IfOk result (λ value. view value ≡ form_with form.now (string text.now)) }
 {
     json!(in alloc; [form, text])
 }
 
-/// A form with a count.
+/// Returns a form with a count.
 fn with_count(alloc: Global, form: &str, count: u32) -> Result<Value, AllocError>
     ensures { IfOk result (λ value. view value ≡ form_with form.now (count_data count)) }
 {
     json!(in alloc; [form, count])
 }
 
-/// A slice of the stack.
+/// Returns a slice of the stack.
 fn slice_value(alloc: Global, start: i32, end: Option<i32>) -> Result<Value, AllocError>
     ensures { IfOk result (λ value. view value
         ≡ form_with_two (codes "peek_slice") (place_data start) (end_data end)) }
@@ -115,7 +115,7 @@ fn slice_value(alloc: Global, start: i32, end: Option<i32>) -> Result<Value, All
     }
 }
 
-/// A search for one of the texts.
+/// Returns a search for one of the texts.
 fn skip_value(alloc: Global, texts: &[String]) -> Result<Value, AllocError>
     ensures { IfOk result (λ value. view value ≡ form_with (codes "skip") (texts_data texts.now)) }
 {
@@ -139,7 +139,7 @@ fn node_of<'a>(alloc: Global, form: &'a str, arguments: &'a [Value]) -> Result<J
     }
 }
 
-/// The node of that form without arguments.
+/// Returns the node of that form without arguments.
 fn node_alone<'a>(form: &'a str) -> Result<JsonNode<'a>, Unread>
     ensures { IfOk result (λ node. node_data node ≡ form_data form.now) }
 {
@@ -157,7 +157,7 @@ fn node_alone<'a>(form: &'a str) -> Result<JsonNode<'a>, Unread>
     }
 }
 
-/// The node of that form with one argument.
+/// Returns the node of that form with one argument.
 fn node_with<'a>(alloc: Global, form: &'a str, one: &'a Value) -> Result<JsonNode<'a>, Unread>
     ensures { IfOk result (λ node. node_data node
         ≡ form_with form.now (view one.now)) }
@@ -176,7 +176,7 @@ fn node_with<'a>(alloc: Global, form: &'a str, one: &'a Value) -> Result<JsonNod
     }
 }
 
-/// The node of that form with two arguments.
+/// Returns the node of that form with two arguments.
 fn node_with_two<'a>(
     form: &'a str,
     first: &'a Value,

@@ -34,7 +34,7 @@ pub fn optimized_rules_text(alloc: Global, rules: &[OptimizedRule]) -> Result<St
     optimized_rules_value(alloc, rules)?.to_string(alloc)
 }
 
-/// Rules as a value.
+/// Returns rules as a value.
 pub(crate) fn rules_value(alloc: Global, rules: &[Rule]) -> Result<Value, AllocError>
     ensures { IfOk result (λ value. view value ≡ rules_data rules.now) }
 {
@@ -45,7 +45,7 @@ pub(crate) fn rules_value(alloc: Global, rules: &[Rule]) -> Result<Value, AllocE
     Ok(Value::Array(values))
 }
 
-/// Optimized rules as a value.
+/// Returns optimized rules as a value.
 pub(crate) fn optimized_rules_value(
     alloc: Global,
     rules: &[OptimizedRule],
@@ -59,7 +59,7 @@ pub(crate) fn optimized_rules_value(
     Ok(Value::Array(values))
 }
 
-/// A rule as a value.
+/// Returns a rule as a value.
 fn rule_value<E: AsNodes>(
     alloc: Global,
     name: &str,
@@ -72,7 +72,7 @@ fn rule_value<E: AsNodes>(
     json!(in alloc; {"expr": Value::Array(nodes), "name": name, "type": name_of_type(ty)})
 }
 
-/// The name of a type.
+/// Returns the name of a type.
 pub(crate) fn name_of_type(ty: RuleType) -> &'static str
     ensures { result.now ≡ type_name ty }
 {
@@ -190,7 +190,7 @@ fn parts_of<E: FromNodes>(alloc: Global, value: &Value) -> Result<(String, RuleT
     Ok((name, ty, body))
 }
 
-/// A rule's name.
+/// Returns a rule's name.
 fn name_in(value: &Value) -> Result<&str, Unread>
     ensures name { IfOk result (λ name. get (codes "name") (view value.now) ≡ Some (string name.now)) }
     ensures refused { IfErr result (λ unread. (unread ≡ Unread.Reason RefusalReason.Name)
@@ -202,7 +202,7 @@ fn name_in(value: &Value) -> Result<&str, Unread>
     }
 }
 
-/// A rule's type.
+/// Returns a rule's type.
 fn type_in(value: &Value) -> Result<RuleType, Unread>
     ensures ty { IfOk result (λ ty. get (codes "type") (view value.now) ≡ Some (string (type_name ty))) }
     ensures refused { IfErr result (λ unread. (unread ≡ Unread.Reason RefusalReason.Type)
@@ -214,7 +214,7 @@ fn type_in(value: &Value) -> Result<RuleType, Unread>
     }
 }
 
-/// A rule's nodes.
+/// Returns a rule's nodes.
 fn nodes_in(value: &Value) -> Result<&Vec<Value>, Unread>
     ensures nodes { IfOk result (λ nodes. get (codes "expr") (view value.now)
         ≡ Some (array (items_view nodes.now.items))) }
@@ -227,7 +227,7 @@ fn nodes_in(value: &Value) -> Result<&Vec<Value>, Unread>
     }
 }
 
-/// The type of that name.
+/// Returns the type of that name.
 fn type_named(name: &str) -> Result<RuleType, Unread>
     ensures ty { IfOk result (λ ty. name.now ≡ type_name ty) }
     ensures refused { IfErr result (λ unread. (unread ≡ Unread.Reason RefusalReason.Type)

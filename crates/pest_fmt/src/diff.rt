@@ -15,7 +15,7 @@ struct Run {
     added: usize,
 }
 
-/// The lines of a text, without their line feeds.
+/// Returns the lines of a text, without their line feeds.
 fn lines_of<'t>(alloc: Global, text: &'t str) -> Result<Vec<&'t str>, AllocError> {
     let mut lines: Vec<&'t str> = Vec::new(alloc);
     for line in text.split('\n') {

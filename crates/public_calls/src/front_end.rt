@@ -32,7 +32,7 @@ pub fn consume_rules(alloc: Global, pairs: Pairs<'_, Rule>) -> Result<Vec<ast::R
     pest_meta::parser::consume_rules(alloc, pairs)
 }
 
-/// The builtins that a grammar uses, and its optimized rules.
+/// Returns the builtins that a grammar uses, and its optimized rules.
 pub fn parse_and_optimize<'i>(
     alloc: Global,
     grammar: &'i str,

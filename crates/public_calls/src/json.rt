@@ -13,7 +13,7 @@ use meta_base::runtime::Error;
 use meta_json::Refusal;
 use std::alloc::{AllocError, Global};
 
-/// Rules as a text.
+/// Returns rules as a text.
 pub fn rules_text(alloc: Global, rules: &[Rule]) -> Result<String, AllocError>
     ensures { IfOk result (λ text. string_bytes text ≡ compact_text (rules_data rules.now)) }
 {
@@ -27,7 +27,7 @@ pub fn read_rules(alloc: Global, text: &str) -> Result<Vec<Rule>, Refusal>
     meta_json::read_rules(alloc, text)
 }
 
-/// Errors as a text.
+/// Returns errors as a text.
 pub fn errors_text(
     alloc: Global,
     errors: &[Error<grammar::Rule>],

@@ -17,7 +17,7 @@ pub fn validate_pairs<'i>(alloc: Global, pairs: Pairs<'i, Rule>) -> Result<Vec<&
     meta_names::validate_pairs(alloc, pairs)
 }
 
-/// The definitions that are keywords of Rust.
+/// Returns the definitions that are keywords of Rust.
 pub fn validate_rust_keywords(
     alloc: Global,
     definitions: &Vec<Span<'_>>,
@@ -29,7 +29,7 @@ pub fn validate_rust_keywords(
     meta_names::validate_rust_keywords(alloc, definitions)
 }
 
-/// The calls of names that nothing defines.
+/// Returns the calls of names that nothing defines.
 pub fn validate_undefined<'i>(
     alloc: Global,
     definitions: &Vec<Span<'i>>,

@@ -24,14 +24,14 @@ pub fn span_of<'i>(text: &'i str, start: usize, end: usize) -> Option<Span<'i>>
     Span::new(text, start, end)
 }
 
-/// The line and the column of a position.
+/// Returns the line and the column of a position.
 pub fn line_col(position: &Position<'_>) -> (usize, usize)
     ensures { result ≡ line_column (position_text position.now) (position_offset position.now) }
 {
     position.line_col()
 }
 
-/// An error at a span.
+/// Returns an error at a span.
 pub fn error_at_span(
     alloc: Global,
     variant: ErrorVariant,
@@ -50,7 +50,7 @@ pub fn error_at_span(
     Error::new_from_span(alloc, variant, span)
 }
 
-/// All pairs in one list.
+/// Returns all pairs in one list.
 pub fn flat_pairs_of<'i>(
     pairs: Pairs<'i, grammar::Rule>,
     alloc: Global,

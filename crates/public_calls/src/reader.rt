@@ -30,7 +30,7 @@ pub fn rename_meta_rule(alloc: Global, rule: &Rule) -> Result<String, Fault>
     meta_reader::rules::rename_meta_rule(alloc, rule)
 }
 
-/// Rules without their spans.
+/// Returns rules without their spans.
 pub fn erase_spans(alloc: Global, rules: Vec<ParserRule<'_>>) -> Result<Vec<PlainRule>, AllocError>
     ensures { IfOk result
         (λ erased. rules_of erased.items ≡ rules_without_spans (rule_views rules.entry.items)) }

@@ -13,7 +13,7 @@ use meta_base::runtime::{Error, Fault, Span};
 use meta_spanned::{ParserExpr, ParserRule};
 use std::alloc::Global;
 
-/// Whether an expression cannot fail.
+/// Returns whether an expression cannot fail.
 pub fn is_non_failing<'i>(
     alloc: Global,
     expr: &ParserExpr<'i>,
@@ -26,7 +26,7 @@ pub fn is_non_failing<'i>(
     meta_validator::validator::is_non_failing(alloc, expr, rules)
 }
 
-/// The errors of rules, with those of some repetitions.
+/// Returns the errors of rules, with those of some repetitions.
 pub fn validate_rules<'i>(
     alloc: Global,
     rules: &Vec<ParserRule<'i>>,
@@ -41,7 +41,7 @@ pub fn validate_rules<'i>(
     meta_validator::validator::validate_rules(alloc, rules, endless)
 }
 
-/// All errors of rules.
+/// Returns all errors of rules.
 pub fn validate_ast<'i>(
     alloc: Global,
     rules: &Vec<ParserRule<'i>>,
@@ -62,7 +62,7 @@ pub fn rule_number(names: &Vec<&str>, name: &str) -> Option<usize>
     meta_analysis::rule_number(names, name)
 }
 
-/// The errors of the stack pass.
+/// Returns the errors of the stack pass.
 pub fn validate_stack_repetition<'i>(
     alloc: Global,
     rules: &Vec<ParserRule<'i>>,

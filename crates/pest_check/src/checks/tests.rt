@@ -478,7 +478,7 @@ fn each_refused_write_is_reported(rt: HostRuntime) {
     }
 }
 
-/// A writer that takes nothing.
+/// Uses a writer that takes nothing.
 #[test]
 fn a_write_that_takes_nothing_is_reported(rt: HostRuntime) {
     let answer = was_refused(rt.alloc(), "a = { \"x\" }", 100, 0, &[]);
