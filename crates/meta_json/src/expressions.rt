@@ -23,7 +23,7 @@ pub(crate) trait AsNodes {
     // the nodes of an expression
     ghost nodes: { Self → List Data };
 
-    // the size of an expression, which decreases
+    // the size of an expression, by which the walk ends
     ghost heft: { Self → ℕ };
 
     /// Returns the node at the top of an expression, and its operands.
