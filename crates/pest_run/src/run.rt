@@ -43,7 +43,7 @@ pub struct Request<'a> {
 
 /// The end of a run.
 #[derive(Drop)]
-pub struct Exit {
+pub struct RunExit {
     /// The status that the program ends with.
     pub status: u8,
     /// An error if `err` refused the line that it was given.
@@ -60,7 +60,7 @@ pub fn run_files<W: Write, E: Write>(
     request: Request<'_>,
     out: &mut Output<W>,
     err: &mut Output<E>,
-) -> Exit
+) -> RunExit
     ensures known { result.status ≤ 5 }
     ensures read { result.status ≢ 3 → IsReadable grammar.now × IsReadable text.now }
     ensures unread { IsReadable grammar.now → IsReadable text.now → result.status ≢ 3 }
@@ -109,7 +109,7 @@ pub fn run<W: Write, E: Write>(
     request: Request<'_>,
     out: &mut Output<W>,
     err: &mut Output<E>,
-) -> Exit
+) -> RunExit
     ensures known { IsStatus result.status }
     ensures printed { result.status ≡ 0
         → PrintsTrees grammar.now request.entry.rule.now text.now request.entry.format
@@ -156,7 +156,7 @@ fn text_of<'s>(source: &'s Source<'_>) -> Option<&'s str>
 }
 
 /// Reports a file that can't be read.
-fn unreadable<E: Write>(source: &Source<'_>, err: &mut Output<E>) -> Exit
+fn unreadable<E: Write>(source: &Source<'_>, err: &mut Output<E>) -> RunExit
     ensures status { result.status ≡ 3 }
     ensures told { IsOk result.write_result → err.new.refused ≡ err.old.refused }
     ensures refused_line { IsErr result.write_result → err.new.refused ≡ true }
@@ -166,7 +166,7 @@ fn unreadable<E: Write>(source: &Source<'_>, err: &mut Output<E>) -> Exit
         None => "it is not UTF-8",
     };
     let write_result = write_unread(err, source.name, why);
-    Exit {
+    RunExit {
         status: UNREADABLE,
         write_result,
     }
@@ -190,7 +190,7 @@ fn print_outcome<W: Write, E: Write>(
     rule: &str,
     out: &mut Output<W>,
     err: &mut Output<E>,
-) -> Exit
+) -> RunExit
     ensures known { IsStatus result.status }
     ensures ends { EndsAs outcome rule.now result.status result.write_result
         (W.contents out.old.writer) (W.contents out.new.writer)
@@ -229,7 +229,7 @@ fn print_outcome<W: Write, E: Write>(
 }
 
 /// Ends a run after its trees were printed, and reports a write of them that was refused.
-fn exit_after_write<E: Write>(err: &mut Output<E>, outcome: Result<(), RefusedWrite>) -> Exit
+fn exit_after_write<E: Write>(err: &mut Output<E>, outcome: Result<(), RefusedWrite>) -> RunExit
     ensures known { (result.status ≡ 0) ⊎ (result.status ≡ 4) }
     ensures printed { IsOk outcome → result.status ≡ 0 }
     ensures silent { IsOk outcome → err.new ≡ err.old }
@@ -241,7 +241,7 @@ fn exit_after_write<E: Write>(err: &mut Output<E>, outcome: Result<(), RefusedWr
     ensures refused_line { IsErr result.write_result → err.new.refused ≡ true }
 {
     match outcome {
-        Ok(()) => Exit {
+        Ok(()) => RunExit {
             status: PRINTED,
             write_result: Ok(()),
         },
@@ -250,7 +250,7 @@ fn exit_after_write<E: Write>(err: &mut Output<E>, outcome: Result<(), RefusedWr
 }
 
 /// Reports that the grammar has no rule of that name.
-fn no_rule<E: Write>(err: &mut Output<E>, rule: &str) -> Exit
+fn no_rule<E: Write>(err: &mut Output<E>, rule: &str) -> RunExit
     ensures status { result.status ≡ 1 }
     ensures tells { WritesLine (codes "the grammar has no rule " ++ rule.now) result.write_result
         (E.contents err.old.writer) (E.contents err.new.writer) }
@@ -258,14 +258,14 @@ fn no_rule<E: Write>(err: &mut Output<E>, rule: &str) -> Exit
     ensures refused_line { IsErr result.write_result → err.new.refused ≡ true }
 {
     let write_result = err.write_line(&["the grammar has no rule ", rule]);
-    Exit {
+    RunExit {
         status: REFUSED,
         write_result,
     }
 }
 
 /// Ends a run with this status, after writing a message and a line break to `err`.
-fn exit_with<E: Write>(err: &mut Output<E>, message: &str, status: u8) -> Exit
+fn exit_with<E: Write>(err: &mut Output<E>, message: &str, status: u8) -> RunExit
     ensures status { result.status ≡ status }
     ensures tells { WritesLine message.now result.write_result
         (E.contents err.old.writer) (E.contents err.new.writer) }
@@ -273,7 +273,7 @@ fn exit_with<E: Write>(err: &mut Output<E>, message: &str, status: u8) -> Exit
     ensures refused_line { IsErr result.write_result → err.new.refused ≡ true }
 {
     let write_result = err.write_line(&[message]);
-    Exit {
+    RunExit {
         status,
         write_result,
     }
