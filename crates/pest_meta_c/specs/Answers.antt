@@ -1,4 +1,4 @@
--- What each call answers, as bytes of JSON.
+-- The answers of the calls, as bytes of JSON.
 use Rattle.std.specs.Prelude.{◌≡◌, ℕ, List, [], ◌∷◌, None, length}
 use Rattle.std.specs.Borrow.{Bor}
 use Rattle.serde_json.specs.Written.{compact_text}
@@ -33,7 +33,7 @@ use Rattle.meta_syntax.specs.declared.entries.Entry.{Entry}
 use Rattle.pest_meta.specs.Promises.{AreBuiltinsOf, EndsFromEverywhere, HasOutcomesOf, IsWellFormedGrammar, OfRead, OfSpelled}
 use Rattle.pest_meta.specs.Spelling.{AreAccepted, HasRefusal, HasTrees, IsAnswer, complaints_in}
 
--- the bytes are the tokens that a text gives for the rule of that name
+-- the bytes are the tokens of a text for the rule of that name
 pub record AreTokens (text name json : List ℕ) : Type 0 where
   pub rule : Rule
   pub named : name_of rule ≡ name
@@ -68,7 +68,7 @@ pub record AreRules (text json : List ℕ) : Type 0 where
   pub counts : HasReadableCounts (rules_of rules)
   pub written : json ≡ compact_text (rules_data rules)
 
--- the bytes are the rules that a grammar's text spells, with the places of their names and nodes
+-- the bytes are the rules that a grammar's text spells, with the spans of their names and nodes
 pub record AreNodes (text json : List ℕ) : Type 0 where
   pub trees : Trees
   pub of_text : HasTrees text trees
@@ -86,7 +86,7 @@ pub record AreOptimized (text json : List ℕ) : Type 0 where
   pub agrees : WrappersSuffice (optimized_rules_of answer) → AgreesLoosely (optimized_rules_of answer)
   pub written : json ≡ compact_text (optimized_rules_data answer)
 
--- what is promised of the builtins and the optimized rules that are answered for a grammar's text
+-- the promises for the builtins and the optimized rules that a grammar's text is answered with
 pub record ArePromised (text : List ℕ) (builtins : List (Bor (List ℕ))) (rules : List OptimizedRule)
     : Type 0 where
   pub answer : IsAnswer text builtins rules

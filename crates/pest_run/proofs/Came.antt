@@ -21,14 +21,14 @@ use Rattle.meta_matcher.specs.ExpectedNames.{each_once, name_texts}
 use Rattle.matcher_program.specs.Programs.{Fits}
 use Rattle.matcher_program.specs.declared.form.Property.{Property}
 use Rattle.matcher_support.specs.Sets.{is_in_property}
-use Rattle.pest_run.specs.Outcomes.{IsOutcome, TellsOf, failure_text, stopped_outcome, unfit_outcome}
+use Rattle.pest_run.specs.Outcomes.{IsFailureReport, IsOutcome, failure_text, stopped_outcome, unfit_outcome}
 use Rattle.pest_run.specs.declared.arguments.Format.{Format}
 use Rattle.pest_run.specs.declared.outcomes.Outcome.{Outcome}
 use Rattle.pest_run.specs.declared.outcomes.Outcome.TheVariants as is
 
 -- what is told of the place of the failure, and of what is expected there, is told of the failure
 pub failed : (g : Grammar) (ps : List Property) (rule text : List ℕ) (format : Format) (place : ℕ) (names : List (Bor (List ℕ))) (o : Outcome)
-    → Fits ps is_in_property → ((classes : Classes) → Fits ps classes → (d : Has g (chars rule) text classes Failure) × (place ≡ furthest d)) → AreExpectedAt g ps (chars rule) text place names → TellsOf text place (name_texts names) o
+    → Fits ps is_in_property → ((classes : Classes) → Fits ps classes → (d : Has g (chars rule) text classes Failure) × (place ≡ furthest d)) → AreExpectedAt g ps (chars rule) text place names → IsFailureReport text place (name_texts names) o
     → IsOutcome g rule text format o
 failed g ps rule text format place names (is.Shown lines) fits f a t = absurd t
 failed g ps rule text format place names (is.Failed report) fits f a t =

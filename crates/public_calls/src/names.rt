@@ -8,7 +8,7 @@ use meta_base::grammar::Rule;
 use meta_base::runtime::{Error, Fault, Pairs, Span};
 use std::alloc::Global;
 
-/// The builtins that a grammar uses, or what is wrong with its names.
+/// Returns the builtins that a grammar uses, or the errors of its names.
 pub fn validate_pairs<'i>(alloc: Global, pairs: Pairs<'i, Rule>) -> Result<Vec<&'i str>, Fault>
     ensures no_complaints { OnOk result (complaints_of pairs.entry ≡ []) }
     ensures builtins { IfOk result (λ names. AreWrittenAt (first_calls_of pairs.entry) names.items) }
@@ -17,7 +17,7 @@ pub fn validate_pairs<'i>(alloc: Global, pairs: Pairs<'i, Rule>) -> Result<Vec<&
     meta_names::validate_pairs(alloc, pairs)
 }
 
-/// The definitions that are keywords of Rust.
+/// Returns the definitions that are keywords of Rust.
 pub fn validate_rust_keywords(
     alloc: Global,
     definitions: &Vec<Span<'_>>,
@@ -29,7 +29,7 @@ pub fn validate_rust_keywords(
     meta_names::validate_rust_keywords(alloc, definitions)
 }
 
-/// The calls of names that nothing defines.
+/// Returns the calls of names that nothing defines.
 pub fn validate_undefined<'i>(
     alloc: Global,
     definitions: &Vec<Span<'i>>,

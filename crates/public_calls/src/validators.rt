@@ -1,4 +1,4 @@
-//! What is wrong with rules.
+//! The errors of rules.
 ghost use Rattle.std.specs.Prelude.{IfErr, IfOk, IsTrue, [], alloc_error, map, ◌↔◌, ◌≡◌};
 ghost use Rattle.meta_analysis.specs.NamedPlaces.{last_name};
 ghost use Rattle.meta_base.specs.Language.WellFormed.{CannotFail, IsWellFormed};
@@ -13,7 +13,7 @@ use meta_base::runtime::{Error, Fault, Span};
 use meta_spanned::{ParserExpr, ParserRule};
 use std::alloc::Global;
 
-/// Whether an expression cannot fail.
+/// Returns whether an expression cannot fail.
 pub fn is_non_failing<'i>(
     alloc: Global,
     expr: &ParserExpr<'i>,
@@ -26,7 +26,7 @@ pub fn is_non_failing<'i>(
     meta_validator::validator::is_non_failing(alloc, expr, rules)
 }
 
-/// The errors of rules, with those of some repetitions.
+/// Returns the errors of rules, with those of some repetitions.
 pub fn validate_rules<'i>(
     alloc: Global,
     rules: &Vec<ParserRule<'i>>,
@@ -41,7 +41,7 @@ pub fn validate_rules<'i>(
     meta_validator::validator::validate_rules(alloc, rules, endless)
 }
 
-/// All errors of rules.
+/// Returns all errors of rules.
 pub fn validate_ast<'i>(
     alloc: Global,
     rules: &Vec<ParserRule<'i>>,
@@ -55,14 +55,14 @@ pub fn validate_ast<'i>(
     pest_meta::validator::validate_ast(alloc, rules)
 }
 
-/// The place of the last of some names that is equal to one.
+/// Returns the index of the last of some names that is equal to one.
 pub fn rule_number(names: &Vec<&str>, name: &str) -> Option<usize>
     ensures { result ≡ last_name names.now.items name.now }
 {
     meta_analysis::rule_number(names, name)
 }
 
-/// The errors of the stack pass.
+/// Returns the errors of the stack pass.
 pub fn validate_stack_repetition<'i>(
     alloc: Global,
     rules: &Vec<ParserRule<'i>>,

@@ -11,7 +11,7 @@ loop-name-preserved c =
     let i = c.loop-name.invariant in
     record {
       counted = omega (arith, i.counted, c.loop-name-test.true);
-      written = rw add-one (one_more _ c.args.names.now c.loop-name.name-index _ c.loop-name-test.true (c.loop-name.following - 1) (string_bytes c.loop-name.message) (string_bytes c.add_name.new.message) c.before_name.result.now (omega (arith, i.counted, c.loop-name-test.true)) c.before_name.ensures c.in_ok-add_name.ensures ∙ i.written);
+      written = rw add-one (one_more _ c.args.names.now c.loop-name.name-index _ c.loop-name-test.true (c.loop-name.following - 1) (string_bytes c.loop-name.message) (string_bytes c.add_name.new.message) c.name_separator.result.now (omega (arith, i.counted, c.loop-name-test.true)) c.name_separator.ensures c.in_ok-add_name.ensures ∙ i.written);
     }
 
 pub returns : goal.returns

@@ -1,4 +1,4 @@
-//! What is printed, and made of that again.
+//! Prints the optimized rules of a text and makes them again from the printed text.
 use meta_ast::ast::RuleType;
 use meta_base::runtime::Fault;
 use meta_optimizer::OptimizedRule;
@@ -6,7 +6,7 @@ use pest_meta::parse_and_optimize;
 use std::alloc::{AllocError, Global};
 use std::fmt;
 
-/// The sign of a rule's type before its brace.
+/// Returns the modifier of a rule's type before its brace.
 fn modifier(ty: RuleType) -> &'static str {
     match ty {
         RuleType::Normal => "",
@@ -35,7 +35,7 @@ fn write_grammar(out: &mut String, rules: &[OptimizedRule]) -> Result<(), AllocE
     Ok(())
 }
 
-/// What is said of what was made again.
+/// Returns the words for whether both lists are equal.
 fn verdict(is_same: bool) -> &'static str {
     if is_same {
         "the same again"
@@ -44,18 +44,18 @@ fn verdict(is_same: bool) -> &'static str {
     }
 }
 
-/// The optimized rules of a text.
+/// Returns the optimized rules of a text.
 fn rules_of(alloc: Global, text: &str) -> Result<Vec<OptimizedRule>, Fault> {
     let (_builtins, rules) = parse_and_optimize(alloc, text)?;
     Ok(rules)
 }
 
-/// The optimized rules of a text as they are printed, and whether the same are made of what is printed.
-pub(crate) fn again(alloc: Global, text: &str, out: &mut String) -> Result<(), Fault> {
+/// Writes the optimized rules of a text as they are printed, and whether the printed text gives equal ones.
+pub(crate) fn write_round_trip(alloc: Global, text: &str, out: &mut String) -> Result<(), Fault> {
     write_again(alloc, &rules_of(alloc, text)?, out)
 }
 
-/// Writes optimized rules, and whether the same are made of what is written.
+/// Writes optimized rules, and whether the written text gives equal ones.
 fn write_again(alloc: Global, rules: &Vec<OptimizedRule>, out: &mut String) -> Result<(), Fault> {
     write_grammar(out, rules)?;
     let is_same = rules_of(alloc, out.as_str())? == *rules;

@@ -1,4 +1,4 @@
-//! Values that no text is read as. A text is a list of words here, each of which says how a value is made.
+//! Values that no text is read as. A text is a list of words here, one for each value.
 use crate::values::write_equalities;
 use meta_ast::ast::{Expr, Rule, RuleType};
 use meta_base::runtime::Fault;
@@ -18,14 +18,14 @@ fn write_values<T: fmt::Display + PartialEq + Clone + Drop>(
     write_equalities(out, name, values, &values.clone()?)
 }
 
-/// The two bounds of `LOW..HIGH`.
+/// Returns the two bounds of `LOW..HIGH`.
 fn bounds(alloc: Global, word: &str) -> Result<(String, String), AllocError> {
     let (low, high) = word.split_once("..").unwrap_or((word, ""));
     let low = String::from_str(alloc, low)?;
     Ok((low, String::from_str(alloc, high)?))
 }
 
-/// Ranges, with bounds that are empty or longer than a character, as they are printed.
+/// Writes ranges, with bounds that are empty or longer than a character, as they are printed.
 pub(crate) fn ranges(alloc: Global, words: &str, out: &mut String) -> Result<(), Fault> {
     let mut values = Vec::new(alloc);
     for word in words.split(' ') {
@@ -35,7 +35,7 @@ pub(crate) fn ranges(alloc: Global, words: &str, out: &mut String) -> Result<(),
     Ok(write_values(out, "ranges", &values)?)
 }
 
-/// The same as optimized expressions.
+/// Writes such ranges as optimized expressions.
 pub(crate) fn optimized_ranges(alloc: Global, words: &str, out: &mut String) -> Result<(), Fault> {
     let mut values = Vec::new(alloc);
     for word in words.split(' ') {
@@ -45,7 +45,7 @@ pub(crate) fn optimized_ranges(alloc: Global, words: &str, out: &mut String) -> 
     Ok(write_values(out, "ranges", &values)?)
 }
 
-/// The strings of a word, between commas. `-` has none.
+/// Returns the strings of a word, between commas. `-` has none.
 fn strings(alloc: Global, word: &str) -> Result<Vec<String>, AllocError> {
     let mut strings = Vec::new(alloc);
     if word != "-" {
@@ -56,7 +56,7 @@ fn strings(alloc: Global, word: &str) -> Result<Vec<String>, AllocError> {
     Ok(strings)
 }
 
-/// Runs to the next of some strings, as they are printed.
+/// Writes forward searches for the next of some strings, as they are printed.
 pub(crate) fn runs(alloc: Global, words: &str, out: &mut String) -> Result<(), Fault> {
     let mut values = Vec::new(alloc);
     for word in words.split(' ') {
@@ -65,9 +65,9 @@ pub(crate) fn runs(alloc: Global, words: &str, out: &mut String) -> Result<(), F
     Ok(write_values(out, "runs", &values)?)
 }
 
-/// The name `e` with signs round it, the innermost first: `&` and `!`, `?`, `*` and `+`, `P` for a push, `~`
-/// for a sequence behind `x`, `|` for a choice before it, and `R` for what restores the stack.
-fn wrapped(alloc: Global, signs: &str) -> Result<OptimizedExpr, AllocError> {
+/// Wraps the name `e` as signs say, the innermost first: `&` and `!`, `?`, `*` and `+`, `P` for a push, `~`
+/// for a sequence `x ~ e`, `|` for a choice `e | x`, and `R` for a wrapper that restores the stack.
+fn wrap_name(alloc: Global, signs: &str) -> Result<OptimizedExpr, AllocError> {
     let mut expr = OptimizedExpr::Ident(String::from_str(alloc, "e")?);
     for sign in signs.chars() {
         let inner = Box::new(alloc, expr)?;
@@ -87,23 +87,23 @@ fn wrapped(alloc: Global, signs: &str) -> Result<OptimizedExpr, AllocError> {
     Ok(expr)
 }
 
-/// Such names, as they are printed.
+/// Writes such wrapped names, as they are printed.
 pub(crate) fn wrappers(alloc: Global, words: &str, out: &mut String) -> Result<(), Fault> {
     let mut values = Vec::new(alloc);
     for word in words.split(' ') {
-        values.push(wrapped(alloc, word)?)?;
+        values.push(wrap_name(alloc, word)?)?;
     }
     Ok(write_values(out, "expressions", &values)?)
 }
 
-/// A name in a box.
-fn named(alloc: Global, name: &str) -> Result<Box<Expr>, AllocError> {
+/// Returns a name in a box.
+fn boxed_name(alloc: Global, name: &str) -> Result<Box<Expr>, AllocError> {
     Ok(Box::new(alloc, Expr::Ident(String::from_str(alloc, name)?))?)
 }
 
-/// The name `e` so many times as a word counts.
-fn counted(alloc: Global, word: &str) -> Result<Expr, AllocError> {
-    let inner = named(alloc, "e")?;
+/// Repeats the name `e` as often as a word says.
+fn repeat_name(alloc: Global, word: &str) -> Result<Expr, AllocError> {
+    let inner = boxed_name(alloc, "e")?;
     Ok(match word.as_bytes() {
         b"{0}" => Expr::RepExact(inner, 0),
         b"{,0}" => Expr::RepMax(inner, 0),
@@ -114,14 +114,14 @@ fn counted(alloc: Global, word: &str) -> Result<Expr, AllocError> {
     })
 }
 
-/// An expression in a sequence in a choice.
+/// Puts an expression into a sequence in a choice.
 fn in_choice(alloc: Global, expr: Expr) -> Result<Expr, AllocError> {
     let expr = Box::new(alloc, expr)?;
-    let sequence = Box::new(alloc, Expr::Seq(named(alloc, "x")?, expr))?;
-    Ok(Expr::Choice(sequence, named(alloc, "y")?))
+    let sequence = Box::new(alloc, Expr::Seq(boxed_name(alloc, "x")?, expr))?;
+    Ok(Expr::Choice(sequence, boxed_name(alloc, "y")?))
 }
 
-/// Whether the counts of a rule are readable whose body that is, and those of no rules.
+/// Returns whether the counts of a rule with this body are readable, and those of no rules.
 fn are_readable(alloc: Global, body: Expr) -> Result<(bool, bool), AllocError> {
     let mut rules = Vec::new(alloc);
     let none_are = counts_are_readable(&rules);
@@ -133,8 +133,8 @@ fn are_readable(alloc: Global, body: Expr) -> Result<(bool, bool), AllocError> {
     Ok((counts_are_readable(&rules), none_are))
 }
 
-/// Such counts, each in a sequence in a choice: how they are printed, whether the counts of a rule are
-/// readable whose body that is, and those of no rules.
+/// Writes such repetitions, each in a sequence in a choice, as they are printed. Writes also whether the
+/// counts of a rule with this body are readable, and those of no rules.
 pub(crate) fn counts(alloc: Global, words: &str, out: &mut String) -> Result<(), Fault> {
     for word in words.split(' ') {
         write_count(alloc, word, out)?;
@@ -142,9 +142,9 @@ pub(crate) fn counts(alloc: Global, words: &str, out: &mut String) -> Result<(),
     Ok(())
 }
 
-/// Writes what `counts` says of a word.
+/// Writes the line of `counts` for a word.
 fn write_count(alloc: Global, word: &str, out: &mut String) -> Result<(), AllocError> {
-    let expr = in_choice(alloc, counted(alloc, word)?)?;
+    let expr = in_choice(alloc, repeat_name(alloc, word)?)?;
     write!(out, "{expr}: ")?;
     let (one_is, none_are) = are_readable(alloc, expr)?;
     write!(out, "{one_is}, and without rules {none_are}\n")

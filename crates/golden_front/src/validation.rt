@@ -1,4 +1,4 @@
-//! What is found wrong in rules.
+//! The errors that validators and the stack pass report for rules.
 use crate::reading::rules_of;
 use crate::refusals::write_errors;
 use meta_base::grammar::Rule;
@@ -8,23 +8,23 @@ use meta_stack_loops::validate_stack_repetition;
 use meta_validator::validator::{is_non_failing, is_non_progressing};
 use std::alloc::{AllocError, Global};
 
-/// Writes what is said of errors, or that there are none.
-fn write_said(out: &mut String, errors: &[Error<Rule>]) -> Result<(), AllocError> {
+/// Writes errors, or that there are none.
+fn write_errors_or_nothing(out: &mut String, errors: &[Error<Rule>]) -> Result<(), AllocError> {
     if errors.is_empty() {
         return out.push_str("nothing");
     }
     write_errors(out, "", errors)
 }
 
-/// What the stack pass alone finds in the rules of a text.
-pub(crate) fn stacked(alloc: Global, text: &str, out: &mut String) -> Result<(), Fault> {
+/// Writes the errors that the stack pass alone reports for the rules of a text.
+pub(crate) fn write_stack_errors(alloc: Global, text: &str, out: &mut String) -> Result<(), Fault> {
     let rules = rules_of(alloc, text)?;
     let errors = validate_stack_repetition(alloc, &rules);
     release(rules);
-    Ok(write_said(out, &errors?)?)
+    Ok(write_errors_or_nothing(out, &errors?)?)
 }
 
-/// The place of the last word of a text that is equal to this name.
+/// Returns the index of the last word of a text that is equal to this name.
 fn place_of(alloc: Global, name: &str, words: &str) -> Result<Option<usize>, AllocError> {
     let mut names = Vec::new(alloc);
     for word in words.split_whitespace() {
@@ -33,7 +33,7 @@ fn place_of(alloc: Global, name: &str, words: &str) -> Result<Option<usize>, All
     Ok(meta_analysis::rule_number(&names, name))
 }
 
-/// The place of the last of some names that is equal to this one.
+/// Writes the index of the last of some names that is equal to this one.
 pub(crate) fn rule_number(
     alloc: Global,
     name: &str,
@@ -47,7 +47,7 @@ pub(crate) fn rule_number(
     Ok(())
 }
 
-/// Of each body whether it may take nothing, and whether it cannot fail.
+/// Writes for each body whether it may take nothing, and whether it cannot fail.
 pub(crate) fn questions(alloc: Global, text: &str, out: &mut String) -> Result<(), Fault> {
     let rules = rules_of(alloc, text)?;
     for rule in &rules {

@@ -1,11 +1,11 @@
-//! What is printed, and made of that again.
+//! Prints the rules of a text and reads them again from the printed text.
 use crate::reading::erased_rules;
 use meta_ast::ast::{Rule, RuleType};
 use meta_base::runtime::Fault;
 use std::alloc::{AllocError, Global};
 use std::fmt;
 
-/// The sign of a rule's type before its brace.
+/// Returns the modifier of a rule's type before its brace.
 fn modifier(ty: RuleType) -> &'static str {
     match ty {
         RuleType::Normal => "",
@@ -34,7 +34,7 @@ fn write_rules(out: &mut String, rules: &[Rule]) -> Result<(), AllocError> {
     Ok(())
 }
 
-/// What is said of what was made again.
+/// Returns the words for whether both readings are equal.
 fn verdict(is_same: bool) -> &'static str {
     if is_same {
         "the same again"
@@ -43,12 +43,12 @@ fn verdict(is_same: bool) -> &'static str {
     }
 }
 
-/// The rules of a text as they are printed, and whether the same are read of what is printed.
+/// Writes the rules of a text as they are printed, and whether the printed text reads as equal rules.
 pub(crate) fn read_again(alloc: Global, text: &str, out: &mut String) -> Result<(), Fault> {
     write_read_again(alloc, &erased_rules(alloc, text)?, out)
 }
 
-/// Writes rules, and whether the same are read of what is written.
+/// Writes rules, and whether the written text reads as equal rules.
 fn write_read_again(alloc: Global, rules: &Vec<Rule>, out: &mut String) -> Result<(), Fault> {
     write_rules(out, rules)?;
     let is_same = erased_rules(alloc, out.as_str())? == *rules;
