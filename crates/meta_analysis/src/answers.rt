@@ -5,7 +5,7 @@ ghost use Rattle.meta_analysis.specs.KindTable.{AgreeAt, fires};
 ghost use Rattle.meta_analysis.specs.declared.kind_table.Question.{Question};
 
 use crate::kind_table::{KindTable, NodeKind, Question};
-use meta_fixpoint::{Inference, Listeners, DependencyGraph, DependencyVisitor, least_flags};
+use meta_fixpoint::{DependencyGraph, DependencyVisitor, Inference, Listeners, least_flags};
 use std::alloc::{AllocError, Global};
 
 /// Returns the nodes on which the answers for a node depend, two at most.

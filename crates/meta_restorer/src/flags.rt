@@ -3,7 +3,7 @@ ghost use Rattle.std.specs.Prelude.{IfOk};
 ghost use Rattle.meta_restorer.specs.Summaries.{AreClosed, AreSound, AreWithin};
 
 use crate::summaries::{Summaries, Summary, is_shown};
-use meta_fixpoint::{Inference, DependencyGraph, DependencyVisitor, least_flags, find_listeners};
+use meta_fixpoint::{DependencyGraph, DependencyVisitor, Inference, find_listeners, least_flags};
 use std::alloc::{AllocError, Global};
 
 impl DependencyGraph for Summaries {

@@ -8,7 +8,7 @@ ghost use Rattle.meta_stack_loops.specs.Table.{nodes_of};
 
 use crate::facts::Nodes;
 use crate::table::{NodeKind, Table};
-use meta_fixpoint::{is_set, find_listeners};
+use meta_fixpoint::{find_listeners, is_set};
 use std::alloc::{AllocError, Global};
 
 /// Whether the body that a call leads to has a flag.

@@ -7,7 +7,9 @@ ghost use Rattle.meta_stack_loops.specs.Answers.{AreSound, AreClosed};
 ghost use Rattle.meta_stack_loops.specs.Table.{called_by, parts_of};
 
 use crate::table::{NodeKind, Parts, PassNode};
-use meta_fixpoint::{Inference, DependencyGraph, DependencyVisitor, is_set, least_flags, find_listeners};
+use meta_fixpoint::{
+    DependencyGraph, DependencyVisitor, Inference, find_listeners, is_set, least_flags,
+};
 use std::alloc::{AllocError, Global};
 
 /// An attribute of nodes.

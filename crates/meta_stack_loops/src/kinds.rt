@@ -9,7 +9,7 @@ ghost use Rattle.meta_stack_loops.specs.Names.{kind_in};
 
 use crate::names::kind_of_name;
 use crate::table::{NodeKind, PassNode};
-use meta_analysis::{Joint, Names, Shape, UnaryOperator, Table};
+use meta_analysis::{Joint, Names, Shape, Table, UnaryOperator};
 use meta_spanned::{ParserExpr, ParserRule};
 use std::alloc::{AllocError, Global};
 

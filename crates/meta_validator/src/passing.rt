@@ -10,7 +10,7 @@ ghost use Rattle.meta_validator.specs.Without.{AreAnswersWithout, IsWithout, wit
 use crate::cycles::number_at;
 use crate::levels::levels_of;
 use meta_analysis::{Facts, KindTable, NodeKind, Question, answers_to};
-use meta_fixpoint::{is_set, find_listeners};
+use meta_fixpoint::{find_listeners, is_set};
 use meta_spanned::ParserRule;
 use std::alloc::{AllocError, Global};
 
