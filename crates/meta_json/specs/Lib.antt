@@ -1,5 +1,6 @@
 pub mod Errors
 pub mod Format
+pub mod Forms
 pub mod Nodes
 pub mod Placed
 pub mod Reading

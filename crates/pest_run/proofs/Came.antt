@@ -3,6 +3,7 @@ use Rattle.std.proofs.Common.{◌≡◌, ◌∙◌, ap, ap₂, refl, sym, subst,
 use Rattle.std.specs.Prelude.{IsUtf8}
 use Rattle.std.specs.Borrow.{Bor}
 use Rattle.std.specs.Str.{chars, IsCharBoundary}
+use Rattle.meta_ast.specs.Ast.{text_of}
 use Rattle.meta_base.specs.Language.Expression.{Grammar}
 use Rattle.meta_base.specs.Language.Expected.{expected, expected_at}
 use Rattle.meta_base.specs.Language.FurthestFailure.{furthest}
@@ -12,6 +13,7 @@ use Rattle.meta_base.specs.Language.Text.{Text}
 use Rattle.meta_base.proofs.ExpectedOnce.{one_list}
 use Rattle.meta_base.proofs.FailuresStand.{stands_at}
 use Rattle.meta_base.proofs.InBytes.{on_bytes}
+use Rattle.matcher_program.specs.Refusals.{IsReason}
 use Rattle.matcher_program.specs.declared.compile.Unfit.{Unfit}
 use Rattle.matcher_program.specs.declared.compile.Unfit.TheVariants as no
 use Rattle.meta_matcher.specs.Answers.{AreExpectedAt, FailsAt, Has, IsStopped, start_of}
@@ -20,7 +22,7 @@ use Rattle.meta_matcher.specs.declared.machine.Stop.TheVariants as stop
 use Rattle.meta_matcher.specs.ExpectedNames.{each_once, name_texts}
 use Rattle.matcher_program.specs.Programs.{Fits}
 use Rattle.matcher_program.specs.declared.form.Property.{Property}
-use Rattle.matcher_support.specs.Sets.{is_in_property}
+use Rattle.matcher_support.specs.Sets.{has_set, is_in_property}
 use Rattle.pest_run.specs.Outcomes.{IsFailureReport, IsOutcome, failure_text, stopped_outcome, unfit_outcome}
 use Rattle.pest_run.specs.declared.arguments.Format.{Format}
 use Rattle.pest_run.specs.declared.outcomes.Outcome.{Outcome}
@@ -59,8 +61,8 @@ stopped g ps rule text format stop.Memory fits h = tt
 stopped g ps rule text format stop.OutOfSteps fits h = λ o found. h is_in_property fits o found
 stopped g ps rule text format stop.EmptyStack fits h = λ o found. h is_in_property fits o found
 
--- of rules that can't be run nothing is said
-pub unfit : (g : Grammar) (rule text : List ℕ) (format : Format) (why : Unfit) → IsOutcome g rule text format (unfit_outcome why)
-unfit g rule text format no.Memory = tt
-unfit g rule text format (no.UnknownName name) = tt
-unfit g rule text format (no.Bound bound) = tt
+-- rules that can't be run call an unknown name, or have a wrong bound
+pub unfit : (g : Grammar) (rule text : List ℕ) (format : Format) (why : Unfit) → IsReason has_set g why → IsOutcome g rule text format (unfit_outcome why)
+unfit g rule text format no.Memory h = tt
+unfit g rule text format (no.UnknownName name) h = (text_of name, h.0, h.1)
+unfit g rule text format (no.Bound bound) h = (text_of bound, h.0, h.1)

@@ -65,8 +65,8 @@ stops (is.Failed report) grammar rule text format builtins rules told status old
 stops is.NoRule grammar rule text format builtins rules told status old_out new_out old new a i e five = absurd (apart status 1 5 e.0 five (omega arith))
 stops is.OutOfSteps grammar rule text format builtins rules told status old_out new_out old new a i e five = record { builtins = builtins; rules = rules; answers = a; message = codes "the text takes too many steps"; stop = too_many_steps i; line = e.1 }
 stops is.EmptyStack grammar rule text format builtins rules told status old_out new_out old new a i e five = record { builtins = builtins; rules = rules; answers = a; message = codes "PEEK or POP found nothing on the stack"; stop = empty_stack i; line = e.1 }
-stops is.UnknownName grammar rule text format builtins rules told status old_out new_out old new a i e five = record { builtins = builtins; rules = rules; answers = a; message = codes "the grammar calls a rule that is not known"; stop = unknown_name; line = e.1 }
-stops is.Bound grammar rule text format builtins rules told status old_out new_out old new a i e five = record { builtins = builtins; rules = rules; answers = a; message = codes "a range of the grammar has a bound that is no character"; stop = wide_bound; line = e.1 }
+stops is.UnknownName grammar rule text format builtins rules told status old_out new_out old new a i e five = record { builtins = builtins; rules = rules; answers = a; message = codes "the grammar calls a rule that is not known"; stop = unknown_name i; line = e.1 }
+stops is.Bound grammar rule text format builtins rules told status old_out new_out old new a i e five = record { builtins = builtins; rules = rules; answers = a; message = codes "a range of the grammar has a bound that is no character"; stop = wide_bound i; line = e.1 }
 stops is.Memory grammar rule text format builtins rules told status old_out new_out old new a i e five = absurd (apart status 2 5 e five (omega arith))
 
 -- where there is a text, the outcome was a refusal, there is a reason for it, and the text reports it

@@ -1,14 +1,16 @@
 -- The outcome of a rule on a text.
 use Rattle.std.specs.Prelude.{◌≡◌, ◌<◌, ◌-◌, ◌^◌, ℕ, List, ◌++◌, None, codes, string_bytes, ⊤}
 use Rattle.std.specs.Str.{chars}
-use Rattle.meta_base.specs.Language.Expression.{Grammar, rule_of}
+use Rattle.meta_base.specs.Language.Expression.{Grammar, Ident, rule_of}
 use Rattle.meta_base.specs.Language.Expected.{expected}
 use Rattle.meta_base.specs.Language.FurthestFailure.{furthest}
 use Rattle.meta_base.specs.Language.State.{State, Trees, Outcome as Result, Success, Failure}
 use Rattle.meta_base.specs.Language.Text.{Text}
+use Rattle.meta_base.specs.Language.WellFormed.{InSomeRule}
 use Rattle.meta_base.specs.Pieces.LineColumn.{line_column}
 use Rattle.meta_base.specs.Pieces.PrintedError.{printed_error, printed_line}
 use Rattle.meta_base.specs.declared.runtime.errors.LineColLocation.TheVariants.{Pos}
+use Rattle.matcher_program.specs.Refusals.{IsBoundOf, IsNoCharacter, IsUnknown}
 use Rattle.matcher_program.specs.declared.compile.Unfit.{Unfit}
 use Rattle.matcher_program.specs.declared.compile.Unfit.TheVariants as unfit
 use Rattle.meta_matcher.specs.Answers.{Has}
@@ -16,7 +18,7 @@ use Rattle.meta_matcher.specs.Sizes.{most_steps}
 use Rattle.meta_matcher.specs.ExpectedNames.{each_once}
 use Rattle.meta_matcher.specs.declared.machine.Stop.{Stop}
 use Rattle.meta_matcher.specs.declared.machine.Stop.TheVariants as stop
-use Rattle.matcher_support.specs.Sets.{is_in_property}
+use Rattle.matcher_support.specs.Sets.{has_set, is_in_property}
 use Rattle.matcher_support.specs.Shown.{shown}
 use Rattle.matcher_support.specs.Values.{answer_data}
 use Rattle.pest_run.specs.Messages.{failure_message}
@@ -62,6 +64,14 @@ abbrev pub TakesTooManySteps : Grammar → List ℕ → List ℕ → Type 0
 TakesTooManySteps g rule text = (o : Result) (found : Has g (chars rule) text is_in_property o)
     → 2 ^ 64 - 1 < most_steps found
 
+-- some rule calls a name that no rule has, and that is no builtin's with a known set
+abbrev pub CallsUnknownName : Grammar → Type 0
+CallsUnknownName g = (n : Text) × InSomeRule g (Ident n) × IsUnknown has_set g n
+
+-- a bound of some range is not one character
+abbrev pub HasWrongBound : Grammar → Type 0
+HasWrongBound g = (t : Text) × IsBoundOf (InSomeRule g) t × IsNoCharacter t
+
 -- the outcome of a run that the matcher stopped
 abbrev pub stopped_outcome : Stop → Outcome
 stopped_outcome stop.Memory = is.Memory
@@ -80,14 +90,14 @@ IsFailureReport text place names (is.Failed report) = string_bytes report ≡ fa
 IsFailureReport text place names is.Memory = ⊤
 IsFailureReport text place names _ = ⊥
 
--- the outcome is that of the rule on the text; rules that can't be run and allocation failures are not
--- constrained
+-- the outcome is that of the rule on the text, or says why the rules can't be run; an allocation failure is
+-- not constrained
 abbrev pub IsOutcome : Grammar → List ℕ → List ℕ → Format → Outcome → Type 0
 IsOutcome g rule text format (is.Shown lines) = IsShown g rule text format (string_bytes lines)
 IsOutcome g rule text format (is.Failed report) = HasFailed g rule text (string_bytes report)
 IsOutcome g rule text format is.NoRule = HasNoRule g rule
 IsOutcome g rule text format is.OutOfSteps = TakesTooManySteps g rule text
 IsOutcome g rule text format is.EmptyStack = HasNoOutcome g rule text
-IsOutcome g rule text format is.UnknownName = ⊤
-IsOutcome g rule text format is.Bound = ⊤
+IsOutcome g rule text format is.UnknownName = CallsUnknownName g
+IsOutcome g rule text format is.Bound = HasWrongBound g
 IsOutcome g rule text format is.Memory = ⊤

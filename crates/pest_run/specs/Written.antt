@@ -9,7 +9,7 @@ use Rattle.meta_base.specs.declared.grammar.Rule.{Rule}
 use Rattle.meta_base.specs.declared.runtime.errors.Error.{Error}
 use Rattle.pest_meta.specs.Reports.{report_text}
 use Rattle.pest_meta.specs.Spelling.{IsAnswer, IsRefusedWith}
-use Rattle.pest_run.specs.Outcomes.{HasFailed, HasNoOutcome, HasNoRule, IsShown, TakesTooManySteps}
+use Rattle.pest_run.specs.Outcomes.{CallsUnknownName, HasFailed, HasNoOutcome, HasNoRule, HasWrongBound, IsShown, TakesTooManySteps}
 use Rattle.pest_run.specs.declared.arguments.Format.{Format}
 use Rattle.pest_run.specs.declared.run.Source.{Source}
 
@@ -52,12 +52,13 @@ pub record ReportsReason {X E : Type 0} (grammar rule text : List ℕ) (written 
   pub line : WritesLine message written old new
 
 -- the reason why the matcher was stopped on the text, and its text: too many steps; or the rule has no
--- outcome and `PEEK` or `POP` met the empty stack; or the rules can't be run, which has no further condition
+-- outcome and `PEEK` or `POP` met the empty stack; or the rules can't be run, for an unknown name or a bound
 pub data IsStop (g : Grammar) (rule text : List ℕ) : List ℕ → Type 0 where
   too_many_steps : TakesTooManySteps g rule text → IsStop g rule text (codes "the text takes too many steps")
   empty_stack : HasNoOutcome g rule text → IsStop g rule text (codes "PEEK or POP found nothing on the stack")
-  unknown_name : IsStop g rule text (codes "the grammar calls a rule that is not known")
-  wide_bound : IsStop g rule text (codes "a range of the grammar has a bound that is no character")
+  unknown_name : CallsUnknownName g → IsStop g rule text (codes "the grammar calls a rule that is not known")
+  wide_bound : HasWrongBound g
+      → IsStop g rule text (codes "a range of the grammar has a bound that is no character")
 
 -- there is an answer for the grammar, the matcher was stopped on the text, and the reason is the line
 pub record ReportsStop {X E : Type 0} (grammar rule text : List ℕ) (written : Result X E)

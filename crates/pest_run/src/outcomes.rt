@@ -152,7 +152,7 @@ fn stopped_outcome(stop: Stop) -> Outcome
     }
 }
 
-/// Returns the outcome of rules that can't be run. Rules of a grammar that is accepted can.
+/// Returns the outcome of rules that can't be run.
 fn unfit_outcome(unfit: Unfit) -> Outcome
     ensures { result ≡ unfit_outcome unfit }
 {

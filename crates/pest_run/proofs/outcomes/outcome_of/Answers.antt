@@ -4,7 +4,7 @@ use Rattle.meta_base.specs.Language.Expression.{Grammar}
 use Rattle.matcher_program.specs.Programs.{grammar_of}
 use Rattle.pest_run.specs.Outcomes.{IsOutcome, stopped_outcome}
 use Rattle.pest_run.specs.declared.outcomes.Outcome.{Outcome}
-use Rattle.pest_run.proofs.Came.{at_character, failed, stopped}
+use Rattle.pest_run.proofs.Came.{at_character, failed, stopped, unfit}
 use Rattle.pest_run.proofs.outcomes.outcome_of.Goals as goal
 
 pub returns-in-Ok-expected_at : goal.returns-in-Ok-expected_at
@@ -45,3 +45,9 @@ returns c =
     let P : Outcome → Type 0 = λ o. IsOutcome (optimized_rules_of c.args.rules.now) c.args.rule.now c.args.text.now c.args.format o in
     let Q : Grammar → Type 0 = λ g. IsOutcome g c.args.rule.now c.args.text.now c.args.format (stopped_outcome why) in
     subst P (sym same) (subst Q c.in-Ok.ensures.means (stopped (grammar_of program.rows.items) program.properties.items c.args.rule.now c.args.text.now c.args.format why c.in-Ok.ensures.fits says))
+
+-- rules that can't be run
+pub returns-in-Err : goal.returns-in-Err
+returns-in-Err c =
+    let P : Outcome → Type 0 = λ o. IsOutcome (optimized_rules_of c.args.rules.now) c.args.rule.now c.args.text.now c.args.format o in
+    subst P (sym c.unfit_outcome.ensures) (unfit (optimized_rules_of c.args.rules.now) c.args.rule.now c.args.text.now c.args.format c.in-Err.unfit c.in-Err.ensures.refused)
