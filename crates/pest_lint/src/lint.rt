@@ -1,23 +1,21 @@
-//! What the program does once its files are read.
-ghost use Rattle.std.specs.Prelude.{◌≡◌, ◌≤◌, ◌⊎◌, All, true};
-ghost use Rattle.pest_lint.specs.Found.{IsClean};
-ghost use Rattle.pest_meta.specs.Spelling.{HasAnswer, HasRefusal};
+//! Diagnosing files, and printing what is found.
+ghost use Rattle.std.specs.Prelude.{◌≡◌, ◌≤◌};
 
-use crate::arguments::Options;
-use crate::expected::expected;
-use crate::findings::{Verdict, verdict_of, warnings};
-use crate::shown::{Finding, Kind, block, line};
-use crate::words::message;
-use meta_base::grammar::Rule;
-use meta_base::runtime::{Error, ErrorVariant};
+use crate::arguments::{Format, Settings};
+use lint_output::{
+    LineIndex, Origin, sarif_log, sarif_result, to_annotation, to_json_line, to_text,
+};
+use meta_diagnostics::{Diagnostic, Options, Severity, diagnose};
+use serde_json::Value;
 use std::alloc::{AllocError, Global};
 use std::io::Write;
+use tool_support::output::Output;
 
-/// Nothing was found.
+/// No error was found, and no warning that is denied.
 pub const CLEAN: u8 = 0;
-/// Something was found.
+/// An error or a denied warning was found.
 pub const FOUND: u8 = 1;
-/// Want of memory.
+/// An allocation failed.
 pub const MEMORY: u8 = 2;
 /// A file can't be read.
 pub const UNREADABLE: u8 = 3;
@@ -26,175 +24,187 @@ pub const UNWRITABLE: u8 = 4;
 
 /// A file: its name, its bytes, and why they can't be read, if so.
 #[derive(Drop)]
-pub struct Source<'a> {
-    pub name: &'a str,
+pub struct Source {
+    pub name: String,
     pub bytes: Vec<u8>,
     pub why: Option<String>,
 }
 
-/// What errors or warnings are told of: a file and its text.
+/// How many diagnostics were found.
+#[derive(Clone, Copy, Default)]
+pub struct Counts {
+    pub errors: usize,
+    pub warnings: usize,
+}
+
+/// The status of a run and its counts.
 #[derive(Clone, Copy)]
-struct Told<'a> {
-    kind: Kind,
-    file: &'a str,
-    text: &'a str,
-}
-
-/// How a run ends.
-#[derive(Drop)]
-pub struct Exit {
-    /// The status that the program ends with.
+pub struct Verdict {
     pub status: u8,
+    pub counts: Counts,
 }
 
-/// Writes what is found in each file to `out`, errors as pest-check finds them, and warnings where there are
-/// none. Answers 0 where nothing was found, and 1 where something was; warnings count where they are denied.
+/// Diagnoses each file, and prints what is found to `out`, in order. The status is the highest of theirs: 1
+/// where there are errors, or warnings that are denied.
 ///
-/// A file that can't be read is told on `err` with its name and why, and the others are looked at all the
-/// same (3). Where memory is wanting (2) or `out` refuses a write (4), the run ends there.
-pub fn run<W: Write, E: Write>(
+/// A file that can't be read is reported on `err`, and the others are diagnosed all the same (3). Where an
+/// allocation fails (2) or `out` refuses a write (4), the run ends.
+pub fn lint_files<W: Write, E: Write>(
     alloc: Global,
-    sources: &[Source<'_>],
-    options: Options,
-    out: &mut W,
-    err: &mut E,
-) -> Exit
-    ensures known { result.status ≤ 4 }
-    ensures clean { result.status ≡ 0 → All IsClean sources.now }
-{
-    let mut status = CLEAN;
-    for source in sources {
-        let one = look_at(alloc, source, options, out, err);
-        status = status.max(one);
-        if one == MEMORY || one == UNWRITABLE {
-            return Exit { status: one };
-        }
-    }
-    Exit { status }
-}
-
-/// Looks at one file, and answers a status for it.
-fn look_at<W: Write, E: Write>(
-    alloc: Global,
-    source: &Source<'_>,
-    options: Options,
-    out: &mut W,
-    err: &mut E,
+    sources: &[Source],
+    settings: Settings<'_>,
+    out: &mut Output<W>,
+    err: &mut Output<E>,
 ) -> u8
     ensures known { result ≤ 4 }
-    ensures clean { result ≡ 0 → IsClean source.now }
 {
+    let mut results = Vec::new(alloc);
+    let mut status = CLEAN;
+    for source in sources {
+        let one = lint_file(alloc, source, settings, &mut results, out, err);
+        status = status.max(one);
+        if one == MEMORY || one == UNWRITABLE {
+            return one;
+        }
+    }
+    if settings.format == Format::Sarif {
+        status = status.max(print_log(alloc, results, out));
+    }
+    status
+}
+
+/// Diagnoses a file, and answers its status.
+fn lint_file<W: Write, E: Write>(
+    alloc: Global,
+    source: &Source,
+    settings: Settings<'_>,
+    results: &mut Vec<Value>,
+    out: &mut Output<W>,
+    err: &mut Output<E>,
+) -> u8
+    ensures known { result ≤ 4 }
+{
+    let name = source.name.as_str();
     if let Some(why) = &source.why {
-        return unreadable(source.name, why.as_str(), err);
+        return report_unreadable(alloc, name, why.as_str(), err);
     }
     match str::from_utf8(&source.bytes) {
-        Err(_) => unreadable(source.name, "it is not UTF-8", err),
+        Err(_) => report_unreadable(alloc, name, "it is not UTF-8", err),
         Ok(text) => {
-            let status = tell(alloc, source.name, text, options, out);
+            let status = lint_text(alloc, name, text, settings, results, out);
             if status == MEMORY {
-                let _ = writeln!(err, "out of memory at {}", source.name);
+                let _ = err.write_line(&["out of memory at ", name]);
             }
             status
         }
     }
 }
 
-/// Tells of a file that can't be read.
-fn unreadable<E: Write>(name: &str, why: &str, err: &mut E) -> u8
-    ensures { result ≡ 3 }
+/// Reports a file that can't be read, and answers its status.
+fn report_unreadable<E: Write>(alloc: Global, name: &str, why: &str, err: &mut Output<E>) -> u8
+    ensures { result ≤ 4 }
 {
-    let _ = writeln!(err, "cannot read {name}: {why}");
-    UNREADABLE
-}
-
-/// Tells what is found in a text.
-fn tell<W: Write>(alloc: Global, file: &str, text: &str, options: Options, out: &mut W) -> u8
-    ensures known { result ≤ 4 }
-    ensures clean { result ≡ 0 → HasAnswer text.now }
-    ensures found { result ≡ 1 → HasRefusal text.now ⊎ (options.deny_warnings ≡ true) }
-{
-    match verdict_of(alloc, text) {
-        Verdict::Memory => MEMORY,
-        Verdict::Refused(errors) => {
-            let kind = Kind::Error;
-            let told = Told { kind, file, text };
-            let status = tell_all(alloc, told, &errors, options, out);
-            status.max(FOUND)
+    match lint_output::to_visible(alloc, name) {
+        Ok(name) => {
+            let _ = err.write_line(&["cannot read ", name.as_str(), ": ", why]);
+            UNREADABLE
         }
-        Verdict::Accepted => tell_warnings(alloc, file, text, options, out),
+        Err(_) => MEMORY,
     }
 }
 
-/// Tells the warnings for a text that is accepted.
-fn tell_warnings<W: Write>(
+/// Diagnoses a text, prints what is found, and answers its status.
+fn lint_text<W: Write>(
     alloc: Global,
-    file: &str,
+    name: &str,
     text: &str,
-    options: Options,
-    out: &mut W,
+    settings: Settings<'_>,
+    results: &mut Vec<Value>,
+    out: &mut Output<W>,
 ) -> u8
     ensures known { result ≤ 4 }
-    ensures denied { result ≡ 1 → options.deny_warnings ≡ true }
 {
-    let Ok(warnings) = warnings(alloc, text, options.all_rules) else {
+    let options = Options {
+        all: settings.all,
+        starts: settings.starts,
+    };
+    let Ok(diagnostics) = diagnose(alloc, text, options) else {
         return MEMORY;
     };
-    let kind = Kind::Warning;
-    let told = Told { kind, file, text };
-    let status = tell_all(alloc, told, &warnings, options, out);
-    if status == CLEAN && options.deny_warnings && !warnings.is_empty() {
-        FOUND
-    } else {
-        status
-    }
+    let Ok(lines) = LineIndex::new(alloc, text) else {
+        return MEMORY;
+    };
+    let origin = Origin {
+        name,
+        text,
+        lines: &lines,
+    };
+    let status = print_all(alloc, origin, &diagnostics, settings, results, out);
+    status.max(status_of(&diagnostics, settings.deny_warnings))
 }
 
-/// Tells errors or warnings, in order. Answers 0, or why it ended before.
-fn tell_all<W: Write>(
-    alloc: Global,
-    told: Told<'_>,
-    errors: &[Error<Rule>],
-    options: Options,
-    out: &mut W,
-) -> u8
-    ensures { (result ≡ 0) ⊎ ((result ≡ 2) ⊎ (result ≡ 4)) }
+/// The status of diagnostics: 1 where one is an error, or where warnings are denied.
+fn status_of(diagnostics: &[Diagnostic], deny_warnings: bool) -> u8
+    ensures { result ≤ 1 }
 {
-    for error in errors {
-        let Ok(text) = shown(alloc, told, error, options) else {
+    for diagnostic in diagnostics {
+        if deny_warnings || diagnostic.severity == Severity::Error {
+            return FOUND;
+        }
+    }
+    CLEAN
+}
+
+/// Prints diagnostics, in order. Answers 0, or why it ended before.
+fn print_all<W: Write>(
+    alloc: Global,
+    origin: Origin<'_>,
+    diagnostics: &[Diagnostic],
+    settings: Settings<'_>,
+    results: &mut Vec<Value>,
+    out: &mut Output<W>,
+) -> u8
+    ensures { result ≤ 4 }
+{
+    for diagnostic in diagnostics {
+        let Ok(text) = print(alloc, origin, diagnostic, settings, results) else {
             return MEMORY;
         };
-        if out.write_all(text.as_bytes()).is_err() {
+        if out.write_text(text.as_str()).is_err() {
             return UNWRITABLE;
         }
     }
-    match out.flush() {
-        Ok(()) => CLEAN,
-        Err(_) => UNWRITABLE,
+    CLEAN
+}
+
+/// A diagnostic as it is printed. For a log it is added to the results, and nothing is printed.
+fn print(
+    alloc: Global,
+    origin: Origin<'_>,
+    diagnostic: &Diagnostic,
+    settings: Settings<'_>,
+    results: &mut Vec<Value>,
+) -> Result<String, AllocError> {
+    match settings.format {
+        Format::Text => to_text(alloc, origin, diagnostic, settings.has_colour),
+        Format::Json => to_json_line(alloc, origin, diagnostic),
+        Format::Github => to_annotation(alloc, origin, diagnostic),
+        Format::Sarif => {
+            results.push(sarif_result(alloc, origin, diagnostic)?)?;
+            Ok(String::new(alloc))
+        }
     }
 }
 
-/// An error or a warning as it is written.
-fn shown(
-    alloc: Global,
-    told: Told<'_>,
-    error: &Error<Rule>,
-    options: Options,
-) -> Result<String, AllocError> {
-    let names = match error.variant {
-        ErrorVariant::ParsingError => expected(alloc, told.text)?,
-        ErrorVariant::CustomError { .. } => Vec::new(alloc),
+/// Prints the log of these results, and answers a status.
+fn print_log<W: Write>(alloc: Global, results: Vec<Value>, out: &mut Output<W>) -> u8
+    ensures { result ≤ 4 }
+{
+    let Ok(text) = sarif_log(alloc, results) else {
+        return MEMORY;
     };
-    let message = message(alloc, told.text, error, &names)?;
-    let finding = Finding {
-        kind: told.kind,
-        file: told.file,
-        message: message.as_str(),
-        error,
-        expected: &names,
-    };
-    if options.json {
-        line(alloc, &finding)
-    } else {
-        block(alloc, &finding, options.colours)
+    match out.write_text(text.as_str()) {
+        Ok(()) => CLEAN,
+        Err(_) => UNWRITABLE,
     }
 }

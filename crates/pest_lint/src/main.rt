@@ -1,65 +1,66 @@
-//! Looks for what is wrong with grammars, and tells it.
+//! Reports what is wrong with pest grammars.
 #![tactic(auto)]
 
 mod arguments;
-mod expected;
-mod findings;
 mod lint;
-mod shown;
-mod words;
+mod sources;
 
-use arguments::{Options, command, options_of};
-use lint::{MEMORY, Source, UNREADABLE, run};
+use arguments::{Settings, command, settings_of};
+use clap::ArgMatches;
+use lint::{MEMORY, UNREADABLE, lint_files};
+use sources::read_sources;
 use std::alloc::AllocError;
-use std::io::{IsTerminal, Read};
+use std::env;
+use std::io::IsTerminal;
 use std::process::ExitCode;
-use std::{env, fs};
+use tool_support::output::Output;
 
-/// The bytes of the file of a name, or of standard input for `-`; or why they can't be read.
-fn source<'a>(rt: &HostRuntime, name: &'a str) -> Result<Source<'a>, AllocError> {
-    let alloc = rt.alloc();
-    let mut bytes = Vec::new(alloc);
-    let read = if name == "-" {
-        rt.stdin().read_to_end(&mut bytes)
-    } else {
-        fs::File::open(rt, name).and_then(|mut file| file.read_to_end(&mut bytes))
-    };
-    let why = match read {
-        Ok(_) => None,
-        Err(error) => Some(format!(in alloc; "{error}")?),
-    };
-    Ok(Source { name, bytes, why })
+/// Whether text is in colours: as the command line says, or on a terminal, unless the variable NO_COLOR has a
+/// value or TERM is `dumb`.
+fn has_colour(rt: &HostRuntime, choice: Option<&str>) -> bool {
+    match choice {
+        Some("always") => true,
+        Some("never") => false,
+        _ => rt.stdout().is_terminal() && !is_colour_refused(rt),
+    }
 }
 
-/// Whether findings are shown in colours: on a terminal, unless the variable NO_COLOR has a value.
-fn shows_colours(rt: &HostRuntime) -> bool {
-    let refused = match env::var(rt, "NO_COLOR") {
-        Ok(value) => !value.is_empty(),
+/// Whether the environment refuses colours.
+fn is_colour_refused(rt: &HostRuntime) -> bool {
+    let is_dumb = match env::var(rt, "TERM") {
+        Ok(value) => value.as_str() == "dumb",
         Err(_) => false,
     };
-    rt.stdout().is_terminal() && !refused
+    match env::var(rt, "NO_COLOR") {
+        Ok(value) => is_dumb || !value.is_empty(),
+        Err(_) => is_dumb,
+    }
 }
 
-/// Reads the files of these names, and looks at each.
-fn looked_at(rt: &HostRuntime, names: &[&str], options: Options) -> Result<u8, AllocError> {
-    let mut sources = Vec::new(rt.alloc());
-    for name in names {
-        sources.push(source(rt, name)?)?;
+/// Reads the files of these names, and diagnoses each.
+fn lint_names(rt: &HostRuntime, names: &[&str], settings: Settings<'_>) -> Result<u8, AllocError> {
+    let sources = read_sources(rt, names)?;
+    let mut out = Output::new(rt.stdout());
+    let mut err = Output::new(rt.stderr());
+    Ok(lint_files(rt.alloc(), &sources, settings, &mut out, &mut err))
+}
+
+/// The status for a command line that was parsed.
+fn run(rt: &HostRuntime, matches: &ArgMatches<'_>) -> Result<u8, AllocError> {
+    let names = matches.get_strs("FILE").unwrap_or(&[]);
+    if names.is_empty() {
+        let _ = eprintln!(rt; "no file is named; pest-lint --help shows the usage");
+        return Ok(UNREADABLE);
     }
-    let exit = run(
-        rt.alloc(),
-        &sources,
-        options,
-        &mut rt.stdout(),
-        &mut rt.stderr(),
-    );
-    Ok(exit.status)
+    let settings = settings_of(matches, has_colour(rt, matches.get_str("color")));
+    lint_names(rt, names, settings)
 }
 
 /// The status for the words of the command line.
 fn answer(rt: &HostRuntime) -> Result<u8, clap::Error> {
     let alloc = rt.alloc();
     let Ok(words) = env::args(rt) else {
+        let _ = eprintln!(rt; "the command line is not UTF-8");
         return Ok(UNREADABLE);
     };
     let words: Vec<String> = words.collect(alloc)?;
@@ -70,9 +71,7 @@ fn answer(rt: &HostRuntime) -> Result<u8, clap::Error> {
             return Ok(if error.use_stderr() { UNREADABLE } else { 0 });
         }
     };
-    let options = options_of(&matches, shows_colours(rt));
-    let names = matches.get_strs("FILE").unwrap_or(&[]);
-    Ok(looked_at(rt, names, options)?)
+    Ok(run(rt, &matches)?)
 }
 
 fn main(rt: HostRuntime) -> ExitCode {

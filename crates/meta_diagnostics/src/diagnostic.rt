@@ -1,0 +1,63 @@
+//! A diagnostic, and the options for which it is made.
+use crate::codes::{Code, Severity};
+use meta_hints::{Help, Related};
+use std::alloc::{AllocError, Global};
+
+/// A diagnostic of a text. Positions are bytes.
+#[derive(Debug, Drop)]
+pub struct Diagnostic {
+    pub code: Code,
+    pub severity: Severity,
+    /// The byte at which it begins.
+    pub start: usize,
+    /// The byte before which it ends; the start itself where it is a position.
+    pub end: usize,
+    pub message: String,
+    /// The expected set of a syntax error, by name, in the order of the meta-grammar.
+    pub expected: Vec<&'static str>,
+    /// Other parts of the text that matter to it.
+    pub related: Vec<Related>,
+    /// How it may be mended.
+    pub help: Option<Help>,
+}
+
+/// The warnings that are asked for.
+#[derive(Clone, Copy)]
+pub struct Options<'o> {
+    /// Warnings that are off by default, too.
+    pub all: bool,
+    /// Rules that need no call, since matching starts with them.
+    pub starts: &'o [&'o str],
+}
+
+impl Default for Options<'_> {
+    /// The warnings that are on by default, and no further starts.
+    fn default() -> Self {
+        Options {
+            all: false,
+            starts: &[],
+        }
+    }
+}
+
+impl Diagnostic {
+    /// A diagnostic of this code at the bytes `start..end`, with nothing but a message.
+    pub(crate) fn new(
+        alloc: Global,
+        code: Code,
+        start: usize,
+        end: usize,
+        message: &str,
+    ) -> Result<Diagnostic, AllocError> {
+        Ok(Diagnostic {
+            code,
+            severity: code.severity(),
+            start,
+            end,
+            message: String::from_str(alloc, message)?,
+            expected: Vec::new(alloc),
+            related: Vec::new(alloc),
+            help: None,
+        })
+    }
+}

@@ -1,0 +1,146 @@
+//! The errors of a refused text as diagnostics.
+use crate::codes::Code;
+use crate::diagnostic::Diagnostic;
+use crate::messages::{code_of, cycle_of, rule_name, syntax_message};
+use crate::undefined::Names;
+use meta_base::grammar::Rule;
+use meta_base::runtime::{Error, ErrorVariant, InputLocation};
+use meta_hints::{Help, Hint, Related, hint_at};
+use pest_meta::parser::{PestParser, common_name};
+use std::alloc::{AllocError, Global};
+
+/// The diagnostics of the errors with which a text is refused, in their order.
+pub(crate) fn diagnose_errors(
+    alloc: Global,
+    text: &str,
+    errors: &[Error<Rule>],
+) -> Result<Vec<Diagnostic>, AllocError> {
+    let mut names = Names::new(alloc, text)?;
+    let mut diagnostics = Vec::new(alloc);
+    for error in errors {
+        diagnostics.push(diagnose_error(alloc, text, &mut names, error)?)?;
+    }
+    Ok(diagnostics)
+}
+
+/// The diagnostic of an error.
+fn diagnose_error(
+    alloc: Global,
+    text: &str,
+    names: &mut Names<'_>,
+    error: &Error<Rule>,
+) -> Result<Diagnostic, AllocError> {
+    let (start, end) = bytes_of(error);
+    match &error.variant {
+        ErrorVariant::ParsingError => diagnose_syntax(alloc, text, start, end),
+        ErrorVariant::CustomError { message } => {
+            let message = message.as_str();
+            let mut diagnostic = Diagnostic::new(alloc, code_of(message), start, end, message)?;
+            diagnostic.help = help_for(alloc, names, diagnostic.code, message)?;
+            diagnostic.related = related_to(alloc, names, diagnostic.code, message)?;
+            Ok(diagnostic)
+        }
+    }
+}
+
+/// The bytes at which an error begins and before which it ends.
+fn bytes_of(error: &Error<Rule>) -> (usize, usize) {
+    match error.location {
+        InputLocation::Pos(position) => (position, position),
+        InputLocation::Span(span) => span,
+    }
+}
+
+/// The diagnostic of a syntax error.
+fn diagnose_syntax(
+    alloc: Global,
+    text: &str,
+    start: usize,
+    end: usize,
+) -> Result<Diagnostic, AllocError> {
+    let expected = expected_names(alloc, text)?;
+    let message = syntax_message(alloc, text, start, &expected)?;
+    let Hint { help, related } = hint_at(alloc, text, start)?;
+    let mut diagnostic = Diagnostic::new(alloc, Code::Syntax, start, end, message.as_str())?;
+    diagnostic.expected = expected;
+    diagnostic.related = related;
+    diagnostic.help = help;
+    Ok(diagnostic)
+}
+
+/// The expected set of a text's syntax error, by name, in the order of the meta-grammar.
+fn expected_names(alloc: Global, text: &str) -> Result<Vec<&'static str>, AllocError> {
+    let rules = PestParser::expected(alloc, Rule::grammar_rules, text)?;
+    let mut names = Vec::new(alloc);
+    for rule in &rules {
+        names.push(common_name(*rule))?;
+    }
+    Ok(names)
+}
+
+/// The help for an error that is no syntax error.
+fn help_for(
+    alloc: Global,
+    names: &mut Names<'_>,
+    code: Code,
+    message: &str,
+) -> Result<Option<Help>, AllocError> {
+    match code {
+        Code::UndefinedRule => names.help_undefined(alloc, rule_name(message)),
+        Code::LeftRecursion => say(
+            alloc,
+            "write the operand first and repeat the rest: `a = { b ~ (\"+\" ~ b)* }`",
+        ),
+        Code::ZeroRepetition => say(alloc, "what takes nothing is written `\"\"`"),
+        Code::UnreachableChoice => say(alloc, "put the alternative that cannot fail last"),
+        Code::ReservedName => say(alloc, "take another name: pest has a meaning for this one"),
+        _ => Ok(None),
+    }
+}
+
+/// A help without a fix.
+fn say(alloc: Global, message: &str) -> Result<Option<Help>, AllocError> {
+    Ok(Some(Help::new(alloc, message)?))
+}
+
+/// The definitions that matter to an error: the first of a rule that is defined twice, and those of the rules
+/// of a left recursion.
+fn related_to(
+    alloc: Global,
+    names: &Names<'_>,
+    code: Code,
+    message: &str,
+) -> Result<Vec<Related>, AllocError> {
+    let mut related = Vec::new(alloc);
+    match code {
+        Code::DuplicateRule => {
+            names.push_definition(
+                alloc,
+                rule_name(message),
+                "it is first defined here",
+                &mut related,
+            )?;
+        }
+        Code::LeftRecursion => push_cycle(alloc, names, cycle_of(message), &mut related)?,
+        _ => {}
+    }
+    Ok(related)
+}
+
+/// Adds the definitions of a cycle `a -> b -> a`, each once.
+fn push_cycle(
+    alloc: Global,
+    names: &Names<'_>,
+    cycle: &str,
+    related: &mut Vec<Related>,
+) -> Result<(), AllocError> {
+    let mut caller = "";
+    for name in cycle.split(" -> ") {
+        if !caller.is_empty() {
+            let message = format!(in alloc; "{caller} calls {name} first")?;
+            names.push_definition(alloc, caller, message.as_str(), related)?;
+        }
+        caller = name;
+    }
+    Ok(())
+}

@@ -1,0 +1,64 @@
+//! Diagnostics of grammars as data: what is wrong with a text, where, and how it may be mended.
+#![tactic(auto)]
+
+mod codes;
+mod diagnostic;
+mod errors;
+mod messages;
+mod undefined;
+mod warnings;
+
+pub use crate::codes::{ALL_CODES, Code, Severity};
+pub use crate::diagnostic::{Diagnostic, Options};
+use crate::errors::diagnose_errors;
+use crate::warnings::diagnose_rules;
+use meta_ast::deep::Deep;
+use meta_ast::optimized::release;
+use meta_base::grammar::Rule;
+use meta_base::runtime::Fault;
+pub use meta_hints::{Fix, Help, Related};
+use pest_meta::parse_and_optimize;
+use pest_meta::parser::{consume_rules_with_spans, parse};
+use std::alloc::{AllocError, Global};
+
+/// The diagnostics of a text: the errors with which `parse_and_optimize` refuses it, in their order, or else
+/// its warnings. The only error is an allocation failure.
+pub fn diagnose(
+    alloc: Global,
+    text: &str,
+    options: Options<'_>,
+) -> Result<Vec<Diagnostic>, AllocError> {
+    match parse_and_optimize(alloc, text) {
+        Ok((_, rules)) => {
+            release(rules);
+            diagnose_accepted(alloc, text, options)
+        }
+        Err(Fault::Grammar(errors)) => diagnose_errors(alloc, text, &errors),
+        Err(Fault::Memory(error)) => Err(error),
+    }
+}
+
+/// The warnings of an accepted text.
+fn diagnose_accepted(
+    alloc: Global,
+    text: &str,
+    options: Options<'_>,
+) -> Result<Vec<Diagnostic>, AllocError> {
+    match diagnose_read(alloc, text, options) {
+        Ok(diagnostics) => Ok(diagnostics),
+        Err(Fault::Grammar(_)) => Ok(Vec::new(alloc)),
+        Err(Fault::Memory(error)) => Err(error),
+    }
+}
+
+/// The warnings of a text, or why it is refused.
+fn diagnose_read(
+    alloc: Global,
+    text: &str,
+    options: Options<'_>,
+) -> Result<Vec<Diagnostic>, Fault> {
+    let pairs = parse(alloc, Rule::grammar_rules, text)?;
+    let rules = consume_rules_with_spans(alloc, pairs)?;
+    let rules = Deep { value: rules };
+    Ok(diagnose_rules(alloc, &rules.value, options)?)
+}

@@ -1,0 +1,52 @@
+//! Names of a grammar: where they are defined, and which is nearest to another.
+use crate::lexer::{Lexeme, LexemeClass, lexemes};
+use std::alloc::{AllocError, Global};
+use strsim::levenshtein;
+
+/// The bytes of the names that a text defines, each time, in order: those before a `=` outside of bodies.
+pub fn definitions(alloc: Global, text: &str) -> Result<Vec<(usize, usize)>, AllocError> {
+    let all = lexemes(alloc, text)?;
+    let mut found = Vec::new(alloc);
+    let mut depth = 0usize;
+    let mut last: Option<(usize, usize)> = None;
+    for lexeme in &all {
+        match (lexeme.class, last) {
+            (LexemeClass::Sign(b'{'), _) => depth = depth.saturating_add(1),
+            (LexemeClass::Sign(b'}'), _) => depth = depth.saturating_sub(1),
+            (LexemeClass::Sign(b'='), Some(name)) if depth == 0 => found.push(name)?,
+            _ => {}
+        }
+        last = name_span(*lexeme);
+    }
+    Ok(found)
+}
+
+/// The bytes of a lexeme that is a name.
+fn name_span(lexeme: Lexeme) -> Option<(usize, usize)> {
+    match lexeme.class {
+        LexemeClass::Name => Some((lexeme.start, lexeme.end)),
+        _ => None,
+    }
+}
+
+/// The name among some that is nearest to one: the same but for the case of letters, or else by edits, at
+/// most a third of its length. The first of several.
+pub fn nearest_name<'n>(
+    alloc: Global,
+    name: &str,
+    names: &[&'n str],
+) -> Result<Option<&'n str>, AllocError> {
+    let mut best = None;
+    let mut bound = name.len() / 3 + 1;
+    for other in names {
+        if other.eq_ignore_ascii_case(name) {
+            return Ok(Some(*other));
+        }
+        let distance = levenshtein(alloc, name, other)?;
+        if distance < bound {
+            bound = distance;
+            best = Some(*other);
+        }
+    }
+    Ok(best)
+}
