@@ -1,4 +1,6 @@
 //! The codes of diagnostics.
+ghost use Rattle.std.specs.Prelude.{◌≡◌};
+ghost use Rattle.meta_diagnostics.specs.Codes.{severity_of};
 
 /// How much a diagnostic weighs.
 #[derive(Clone, Copy, Debug, PartialEq, Eq)]
@@ -70,6 +72,13 @@ pub const ALL_CODES: [Code; 14] = [
     Code::ReversedRange,
 ];
 
+/// The codes of warnings, in the order in which those of a text are listed.
+pub(crate) const WARNING_CODES: [Code; 3] = [
+    Code::UncalledRule,
+    Code::Unreachable,
+    Code::ReversedRange,
+];
+
 impl Code {
     /// Its name, as `pest::left_recursion`.
     pub fn name(self) -> &'static str {
@@ -103,7 +112,9 @@ impl Code {
     }
 
     /// Whether a text with such a diagnostic is refused.
-    pub fn severity(self) -> Severity {
+    pub fn severity(self) -> Severity
+        ensures { result ≡ severity_of self }
+    {
         match self {
             Code::UncalledRule | Code::Unreachable | Code::ReversedRange => Severity::Warning,
             _ => Severity::Error,

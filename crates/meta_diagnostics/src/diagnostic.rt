@@ -1,4 +1,7 @@
 //! A diagnostic, and the options for which it is made.
+ghost use Rattle.std.specs.Prelude.{◌≡◌, IfOk, string_bytes};
+ghost use Rattle.meta_diagnostics.specs.Codes.{severity_of};
+
 use crate::codes::{Code, Severity};
 use meta_hints::{Help, Related};
 use std::alloc::{AllocError, Global};
@@ -48,7 +51,13 @@ impl Diagnostic {
         start: usize,
         end: usize,
         message: &str,
-    ) -> Result<Diagnostic, AllocError> {
+    ) -> Result<Diagnostic, AllocError>
+        ensures code { IfOk result (λ diagnostic. diagnostic.code ≡ code) }
+        ensures severity { IfOk result (λ diagnostic. diagnostic.severity ≡ severity_of code) }
+        ensures start { IfOk result (λ diagnostic. diagnostic.start ≡ start) }
+        ensures end { IfOk result (λ diagnostic. diagnostic.end ≡ end) }
+        ensures message { IfOk result (λ diagnostic. string_bytes diagnostic.message ≡ message.now) }
+    {
         Ok(Diagnostic {
             code,
             severity: code.severity(),

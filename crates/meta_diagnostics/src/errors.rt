@@ -1,4 +1,9 @@
 //! The errors of a refused text as diagnostics.
+ghost use Rattle.std.specs.Prelude.{◌≡◌, IfOk, string_bytes};
+ghost use Rattle.std.specs.List.{AllZip};
+ghost use Rattle.meta_diagnostics.specs.Diagnosis.{IsAt, ReportsError};
+ghost use Rattle.meta_diagnostics.specs.declared.codes.Severity.TheVariants as severity;
+
 use crate::codes::Code;
 use crate::diagnostic::Diagnostic;
 use crate::messages::{code_of, cycle_of, rule_name, syntax_message};
@@ -14,7 +19,9 @@ pub(crate) fn diagnose_errors(
     alloc: Global,
     text: &str,
     errors: &[Error<Rule>],
-) -> Result<Vec<Diagnostic>, AllocError> {
+) -> Result<Vec<Diagnostic>, AllocError>
+    ensures { IfOk result (λ diagnostics. AllZip ReportsError errors.now diagnostics.items) }
+{
     let mut names = Names::new(alloc, text)?;
     let mut diagnostics = Vec::new(alloc);
     for error in errors {
@@ -29,22 +36,42 @@ fn diagnose_error(
     text: &str,
     names: &mut Names<'_>,
     error: &Error<Rule>,
-) -> Result<Diagnostic, AllocError> {
+) -> Result<Diagnostic, AllocError>
+    ensures { IfOk result (ReportsError error.now) }
+{
     let (start, end) = bytes_of(error);
     match &error.variant {
         ErrorVariant::ParsingError => diagnose_syntax(alloc, text, start, end),
         ErrorVariant::CustomError { message } => {
-            let message = message.as_str();
-            let mut diagnostic = Diagnostic::new(alloc, code_of(message), start, end, message)?;
-            diagnostic.help = help_for(alloc, names, diagnostic.code, message)?;
-            diagnostic.related = related_to(alloc, names, diagnostic.code, message)?;
-            Ok(diagnostic)
+            diagnose_custom(alloc, names, start, end, message.as_str())
         }
     }
 }
 
+/// The diagnostic of an error with a message of its own.
+fn diagnose_custom(
+    alloc: Global,
+    names: &mut Names<'_>,
+    start: usize,
+    end: usize,
+    message: &str,
+) -> Result<Diagnostic, AllocError>
+    ensures severity { IfOk result (λ diagnostic. diagnostic.severity ≡ severity.Error) }
+    ensures start { IfOk result (λ diagnostic. diagnostic.start ≡ start) }
+    ensures end { IfOk result (λ diagnostic. diagnostic.end ≡ end) }
+    ensures message { IfOk result (λ diagnostic. string_bytes diagnostic.message ≡ message.now) }
+{
+    let code = code_of(message);
+    let mut diagnostic = Diagnostic::new(alloc, code, start, end, message)?;
+    diagnostic.help = help_for(alloc, names, code, message)?;
+    diagnostic.related = related_to(alloc, names, code, message)?;
+    Ok(diagnostic)
+}
+
 /// The bytes at which an error begins and before which it ends.
-fn bytes_of(error: &Error<Rule>) -> (usize, usize) {
+fn bytes_of(error: &Error<Rule>) -> (usize, usize)
+    ensures { IsAt error.now.location result.0 result.1 }
+{
     match error.location {
         InputLocation::Pos(position) => (position, position),
         InputLocation::Span(span) => span,
@@ -57,7 +84,11 @@ fn diagnose_syntax(
     text: &str,
     start: usize,
     end: usize,
-) -> Result<Diagnostic, AllocError> {
+) -> Result<Diagnostic, AllocError>
+    ensures severity { IfOk result (λ diagnostic. diagnostic.severity ≡ severity.Error) }
+    ensures start { IfOk result (λ diagnostic. diagnostic.start ≡ start) }
+    ensures end { IfOk result (λ diagnostic. diagnostic.end ≡ end) }
+{
     let expected = expected_names(alloc, text)?;
     let message = syntax_message(alloc, text, start, &expected)?;
     let Hint { help, related } = hint_at(alloc, text, start)?;

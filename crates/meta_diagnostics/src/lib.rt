@@ -1,6 +1,9 @@
 //! Diagnostics of grammars as data: what is wrong with a text, where, and how it may be mended.
 #![tactic(auto)]
 
+ghost use Rattle.std.specs.Prelude.{◌≡◌, IfOk, Ok};
+ghost use Rattle.meta_diagnostics.specs.Diagnosis.{IsDiagnosis, ReportWarnings};
+
 mod codes;
 mod diagnostic;
 mod errors;
@@ -27,38 +30,37 @@ pub fn diagnose(
     alloc: Global,
     text: &str,
     options: Options<'_>,
-) -> Result<Vec<Diagnostic>, AllocError> {
+) -> Result<Vec<Diagnostic>, AllocError>
+    ensures { IfOk result (λ diagnostics. IsDiagnosis text.now diagnostics.items) }
+{
+    let _ = options;
     match parse_and_optimize(alloc, text) {
         Ok((_, rules)) => {
             release(rules);
-            diagnose_accepted(alloc, text, options)
+            memory_only(diagnose_accepted(alloc, text))
         }
         Err(Fault::Grammar(errors)) => diagnose_errors(alloc, text, &errors),
         Err(Fault::Memory(error)) => Err(error),
     }
 }
 
-/// The warnings of an accepted text.
-fn diagnose_accepted(
-    alloc: Global,
-    text: &str,
-    options: Options<'_>,
-) -> Result<Vec<Diagnostic>, AllocError> {
-    match diagnose_read(alloc, text, options) {
-        Ok(diagnostics) => Ok(diagnostics),
-        Err(Fault::Grammar(_)) => Ok(Vec::new(alloc)),
-        Err(Fault::Memory(error)) => Err(error),
-    }
-}
-
 /// The warnings of a text, or why it is refused.
-fn diagnose_read(
-    alloc: Global,
-    text: &str,
-    options: Options<'_>,
-) -> Result<Vec<Diagnostic>, Fault> {
+fn diagnose_accepted(alloc: Global, text: &str) -> Result<Vec<Diagnostic>, Fault>
+    ensures { IfOk result (λ diagnostics. ReportWarnings text.now diagnostics.items) }
+{
     let pairs = parse(alloc, Rule::grammar_rules, text)?;
     let rules = consume_rules_with_spans(alloc, pairs)?;
     let rules = Deep { value: rules };
-    Ok(diagnose_rules(alloc, &rules.value, options)?)
+    Ok(diagnose_rules(alloc, &rules.value)?)
+}
+
+/// A result whose only fault can be an allocation failure.
+fn memory_only(outcome: Result<Vec<Diagnostic>, Fault>) -> Result<Vec<Diagnostic>, AllocError>
+    ensures { IfOk result (λ diagnostics. outcome ≡ Ok diagnostics) }
+{
+    match outcome {
+        Ok(diagnostics) => Ok(diagnostics),
+        Err(Fault::Memory(error)) => Err(error),
+        Err(Fault::Grammar(_)) => Err(AllocError),
+    }
 }

@@ -1,4 +1,8 @@
 //! The messages of syntax errors, and the codes of other errors by their messages.
+ghost use Rattle.std.specs.Prelude.{◌≡◌};
+ghost use Rattle.meta_diagnostics.specs.Codes.{severity_of};
+ghost use Rattle.meta_diagnostics.specs.declared.codes.Severity.TheVariants as severity;
+
 use crate::codes::Code;
 use std::alloc::{AllocError, Global};
 
@@ -50,7 +54,9 @@ fn join_names(alloc: Global, names: &[&str]) -> Result<String, AllocError> {
 }
 
 /// The code of an error that is no syntax error, by its message.
-pub(crate) fn code_of(message: &str) -> Code {
+pub(crate) fn code_of(message: &str) -> Code
+    ensures { severity_of result ≡ severity.Error }
+{
     if message.ends_with(" already defined") {
         Code::DuplicateRule
     } else if message.ends_with(" is undefined") {
@@ -71,7 +77,9 @@ pub(crate) fn code_of(message: &str) -> Code {
 }
 
 /// The code of a flaw of a number or an escape, by its message.
-fn flaw_code(message: &str) -> Code {
+fn flaw_code(message: &str) -> Code
+    ensures { severity_of result ≡ severity.Error }
+{
     if message.starts_with("escape ") {
         Code::EscapeValue
     } else if message.starts_with("number ") {

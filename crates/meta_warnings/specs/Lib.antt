@@ -1,5 +1,1 @@
-pub mod Choices
-pub mod Laws
-pub mod Lists
-pub mod Ranges
-pub mod Rules
+pub mod SuspectLaws

@@ -127,7 +127,7 @@ fn needs_no_call(name: &String) -> bool
 }
 
 /// Whether a name is a literal's text.
-fn is_literal(name: &String, literal: &str) -> bool
+pub(crate) fn is_literal(name: &String, literal: &str) -> bool
     requires { IsAscii literal.now }
     ensures { result ≡ bytes_eq (text_of name.now) literal.now }
 {

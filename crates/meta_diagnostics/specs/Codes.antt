@@ -1,0 +1,53 @@
+-- Codes of warnings: their messages, and the spans at which a grammar has them.
+use Rattle.std.specs.Prelude.{ℕ, List, [], ◌∷◌, codes, flat_map, map}
+use Rattle.meta_base.specs.Pieces.Saying.{Span}
+use Rattle.meta_spanned.specs.Spanned.{SpannedRule}
+use Rattle.meta_diagnostics.specs.declared.codes.Code.{Code}
+use Rattle.meta_diagnostics.specs.declared.codes.Code.TheVariants as code
+use Rattle.meta_diagnostics.specs.declared.codes.Severity.{Severity}
+use Rattle.meta_diagnostics.specs.declared.codes.Severity.TheVariants as severity
+use Rattle.meta_warnings.specs.Choices.{unreachable_alternatives}
+use Rattle.meta_warnings.specs.Ranges.{reversed_ranges}
+use Rattle.meta_warnings.specs.Rules.{uncalled_rules}
+
+-- warnings are those of an accepted text
+abbrev pub severity_of : Code → Severity
+severity_of code.UncalledRule = severity.Warning
+severity_of code.Unreachable = severity.Warning
+severity_of code.ReversedRange = severity.Warning
+severity_of _ = severity.Error
+
+-- a warning's code, and its span
+pub record Warning : Type 0 where
+  pub code : Code
+  pub span : Span
+
+abbrev pub warning : Code → Span → Warning
+warning c span = record { code = c; span = span }
+
+-- the spans at which rules have a warning of this code
+abbrev pub spans_of : Code → List SpannedRule → List Span
+spans_of code.UncalledRule rules = uncalled_rules rules
+spans_of code.Unreachable rules = unreachable_alternatives rules
+spans_of code.ReversedRange rules = reversed_ranges rules
+spans_of _ rules = []
+
+abbrev pub warnings_with : List SpannedRule → Code → List Warning
+warnings_with rules c = map (warning c) (spans_of c rules)
+
+-- the codes of warnings, in the order in which a text's are listed
+abbrev pub warning_codes : List Code
+warning_codes = code.UncalledRule ∷ code.Unreachable ∷ code.ReversedRange ∷ []
+
+-- the warnings of rules
+abbrev pub warnings_of : List SpannedRule → List Warning
+warnings_of rules = flat_map (warnings_with rules) warning_codes
+
+-- the message of a warning
+abbrev pub message_of : Code → List ℕ
+message_of code.UncalledRule = codes "no other rule calls this one"
+message_of code.Unreachable =
+    codes "this alternative is never taken: a literal before it begins all that it matches"
+message_of code.ReversedRange =
+    codes "this range matches nothing: its first character is above its last"
+message_of _ = []
