@@ -1,7 +1,7 @@
 //! Diagnostics as annotations of a workflow of GitHub.
 use crate::Origin;
 use crate::visible::to_visible;
-use meta_diagnostics::Diagnostic;
+use diagnostic_data::Diagnostic;
 use std::alloc::{AllocError, Global};
 
 /// A diagnostic as a workflow command: `::error file=..,line=..,col=..,..::MESSAGE` and a line feed.

@@ -1,6 +1,6 @@
 //! Diagnostics as JSON.
 use crate::Origin;
-use meta_diagnostics::{Diagnostic, Fix, Help, Related};
+use diagnostic_data::{Diagnostic, Fix, Help, Related};
 use serde_json::{Value, json};
 use std::alloc::{AllocError, Global};
 

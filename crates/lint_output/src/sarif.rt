@@ -1,6 +1,6 @@
 //! Diagnostics as a log of SARIF 2.1.0.
 use crate::Origin;
-use meta_diagnostics::Diagnostic;
+use diagnostic_data::Diagnostic;
 use serde_json::{Value, json};
 use std::alloc::{AllocError, Global};
 

@@ -2,7 +2,7 @@
 use crate::Origin;
 use crate::excerpts::{excerpt_at, part, push_excerpt};
 use crate::visible::push_visible;
-use meta_diagnostics::{Diagnostic, Fix, Help, Related, Severity};
+use diagnostic_data::{Diagnostic, Fix, Help, Related, Severity};
 use std::alloc::{AllocError, Global};
 
 /// A diagnostic as text: severity, code and message; file, line and column; the line with a mark; the other

@@ -1,43 +1,15 @@
 -- The diagnostics of a text.
-use Rattle.std.specs.Prelude.{◌≡◌, ℕ, List, string_bytes, ⊤}
+use Rattle.std.specs.Prelude.{ℕ, List}
 use Rattle.std.specs.List.{AllZip}
+use Rattle.diagnostic_data.specs.Codes.{warnings_of}
+use Rattle.diagnostic_data.specs.Reports.{ReportsError, ReportsWarning}
+use Rattle.diagnostic_data.specs.declared.diagnostic.Diagnostic.{Diagnostic}
 use Rattle.meta_base.specs.Language.State.{Trees}
 use Rattle.meta_base.specs.declared.grammar.Rule.{Rule}
 use Rattle.meta_base.specs.declared.runtime.errors.Error.{Error}
-use Rattle.meta_base.specs.declared.runtime.errors.ErrorVariant.{ErrorVariant}
-use Rattle.meta_base.specs.declared.runtime.errors.ErrorVariant.TheVariants as variant
-use Rattle.meta_base.specs.declared.runtime.errors.InputLocation.{InputLocation}
-use Rattle.meta_base.specs.declared.runtime.errors.InputLocation.TheVariants as at
-use Rattle.meta_diagnostics.specs.Codes.{Warning, message_of, warnings_of}
-use Rattle.meta_diagnostics.specs.declared.codes.Severity.TheVariants as severity
-use Rattle.meta_diagnostics.specs.declared.diagnostic.Diagnostic.{Diagnostic}
 use Rattle.meta_reader.specs.Reading.{ReadsRules}
 use Rattle.meta_spanned.specs.Spanned.{SpannedRule}
 use Rattle.pest_meta.specs.Spelling.{HasAnswer, HasTrees, IsRefusedWith}
-
--- an error's own message; a syntax error has none
-abbrev pub IsMessageOf : ErrorVariant → List ℕ → Type 0
-IsMessageOf variant.ParsingError message = ⊤
-IsMessageOf (variant.CustomError own) message = message ≡ string_bytes own
-
--- a position or a span begins and ends at these bytes
-abbrev pub IsAt : InputLocation → ℕ → ℕ → Type 0
-IsAt (at.Pos p) start end = (start ≡ p) × (end ≡ p)
-IsAt (at.Span span) start end = (start ≡ span.0) × (end ≡ span.1)
-
--- the diagnostic reports an error
-pub record ReportsError (error : Error Rule) (diagnostic : Diagnostic) : Type 0 where
-  pub severity : diagnostic.severity ≡ severity.Error
-  pub location : IsAt error.location diagnostic.start diagnostic.end
-  pub message : IsMessageOf error.variant (string_bytes diagnostic.message)
-
--- the diagnostic reports a warning
-pub record ReportsWarning (warning : Warning) (diagnostic : Diagnostic) : Type 0 where
-  pub severity : diagnostic.severity ≡ severity.Warning
-  pub code : diagnostic.code ≡ warning.code
-  pub start : diagnostic.start ≡ warning.span.start
-  pub end : diagnostic.end ≡ warning.span.end
-  pub message : string_bytes diagnostic.message ≡ message_of warning.code
 
 -- the diagnostics report the warnings of the rules that a text's trees are read as
 pub record ReportWarnings (text : List ℕ) (diagnostics : List Diagnostic) : Type 0 where

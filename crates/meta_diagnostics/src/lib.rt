@@ -1,27 +1,19 @@
-//! Diagnostics of grammars as data: what is wrong with a text, where, and how it may be mended.
+//! The diagnostics of a grammar's text: what is wrong with it, where, and how it may be mended.
 #![tactic(auto)]
 
 ghost use Rattle.std.specs.Prelude.{◌≡◌, IfOk, Ok};
+ghost use Rattle.std.specs.List.{AllZip};
+ghost use Rattle.diagnostic_data.specs.Reports.{ReportsError};
 ghost use Rattle.meta_diagnostics.specs.Diagnosis.{IsDiagnosis, ReportWarnings};
 
-mod codes;
-mod diagnostic;
-mod errors;
-mod messages;
-mod undefined;
-mod warnings;
-
-pub use crate::codes::{ALL_CODES, Code, Severity};
-pub use crate::diagnostic::{Diagnostic, Options};
-use crate::errors::diagnose_errors;
-use crate::warnings::diagnose_rules;
+pub use diagnostic_data::{ALL_CODES, Code, Diagnostic, Fix, Help, Options, Related, Severity};
+use diagnostic_data::{diagnose_errors, diagnose_rules};
 use meta_ast::deep::Deep;
 use meta_ast::optimized::release;
 use meta_base::grammar::Rule;
-use meta_base::runtime::Fault;
-pub use meta_hints::{Fix, Help, Related};
+use meta_base::runtime::{Error, Fault};
 use pest_meta::parse_and_optimize;
-use pest_meta::parser::{consume_rules_with_spans, parse};
+use pest_meta::parser::{PestParser, common_name, consume_rules_with_spans, parse};
 use std::alloc::{AllocError, Global};
 
 /// The diagnostics of a text: the errors with which `parse_and_optimize` refuses it, in their order, or else
@@ -39,9 +31,31 @@ pub fn diagnose(
             release(rules);
             memory_only(diagnose_accepted(alloc, text))
         }
-        Err(Fault::Grammar(errors)) => diagnose_errors(alloc, text, &errors),
+        Err(Fault::Grammar(errors)) => diagnose_refused(alloc, text, &errors),
         Err(Fault::Memory(error)) => Err(error),
     }
+}
+
+/// The diagnostics of the errors with which a text is refused.
+fn diagnose_refused(
+    alloc: Global,
+    text: &str,
+    errors: &[Error<Rule>],
+) -> Result<Vec<Diagnostic>, AllocError>
+    ensures { IfOk result (λ diagnostics. AllZip ReportsError errors.now diagnostics.items) }
+{
+    let expected = expected_names(alloc, text)?;
+    diagnose_errors(alloc, text, errors, &expected)
+}
+
+/// The expected set of a text's syntax error, by name, in the order of the meta-grammar.
+fn expected_names(alloc: Global, text: &str) -> Result<Vec<&'static str>, AllocError> {
+    let rules = PestParser::expected(alloc, Rule::grammar_rules, text)?;
+    let mut names = Vec::new(alloc);
+    for rule in &rules {
+        names.push(common_name(*rule))?;
+    }
+    Ok(names)
 }
 
 /// The warnings of a text, or why it is refused.

@@ -1,6 +1,6 @@
 //! The codes of diagnostics.
 ghost use Rattle.std.specs.Prelude.{◌≡◌};
-ghost use Rattle.meta_diagnostics.specs.Codes.{severity_of};
+ghost use Rattle.diagnostic_data.specs.Codes.{severity_of};
 
 /// How much a diagnostic weighs.
 #[derive(Clone, Copy, Debug, PartialEq, Eq)]
@@ -52,10 +52,16 @@ pub enum Code {
     Unreachable,
     /// A range matches nothing.
     ReversedRange,
+    /// A count's first number is above its last.
+    ReversedCount,
+    /// A test or an option holds what cannot fail.
+    IdleTest,
+    /// An expression matches nowhere.
+    NeverMatches,
 }
 
 /// All codes.
-pub const ALL_CODES: [Code; 14] = [
+pub const ALL_CODES: [Code; 17] = [
     Code::Syntax,
     Code::EscapeValue,
     Code::NumberRange,
@@ -70,13 +76,9 @@ pub const ALL_CODES: [Code; 14] = [
     Code::UncalledRule,
     Code::Unreachable,
     Code::ReversedRange,
-];
-
-/// The codes of warnings, in the order in which those of a text are listed.
-pub(crate) const WARNING_CODES: [Code; 3] = [
-    Code::UncalledRule,
-    Code::Unreachable,
-    Code::ReversedRange,
+    Code::ReversedCount,
+    Code::IdleTest,
+    Code::NeverMatches,
 ];
 
 impl Code {
@@ -97,6 +99,9 @@ impl Code {
             Code::UncalledRule => "pest::uncalled_rule",
             Code::Unreachable => "pest::unreachable",
             Code::ReversedRange => "pest::reversed_range",
+            Code::ReversedCount => "pest::reversed_count",
+            Code::IdleTest => "pest::idle_test",
+            Code::NeverMatches => "pest::never_matches",
         }
     }
 
@@ -117,6 +122,7 @@ impl Code {
     {
         match self {
             Code::UncalledRule | Code::Unreachable | Code::ReversedRange => Severity::Warning,
+            Code::ReversedCount | Code::IdleTest | Code::NeverMatches => Severity::Warning,
             _ => Severity::Error,
         }
     }

@@ -1,6 +1,6 @@
 //! A diagnostic, and the options for which it is made.
 ghost use Rattle.std.specs.Prelude.{◌≡◌, IfOk, string_bytes};
-ghost use Rattle.meta_diagnostics.specs.Codes.{severity_of};
+ghost use Rattle.diagnostic_data.specs.Codes.{severity_of};
 
 use crate::codes::{Code, Severity};
 use meta_hints::{Help, Related};

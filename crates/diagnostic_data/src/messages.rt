@@ -1,7 +1,7 @@
 //! The messages of syntax errors, and the codes of other errors by their messages.
 ghost use Rattle.std.specs.Prelude.{◌≡◌};
-ghost use Rattle.meta_diagnostics.specs.Codes.{severity_of};
-ghost use Rattle.meta_diagnostics.specs.declared.codes.Severity.TheVariants as severity;
+ghost use Rattle.diagnostic_data.specs.Codes.{severity_of};
+ghost use Rattle.diagnostic_data.specs.declared.codes.Severity.TheVariants as severity;
 
 use crate::codes::Code;
 use std::alloc::{AllocError, Global};

@@ -1,8 +1,8 @@
 //! The errors of a refused text as diagnostics.
 ghost use Rattle.std.specs.Prelude.{◌≡◌, IfOk, string_bytes};
 ghost use Rattle.std.specs.List.{AllZip};
-ghost use Rattle.meta_diagnostics.specs.Diagnosis.{IsAt, ReportsError};
-ghost use Rattle.meta_diagnostics.specs.declared.codes.Severity.TheVariants as severity;
+ghost use Rattle.diagnostic_data.specs.Reports.{IsAt, ReportsError};
+ghost use Rattle.diagnostic_data.specs.declared.codes.Severity.TheVariants as severity;
 
 use crate::codes::Code;
 use crate::diagnostic::Diagnostic;
@@ -11,21 +11,22 @@ use crate::undefined::Names;
 use meta_base::grammar::Rule;
 use meta_base::runtime::{Error, ErrorVariant, InputLocation};
 use meta_hints::{Help, Hint, Related, hint_at};
-use pest_meta::parser::{PestParser, common_name};
 use std::alloc::{AllocError, Global};
 
-/// The diagnostics of the errors with which a text is refused, in their order.
-pub(crate) fn diagnose_errors(
+/// The diagnostics of the errors with which a text is refused, in their order. A syntax error expects these
+/// names. The only error is an allocation failure.
+pub fn diagnose_errors(
     alloc: Global,
     text: &str,
     errors: &[Error<Rule>],
+    expected: &[&'static str],
 ) -> Result<Vec<Diagnostic>, AllocError>
     ensures { IfOk result (λ diagnostics. AllZip ReportsError errors.now diagnostics.items) }
 {
     let mut names = Names::new(alloc, text)?;
     let mut diagnostics = Vec::new(alloc);
     for error in errors {
-        diagnostics.push(diagnose_error(alloc, text, &mut names, error)?)?;
+        diagnostics.push(diagnose_error(alloc, text, expected, &mut names, error)?)?;
     }
     Ok(diagnostics)
 }
@@ -34,6 +35,7 @@ pub(crate) fn diagnose_errors(
 fn diagnose_error(
     alloc: Global,
     text: &str,
+    expected: &[&'static str],
     names: &mut Names<'_>,
     error: &Error<Rule>,
 ) -> Result<Diagnostic, AllocError>
@@ -41,7 +43,7 @@ fn diagnose_error(
 {
     let (start, end) = bytes_of(error);
     match &error.variant {
-        ErrorVariant::ParsingError => diagnose_syntax(alloc, text, start, end),
+        ErrorVariant::ParsingError => diagnose_syntax(alloc, text, expected, start, end),
         ErrorVariant::CustomError { message } => {
             diagnose_custom(alloc, names, start, end, message.as_str())
         }
@@ -82,6 +84,7 @@ fn bytes_of(error: &Error<Rule>) -> (usize, usize)
 fn diagnose_syntax(
     alloc: Global,
     text: &str,
+    expected: &[&'static str],
     start: usize,
     end: usize,
 ) -> Result<Diagnostic, AllocError>
@@ -89,24 +92,13 @@ fn diagnose_syntax(
     ensures start { IfOk result (λ diagnostic. diagnostic.start ≡ start) }
     ensures end { IfOk result (λ diagnostic. diagnostic.end ≡ end) }
 {
-    let expected = expected_names(alloc, text)?;
-    let message = syntax_message(alloc, text, start, &expected)?;
+    let message = syntax_message(alloc, text, start, expected)?;
     let Hint { help, related } = hint_at(alloc, text, start)?;
     let mut diagnostic = Diagnostic::new(alloc, Code::Syntax, start, end, message.as_str())?;
-    diagnostic.expected = expected;
+    diagnostic.expected = expected.to_vec(alloc)?;
     diagnostic.related = related;
     diagnostic.help = help;
     Ok(diagnostic)
-}
-
-/// The expected set of a text's syntax error, by name, in the order of the meta-grammar.
-fn expected_names(alloc: Global, text: &str) -> Result<Vec<&'static str>, AllocError> {
-    let rules = PestParser::expected(alloc, Rule::grammar_rules, text)?;
-    let mut names = Vec::new(alloc);
-    for rule in &rules {
-        names.push(common_name(*rule))?;
-    }
-    Ok(names)
 }
 
 /// The help for an error that is no syntax error.

@@ -2,19 +2,24 @@
 use Rattle.std.specs.Prelude.{ℕ, List, [], ◌∷◌, codes, flat_map, map}
 use Rattle.meta_base.specs.Pieces.Saying.{Span}
 use Rattle.meta_spanned.specs.Spanned.{SpannedRule}
-use Rattle.meta_diagnostics.specs.declared.codes.Code.{Code}
-use Rattle.meta_diagnostics.specs.declared.codes.Code.TheVariants as code
-use Rattle.meta_diagnostics.specs.declared.codes.Severity.{Severity}
-use Rattle.meta_diagnostics.specs.declared.codes.Severity.TheVariants as severity
+use Rattle.diagnostic_data.specs.declared.codes.Code.{Code}
+use Rattle.diagnostic_data.specs.declared.codes.Code.TheVariants as code
+use Rattle.diagnostic_data.specs.declared.codes.Severity.{Severity}
+use Rattle.diagnostic_data.specs.declared.codes.Severity.TheVariants as severity
 use Rattle.meta_warnings.specs.Choices.{unreachable_alternatives}
 use Rattle.meta_warnings.specs.Ranges.{reversed_ranges}
 use Rattle.meta_warnings.specs.Rules.{uncalled_rules}
+use Rattle.meta_warnings.specs.Suspects.{suspects}
+use Rattle.meta_warnings.specs.declared.suspects.Suspect.TheVariants as suspect
 
 -- warnings are those of an accepted text
 abbrev pub severity_of : Code → Severity
 severity_of code.UncalledRule = severity.Warning
 severity_of code.Unreachable = severity.Warning
 severity_of code.ReversedRange = severity.Warning
+severity_of code.ReversedCount = severity.Warning
+severity_of code.IdleTest = severity.Warning
+severity_of code.NeverMatches = severity.Warning
 severity_of _ = severity.Error
 
 -- a warning's code, and its span
@@ -30,6 +35,9 @@ abbrev pub spans_of : Code → List SpannedRule → List Span
 spans_of code.UncalledRule rules = uncalled_rules rules
 spans_of code.Unreachable rules = unreachable_alternatives rules
 spans_of code.ReversedRange rules = reversed_ranges rules
+spans_of code.ReversedCount rules = suspects suspect.ReversedCount rules
+spans_of code.IdleTest rules = suspects suspect.IdleTest rules
+spans_of code.NeverMatches rules = suspects suspect.Unmatchable rules
 spans_of _ rules = []
 
 abbrev pub warnings_with : List SpannedRule → Code → List Warning
@@ -37,7 +45,8 @@ warnings_with rules c = map (warning c) (spans_of c rules)
 
 -- the codes of warnings, in the order in which a text's are listed
 abbrev pub warning_codes : List Code
-warning_codes = code.UncalledRule ∷ code.Unreachable ∷ code.ReversedRange ∷ []
+warning_codes = code.UncalledRule ∷ code.Unreachable ∷ code.ReversedRange ∷ code.ReversedCount ∷ code.IdleTest
+    ∷ code.NeverMatches ∷ []
 
 -- the warnings of rules
 abbrev pub warnings_of : List SpannedRule → List Warning
@@ -50,4 +59,7 @@ message_of code.Unreachable =
     codes "this alternative is never taken: a literal before it begins all that it matches"
 message_of code.ReversedRange =
     codes "this range matches nothing: its first character is above its last"
+message_of code.ReversedCount = codes "the first number is above the last, which alone counts"
+message_of code.IdleTest = codes "this changes nothing, since what it holds cannot fail"
+message_of code.NeverMatches = codes "this never matches"
 message_of _ = []
