@@ -63,3 +63,27 @@ message_of code.ReversedCount = codes "the first number is above the last, which
 message_of code.IdleTest = codes "this changes nothing, since what it holds cannot fail"
 message_of code.NeverMatches = codes "this never matches"
 message_of _ = []
+
+-- names of codes and severities
+abbrev pub code_name : Code → List ℕ
+code_name code.Syntax = codes "pest::syntax"
+code_name code.EscapeValue = codes "pest::escape_value"
+code_name code.NumberRange = codes "pest::number_range"
+code_name code.ZeroRepetition = codes "pest::zero_repetition"
+code_name code.ReservedName = codes "pest::reserved_name"
+code_name code.DuplicateRule = codes "pest::duplicate_rule"
+code_name code.UndefinedRule = codes "pest::undefined_rule"
+code_name code.LeftRecursion = codes "pest::left_recursion"
+code_name code.EndlessRepetition = codes "pest::endless_repetition"
+code_name code.UnreachableChoice = codes "pest::unreachable_choice"
+code_name code.TagWithoutToken = codes "pest::tag_without_token"
+code_name code.UncalledRule = codes "pest::uncalled_rule"
+code_name code.Unreachable = codes "pest::unreachable"
+code_name code.ReversedRange = codes "pest::reversed_range"
+code_name code.ReversedCount = codes "pest::reversed_count"
+code_name code.IdleTest = codes "pest::idle_test"
+code_name code.NeverMatches = codes "pest::never_matches"
+
+abbrev pub severity_name : Severity → List ℕ
+severity_name severity.Error = codes "error"
+severity_name severity.Warning = codes "warning"

@@ -1,5 +1,5 @@
 -- What diagnostics report: errors, and warnings.
-use Rattle.std.specs.Prelude.{◌≡◌, ℕ, List, string_bytes, ⊤}
+use Rattle.std.specs.Prelude.{◌≡◌, ℕ, List, Bool, true, false, string_bytes, ⊤}
 use Rattle.meta_base.specs.declared.grammar.Rule.{Rule}
 use Rattle.meta_base.specs.declared.runtime.errors.Error.{Error}
 use Rattle.meta_base.specs.declared.runtime.errors.ErrorVariant.{ErrorVariant}
@@ -7,6 +7,7 @@ use Rattle.meta_base.specs.declared.runtime.errors.ErrorVariant.TheVariants as v
 use Rattle.meta_base.specs.declared.runtime.errors.InputLocation.{InputLocation}
 use Rattle.meta_base.specs.declared.runtime.errors.InputLocation.TheVariants as at
 use Rattle.diagnostic_data.specs.Codes.{Warning, message_of}
+use Rattle.diagnostic_data.specs.declared.codes.Severity.{Severity}
 use Rattle.diagnostic_data.specs.declared.codes.Severity.TheVariants as severity
 use Rattle.diagnostic_data.specs.declared.diagnostic.Diagnostic.{Diagnostic}
 
@@ -19,6 +20,14 @@ IsMessageOf (variant.CustomError own) message = message ≡ string_bytes own
 abbrev pub IsAt : InputLocation → ℕ → ℕ → Type 0
 IsAt (at.Pos p) start end = (start ≡ p) × (end ≡ p)
 IsAt (at.Span span) start end = (start ≡ span.0) × (end ≡ span.1)
+
+-- the diagnostic is an error
+abbrev pub is_severe : Severity → Bool
+is_severe severity.Error = true
+is_severe severity.Warning = false
+
+abbrev pub is_error : Diagnostic → Bool
+is_error diagnostic = is_severe diagnostic.severity
 
 -- the diagnostic reports an error
 pub record ReportsError (error : Error Rule) (diagnostic : Diagnostic) : Type 0 where

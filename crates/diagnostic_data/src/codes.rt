@@ -1,6 +1,6 @@
 //! The codes of diagnostics.
 ghost use Rattle.std.specs.Prelude.{◌≡◌};
-ghost use Rattle.diagnostic_data.specs.Codes.{severity_of};
+ghost use Rattle.diagnostic_data.specs.Codes.{code_name, severity_name, severity_of};
 
 /// How much a diagnostic weighs.
 #[derive(Clone, Copy, Debug, PartialEq, Eq)]
@@ -13,7 +13,9 @@ pub enum Severity {
 
 impl Severity {
     /// Its name.
-    pub fn name(self) -> &'static str {
+    pub fn name(self) -> &'static str
+        ensures { result.now ≡ severity_name self }
+    {
         match self {
             Severity::Error => "error",
             Severity::Warning => "warning",
@@ -83,7 +85,9 @@ pub const ALL_CODES: [Code; 17] = [
 
 impl Code {
     /// Its name, as `pest::left_recursion`.
-    pub fn name(self) -> &'static str {
+    pub fn name(self) -> &'static str
+        ensures { result.now ≡ code_name self }
+    {
         match self {
             Code::Syntax => "pest::syntax",
             Code::EscapeValue => "pest::escape_value",

@@ -1,4 +1,7 @@
 //! Diagnostics as annotations of a workflow of GitHub.
+ghost use Rattle.std.specs.Prelude.{IfOk, string_bytes};
+ghost use Rattle.lint_output.specs.Prints.{IsAnnotation};
+
 use crate::Origin;
 use crate::visible::to_visible;
 use diagnostic_data::Diagnostic;
@@ -9,15 +12,27 @@ pub fn to_annotation(
     alloc: Global,
     origin: Origin<'_>,
     diagnostic: &Diagnostic,
+) -> Result<String, AllocError>
+    ensures { IfOk result (λ text. IsAnnotation diagnostic.now (string_bytes text)) }
+{
+    let severity = diagnostic.severity.name();
+    let rest = properties(alloc, origin, diagnostic)?;
+    format!(in alloc; "::{severity} file={rest}\n")
+}
+
+/// The properties of a command, from the file's name on, and its message.
+fn properties(
+    alloc: Global,
+    origin: Origin<'_>,
+    diagnostic: &Diagnostic,
 ) -> Result<String, AllocError> {
     let start = origin.lines.locate(origin.text, diagnostic.start);
     let end = origin.lines.locate(origin.text, diagnostic.end);
     let file = escape_property(alloc, origin.name)?;
     let message = escape_message(alloc, diagnostic)?;
-    let severity = diagnostic.severity.name();
     let title = escape_property(alloc, diagnostic.code.name())?;
     format!(in alloc;
-        "::{severity} file={file},line={},col={},endLine={},endColumn={},title={title}::{message}\n",
+        "{file},line={},col={},endLine={},endColumn={},title={title}::{message}",
         start.line, start.column, end.line, end.column
     )
 }

@@ -1,4 +1,7 @@
 //! Diagnostics as JSON.
+ghost use Rattle.std.specs.Prelude.{IfOk, string_bytes};
+ghost use Rattle.lint_output.specs.Prints.{IsLine};
+
 use crate::Origin;
 use diagnostic_data::{Diagnostic, Fix, Help, Related};
 use serde_json::{Value, json};
@@ -9,14 +12,27 @@ pub fn to_json_line(
     alloc: Global,
     origin: Origin<'_>,
     diagnostic: &Diagnostic,
-) -> Result<String, AllocError> {
+) -> Result<String, AllocError>
+    ensures { IfOk result (λ line. IsLine (string_bytes line)) }
+{
+    let value = diagnostic_value(alloc, origin, diagnostic)?;
+    let line = value.to_string(alloc)?;
+    format!(in alloc; "{line}\n")
+}
+
+/// A diagnostic as an object.
+fn diagnostic_value(
+    alloc: Global,
+    origin: Origin<'_>,
+    diagnostic: &Diagnostic,
+) -> Result<Value, AllocError> {
     let start = origin.lines.locate(origin.text, diagnostic.start);
     let end = origin.lines.locate(origin.text, diagnostic.end);
     let expected = names_value(alloc, &diagnostic.expected)?;
     let related = related_value(alloc, origin, &diagnostic.related)?;
     let help = help_value(alloc, &diagnostic.help)?;
     let fix = fix_value(alloc, &diagnostic.help)?;
-    let value = json!(in alloc; {
+    json!(in alloc; {
         "file": origin.name,
         "kind": diagnostic.severity.name(),
         "code": diagnostic.code.name(),
@@ -31,10 +47,7 @@ pub fn to_json_line(
         "related": related,
         "help": help,
         "fix": fix
-    })?;
-    let mut line = value.to_string(alloc)?;
-    line.push('\n')?;
-    Ok(line)
+    })
 }
 
 /// Names as an array.

@@ -6,14 +6,13 @@ mod github;
 mod json;
 mod lines;
 mod sarif;
+mod styles;
 mod text;
 mod visible;
 
-pub use crate::github::to_annotation;
-pub use crate::json::to_json_line;
 pub use crate::lines::{LineIndex, Location};
 pub use crate::sarif::{sarif_log, sarif_result};
-pub use crate::text::to_text;
+pub use crate::styles::print_diagnostic;
 pub use crate::visible::to_visible;
 
 /// A text whose diagnostics are printed.
@@ -24,4 +23,15 @@ pub struct Origin<'f> {
     pub text: &'f str,
     /// The lines of the text.
     pub lines: &'f LineIndex,
+}
+
+/// How diagnostics are printed, one after another.
+#[derive(Clone, Copy, Debug, PartialEq, Eq)]
+pub enum Style {
+    /// Blocks of text for people, in colours or not.
+    Text(bool),
+    /// A line of JSON for each.
+    Json,
+    /// A workflow command of GitHub for each.
+    Github,
 }

@@ -1,4 +1,7 @@
 //! Diagnostics as text.
+ghost use Rattle.std.specs.Prelude.{◌≡◌, IfOk, string_bytes};
+ghost use Rattle.lint_output.specs.Prints.{IsBlock, heading};
+
 use crate::Origin;
 use crate::excerpts::{excerpt_at, part, push_excerpt};
 use crate::visible::push_visible;
@@ -13,12 +16,23 @@ pub fn to_text(
     origin: Origin<'_>,
     diagnostic: &Diagnostic,
     has_colour: bool,
-) -> Result<String, AllocError> {
-    let mut out = String::new(alloc);
+) -> Result<String, AllocError>
+    ensures { IfOk result (λ text. IsBlock has_colour diagnostic.now (string_bytes text)) }
+{
     let heading = heading_of(diagnostic.severity, has_colour);
     let code = diagnostic.code.name();
-    let first = format!(in alloc; "{heading}[{code}]: ")?;
-    out.push_str(first.as_str())?;
+    let rest = details(alloc, origin, diagnostic, has_colour)?;
+    format!(in alloc; "{heading}[{code}]: {rest}\n")
+}
+
+/// The message of a diagnostic, and what is printed below it.
+fn details(
+    alloc: Global,
+    origin: Origin<'_>,
+    diagnostic: &Diagnostic,
+    has_colour: bool,
+) -> Result<String, AllocError> {
+    let mut out = String::new(alloc);
     push_visible(diagnostic.message.as_str(), &mut out)?;
     out.push('\n')?;
     push_place(alloc, origin, diagnostic.start, diagnostic.end, &mut out)?;
@@ -26,12 +40,13 @@ pub fn to_text(
     if let Some(help) = &diagnostic.help {
         push_help(alloc, origin, help, has_colour, &mut out)?;
     }
-    out.push('\n')?;
     Ok(out)
 }
 
 /// A severity's name, in its colour where that is asked for.
-fn heading_of(severity: Severity, has_colour: bool) -> &'static str {
+fn heading_of(severity: Severity, has_colour: bool) -> &'static str
+    ensures { result.now ≡ heading has_colour severity }
+{
     match (severity, has_colour) {
         (Severity::Error, true) => "\x1b[1;31merror\x1b[0m",
         (Severity::Error, false) => "error",

@@ -1,10 +1,11 @@
 //! The diagnostics of a grammar's text: what is wrong with it, where, and how it may be mended.
 #![tactic(auto)]
 
-ghost use Rattle.std.specs.Prelude.{◌≡◌, IfOk, Ok};
-ghost use Rattle.std.specs.List.{AllZip};
-ghost use Rattle.diagnostic_data.specs.Reports.{ReportsError};
+ghost use Rattle.std.specs.Prelude.{◌≡◌, IfOk, Ok, false};
+ghost use Rattle.std.specs.List.{AllZip, list_any};
+ghost use Rattle.diagnostic_data.specs.Reports.{ReportsError, is_error};
 ghost use Rattle.meta_diagnostics.specs.Diagnosis.{IsDiagnosis, ReportWarnings};
+ghost use Rattle.pest_meta.specs.Spelling.{HasAnswer};
 
 pub use diagnostic_data::{ALL_CODES, Code, Diagnostic, Fix, Help, Options, Related, Severity};
 use diagnostic_data::{diagnose_errors, diagnose_rules};
@@ -23,7 +24,9 @@ pub fn diagnose(
     text: &str,
     options: Options<'_>,
 ) -> Result<Vec<Diagnostic>, AllocError>
-    ensures { IfOk result (λ diagnostics. IsDiagnosis text.now diagnostics.items) }
+    ensures diagnosis { IfOk result (λ diagnostics. IsDiagnosis text.now diagnostics.items) }
+    ensures accepted { IfOk result (λ diagnostics.
+        list_any is_error diagnostics.items ≡ false → HasAnswer text.now) }
 {
     let _ = options;
     match parse_and_optimize(alloc, text) {

@@ -1,18 +1,16 @@
 //! The command line.
 use clap::{Arg, ArgAction, ArgMatches, Command};
+use lint_output::Style;
+use meta_diagnostics::Options;
 use std::alloc::{AllocError, Global};
 
 /// The form in which diagnostics are printed.
 #[derive(Clone, Copy, Debug, PartialEq, Eq)]
 pub enum Format {
-    /// Blocks of text for people.
-    Text,
-    /// A line of JSON for each.
-    Json,
+    /// One after another.
+    Stream(Style),
     /// One log of SARIF 2.1.0.
-    Sarif,
-    /// Workflow commands of GitHub.
-    Github,
+    Log,
 }
 
 /// What a command line asks for beside the files.
@@ -23,10 +21,18 @@ pub struct Settings<'a> {
     pub deny_warnings: bool,
     /// Warnings that are off by default are on.
     pub all: bool,
-    /// Text is in colours.
-    pub has_colour: bool,
     /// Rules with which matching starts.
     pub starts: &'a [&'a str],
+}
+
+impl<'a> Settings<'a> {
+    /// The warnings that are asked for.
+    pub fn options(self) -> Options<'a> {
+        Options {
+            all: self.all,
+            starts: self.starts,
+        }
+    }
 }
 
 /// The exit statuses, as `--help` shows them.
@@ -109,20 +115,19 @@ fn flag<'a>(alloc: Global, name: &'static str, help: &'static str) -> Arg<'a> {
 /// The settings of a command line, where colours are asked for or not.
 pub fn settings_of<'a>(matches: &'a ArgMatches<'_>, has_colour: bool) -> Settings<'a> {
     Settings {
-        format: format_of(matches),
+        format: format_of(matches, has_colour),
         deny_warnings: matches.get_flag("deny-warnings"),
         all: matches.get_str("warn") == Some("all"),
-        has_colour,
         starts: matches.get_strs("start").unwrap_or(&[]),
     }
 }
 
 /// The form in which diagnostics are asked for.
-fn format_of(matches: &ArgMatches<'_>) -> Format {
+fn format_of(matches: &ArgMatches<'_>, has_colour: bool) -> Format {
     match matches.get_str("format") {
-        Some("json") => Format::Json,
-        Some("sarif") => Format::Sarif,
-        Some("github") => Format::Github,
-        _ => Format::Text,
+        Some("json") => Format::Stream(Style::Json),
+        Some("github") => Format::Stream(Style::Github),
+        Some("sarif") => Format::Log,
+        _ => Format::Stream(Style::Text(has_colour)),
     }
 }

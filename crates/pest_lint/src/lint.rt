@@ -1,13 +1,15 @@
 //! Diagnosing files, and printing what is found.
-ghost use Rattle.std.specs.Prelude.{◌≡◌, ◌≤◌};
+ghost use Rattle.std.specs.Prelude.{◌≡◌, ◌≢◌, ◌≤◌, ◌⊎◌, ◌↔◌, ℕ, List, All, IfSome, IsSome, true};
+ghost use Rattle.std.specs.Io.KnownBytes.{Appends};
+ghost use Rattle.meta_diagnostics.specs.Diagnosis.{IsDiagnosis};
+ghost use Rattle.pest_lint.specs.Shows as spec;
+ghost use Rattle.pest_lint.specs.Shows.{ArePrinted, Gains, GainsAll, GainsIn, IsClean, IsReadable, ShowsText};
+ghost use Rattle.pest_meta.specs.Spelling.{HasAnswer};
 
 use crate::arguments::{Format, Settings};
-use lint_output::{
-    LineIndex, Origin, sarif_log, sarif_result, to_annotation, to_json_line, to_text,
-};
-use meta_diagnostics::{Diagnostic, Options, Severity, diagnose};
-use serde_json::Value;
-use std::alloc::{AllocError, Global};
+use lint_output::{LineIndex, Origin, Style, print_diagnostic, to_visible};
+use meta_diagnostics::{Diagnostic, Severity, diagnose};
+use std::alloc::Global;
 use std::io::Write;
 use tool_support::output::Output;
 
@@ -30,105 +32,113 @@ pub struct Source {
     pub why: Option<String>,
 }
 
-/// How many diagnostics were found.
-#[derive(Clone, Copy, Default)]
-pub struct Counts {
-    pub errors: usize,
-    pub warnings: usize,
-}
-
-/// The status of a run and its counts.
-#[derive(Clone, Copy)]
-pub struct Verdict {
-    pub status: u8,
-    pub counts: Counts,
-}
-
 /// Diagnoses each file, and prints what is found to `out`, in order. The status is the highest of theirs: 1
 /// where there are errors, or warnings that are denied.
 ///
 /// A file that can't be read is reported on `err`, and the others are diagnosed all the same (3). Where an
 /// allocation fails (2) or `out` refuses a write (4), the run ends.
-pub fn lint_files<W: Write, E: Write>(
+pub fn print_files<W: Write, E: Write>(
     alloc: Global,
     sources: &[Source],
     settings: Settings<'_>,
+    style: Style,
     out: &mut Output<W>,
     err: &mut Output<E>,
 ) -> u8
     ensures known { result ≤ 4 }
+    ensures clean { result ≡ 0 → All IsClean sources.now }
+    ensures shows { result ≢ 2 → result ≢ 4 → GainsAll settings.deny_warnings style sources.now result
+        (W.contents out.old.writer) (W.contents out.new.writer) }
+    ensures taken { result ≢ 4 → out.new.refused ≡ out.old.refused }
+    ensures refused_write { result ≡ 4 → out.new.refused ≡ true }
 {
-    let mut results = Vec::new(alloc);
     let mut status = CLEAN;
     for source in sources {
-        let one = lint_file(alloc, source, settings, &mut results, out, err);
+        let one = print_file(alloc, source, settings, style, out, err);
         status = status.max(one);
         if one == MEMORY || one == UNWRITABLE {
             return one;
         }
     }
-    if settings.format == Format::Sarif {
-        status = status.max(print_log(alloc, results, out));
-    }
     status
 }
 
-/// Diagnoses a file, and answers its status.
-fn lint_file<W: Write, E: Write>(
+/// Diagnoses a file, prints what is found, and answers its status.
+fn print_file<W: Write, E: Write>(
     alloc: Global,
     source: &Source,
     settings: Settings<'_>,
-    results: &mut Vec<Value>,
+    style: Style,
     out: &mut Output<W>,
     err: &mut Output<E>,
 ) -> u8
     ensures known { result ≤ 4 }
+    ensures clean { result ≡ 0 → IsClean source.now }
+    ensures shows { result ≢ 2 → result ≢ 4 → Gains settings.deny_warnings style source.now result
+        (W.contents out.old.writer) (W.contents out.new.writer) }
+    ensures taken { result ≢ 4 → out.new.refused ≡ out.old.refused }
+    ensures refused_write { result ≡ 4 → out.new.refused ≡ true }
 {
-    let name = source.name.as_str();
-    if let Some(why) = &source.why {
-        return report_unreadable(alloc, name, why.as_str(), err);
+    let Some(text) = text_of(source) else {
+        return report_unreadable(alloc, source, err);
+    };
+    let status = print_text(alloc, source.name.as_str(), text, settings, style, out);
+    if status == MEMORY {
+        report_memory(alloc, source, err);
     }
-    match str::from_utf8(&source.bytes) {
-        Err(_) => report_unreadable(alloc, name, "it is not UTF-8", err),
-        Ok(text) => {
-            let status = lint_text(alloc, name, text, settings, results, out);
-            if status == MEMORY {
-                let _ = err.write_line(&["out of memory at ", name]);
-            }
-            status
-        }
+    status
+}
+
+/// The text of a file, if it can be read and is UTF-8.
+pub fn text_of(source: &Source) -> Option<&str>
+    ensures readable { IsSome result ↔ IsReadable source.entry.now }
+    ensures text { IfSome result (λ text. text.now ≡ source.entry.now.bytes.items) }
+{
+    match source.why {
+        Some(_) => None,
+        None => str::from_utf8(&source.bytes).ok(),
     }
 }
 
 /// Reports a file that can't be read, and answers its status.
-fn report_unreadable<E: Write>(alloc: Global, name: &str, why: &str, err: &mut Output<E>) -> u8
-    ensures { result ≤ 4 }
+pub fn report_unreadable<E: Write>(alloc: Global, source: &Source, err: &mut Output<E>) -> u8
+    ensures { result ≡ 3 }
 {
-    match lint_output::to_visible(alloc, name) {
-        Ok(name) => {
-            let _ = err.write_line(&["cannot read ", name.as_str(), ": ", why]);
-            UNREADABLE
-        }
-        Err(_) => MEMORY,
+    let why = match &source.why {
+        Some(why) => why.as_str(),
+        None => "it is not UTF-8",
+    };
+    if let Ok(name) = to_visible(alloc, source.name.as_str()) {
+        let _ = err.write_line(&["cannot read ", name.as_str(), ": ", why]);
+    }
+    UNREADABLE
+}
+
+/// Reports that an allocation failed at a file.
+pub fn report_memory<E: Write>(alloc: Global, source: &Source, err: &mut Output<E>) {
+    if let Ok(name) = to_visible(alloc, source.name.as_str()) {
+        let _ = err.write_line(&["out of memory at ", name.as_str()]);
     }
 }
 
 /// Diagnoses a text, prints what is found, and answers its status.
-fn lint_text<W: Write>(
+fn print_text<W: Write>(
     alloc: Global,
     name: &str,
     text: &str,
     settings: Settings<'_>,
-    results: &mut Vec<Value>,
+    style: Style,
     out: &mut Output<W>,
 ) -> u8
-    ensures known { result ≤ 4 }
+    ensures known { (result ≡ 0) ⊎ ((result ≡ 1) ⊎ ((result ≡ 2) ⊎ (result ≡ 4))) }
+    ensures clean { result ≡ 0 → HasAnswer text.now }
+    ensures shows { result ≢ 2 → result ≢ 4 → (bytes : List ℕ)
+        × ShowsText settings.deny_warnings style text.now bytes result
+        × Appends (W.contents out.old.writer) (W.contents out.new.writer) bytes }
+    ensures taken { result ≢ 4 → out.new.refused ≡ out.old.refused }
+    ensures refused_write { result ≡ 4 → out.new.refused ≡ true }
 {
-    let options = Options {
-        all: settings.all,
-        starts: settings.starts,
-    };
-    let Ok(diagnostics) = diagnose(alloc, text, options) else {
+    let Ok(diagnostics) = diagnose(alloc, text, settings.options()) else {
         return MEMORY;
     };
     let Ok(lines) = LineIndex::new(alloc, text) else {
@@ -139,20 +149,20 @@ fn lint_text<W: Write>(
         text,
         lines: &lines,
     };
-    let status = print_all(alloc, origin, &diagnostics, settings, results, out);
-    status.max(status_of(&diagnostics, settings.deny_warnings))
+    let status = print_all(alloc, origin, &diagnostics, style, out);
+    if status != CLEAN {
+        return status;
+    }
+    status_of(&diagnostics, settings.deny_warnings)
 }
 
-/// The status of diagnostics: 1 where one is an error, or where warnings are denied.
-fn status_of(diagnostics: &[Diagnostic], deny_warnings: bool) -> u8
-    ensures { result ≤ 1 }
+/// The status of diagnostics: 1 where one is an error, or where warnings are denied and there are some.
+pub fn status_of(diagnostics: &[Diagnostic], deny_warnings: bool) -> u8
+    ensures { result ≡ spec.status_of deny_warnings diagnostics.now }
 {
-    for diagnostic in diagnostics {
-        if deny_warnings || diagnostic.severity == Severity::Error {
-            return FOUND;
-        }
-    }
-    CLEAN
+    let is_found = diagnostics.iter().any(|diagnostic| deny_warnings
+        || matches!(diagnostic.severity, Severity::Error));
+    if is_found { FOUND } else { CLEAN }
 }
 
 /// Prints diagnostics, in order. Answers 0, or why it ended before.
@@ -160,51 +170,22 @@ fn print_all<W: Write>(
     alloc: Global,
     origin: Origin<'_>,
     diagnostics: &[Diagnostic],
-    settings: Settings<'_>,
-    results: &mut Vec<Value>,
+    style: Style,
     out: &mut Output<W>,
 ) -> u8
-    ensures { result ≤ 4 }
+    ensures known { (result ≡ 0) ⊎ ((result ≡ 2) ⊎ (result ≡ 4)) }
+    ensures shows { result ≡ 0 → (bytes : List ℕ) × ArePrinted style diagnostics.now bytes
+        × Appends (W.contents out.old.writer) (W.contents out.new.writer) bytes }
+    ensures taken { result ≢ 4 → out.new.refused ≡ out.old.refused }
+    ensures refused_write { result ≡ 4 → out.new.refused ≡ true }
 {
     for diagnostic in diagnostics {
-        let Ok(text) = print(alloc, origin, diagnostic, settings, results) else {
+        let Ok(text) = print_diagnostic(alloc, origin, diagnostic, style) else {
             return MEMORY;
         };
-        if out.write_text(text.as_str()).is_err() {
+        let Ok(()) = out.write_text(text.as_str()) else {
             return UNWRITABLE;
-        }
+        };
     }
     CLEAN
-}
-
-/// A diagnostic as it is printed. For a log it is added to the results, and nothing is printed.
-fn print(
-    alloc: Global,
-    origin: Origin<'_>,
-    diagnostic: &Diagnostic,
-    settings: Settings<'_>,
-    results: &mut Vec<Value>,
-) -> Result<String, AllocError> {
-    match settings.format {
-        Format::Text => to_text(alloc, origin, diagnostic, settings.has_colour),
-        Format::Json => to_json_line(alloc, origin, diagnostic),
-        Format::Github => to_annotation(alloc, origin, diagnostic),
-        Format::Sarif => {
-            results.push(sarif_result(alloc, origin, diagnostic)?)?;
-            Ok(String::new(alloc))
-        }
-    }
-}
-
-/// Prints the log of these results, and answers a status.
-fn print_log<W: Write>(alloc: Global, results: Vec<Value>, out: &mut Output<W>) -> u8
-    ensures { result ≤ 4 }
-{
-    let Ok(text) = sarif_log(alloc, results) else {
-        return MEMORY;
-    };
-    match out.write_text(text.as_str()) {
-        Ok(()) => CLEAN,
-        Err(_) => UNWRITABLE,
-    }
 }

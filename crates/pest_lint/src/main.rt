@@ -1,13 +1,18 @@
 //! Reports what is wrong with pest grammars.
 #![tactic(auto)]
 
+ghost use Rattle.std.specs.Prelude.{◌≡◌, ◌≢◌, ◌≤◌, All, None};
+ghost use Rattle.pest_lint.specs.Shows.{GainsIn, IsClean};
+
 mod arguments;
 mod lint;
+mod log;
 mod sources;
 
-use arguments::{Settings, command, settings_of};
+use arguments::{Format, Settings, command, settings_of};
 use clap::ArgMatches;
-use lint::{MEMORY, UNREADABLE, lint_files};
+use lint::{MEMORY, Source, UNREADABLE, print_files};
+use log::log_files;
 use sources::read_sources;
 use std::alloc::AllocError;
 use std::env;
@@ -37,12 +42,21 @@ fn is_colour_refused(rt: &HostRuntime) -> bool {
     }
 }
 
-/// Reads the files of these names, and diagnoses each.
-fn lint_names(rt: &HostRuntime, names: &[&str], settings: Settings<'_>) -> Result<u8, AllocError> {
-    let sources = read_sources(rt, names)?;
+/// Diagnoses files, over the process's own output, and answers the status.
+fn lint_files(rt: &HostRuntime, sources: &[Source], settings: Settings<'_>) -> u8
+    ensures known { result ≤ 4 }
+    ensures clean { result ≡ 0 → All IsClean sources.now }
+    ensures shows { result ≢ 2 → result ≢ 4
+        → GainsIn settings.format settings.deny_warnings sources.now result None None }
+{
     let mut out = Output::new(rt.stdout());
     let mut err = Output::new(rt.stderr());
-    Ok(lint_files(rt.alloc(), &sources, settings, &mut out, &mut err))
+    match settings.format {
+        Format::Stream(style) => {
+            print_files(rt.alloc(), sources, settings, style, &mut out, &mut err)
+        }
+        Format::Log => log_files(rt.alloc(), sources, settings, &mut out, &mut err),
+    }
 }
 
 /// The status for a command line that was parsed.
@@ -53,7 +67,8 @@ fn run(rt: &HostRuntime, matches: &ArgMatches<'_>) -> Result<u8, AllocError> {
         return Ok(UNREADABLE);
     }
     let settings = settings_of(matches, has_colour(rt, matches.get_str("color")));
-    lint_names(rt, names, settings)
+    let sources = read_sources(rt, names)?;
+    Ok(lint_files(rt, &sources, settings))
 }
 
 /// The status for the words of the command line.
