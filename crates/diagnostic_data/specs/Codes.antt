@@ -1,5 +1,6 @@
 -- Codes of warnings: their messages, and the spans at which a grammar has them.
 use Rattle.std.specs.Prelude.{ℕ, List, [], ◌∷◌, codes, flat_map, map}
+use Rattle.meta_base.specs.Language.Text.{Text}
 use Rattle.meta_base.specs.Pieces.Saying.{Span}
 use Rattle.meta_spanned.specs.Spanned.{SpannedRule}
 use Rattle.diagnostic_data.specs.declared.codes.Code.{Code}
@@ -31,26 +32,26 @@ abbrev pub warning : Code → Span → Warning
 warning c span = record { code = c; span = span }
 
 -- the spans at which rules have a warning of this code
-abbrev pub spans_of : Code → List SpannedRule → List Span
-spans_of code.UncalledRule rules = uncalled_rules rules
-spans_of code.Unreachable rules = unreachable_alternatives rules
-spans_of code.ReversedRange rules = reversed_ranges rules
-spans_of code.ReversedCount rules = suspects suspect.ReversedCount rules
-spans_of code.IdleTest rules = suspects suspect.IdleTest rules
-spans_of code.NeverMatches rules = suspects suspect.Unmatchable rules
-spans_of _ rules = []
+abbrev pub spans_of : Code → List Text → List SpannedRule → List Span
+spans_of code.UncalledRule starts rules = uncalled_rules starts rules
+spans_of code.Unreachable starts rules = unreachable_alternatives rules
+spans_of code.ReversedRange starts rules = reversed_ranges rules
+spans_of code.ReversedCount starts rules = suspects suspect.ReversedCount rules
+spans_of code.IdleTest starts rules = suspects suspect.IdleTest rules
+spans_of code.NeverMatches starts rules = suspects suspect.Unmatchable rules
+spans_of _ starts rules = []
 
-abbrev pub warnings_with : List SpannedRule → Code → List Warning
-warnings_with rules c = map (warning c) (spans_of c rules)
+abbrev pub warnings_with : List Text → List SpannedRule → Code → List Warning
+warnings_with starts rules c = map (warning c) (spans_of c starts rules)
 
 -- the codes of warnings, in the order in which a text's are listed
 abbrev pub warning_codes : List Code
 warning_codes = code.UncalledRule ∷ code.Unreachable ∷ code.ReversedRange ∷ code.ReversedCount ∷ code.IdleTest
     ∷ code.NeverMatches ∷ []
 
--- the warnings of rules
-abbrev pub warnings_of : List SpannedRule → List Warning
-warnings_of rules = flat_map (warnings_with rules) warning_codes
+-- the warnings of rules, of which those of some names are starts
+abbrev pub warnings_of : List Text → List SpannedRule → List Warning
+warnings_of starts rules = flat_map (warnings_with starts rules) warning_codes
 
 -- the message of a warning
 abbrev pub message_of : Code → List ℕ

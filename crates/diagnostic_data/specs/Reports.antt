@@ -1,4 +1,4 @@
--- What diagnostics report: errors, and warnings.
+-- Errors and warnings, and the diagnostics that report them.
 use Rattle.std.specs.Prelude.{◌≡◌, ℕ, List, Bool, true, false, string_bytes, ⊤}
 use Rattle.meta_base.specs.declared.grammar.Rule.{Rule}
 use Rattle.meta_base.specs.declared.runtime.errors.Error.{Error}

@@ -1,4 +1,4 @@
-//! A diagnostic, and the options for which it is made.
+//! A diagnostic, and the options with which it is made.
 ghost use Rattle.std.specs.Prelude.{◌≡◌, IfOk, string_bytes};
 ghost use Rattle.diagnostic_data.specs.Codes.{severity_of};
 
@@ -24,22 +24,17 @@ pub struct Diagnostic {
     pub help: Option<Help>,
 }
 
-/// The warnings that are asked for.
+/// Facts about a grammar beside its text.
 #[derive(Clone, Copy)]
 pub struct Options<'o> {
-    /// Warnings that are off by default, too.
-    pub all: bool,
     /// Rules that need no call, since matching starts with them.
     pub starts: &'o [&'o str],
 }
 
 impl Default for Options<'_> {
-    /// The warnings that are on by default, and no further starts.
+    /// No further starts.
     fn default() -> Self {
-        Options {
-            all: false,
-            starts: &[],
-        }
+        Options { starts: &[] }
     }
 }
 

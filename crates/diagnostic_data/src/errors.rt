@@ -7,7 +7,7 @@ ghost use Rattle.diagnostic_data.specs.declared.codes.Severity.TheVariants as se
 use crate::codes::Code;
 use crate::diagnostic::Diagnostic;
 use crate::messages::{code_of, cycle_of, rule_name, syntax_message};
-use crate::undefined::Names;
+use crate::undefined::Definitions;
 use meta_base::grammar::Rule;
 use meta_base::runtime::{Error, ErrorVariant, InputLocation};
 use meta_hints::{Help, Hint, Related, hint_at};
@@ -23,7 +23,7 @@ pub fn diagnose_errors(
 ) -> Result<Vec<Diagnostic>, AllocError>
     ensures { IfOk result (λ diagnostics. AllZip ReportsError errors.now diagnostics.items) }
 {
-    let mut names = Names::new(alloc, text)?;
+    let mut names = Definitions::new(alloc, text)?;
     let mut diagnostics = Vec::new(alloc);
     for error in errors {
         diagnostics.push(diagnose_error(alloc, text, expected, &mut names, error)?)?;
@@ -36,7 +36,7 @@ fn diagnose_error(
     alloc: Global,
     text: &str,
     expected: &[&'static str],
-    names: &mut Names<'_>,
+    names: &mut Definitions<'_>,
     error: &Error<Rule>,
 ) -> Result<Diagnostic, AllocError>
     ensures { IfOk result (ReportsError error.now) }
@@ -53,7 +53,7 @@ fn diagnose_error(
 /// The diagnostic of an error with a message of its own.
 fn diagnose_custom(
     alloc: Global,
-    names: &mut Names<'_>,
+    names: &mut Definitions<'_>,
     start: usize,
     end: usize,
     message: &str,
@@ -104,7 +104,7 @@ fn diagnose_syntax(
 /// The help for an error that is no syntax error.
 fn help_for(
     alloc: Global,
-    names: &mut Names<'_>,
+    names: &mut Definitions<'_>,
     code: Code,
     message: &str,
 ) -> Result<Option<Help>, AllocError> {
@@ -130,7 +130,7 @@ fn say(alloc: Global, message: &str) -> Result<Option<Help>, AllocError> {
 /// of a left recursion.
 fn related_to(
     alloc: Global,
-    names: &Names<'_>,
+    names: &Definitions<'_>,
     code: Code,
     message: &str,
 ) -> Result<Vec<Related>, AllocError> {
@@ -153,7 +153,7 @@ fn related_to(
 /// Adds the definitions of a cycle `a -> b -> a`, each once.
 fn push_cycle(
     alloc: Global,
-    names: &Names<'_>,
+    names: &Definitions<'_>,
     cycle: &str,
     related: &mut Vec<Related>,
 ) -> Result<(), AllocError> {

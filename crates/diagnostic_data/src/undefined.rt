@@ -8,7 +8,7 @@ use std::collections::HashMap;
 const NAMES_LOOKED_UP: usize = 20;
 
 /// The builtins that are no Unicode properties.
-const BUILTINS: [&str; 23] = [
+const BUILTINS: [&str; 19] = [
     "ANY",
     "SOI",
     "EOI",
@@ -28,15 +28,11 @@ const BUILTINS: [&str; 23] = [
     "ASCII_ALPHA_UPPER",
     "ASCII_ALPHA",
     "ASCII_ALPHANUMERIC",
-    "WHITESPACE",
-    "COMMENT",
-    "PUSH",
-    "PUSH_LITERAL",
 ];
 
 /// The definitions of a text.
 #[derive(Drop)]
-pub(crate) struct Names<'t> {
+pub(crate) struct Definitions<'t> {
     /// The bytes of each name's first definition.
     first: HashMap<&'t str, (usize, usize)>,
     /// The names in order.
@@ -45,9 +41,9 @@ pub(crate) struct Names<'t> {
     count: usize,
 }
 
-impl<'t> Names<'t> {
+impl<'t> Definitions<'t> {
     /// The definitions of a text.
-    pub(crate) fn new(alloc: Global, text: &'t str) -> Result<Names<'t>, AllocError> {
+    pub(crate) fn new(alloc: Global, text: &'t str) -> Result<Definitions<'t>, AllocError> {
         let mut first = HashMap::new(alloc);
         let mut names = Vec::new(alloc);
         for (start, end) in &definitions(alloc, text)? {
@@ -57,7 +53,7 @@ impl<'t> Names<'t> {
                 names.push(name)?;
             }
         }
-        Ok(Names {
+        Ok(Definitions {
             first,
             names,
             count: 0,

@@ -6,6 +6,7 @@ ghost use Rattle.diagnostic_data.specs.Codes as spec;
 ghost use Rattle.diagnostic_data.specs.Codes.{severity_of, warnings_of};
 ghost use Rattle.diagnostic_data.specs.Reports.{ReportsWarning};
 ghost use Rattle.diagnostic_data.specs.declared.codes.Severity.TheVariants as severity;
+ghost use Rattle.meta_warnings.specs.Lists.{texts_of};
 
 use crate::codes::Code;
 use crate::diagnostic::Diagnostic;
@@ -17,21 +18,22 @@ use meta_warnings::{
 };
 use std::alloc::{AllocError, Global};
 
-/// The warnings of rules, code by code.
+/// The warnings of rules, code by code; rules of the names `starts` need no call.
 pub fn diagnose_rules(
     alloc: Global,
     rules: &[ParserRule<'_>],
+    starts: &[&str],
 ) -> Result<Vec<Diagnostic>, AllocError>
-    ensures { IfOk result
-        (λ diagnostics. AllZip ReportsWarning (warnings_of (rule_views rules.now)) diagnostics.items) }
+    ensures { IfOk result (λ diagnostics. AllZip ReportsWarning
+        (warnings_of (texts_of starts.now) (rule_views rules.now)) diagnostics.items) }
 {
     let mut diagnostics = Vec::new(alloc);
-    add_code(alloc, Code::UncalledRule, rules, &mut diagnostics)?;
-    add_code(alloc, Code::Unreachable, rules, &mut diagnostics)?;
-    add_code(alloc, Code::ReversedRange, rules, &mut diagnostics)?;
-    add_code(alloc, Code::ReversedCount, rules, &mut diagnostics)?;
-    add_code(alloc, Code::IdleTest, rules, &mut diagnostics)?;
-    add_code(alloc, Code::NeverMatches, rules, &mut diagnostics)?;
+    add_code(alloc, Code::UncalledRule, rules, starts, &mut diagnostics)?;
+    add_code(alloc, Code::Unreachable, rules, starts, &mut diagnostics)?;
+    add_code(alloc, Code::ReversedRange, rules, starts, &mut diagnostics)?;
+    add_code(alloc, Code::ReversedCount, rules, starts, &mut diagnostics)?;
+    add_code(alloc, Code::IdleTest, rules, starts, &mut diagnostics)?;
+    add_code(alloc, Code::NeverMatches, rules, starts, &mut diagnostics)?;
     Ok(diagnostics)
 }
 
@@ -40,15 +42,17 @@ fn add_code(
     alloc: Global,
     code: Code,
     rules: &[ParserRule<'_>],
+    starts: &[&str],
     diagnostics: &mut Vec<Diagnostic>,
 ) -> Result<(), AllocError>
     requires { severity_of code ≡ severity.Warning }
     ensures { OnOk result ((earlier : List spec.Warning)
         → AllZip ReportsWarning earlier diagnostics.old.items
-        → AllZip ReportsWarning (earlier ++ spec.warnings_with (rule_views rules.now) code)
+        → AllZip ReportsWarning
+        (earlier ++ spec.warnings_with (texts_of starts.now) (rule_views rules.now) code)
         diagnostics.new.items) }
 {
-    let mut others = diagnose_code(alloc, code, rules)?;
+    let mut others = diagnose_code(alloc, code, rules, starts)?;
     diagnostics.append(&mut others)?;
     Ok(())
 }
@@ -58,12 +62,13 @@ fn diagnose_code(
     alloc: Global,
     code: Code,
     rules: &[ParserRule<'_>],
+    starts: &[&str],
 ) -> Result<Vec<Diagnostic>, AllocError>
     requires { severity_of code ≡ severity.Warning }
-    ensures { IfOk result (λ diagnostics.
-        AllZip ReportsWarning (spec.warnings_with (rule_views rules.now) code) diagnostics.items) }
+    ensures { IfOk result (λ diagnostics. AllZip ReportsWarning
+        (spec.warnings_with (texts_of starts.now) (rule_views rules.now) code) diagnostics.items) }
 {
-    let spans = spans_of(alloc, code, rules)?;
+    let spans = spans_of(alloc, code, rules, starts)?;
     report_spans(alloc, code, &spans)
 }
 
@@ -99,11 +104,13 @@ fn spans_of<'i>(
     alloc: Global,
     code: Code,
     rules: &[ParserRule<'i>],
+    starts: &[&str],
 ) -> Result<Vec<Span<'i>>, AllocError>
-    ensures { IfOk result (λ spans. map piece_of spans.items ≡ spec.spans_of code (rule_views rules.now)) }
+    ensures { IfOk result (λ spans. map piece_of spans.items
+        ≡ spec.spans_of code (texts_of starts.now) (rule_views rules.now)) }
 {
     match code {
-        Code::UncalledRule => uncalled_rules(alloc, rules),
+        Code::UncalledRule => uncalled_rules(alloc, rules, starts),
         Code::Unreachable => unreachable_alternatives(alloc, rules),
         Code::ReversedRange => reversed_ranges(alloc, rules),
         Code::ReversedCount => suspect_spans(alloc, Suspect::ReversedCount, rules),

@@ -17,7 +17,8 @@ heading colour severity.Warning =
 -- a block of text that begins with the severity and the code
 abbrev pub IsBlock : Bool → Diagnostic → List ℕ → Type 0
 IsBlock colour d bytes = (rest : List ℕ)
-    × (bytes ≡ heading colour d.severity ++ (codes "[" ++ (code_name d.code ++ (codes "]: " ++ (rest ++ codes "\n")))))
+    × (bytes ≡ heading colour d.severity
+    ++ (codes "[" ++ (code_name d.code ++ (codes "]: " ++ (rest ++ codes "\n")))))
 
 -- a line
 abbrev pub IsLine : List ℕ → Type 0

@@ -1,10 +1,11 @@
-//! The diagnostics of a grammar's text: what is wrong with it, where, and how it may be mended.
+//! The diagnostics of a grammar's text: errors, or else warnings.
 #![tactic(auto)]
 
 ghost use Rattle.std.specs.Prelude.{◌≡◌, IfOk, Ok, false};
 ghost use Rattle.std.specs.List.{AllZip, list_any};
 ghost use Rattle.diagnostic_data.specs.Reports.{ReportsError, is_error};
 ghost use Rattle.meta_diagnostics.specs.Diagnosis.{IsDiagnosis, ReportWarnings};
+ghost use Rattle.meta_warnings.specs.Lists.{texts_of};
 ghost use Rattle.pest_meta.specs.Spelling.{HasAnswer};
 
 pub use diagnostic_data::{ALL_CODES, Code, Diagnostic, Fix, Help, Options, Related, Severity};
@@ -24,15 +25,15 @@ pub fn diagnose(
     text: &str,
     options: Options<'_>,
 ) -> Result<Vec<Diagnostic>, AllocError>
-    ensures diagnosis { IfOk result (λ diagnostics. IsDiagnosis text.now diagnostics.items) }
+    ensures diagnosis { IfOk result (λ diagnostics. IsDiagnosis (texts_of options.starts.now) text.now
+        diagnostics.items) }
     ensures accepted { IfOk result (λ diagnostics.
         list_any is_error diagnostics.items ≡ false → HasAnswer text.now) }
 {
-    let _ = options;
     match parse_and_optimize(alloc, text) {
         Ok((_, rules)) => {
             release(rules);
-            memory_only(diagnose_accepted(alloc, text))
+            memory_only(diagnose_accepted(alloc, text, options.starts))
         }
         Err(Fault::Grammar(errors)) => diagnose_refused(alloc, text, &errors),
         Err(Fault::Memory(error)) => Err(error),
@@ -62,13 +63,14 @@ fn expected_names(alloc: Global, text: &str) -> Result<Vec<&'static str>, AllocE
 }
 
 /// The warnings of a text, or why it is refused.
-fn diagnose_accepted(alloc: Global, text: &str) -> Result<Vec<Diagnostic>, Fault>
-    ensures { IfOk result (λ diagnostics. ReportWarnings text.now diagnostics.items) }
+fn diagnose_accepted(alloc: Global, text: &str, starts: &[&str]) -> Result<Vec<Diagnostic>, Fault>
+    ensures { IfOk result
+        (λ diagnostics. ReportWarnings (texts_of starts.now) text.now diagnostics.items) }
 {
     let pairs = parse(alloc, Rule::grammar_rules, text)?;
     let rules = consume_rules_with_spans(alloc, pairs)?;
     let rules = Deep { value: rules };
-    Ok(diagnose_rules(alloc, &rules.value)?)
+    Ok(diagnose_rules(alloc, &rules.value, starts)?)
 }
 
 /// A result whose only fault can be an allocation failure.

@@ -38,7 +38,7 @@ impl Help {
         Ok(Help { message, fix: None })
     }
 
-    /// The same, in a result as a hint has it.
+    /// A help of this message, as a hint has it.
     pub(crate) fn say(alloc: Global, message: &str) -> Result<Option<Help>, AllocError> {
         Ok(Some(Help::new(alloc, message)?))
     }

@@ -12,7 +12,7 @@ pub enum LexemeClass {
     Text,
     /// A double quote that no other closes, up to the text's end.
     OpenText,
-    /// What is between single quotes in a line.
+    /// A text in single quotes, in one line.
     Character,
     /// A single quote that no other closes in its line.
     OpenCharacter,
@@ -136,7 +136,7 @@ fn scan_text(bytes: &[u8], start: usize) -> (Option<LexemeClass>, usize) {
     (Some(LexemeClass::OpenText), bytes.len())
 }
 
-/// What is between single quotes in a line, or the quote alone where none closes it.
+/// A text in single quotes, or the quote alone where none closes it in its line.
 fn scan_character(bytes: &[u8], start: usize) -> (Option<LexemeClass>, usize) {
     let first = start.saturating_add(1);
     let second = first.saturating_add(1);

@@ -14,7 +14,7 @@ pub use crate::help::{Fix, Help, Hint, Related};
 use crate::lexer::LexemeClass;
 use crate::literals::{at_character, in_character, in_text, open_literal};
 pub use crate::names::{definitions, nearest_name};
-use crate::outer::{at_definition, before_rule, late_doc};
+use crate::outer::{at_definition, before_rule, late_doc, open_comment};
 use crate::signs::at_sign;
 use crate::site::Site;
 use crate::terms::{at_end, at_name, at_term, foreign};
@@ -48,7 +48,7 @@ fn help_at(alloc: Global, site: &Site<'_>) -> Result<Option<Help>, AllocError> {
         LexemeClass::Foreign => foreign(alloc, site, here),
         LexemeClass::Sign(byte) => at_sign(alloc, site, here, byte),
         LexemeClass::GrammarDoc => late_doc(alloc, here),
-        LexemeClass::OpenComment => Ok(None),
+        LexemeClass::OpenComment => open_comment(alloc),
         LexemeClass::Edge => at_end(alloc, site),
     }
 }
@@ -56,15 +56,12 @@ fn help_at(alloc: Global, site: &Site<'_>) -> Result<Option<Help>, AllocError> {
 /// Where what is open at the error began: the innermost bracket, a string or a comment.
 fn related_at(alloc: Global, site: &Site<'_>) -> Result<Vec<Related>, AllocError> {
     let mut related = Vec::new(alloc);
-    if let Some(open) = open_literal(site) {
-        related.push(Related::new(
-            alloc,
-            open.start,
-            open.start.saturating_add(1),
-            "it begins here",
-        )?)?;
-    } else if let Some(bracket) = site.unclosed() {
-        related.push(Related::new(alloc, bracket.start, bracket.end, "it is opened here")?)?;
+    let open = open_literal(site);
+    if let Some(lexeme) = open.or(site.unclosed_bracket()) {
+        if lexeme.start < site.position {
+            let end = lexeme.start.saturating_add(1);
+            related.push(Related::new(alloc, lexeme.start, end, "it is opened here")?)?;
+        }
     }
     Ok(related)
 }

@@ -10,7 +10,7 @@ pub(crate) fn open_literal(site: &Site<'_>) -> Option<Lexeme> {
     match here.class {
         LexemeClass::OpenText | LexemeClass::OpenComment => Some(here),
         LexemeClass::Edge => {
-            let last = site.before(1);
+            let last = site.previous_lexeme(1);
             match last.class {
                 LexemeClass::OpenText | LexemeClass::OpenComment => Some(last),
                 _ => None,
@@ -116,8 +116,8 @@ pub(crate) fn at_character(
 
 /// A help for a character in single quotes that is before the error, where no range goes on.
 pub(crate) fn after_character(alloc: Global, site: &Site<'_>) -> Result<Option<Help>, AllocError> {
-    let character = site.before(1);
-    if character.class != LexemeClass::Character || is_sign(site.before(2), b'.') {
+    let character = site.previous_lexeme(1);
+    if character.class != LexemeClass::Character || is_sign(site.previous_lexeme(2), b'.') {
         return Ok(None);
     }
     double_quotes(

@@ -3,7 +3,7 @@ use crate::lexer::{Lexeme, LexemeClass, lexemes};
 use std::alloc::{AllocError, Global};
 use strsim::levenshtein;
 
-/// The bytes of the names that a text defines, each time, in order: those before a `=` outside of bodies.
+/// The bytes of the names that a text defines, in order. A name is defined before a `=` outside of bodies.
 pub fn definitions(alloc: Global, text: &str) -> Result<Vec<(usize, usize)>, AllocError> {
     let all = lexemes(alloc, text)?;
     let mut found = Vec::new(alloc);
@@ -29,8 +29,8 @@ fn name_span(lexeme: Lexeme) -> Option<(usize, usize)> {
     }
 }
 
-/// The name among some that is nearest to one: the same but for the case of letters, or else by edits, at
-/// most a third of its length. The first of several.
+/// The name among some that is nearest to one by Levenshtein distance, at most a third of its length. A name
+/// that differs in the case of letters alone comes first, and else the first of several.
 pub fn nearest_name<'n>(
     alloc: Global,
     name: &str,

@@ -14,6 +14,7 @@ pub(crate) fn at_definition(alloc: Global, site: &Site<'_>) -> Result<Option<Hel
         LexemeClass::Digits => Help::say(alloc, "a name does not begin with a digit"),
         LexemeClass::Name => at_outer_name(alloc, site, here),
         LexemeClass::Text | LexemeClass::Character => body_without_braces(alloc, site),
+        LexemeClass::OpenComment => open_comment(alloc),
         _ => Ok(None),
     }
 }
@@ -27,15 +28,14 @@ fn at_outer_sign(
 ) -> Result<Option<Help>, AllocError> {
     match byte {
         b'#' => line_comment(alloc, site, here, 1),
-        b'-' if is_adjacent(here, site.after(1), b'-') => line_comment(alloc, site, here, 2),
+        b'-' if is_adjacent(here, site.next_lexeme(1), b'-') => line_comment(alloc, site, here, 2),
         b';' => remove(alloc, "a rule ends with its brace, without `;`", here, here),
         b',' => remove(alloc, "rules follow each other without a comma", here, here),
         b':' | b'-' | b'<' | b'=' | b'>' => assignment(alloc, site, here),
-        b'{' if site.before(1).class == LexemeClass::Name => missing_equals(alloc, site),
+        b'{' if site.previous_lexeme(1).class == LexemeClass::Name => missing_equals(alloc, site),
         b'@' | b'$' | b'!' => outer_modifier(alloc, site),
         b'(' | b'^' | b'&' => body_without_braces(alloc, site),
         b'}' => Help::say(alloc, "no brace is open here"),
-        b'/' => Ok(None),
         _ => Ok(None),
     }
 }
@@ -88,10 +88,10 @@ fn assignment(alloc: Global, site: &Site<'_>, here: Lexeme) -> Result<Option<Hel
     if is_dash_in_name(site, here) {
         return dash_in_name(alloc, site);
     }
-    if is_sign(here, b'<') && site.after(1).class == LexemeClass::Name {
+    if is_sign(here, b'<') && site.next_lexeme(1).class == LexemeClass::Name {
         return Help::say(alloc, "names of rules are written without `<` and `>`");
     }
-    let previous = site.before(1);
+    let previous = site.previous_lexeme(1);
     let first = if is_sign(previous, b'=') {
         previous
     } else {
@@ -114,8 +114,8 @@ fn signs_end(bytes: &[u8], start: usize) -> usize {
 
 /// Whether a dash is between two parts of a name, without a blank.
 fn is_dash_in_name(site: &Site<'_>, here: Lexeme) -> bool {
-    let before = site.before(1);
-    let after = site.after(1);
+    let before = site.previous_lexeme(1);
+    let after = site.next_lexeme(1);
     is_sign(here, b'-')
         && before.class == LexemeClass::Name
         && before.end == here.start
@@ -125,7 +125,7 @@ fn is_dash_in_name(site: &Site<'_>, here: Lexeme) -> bool {
 
 /// A help for a name with dashes, up to its end.
 fn dash_in_name(alloc: Global, site: &Site<'_>) -> Result<Option<Help>, AllocError> {
-    let first = site.before(1);
+    let first = site.previous_lexeme(1);
     let end = dashed_end(site.text.as_bytes(), first.start);
     let name = site.part(first.start, end).replace(alloc, "-", "_")?;
     let message = "a name has ASCII letters, digits and `_`";
@@ -145,14 +145,14 @@ fn dashed_end(bytes: &[u8], start: usize) -> usize {
 
 /// A help for a body's brace right after the rule's name.
 fn missing_equals(alloc: Global, site: &Site<'_>) -> Result<Option<Help>, AllocError> {
-    let at = site.before(1).end;
+    let at = site.previous_lexeme(1).end;
     let message = "a rule is written `name = { .. }`";
     Ok(Some(Help::replace(alloc, message, at, at, " =")?))
 }
 
 /// A help for a modifier before a name or after a body.
 fn outer_modifier(alloc: Global, site: &Site<'_>) -> Result<Option<Help>, AllocError> {
-    if is_sign(site.before(1), b'=') {
+    if is_sign(site.previous_lexeme(1), b'=') {
         return body_without_braces(alloc, site);
     }
     Help::say(
@@ -193,7 +193,7 @@ pub(crate) fn foreign_help(
 
 /// A help for a name outside of all brackets.
 fn at_outer_name(alloc: Global, site: &Site<'_>, here: Lexeme) -> Result<Option<Help>, AllocError> {
-    if is_sign(site.before(1), b'=') {
+    if is_sign(site.previous_lexeme(1), b'=') {
         return body_without_braces(alloc, site);
     }
     if site.text_of(here).starts_with("PUSH") {
@@ -202,9 +202,12 @@ fn at_outer_name(alloc: Global, site: &Site<'_>, here: Lexeme) -> Result<Option<
     Ok(None)
 }
 
-/// A help for a body that is not in braces.
+/// A help for a body that is not in braces, or for a name that no rule follows.
 fn body_without_braces(alloc: Global, site: &Site<'_>) -> Result<Option<Help>, AllocError> {
-    if !is_sign(site.before(1), b'=') {
+    if site.previous_lexeme(1).class == LexemeClass::Name {
+        return Help::say(alloc, "a rule is written `name = { .. }`");
+    }
+    if !is_sign(site.previous_lexeme(1), b'=') {
         return Ok(None);
     }
     Help::say(alloc, "a rule's body is in braces: `name = { .. }`")
@@ -217,9 +220,17 @@ pub(crate) fn late_doc(alloc: Global, here: Lexeme) -> Result<Option<Help>, Allo
     Ok(Some(Help::replace(alloc, message, here.start, end, "//")?))
 }
 
+/// A help for a block comment that is not closed.
+pub(crate) fn open_comment(alloc: Global) -> Result<Option<Help>, AllocError> {
+    Help::say(
+        alloc,
+        "a comment is closed by `*/`, each inside another, too",
+    )
+}
+
 /// A help where a rule begins before the last one is closed.
 pub(crate) fn before_rule(alloc: Global, site: &Site<'_>) -> Result<Option<Help>, AllocError> {
-    let last = site.before(1);
+    let last = site.previous_lexeme(1);
     if site.is_within(b'{') && site.open.len() == 1 && ends_term(last) {
         let message = "the rule before this one has no closing brace";
         return Ok(Some(Help::replace(alloc, message, last.end, last.end, " }")?));

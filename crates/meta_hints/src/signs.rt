@@ -19,7 +19,16 @@ pub(crate) fn at_sign(
         b'.' => at_dot(alloc, site, here),
         b'|' | b'~' => at_infix(alloc, site, here),
         b'*' | b'+' | b'?' => at_postfix(alloc, site, here),
+        b'&' if is_sign(site.next_lexeme(1), b'&') => at_double_and(
+            alloc,
+            here,
+            site.next_lexeme(1),
+        ),
         b'(' | b'^' | b'!' | b'&' => at_term(alloc, site),
+        b'=' => Help::say(
+            alloc,
+            "a tag is written `#name = e`, and a rule outside of braces",
+        ),
         b'{' => at_brace(alloc, site),
         b'@' | b'$' => at_modifier(alloc, site, here, byte),
         b'/' => swap(alloc, site, here, "alternatives are separated by `|`", "|"),
@@ -44,10 +53,16 @@ fn swap(
     message: &str,
     sign: &str,
 ) -> Result<Option<Help>, AllocError> {
-    if ends_term(site.before(1)) && starts_term(site.after(1)) {
+    if ends_term(site.previous_lexeme(1)) && starts_term(site.next_lexeme(1)) {
         return Ok(Some(Help::replace(alloc, message, here.start, here.end, sign)?));
     }
     Ok(None)
+}
+
+/// A help for a double ampersand.
+fn at_double_and(alloc: Global, first: Lexeme, last: Lexeme) -> Result<Option<Help>, AllocError> {
+    let message = "a sequence is written with `~`";
+    Ok(Some(Help::replace(alloc, message, first.start, last.end, "~")?))
 }
 
 /// A help for a comma, which is nothing but a part of a count.
@@ -57,7 +72,7 @@ fn at_comma(alloc: Global, site: &Site<'_>, here: Lexeme) -> Result<Option<Help>
 
 /// A help for a semicolon in a body.
 fn at_semicolon(alloc: Global, site: &Site<'_>, here: Lexeme) -> Result<Option<Help>, AllocError> {
-    if is_sign(site.after(1), b'}') {
+    if is_sign(site.next_lexeme(1), b'}') {
         let message = "a rule ends with its brace, without `;`";
         return Ok(Some(Help::replace(alloc, message, here.start, here.end, "")?));
     }
@@ -66,7 +81,7 @@ fn at_semicolon(alloc: Global, site: &Site<'_>, here: Lexeme) -> Result<Option<H
 
 /// A help for a closing parenthesis or brace.
 fn at_closing(alloc: Global, site: &Site<'_>, byte: u8) -> Result<Option<Help>, AllocError> {
-    let before = site.before(1);
+    let before = site.previous_lexeme(1);
     if is_sign(before, b'|') || is_sign(before, b'~') {
         let message = "an operand is missing after this operator";
         return Ok(Some(Help::replace(alloc, message, before.start, before.end, "")?));
@@ -85,19 +100,12 @@ fn at_closing(alloc: Global, site: &Site<'_>, byte: u8) -> Result<Option<Help>, 
 
 /// A help for a bracket: a class of characters, or an optional part.
 fn at_bracket(alloc: Global, site: &Site<'_>, here: Lexeme) -> Result<Option<Help>, AllocError> {
-    let first = site.after(1);
-    let dash = site.after(2);
-    let last = site.after(3);
-    let close = site.after(4);
-    let is_range = is_sign(dash, b'-')
-        && is_sign(close, b']')
-        && close.end <= here.start.saturating_add(5);
-    if is_range {
-        let low = site.text_of(first);
-        let high = site.text_of(last);
-        let text = format!(in alloc; "'{low}'..'{high}'")?;
-        let message = "a class of characters is a range: `'a'..'z'`";
-        return Ok(Some(Help::replace(alloc, message, here.start, close.end, text.as_str())?));
+    let start = here.start.saturating_add(1);
+    let end = class_end(site, start);
+    if let Some(text) = class_text(alloc, site, start, end)? {
+        let message = "a class of characters is a choice of ranges and strings";
+        let after = end.saturating_add(1);
+        return Ok(Some(Help::replace(alloc, message, here.start, after, text.as_str())?));
     }
     Help::say(
         alloc,
@@ -105,10 +113,62 @@ fn at_bracket(alloc: Global, site: &Site<'_>, here: Lexeme) -> Result<Option<Hel
     )
 }
 
+/// The byte of the bracket that closes a class of characters, or where another character comes first.
+fn class_end(site: &Site<'_>, start: usize) -> usize {
+    for at in start..site.text.len() {
+        let byte = site.byte(at);
+        if !byte.is_ascii_alphanumeric() && byte != b'-' && byte != b'_' {
+            return at;
+        }
+    }
+    site.text.len()
+}
+
+/// A class of characters with a range in it, as a choice; none where it is not such a class.
+fn class_text(
+    alloc: Global,
+    site: &Site<'_>,
+    start: usize,
+    end: usize,
+) -> Result<Option<String>, AllocError> {
+    let mut text = String::new(alloc);
+    let mut has_range = false;
+    let mut next = start;
+    for at in start..end {
+        if at < next {
+            continue;
+        }
+        let separator = if text.is_empty() { "" } else { " | " };
+        text.push_str(separator)?;
+        let last = at.saturating_add(2);
+        if site.byte(at.saturating_add(1)) == b'-' && last < end {
+            let range = format!(in alloc;
+                "'{}'..'{}'",
+                site.part(at, at.saturating_add(1)),
+                site.part(last, last.saturating_add(1))
+            )?;
+            text.push_str(range.as_str())?;
+            has_range = true;
+            next = last.saturating_add(1);
+        } else {
+            let item = format!(in alloc; "\"{}\"", site.part(at, at.saturating_add(1)))?;
+            text.push_str(item.as_str())?;
+        }
+    }
+    if !has_range || site.byte(end) != b']' {
+        return Ok(None);
+    }
+    Ok(Some(format!(in alloc; "({text})")?))
+}
+
 /// A help for a dot: a range of strings, or any character.
 fn at_dot(alloc: Global, site: &Site<'_>, here: Lexeme) -> Result<Option<Help>, AllocError> {
-    let before = site.before(1);
-    if is_sign(site.after(1), b'.') {
+    let before = site.previous_lexeme(1);
+    if is_sign(before, b'.') {
+        let message = "a range has two dots";
+        return Ok(Some(Help::replace(alloc, message, here.start, here.end, "")?));
+    }
+    if is_sign(site.next_lexeme(1), b'.') {
         return at_dots(alloc, site, here, before);
     }
     if ends_term(before) {
@@ -125,7 +185,7 @@ fn at_dots(
     here: Lexeme,
     before: Lexeme,
 ) -> Result<Option<Help>, AllocError> {
-    let last = site.after(2);
+    let last = site.next_lexeme(2);
     if before.class == LexemeClass::Digits && last.class == LexemeClass::Digits {
         let message = "a count is written `{1, 3}`";
         return Ok(Some(Help::replace(alloc, message, here.start, last.start, ", ")?));
@@ -138,7 +198,7 @@ fn at_dots(
 
 /// A help for an infix operator with nothing before it.
 fn at_infix(alloc: Global, site: &Site<'_>, here: Lexeme) -> Result<Option<Help>, AllocError> {
-    if ends_term(site.before(1)) {
+    if ends_term(site.previous_lexeme(1)) {
         return after_character(alloc, site);
     }
     let message = "an operand is missing before this operator";
@@ -147,11 +207,11 @@ fn at_infix(alloc: Global, site: &Site<'_>, here: Lexeme) -> Result<Option<Help>
 
 /// A help for a postfix operator with nothing before it.
 fn at_postfix(alloc: Global, site: &Site<'_>, here: Lexeme) -> Result<Option<Help>, AllocError> {
-    if ends_term(site.before(1)) {
+    if ends_term(site.previous_lexeme(1)) {
         return after_character(alloc, site);
     }
     let message = "`*`, `+` and `?` are after what they repeat";
-    let operand = site.after(1);
+    let operand = site.next_lexeme(1);
     if !matches!(operand.class, LexemeClass::Name | LexemeClass::Text) {
         return Help::say(alloc, message);
     }
@@ -162,7 +222,7 @@ fn at_postfix(alloc: Global, site: &Site<'_>, here: Lexeme) -> Result<Option<Hel
 
 /// A help for a brace in a body that begins no count.
 fn at_brace(alloc: Global, site: &Site<'_>) -> Result<Option<Help>, AllocError> {
-    if ends_term(site.before(1)) {
+    if ends_term(site.previous_lexeme(1)) {
         return Ok(None);
     }
     Help::say(
@@ -178,7 +238,7 @@ fn at_modifier(
     here: Lexeme,
     byte: u8,
 ) -> Result<Option<Help>, AllocError> {
-    if is_sign(site.before(1), b'{') && is_sign(site.before(2), b'=') {
+    if is_sign(site.previous_lexeme(1), b'{') && is_sign(site.previous_lexeme(2), b'=') {
         return modifier(alloc, site, here, if byte == b'@' { "@{" } else { "${" });
     }
     if byte == b'$' {
@@ -189,8 +249,8 @@ fn at_modifier(
 
 /// A help for a dash: a comment, a range, or part of a name.
 fn at_dash(alloc: Global, site: &Site<'_>, here: Lexeme) -> Result<Option<Help>, AllocError> {
-    let before = site.before(1);
-    let after = site.after(1);
+    let before = site.previous_lexeme(1);
+    let after = site.next_lexeme(1);
     if is_sign(after, b'-') && after.start == here.end {
         return Help::say(alloc, "a comment begins with `//`");
     }
@@ -209,7 +269,7 @@ fn at_dash(alloc: Global, site: &Site<'_>, here: Lexeme) -> Result<Option<Help>,
 
 /// A help for a backslash outside of a string, as in regular expressions.
 fn at_backslash(alloc: Global, site: &Site<'_>, here: Lexeme) -> Result<Option<Help>, AllocError> {
-    let name = site.after(1);
+    let name = site.next_lexeme(1);
     let message = "classes of characters have names";
     let replacement = match site.text_of(name) {
         "d" => "ASCII_DIGIT",
@@ -222,8 +282,8 @@ fn at_backslash(alloc: Global, site: &Site<'_>, here: Lexeme) -> Result<Option<H
 
 /// A help for a name in angle brackets.
 fn at_angle(alloc: Global, site: &Site<'_>, here: Lexeme) -> Result<Option<Help>, AllocError> {
-    let name = site.after(1);
-    let close = site.after(2);
+    let name = site.next_lexeme(1);
+    let close = site.next_lexeme(2);
     let message = "names of rules are written without `<` and `>`";
     if name.class != LexemeClass::Name || !is_sign(close, b'>') {
         return Ok(None);

@@ -40,12 +40,12 @@ impl<'t> Site<'t> {
     }
 
     /// The `count`th lexeme after that of the error.
-    pub(crate) fn after(&self, count: usize) -> Lexeme {
+    pub(crate) fn next_lexeme(&self, count: usize) -> Lexeme {
         self.lexeme(self.index.saturating_add(count))
     }
 
     /// The `count`th lexeme before that of the error.
-    pub(crate) fn before(&self, count: usize) -> Lexeme {
+    pub(crate) fn previous_lexeme(&self, count: usize) -> Lexeme {
         if count > self.index {
             return edge(0);
         }
@@ -92,17 +92,17 @@ impl<'t> Site<'t> {
     pub(crate) fn starts_rule(&self) -> bool {
         let here = self.here();
         here.class == LexemeClass::Name
-            && is_sign(self.after(1), b'=')
-            && !is_sign(self.before(1), b'#')
+            && is_sign(self.next_lexeme(1), b'=')
+            && !is_sign(self.previous_lexeme(1), b'#')
     }
 
     /// The innermost bracket that the error shows to be unclosed: a rule begins, the text ends, or another
     /// bracket is closed.
-    pub(crate) fn unclosed(&self) -> Option<Lexeme> {
+    pub(crate) fn unclosed_bracket(&self) -> Option<Lexeme> {
         let open = self.innermost()?;
         match self.here().class {
             LexemeClass::Edge => Some(open),
-            LexemeClass::Sign(byte) if is_closing(byte) && !is_pair(open, byte) => Some(open),
+            LexemeClass::Sign(b'}') if !is_sign(open, b'{') => Some(open),
             _ if self.starts_rule() => Some(open),
             _ => None,
         }
@@ -160,16 +160,6 @@ fn is_opening(byte: u8) -> bool {
 /// Whether a byte closes a bracket.
 fn is_closing(byte: u8) -> bool {
     matches!(byte, b')' | b']' | b'}')
-}
-
-/// Whether a byte closes this bracket.
-fn is_pair(open: Lexeme, byte: u8) -> bool {
-    match open.class {
-        LexemeClass::Sign(b'(') => byte == b')',
-        LexemeClass::Sign(b'[') => byte == b']',
-        LexemeClass::Sign(b'{') => byte == b'}',
-        _ => false,
-    }
 }
 
 /// Whether an expression may end with a lexeme.

@@ -8,9 +8,9 @@ use std::alloc::{AllocError, Global};
 
 /// A help for an expression where none may begin.
 pub(crate) fn at_term(alloc: Global, site: &Site<'_>) -> Result<Option<Help>, AllocError> {
-    let before = site.before(1);
-    if is_sign(before, b'.') && is_sign(site.before(2), b'.') {
-        return range_of_strings(alloc, site, site.before(3), site.here());
+    let before = site.previous_lexeme(1);
+    if is_sign(before, b'.') && is_sign(site.previous_lexeme(2), b'.') {
+        return range_of_strings(alloc, site, site.previous_lexeme(3), site.here());
     }
     if let Some(help) = after_name(alloc, site)? {
         return Ok(Some(help));
@@ -24,10 +24,20 @@ pub(crate) fn at_term(alloc: Global, site: &Site<'_>) -> Result<Option<Help>, Al
             "the string before this one goes over a line's end; a quote may be missing",
         );
     }
+    if is_any_case(site, before) {
+        let message = "text in any case is written `^\"a\"`";
+        return Ok(Some(Help::replace(alloc, message, before.start, before.end, "^")?));
+    }
     if !ends_term(before) {
         return Ok(None);
     }
     missing_tilde(alloc, site, before)
+}
+
+/// Whether an `i` is right before a string, as in other notations.
+fn is_any_case(site: &Site<'_>, before: Lexeme) -> bool {
+    let here = site.here();
+    here.class == LexemeClass::Text && before.end == here.start && site.text_of(before) == "i"
 }
 
 /// Whether a text has a line's end.
@@ -60,17 +70,17 @@ fn missing_tilde(
 /// Whether a postfix operator has blanks on both sides, as a binary one has.
 fn is_apart(site: &Site<'_>, before: Lexeme) -> bool {
     let is_operator = is_sign(before, b'+') || is_sign(before, b'*') || is_sign(before, b'?');
-    is_operator && site.before(2).end < before.start && before.end < site.here().start
+    is_operator && site.previous_lexeme(2).end < before.start && before.end < site.here().start
 }
 
 /// A help where the name before the error says what was meant: a modifier, or a builtin that takes
 /// parentheses or none.
 fn after_name(alloc: Global, site: &Site<'_>) -> Result<Option<Help>, AllocError> {
-    let before = site.before(1);
+    let before = site.previous_lexeme(1);
     if before.class != LexemeClass::Name {
         return Ok(None);
     }
-    let is_first = is_sign(site.before(2), b'{') && is_sign(site.before(3), b'=');
+    let is_first = is_sign(site.previous_lexeme(2), b'{') && is_sign(site.previous_lexeme(3), b'=');
     let is_called = is_sign(site.here(), b'(');
     match site.text_of(before) {
         "_" if is_first => modifier(alloc, site, before, "_{"),
@@ -116,16 +126,16 @@ pub(crate) fn at_name(
     site: &Site<'_>,
     here: Lexeme,
 ) -> Result<Option<Help>, AllocError> {
-    if is_sign(site.after(1), b'.') && is_sign(site.after(2), b'.') {
-        return range_of_strings(alloc, site, here, site.after(3));
+    if is_sign(site.next_lexeme(1), b'.') && is_sign(site.next_lexeme(2), b'.') {
+        return range_of_strings(alloc, site, here, site.next_lexeme(3));
     }
-    if is_sign(site.before(1), b'^') {
+    if is_sign(site.previous_lexeme(1), b'^') {
         return Help::say(alloc, "`^` is followed by a string");
     }
     if here.class == LexemeClass::Digits {
         return Ok(None);
     }
-    if site.text_of(here).starts_with("PUSH") && !ends_term(site.before(1)) {
+    if site.text_of(here).starts_with("PUSH") && !ends_term(site.previous_lexeme(1)) {
         return Help::say(
             alloc,
             "`PUSH` takes its expression in parentheses, and no name begins with it",
@@ -145,7 +155,7 @@ pub(crate) fn foreign(
 
 /// A help at the end of the text, where brackets are open.
 pub(crate) fn at_end(alloc: Global, site: &Site<'_>) -> Result<Option<Help>, AllocError> {
-    let last = site.before(1);
+    let last = site.previous_lexeme(1);
     if last.class == LexemeClass::OpenText {
         return Help::say(alloc, "a string is closed by `\"`");
     }

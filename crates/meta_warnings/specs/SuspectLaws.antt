@@ -1,4 +1,4 @@
--- Suspect nodes by the relation of matching: what is reported of them is so.
+-- Suspect nodes by the relation of matching.
 use Rattle.std.specs.Prelude.{◌≡◌, true, ℕ, codes, None}
 use Rattle.meta_base.specs.Language.Expression.{Grammar, rule_of}
 use Rattle.meta_base.specs.Language.Expression as bare
@@ -28,7 +28,7 @@ abbrev pub IdleOptionChangesNothing : Type 0
 IdleOptionChangesNothing = (place : Span) (x : Spanned) → is_idle_test (One place Opt x) ≡ true
     → IsSameEverywhere (without_spans (One place Opt x)) (without_spans x)
 
--- what is unmatchable succeeds nowhere in a text, in the body of no rule, where no rule is called `ANY`
+-- an unmatchable node succeeds nowhere in a text, in the body of no rule, where no rule is called `ANY`
 abbrev pub UnmatchableNeverSucceeds : Type 0
 UnmatchableNeverSucceeds = (x : Spanned) → is_unmatchable x ≡ true
     → (g : Grammar) → rule_of g (codes "ANY") ≡ None → (classes : Classes) (m : Mode) → IsRuleMode m

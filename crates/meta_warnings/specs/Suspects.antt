@@ -63,7 +63,7 @@ abbrev pub takes_rest : Spanned → Bool
 takes_rest (Two s Seq x y) = takes_rest y
 takes_rest x = repeats_any x
 
--- what matches nowhere: a refusal of what cannot fail, and a character where none is left
+-- a refusal of an optional node, and a character where none is left
 abbrev pub is_unmatchable : Spanned → Bool
 is_unmatchable (One s NegPred x) = is_optional x
 is_unmatchable (Two s Seq x y) = takes_rest x && takes_character y

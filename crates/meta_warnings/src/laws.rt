@@ -1,4 +1,4 @@
-//! What is told is so: laws over the definitions alone.
+//! The warnings are true: laws over the definitions alone.
 ghost use Rattle.meta_warnings.specs.Laws.{BegunChangesNothing, BegunIsNeverTaken, CalledIsCalled, ReversedFails};
 ghost use Rattle.meta_warnings.specs.SuspectLaws.{IdleOptionChangesNothing, IdleTestNeverFails};
 ghost use Rattle.meta_warnings.specs.SuspectLaws.{ReversedCountIsExact, UnmatchableNeverSucceeds};
@@ -15,7 +15,7 @@ pub fn reversed_ranges_match_nothing()
     ensures { ReversedFails }
 {}
 
-/// What counts as called is called in the body of a rule of another name, and the other way round.
+/// A name that counts as called is called in the body of a rule of another name, and the other way round.
 pub fn called_rules_are_called()
     ensures { CalledIsCalled }
 {}
@@ -31,7 +31,7 @@ pub fn idle_tests_do_nothing()
     ensures options { IdleOptionChangesNothing }
 {}
 
-/// What is unmatchable succeeds from no state in a text, in every mode of a rule's body, over every grammar
+/// An unmatchable node succeeds from no state in a text, in every mode of a rule's body, over every grammar
 /// without a rule `ANY`.
 pub fn unmatchable_nodes_match_nothing()
     ensures { UnmatchableNeverSucceeds }

@@ -16,7 +16,7 @@ pub enum Suspect {
     ReversedCount,
     /// A test of what cannot fail, as `&e*`, or an option of it, as `e*?`.
     IdleTest,
-    /// What matches nowhere: `!e*`, and `ANY*` with what takes a character after it.
+    /// An expression that matches nowhere, as `!e*`, and `ANY*` before a literal.
     Unmatchable,
 }
 

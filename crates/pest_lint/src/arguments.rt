@@ -13,14 +13,12 @@ pub enum Format {
     Log,
 }
 
-/// What a command line asks for beside the files.
+/// The options of a command line.
 #[derive(Clone, Copy)]
 pub struct Settings<'a> {
     pub format: Format,
     /// The status counts warnings, too.
     pub deny_warnings: bool,
-    /// Warnings that are off by default are on.
-    pub all: bool,
     /// Rules with which matching starts.
     pub starts: &'a [&'a str],
 }
@@ -29,7 +27,6 @@ impl<'a> Settings<'a> {
     /// The warnings that are asked for.
     pub fn options(self) -> Options<'a> {
         Options {
-            all: self.all,
             starts: self.starts,
         }
     }
@@ -54,7 +51,6 @@ pub fn command<'a>(alloc: Global) -> Result<Command<'a>, AllocError> {
         .arg(format_argument(alloc))?
         .arg(colour_argument(alloc))?
         .arg(flag(alloc, "deny-warnings", "Let warnings end with status 1"))?
-        .arg(warn_argument(alloc))?
         .arg(start_argument(alloc))?
         .arg(explain_argument(alloc))?
         .arg(files)
@@ -76,15 +72,6 @@ fn colour_argument<'a>(alloc: Global) -> Arg<'a> {
         .value_parser(["auto", "always", "never"].as_slice())
         .default_value("auto")
         .help("Colours: on a terminal, always or never")
-}
-
-/// `--warn`.
-fn warn_argument<'a>(alloc: Global) -> Arg<'a> {
-    Arg::new(alloc, "warn")
-        .long("warn")
-        .value_parser(["default", "all"].as_slice())
-        .default_value("default")
-        .help("Which warnings are on")
 }
 
 /// `--start`.
@@ -117,7 +104,6 @@ pub fn settings_of<'a>(matches: &'a ArgMatches<'_>, has_colour: bool) -> Setting
     Settings {
         format: format_of(matches, has_colour),
         deny_warnings: matches.get_flag("deny-warnings"),
-        all: matches.get_str("warn") == Some("all"),
         starts: matches.get_strs("start").unwrap_or(&[]),
     }
 }

@@ -2,6 +2,7 @@
 ghost use Rattle.std.specs.Prelude.{◌≡◌, ◌≢◌, ◌≤◌, ◌⊎◌, ◌↔◌, ℕ, List, All, IfSome, IsSome, true};
 ghost use Rattle.std.specs.Io.KnownBytes.{Appends};
 ghost use Rattle.meta_diagnostics.specs.Diagnosis.{IsDiagnosis};
+ghost use Rattle.meta_warnings.specs.Lists.{texts_of};
 ghost use Rattle.pest_lint.specs.Shows as spec;
 ghost use Rattle.pest_lint.specs.Shows.{ArePrinted, Gains, GainsAll, GainsIn, IsClean, IsReadable, ShowsText};
 ghost use Rattle.pest_meta.specs.Spelling.{HasAnswer};
@@ -47,7 +48,8 @@ pub fn print_files<W: Write, E: Write>(
 ) -> u8
     ensures known { result ≤ 4 }
     ensures clean { result ≡ 0 → All IsClean sources.now }
-    ensures shows { result ≢ 2 → result ≢ 4 → GainsAll settings.deny_warnings style sources.now result
+    ensures shows { result ≢ 2 → result ≢ 4
+        → GainsAll (texts_of settings.starts.now) settings.deny_warnings style sources.now result
         (W.contents out.old.writer) (W.contents out.new.writer) }
     ensures taken { result ≢ 4 → out.new.refused ≡ out.old.refused }
     ensures refused_write { result ≡ 4 → out.new.refused ≡ true }
@@ -74,7 +76,8 @@ fn print_file<W: Write, E: Write>(
 ) -> u8
     ensures known { result ≤ 4 }
     ensures clean { result ≡ 0 → IsClean source.now }
-    ensures shows { result ≢ 2 → result ≢ 4 → Gains settings.deny_warnings style source.now result
+    ensures shows { result ≢ 2 → result ≢ 4
+        → Gains (texts_of settings.starts.now) settings.deny_warnings style source.now result
         (W.contents out.old.writer) (W.contents out.new.writer) }
     ensures taken { result ≢ 4 → out.new.refused ≡ out.old.refused }
     ensures refused_write { result ≡ 4 → out.new.refused ≡ true }
@@ -133,7 +136,7 @@ fn print_text<W: Write>(
     ensures known { (result ≡ 0) ⊎ ((result ≡ 1) ⊎ ((result ≡ 2) ⊎ (result ≡ 4))) }
     ensures clean { result ≡ 0 → HasAnswer text.now }
     ensures shows { result ≢ 2 → result ≢ 4 → (bytes : List ℕ)
-        × ShowsText settings.deny_warnings style text.now bytes result
+        × ShowsText (texts_of settings.starts.now) settings.deny_warnings style text.now bytes result
         × Appends (W.contents out.old.writer) (W.contents out.new.writer) bytes }
     ensures taken { result ≢ 4 → out.new.refused ≡ out.old.refused }
     ensures refused_write { result ≡ 4 → out.new.refused ≡ true }
@@ -160,9 +163,17 @@ fn print_text<W: Write>(
 pub fn status_of(diagnostics: &[Diagnostic], deny_warnings: bool) -> u8
     ensures { result ≡ spec.status_of deny_warnings diagnostics.now }
 {
-    let is_found = diagnostics.iter().any(|diagnostic| deny_warnings
-        || matches!(diagnostic.severity, Severity::Error));
+    let is_found = diagnostics
+        .iter()
+        .any(|diagnostic| is_counted(diagnostic, deny_warnings));
     if is_found { FOUND } else { CLEAN }
+}
+
+/// Whether a diagnostic is an error, or warnings are denied.
+fn is_counted(diagnostic: &Diagnostic, deny_warnings: bool) -> bool
+    ensures { result ≡ spec.counts deny_warnings diagnostic.now }
+{
+    deny_warnings || matches!(diagnostic.severity, Severity::Error)
 }
 
 /// Prints diagnostics, in order. Answers 0, or why it ended before.

@@ -15,8 +15,8 @@ use tool_support::output::Output;
 
 /// Diagnoses each file, and prints one log of all that is found. The status is the highest of theirs.
 ///
-/// A file that can't be read is reported on `err`, and is not in the log (3). Where an allocation fails (2) no
-/// log is printed.
+/// A file that can't be read is reported on `err`, and is not in the log (3). Where an allocation fails (2),
+/// no log is printed.
 pub fn log_files<W: Write, E: Write>(
     alloc: Global,
     sources: &[Source],

@@ -2,6 +2,7 @@
 #![tactic(auto)]
 
 ghost use Rattle.std.specs.Prelude.{◌≡◌, ◌≢◌, ◌≤◌, All, None};
+ghost use Rattle.meta_warnings.specs.Lists.{texts_of};
 ghost use Rattle.pest_lint.specs.Shows.{GainsIn, IsClean};
 
 mod arguments;
@@ -47,7 +48,8 @@ fn lint_files(rt: &HostRuntime, sources: &[Source], settings: Settings<'_>) -> u
     ensures known { result ≤ 4 }
     ensures clean { result ≡ 0 → All IsClean sources.now }
     ensures shows { result ≢ 2 → result ≢ 4
-        → GainsIn settings.format settings.deny_warnings sources.now result None None }
+        → GainsIn settings.format (texts_of settings.starts.now) settings.deny_warnings
+        sources.now result None None }
 {
     let mut out = Output::new(rt.stdout());
     let mut err = Output::new(rt.stderr());
