@@ -13,6 +13,9 @@ use meta_base::runtime::{Error, ErrorVariant, InputLocation};
 use meta_hints::{Help, Hint, Related, hint_at};
 use std::alloc::{AllocError, Global};
 
+/// Calls of a left recursion that are shown, at most.
+const LONGEST_CYCLE: usize = 20;
+
 /// The diagnostics of the errors with which a text is refused, in their order. A syntax error expects these
 /// names. The only error is an allocation failure.
 pub fn diagnose_errors(
@@ -65,7 +68,7 @@ fn diagnose_custom(
 {
     let code = code_of(message);
     let mut diagnostic = Diagnostic::new(alloc, code, start, end, message)?;
-    diagnostic.help = help_for(alloc, names, code, message)?;
+    diagnostic.help = help_for(alloc, names, code, start, end, message)?;
     diagnostic.related = related_to(alloc, names, code, message)?;
     Ok(diagnostic)
 }
@@ -106,10 +109,13 @@ fn help_for(
     alloc: Global,
     names: &mut Definitions<'_>,
     code: Code,
+    start: usize,
+    end: usize,
     message: &str,
 ) -> Result<Option<Help>, AllocError> {
     match code {
-        Code::UndefinedRule => names.help_undefined(alloc, rule_name(message)),
+        Code::UndefinedRule => names.help_undefined(alloc, rule_name(message), start, end),
+        Code::EndlessRepetition => say(alloc, "each turn of a repetition has to take a character"),
         Code::LeftRecursion => say(
             alloc,
             "write the operand first and repeat the rest: `a = { b ~ (\"+\" ~ b)* }`",
@@ -158,7 +164,7 @@ fn push_cycle(
     related: &mut Vec<Related>,
 ) -> Result<(), AllocError> {
     let mut caller = "";
-    for name in cycle.split(" -> ") {
+    for name in cycle.split(" -> ").take(LONGEST_CYCLE) {
         if !caller.is_empty() {
             let message = format!(in alloc; "{caller} calls {name} first")?;
             names.push_definition(alloc, caller, message.as_str(), related)?;

@@ -74,11 +74,13 @@ impl<'t> Definitions<'t> {
         Ok(())
     }
 
-    /// A help for an undefined name: the nearest among the defined ones and the builtins.
+    /// A help for an undefined name at the bytes `start..end`: the nearest of the defined ones and the builtins.
     pub(crate) fn help_undefined(
         &mut self,
         alloc: Global,
         name: &str,
+        start: usize,
+        end: usize,
     ) -> Result<Option<Help>, AllocError> {
         if self.count >= NAMES_LOOKED_UP {
             return Ok(None);
@@ -88,7 +90,8 @@ impl<'t> Definitions<'t> {
             return Ok(None);
         };
         let message = format!(in alloc; "did you mean `{nearest}`?")?;
-        Ok(Some(Help::new(alloc, message.as_str())?))
+        let help = Help::replace(alloc, message.as_str(), start, end, nearest)?;
+        Ok(Some(help))
     }
 
     /// The name that is nearest to an undefined one.

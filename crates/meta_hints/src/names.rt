@@ -3,6 +3,9 @@ use crate::lexer::{Lexeme, LexemeClass, lexemes};
 use std::alloc::{AllocError, Global};
 use strsim::levenshtein;
 
+/// Names of more bytes are not compared.
+const LONGEST_NAME: usize = 64;
+
 /// The bytes of the names that a text defines, in order. A name is defined before a `=` outside of bodies.
 pub fn definitions(alloc: Global, text: &str) -> Result<Vec<(usize, usize)>, AllocError> {
     let all = lexemes(alloc, text)?;
@@ -38,9 +41,15 @@ pub fn nearest_name<'n>(
 ) -> Result<Option<&'n str>, AllocError> {
     let mut best = None;
     let mut bound = name.len() / 3 + 1;
+    if name.len() > LONGEST_NAME {
+        return Ok(None);
+    }
     for other in names {
         if other.eq_ignore_ascii_case(name) {
             return Ok(Some(*other));
+        }
+        if other.len().abs_diff(name.len()) >= bound {
+            continue;
         }
         let distance = levenshtein(alloc, name, other)?;
         if distance < bound {

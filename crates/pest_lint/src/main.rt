@@ -6,14 +6,17 @@ ghost use Rattle.meta_warnings.specs.Lists.{texts_of};
 ghost use Rattle.pest_lint.specs.Shows.{GainsIn, IsClean};
 
 mod arguments;
+mod explain;
 mod lint;
 mod log;
 mod sources;
 
 use arguments::{Format, Settings, command, settings_of};
 use clap::ArgMatches;
-use lint::{MEMORY, Source, UNREADABLE, print_files};
+use explain::explanation;
+use lint::{CLEAN, MEMORY, Source, UNREADABLE, UNWRITABLE, print_files};
 use log::log_files;
+use meta_diagnostics::Code;
 use sources::read_sources;
 use std::alloc::AllocError;
 use std::env;
@@ -61,8 +64,25 @@ fn lint_files(rt: &HostRuntime, sources: &[Source], settings: Settings<'_>) -> u
     }
 }
 
+/// Prints the page of a code, and answers the status.
+fn explain(rt: &HostRuntime, name: &str) -> u8 {
+    let Some(code) = Code::from_name(name) else {
+        let _ = eprintln!(rt; "no diagnostic has this code; one is pest::left_recursion");
+        return UNREADABLE;
+    };
+    let name = code.name();
+    let severity = code.severity().name();
+    match println!(rt; "{name} ({severity})\n\n{}", explanation(code)) {
+        Ok(()) => CLEAN,
+        Err(_) => UNWRITABLE,
+    }
+}
+
 /// The status for a command line that was parsed.
 fn run(rt: &HostRuntime, matches: &ArgMatches<'_>) -> Result<u8, AllocError> {
+    if let Some(name) = matches.get_str("explain") {
+        return Ok(explain(rt, name));
+    }
     let names = matches.get_strs("FILE").unwrap_or(&[]);
     if names.is_empty() {
         let _ = eprintln!(rt; "no file is named; pest-lint --help shows the usage");
