@@ -12,7 +12,7 @@ use Rattle.meta_base.specs.Language.Expression.{Expression, Str, Insens, Range, 
 use Rattle.meta_base.specs.Language.Expression as bare
 use Rattle.meta_base.specs.Language.Matching.{begins, character_outcome, other_outcome, range_set, starts_in, text_outcome}
 use Rattle.meta_base.specs.Language.Meaning.{Does, Run, Turns, Skipping, Matches, str, insens, range, other, pos_pred, neg_pred, seq, seq_first, seq_second, opt, opt_none, rep, rep_none, turn, turn_none, rep_once, rep_exact, rep_max, rep_min_max, ahead, not_ahead, in_sequence, exactly, from_to}
-use Rattle.meta_base.specs.Language.Places.{FitsIn, Nested, Stands}
+use Rattle.meta_base.specs.Language.Places.{FitsIn, Nested, IsStateIn}
 use Rattle.meta_base.specs.Language.State.{Classes, Mode, NonAtomicMode, AtomicMode, CompoundAtomicMode, Between, IsRuleMode, State, Trees, None', Tree, Outcome, Success, Failure}
 use Rattle.meta_base.specs.Language.Text.{Text, size_of}
 use Rattle.meta_base.proofs.OneOutcome.{same}
@@ -58,7 +58,7 @@ size_none : (t : Text) → size_of t ≤ 0 → t ≡ []
 size_none [] h = refl
 size_none (c ∷ t) h = let b = (len_utf8_bounds c).0 in absurd (omega arith)
 
-pub still_empty : (text : Text) (s t : State) (us : Trees) → Stands text s → FitsIn text s (Success t us) → s.rest ≡ [] → t.rest ≡ []
+pub still_empty : (text : Text) (s t : State) (us : Trees) → IsStateIn text s → FitsIn text s (Success t us) → s.rest ≡ [] → t.rest ≡ []
 still_empty text s t us st fit e =
     let up = nested_up text us s.position t.position fit.1 in
     let whole : text ≡ st.front = st.split ∙ (ap (λ r. st.front ++ r) e ∙ append-nil st.front) in
@@ -177,14 +177,14 @@ module _ (g : Grammar) (classes : Classes) (m : Mode) where
         let z = any_failed _ a in
         cc
 
-    any_rest : {s t u : State} {us vs : Trees} → Matches g classes (bare.Rep any) m s (Success t us) → Stands text s → Does g classes (Skipping m) t (Success u vs) → u.rest ≡ []
+    any_rest : {s t u : State} {us vs : Trees} → Matches g classes (bare.Rep any) m s (Success t us) → IsStateIn text s → Does g classes (Skipping m) t (Success u vs) → u.rest ≡ []
     any_rest (rep a b) st sk = turns_end b sk
     any_rest {s} {t} {u} (rep_none a) st sk = still_empty text _ _ _ st (fits text sk st) (any_failed _ a)
 
-    any_once_rest : {s t u : State} {us vs : Trees} → Matches g classes (bare.RepOnce any) m s (Success t us) → Stands text s → Does g classes (Skipping m) t (Success u vs) → u.rest ≡ []
+    any_once_rest : {s t u : State} {us vs : Trees} → Matches g classes (bare.RepOnce any) m s (Success t us) → IsStateIn text s → Does g classes (Skipping m) t (Success u vs) → u.rest ≡ []
     any_once_rest (rep_once (seq a k b)) st sk = any_rest b (fits text k (fits text a st).0).0 sk
 
-    rest_taken : (x : Spanned) → takes_rest x ≡ true → {s t u : State} {us vs : Trees} → Matches g classes (without_spans x) m s (Success t us) → Stands text s → Does g classes (Skipping m) t (Success u vs) → u.rest ≡ []
+    rest_taken : (x : Spanned) → takes_rest x ≡ true → {s t u : State} {us vs : Trees} → Matches g classes (without_spans x) m s (Success t us) → IsStateIn text s → Does g classes (Skipping m) t (Success u vs) → u.rest ≡ []
     rest_taken (Two p spanned.Seq x y) h (seq a k b) st sk = rest_taken y h b (fits text k (fits text a st).0).0 sk
     rest_taken (One p spanned.Rep x) h d st sk = any_rest (subst (λ e. Matches g classes (bare.Rep e) m _ _) (to_any x h) d) st sk
     rest_taken (One p spanned.RepOnce x) h d st sk = any_once_rest (subst (λ e. Matches g classes (bare.RepOnce e) m _ _) (to_any x h) d) st sk
@@ -207,7 +207,7 @@ module _ (g : Grammar) (classes : Classes) (m : Mode) where
     fails_at_end (Leaf p f) h s e = leaf_fails f h s e
     fails_at_end _ h s e = cc
 
-    pub no_unmatchable_succeeds : (x : Spanned) → is_unmatchable x ≡ true → (s t : State) (us : Trees) → Stands text s → Matches g classes (without_spans x) m s (Success t us) → ⊥
+    pub no_unmatchable_succeeds : (x : Spanned) → is_unmatchable x ≡ true → (s t : State) (us : Trees) → IsStateIn text s → Matches g classes (without_spans x) m s (Success t us) → ⊥
     no_unmatchable_succeeds (One p spanned.NegPred x) h s t us st d = no_refusal_succeeds x h s t us d
     no_unmatchable_succeeds (Two p spanned.Seq x y) h s t us st (seq a k b) =
         let parts = and_parts (takes_rest x) (takes_character y) h in

@@ -3,7 +3,7 @@ use Rattle.std.specs.Prelude.{◌≡◌, true, ℕ, codes, None}
 use Rattle.meta_base.specs.Language.Expression.{Grammar, rule_of}
 use Rattle.meta_base.specs.Language.Expression as bare
 use Rattle.meta_base.specs.Language.Meaning.{Matches}
-use Rattle.meta_base.specs.Language.Places.{Stands}
+use Rattle.meta_base.specs.Language.Places.{IsStateIn}
 use Rattle.meta_base.specs.Language.State.{Classes, Mode, IsRuleMode, State, Trees, Success, Failure}
 use Rattle.meta_base.specs.Language.Text.{Text}
 use Rattle.meta_spanned.specs.Erasure.{without_spans}
@@ -32,5 +32,5 @@ IdleOptionChangesNothing = (place : Span) (x : Spanned) → is_idle_test (One pl
 abbrev pub UnmatchableNeverSucceeds : Type 0
 UnmatchableNeverSucceeds = (x : Spanned) → is_unmatchable x ≡ true
     → (g : Grammar) → rule_of g (codes "ANY") ≡ None → (classes : Classes) (m : Mode) → IsRuleMode m
-    → (text : Text) (s t : State) (us : Trees) → Stands text s
+    → (text : Text) (s t : State) (us : Trees) → IsStateIn text s
     → Matches g classes (without_spans x) m s (Success t us) → ⊥
