@@ -65,7 +65,7 @@ fn lint_files(rt: &HostRuntime, sources: &[Source], settings: Settings<'_>) -> u
 }
 
 /// Prints the page of a code, and answers the status.
-fn explain(rt: &HostRuntime, name: &str) -> u8 {
+fn print_page(rt: &HostRuntime, name: &str) -> u8 {
     let Some(code) = Code::from_name(name) else {
         let _ = eprintln!(rt; "no diagnostic has this code; one is pest::left_recursion");
         return UNREADABLE;
@@ -81,7 +81,7 @@ fn explain(rt: &HostRuntime, name: &str) -> u8 {
 /// The status for a command line that was parsed.
 fn run(rt: &HostRuntime, matches: &ArgMatches<'_>) -> Result<u8, AllocError> {
     if let Some(name) = matches.get_str("explain") {
-        return Ok(explain(rt, name));
+        return Ok(print_page(rt, name));
     }
     let names = matches.get_strs("FILE").unwrap_or(&[]);
     if names.is_empty() {
