@@ -71,7 +71,7 @@ fn line_comment(
 }
 
 /// Whether only blanks are before a byte in its line.
-fn is_line_start(bytes: &[u8], start: usize) -> bool {
+pub(crate) fn is_line_start(bytes: &[u8], start: usize) -> bool {
     let mut is_start = true;
     for at in 0..start {
         match byte_at(bytes, at) {

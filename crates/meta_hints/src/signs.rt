@@ -2,6 +2,7 @@
 use crate::help::Help;
 use crate::lexer::{Lexeme, LexemeClass};
 use crate::literals::{after_character, range_of_strings};
+use crate::outer::is_line_start;
 use crate::site::{Site, ends_term, is_sign, starts_term};
 use crate::terms::{at_term, modifier};
 use std::alloc::{AllocError, Global};
@@ -57,6 +58,15 @@ fn swap(
         return Ok(Some(Help::replace(alloc, message, here.start, here.end, sign)?));
     }
     Ok(None)
+}
+
+/// A help for an equals sign: a rule begins before the last one is closed, or a tag has no `#`.
+fn at_equals(alloc: Global, site: &Site<'_>) -> Result<Option<Help>, AllocError> {
+    let name = site.previous_lexeme(1);
+    if is_line_start(site.text.as_bytes(), name.start) {
+        return Help::say(alloc, "the rule before this one is not closed");
+    }
+    Help::say(alloc, "a tag is written `#name = e`")
 }
 
 /// A help for a double ampersand.

@@ -101,7 +101,7 @@ impl<'t> Site<'t> {
     pub(crate) fn unclosed_bracket(&self) -> Option<Lexeme> {
         let open = self.innermost()?;
         match self.here().class {
-            LexemeClass::Edge => Some(open),
+            LexemeClass::Edge | LexemeClass::Sign(b'=') => Some(open),
             LexemeClass::Sign(b'}') if !is_sign(open, b'{') => Some(open),
             _ if self.starts_rule() => Some(open),
             _ => None,
