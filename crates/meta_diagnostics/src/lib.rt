@@ -54,7 +54,7 @@ fn diagnose_refused(
 
 /// The expected set of a text's syntax error, by name, in the order of the meta-grammar.
 fn expected_names(alloc: Global, text: &str) -> Result<Vec<&'static str>, AllocError> {
-    let rules = PestParser::expected(alloc, Rule::grammar_rules, text)?;
+    let rules = PestParser::expected_set(alloc, Rule::grammar_rules, text)?;
     let mut names = Vec::new(alloc);
     for rule in &rules {
         names.push(common_name(*rule))?;
