@@ -4,7 +4,7 @@ use Rattle.std.specs.Prelude.{◌↔◌, min, nat_lt, replicate}
 use Rattle.std.specs.Char.{eq_ignore_ascii_case, len_utf8}
 use Rattle.std.specs.List.{sum_by}
 use Rattle.std.proofs.lemmas.Bool.{and_parts}
-use Rattle.std.proofs.lemmas.List.Sums.{sum_by-append}
+use Rattle.std.proofs.lemmas.List.Sums.{sum_by-append, sum_by-cons}
 use Rattle.std.proofs.lemmas.Slice.Eq.{bytes_eq-Decides}
 use Rattle.std.proofs.lemmas.Str.{len_utf8_bounds}
 use Rattle.meta_base.specs.Language.Builtins.{builtins}
@@ -13,7 +13,7 @@ use Rattle.meta_base.specs.Language.Expression as bare
 use Rattle.meta_base.specs.Language.Matching.{begins, character_outcome, other_outcome, range_set, starts_in, text_outcome}
 use Rattle.meta_base.specs.Language.Meaning.{Does, Run, Turns, Skipping, Matches, str, insens, range, other, pos_pred, neg_pred, seq, seq_first, seq_second, opt, opt_none, rep, rep_none, turn, turn_none, rep_once, rep_exact, rep_max, rep_min_max, ahead, not_ahead, in_sequence, exactly, from_to}
 use Rattle.meta_base.specs.Language.Places.{FitsIn, Nested, IsStateIn}
-use Rattle.meta_base.specs.Language.State.{Classes, Mode, NonAtomicMode, AtomicMode, CompoundAtomicMode, Between, IsRuleMode, State, Trees, None', Tree, Outcome, Success, Failure}
+use Rattle.meta_base.specs.Language.State.{Classes, Mode, NonAtomicMode, AtomicMode, CompoundAtomicMode, Between, IsRuleMode, State, Trees, None', Tree, Outcome, Success, Failure, moved}
 use Rattle.meta_base.specs.Language.Text.{Text, size_of}
 use Rattle.meta_base.proofs.OneOutcome.{same}
 use Rattle.meta_base.proofs.TreesAreNested.{fits}
@@ -56,7 +56,7 @@ nested_up text (Tree r a b inner others) i j h =
 
 size_none : (t : Text) → size_of t ≤ 0 → t ≡ []
 size_none [] h = refl
-size_none (c ∷ t) h = let b = (len_utf8_bounds c).0 in absurd (omega arith)
+size_none (c ∷ t) h = let b = (len_utf8_bounds c).0 in let e = sum_by-cons len_utf8 c t in absurd (omega (arith, b, e, h))
 
 pub still_empty : (text : Text) (s t : State) (us : Trees) → IsStateIn text s → FitsIn text s (Success t us) → s.rest ≡ [] → t.rest ≡ []
 still_empty text s t us st fit e =
@@ -85,9 +85,9 @@ any_outcome classes AtomicMode s h = refl
 any_outcome classes CompoundAtomicMode s h = refl
 any_outcome classes Between s h = absurd h
 
-nothing_left : (r : Text) (o : Outcome) → Failure ≡ (if starts_in (λ c. true) r then Success _ None' else Failure) → r ≡ []
-nothing_left [] o h = refl
-nothing_left (c ∷ r) o h = cc
+nothing_left : (r : Text) (t : State) → Failure ≡ (if starts_in (λ c. true) r then Success t None' else Failure) → r ≡ []
+nothing_left [] t h = refl
+nothing_left (c ∷ r) t h = cc
 
 text_at_end : (alike : ℕ → ℕ → Bool) (c : ℕ) (t : Text) (s : State) → s.rest ≡ [] → text_outcome alike (c ∷ t) s ≡ Failure
 text_at_end alike c t s e = rw e refl
@@ -167,7 +167,7 @@ module _ (g : Grammar) (classes : Classes) (m : Mode) where
     any_does s = other no_any (any_outcome classes m s of_rule)
 
     any_failed : (s : State) → Matches g classes any m s Failure → s.rest ≡ []
-    any_failed s d = nothing_left s.rest Failure (same g classes d (any_does s))
+    any_failed s d = nothing_left s.rest (moved 1 s) (same g classes d (any_does s))
 
     -- after the turns of `ANY*`, and what is skipped then, nothing is left
     turns_end : {s t u : State} {us vs : Trees} → Does g classes (Turns m any) s (Success t us) → Does g classes (Skipping m) t (Success u vs) → u.rest ≡ []

@@ -1,5 +1,5 @@
 //! Rules that no other rule calls.
-ghost use Rattle.std.specs.Prelude.{◌≡◌, ◌++◌, ◌&&◌, ◌||◌, Bool, IfOk, OnOk, List, ℕ, bytes_eq, flat_map, map, not};
+ghost use Rattle.std.specs.Prelude.{◌≡◌, ◌≤◌, ◌++◌, ◌&&◌, ◌||◌, Bool, IfOk, OnOk, List, ℕ, bytes_eq, drop, flat_map, length, map, not};
 ghost use Rattle.std.specs.Str.{IsAscii, IsUtf8, chars};
 ghost use Rattle.meta_ast.specs.Ast.{text_of};
 ghost use Rattle.meta_base.specs.Language.Builtins.{is_one_of};
@@ -29,7 +29,8 @@ pub fn uncalled_rules<'n, 'i>(
     if knows_start(&needed) {
         uncalled_among(alloc, rules, &needed)
     } else {
-        uncalled_among(alloc, after_first(rules, &needed), &needed)
+        let first = first_judged(rules, &needed);
+        uncalled_among(alloc, &rules[first..], &needed)
     }
 }
 
@@ -37,24 +38,34 @@ pub fn uncalled_rules<'n, 'i>(
 fn knows_start(needed: &HashSet<&str>) -> bool
     ensures { (f : Text → Bool) → HasNames f needed.now → result ≡ spec.knows_start f }
 {
-    needed.contains(&"SOI") || needed.contains(&"EOI")
+    has_literal(needed, "SOI") || has_literal(needed, "EOI")
 }
 
-/// The rules after the first that is no `WHITESPACE` or `COMMENT`; none where that one is needed.
-fn after_first<'r, 'i>(rules: &'r [ParserRule<'i>], needed: &HashSet<&str>) -> &'r [ParserRule<'i>]
-    ensures { (f : Text → Bool) → HasNames f needed.now
-        → rule_views result.now ≡ spec.after_first f (rule_views rules.entry.now) }
+/// Whether a literal is among these names.
+fn has_literal(needed: &HashSet<&str>, literal: &str) -> bool
+    requires { IsAscii literal.now }
+    ensures { (f : Text → Bool) → HasNames f needed.now → result ≡ f literal.now }
+{
+    needed.contains(&literal)
+}
+
+/// The index after the first rule that is no `WHITESPACE` or `COMMENT`, or the length where that one is
+/// needed or there is none.
+fn first_judged(rules: &[ParserRule<'_>], needed: &HashSet<&str>) -> usize
+    ensures within { result ≤ length rules.now }
+    ensures rest { (f : Text → Bool) → HasNames f needed.now
+        → rule_views (drop result rules.now) ≡ spec.after_first f (rule_views rules.now) }
 {
     for (i, rule) in rules.iter().enumerate() {
         if !needs_no_call(&rule.name) {
             return if is_needed(&rule.name, needed) {
-                &rules[..0]
+                rules.len()
             } else {
-                &rules[i + 1..]
+                i + 1
             };
         }
     }
-    &rules[..0]
+    rules.len()
 }
 
 /// Whether a name is among those that are needed.

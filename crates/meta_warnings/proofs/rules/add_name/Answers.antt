@@ -5,8 +5,8 @@ use Rattle.meta_warnings.proofs.Known.{inserted}
 use Rattle.meta_warnings.proofs.Names.{cond_or}
 use Rattle.meta_warnings.proofs.rules.add_name.Goals as goal
 
-pub returns-in_ok-insert : goal.returns-in_ok-insert
-returns-in_ok-insert c = λ other u.
+pub returns : goal.returns
+returns c = λ other u.
     let had = has_name c.args.set.now other in
     inserted c.args.set.now c.insert.new.self c.args.name other c.in_ok-insert.ensures.updates
     ∙ (ap (λ b. cond b true had) (bytes_text_eq c.args.name.now other c.utf8.name u)

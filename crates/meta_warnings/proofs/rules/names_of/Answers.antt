@@ -7,7 +7,7 @@ use Rattle.meta_warnings.proofs.rules.names_of.Goals as goal
 
 pub loop-name-preserved : goal.loop-name-preserved
 loop-name-preserved c = λ other u.
-    name_more c.args.names.now c.loop-name.name-index c.name-item.result (chars other) _ _ c.loop-name-test.true c.name-item.is
+    name_more c.args.names.now c.loop-name.name-index _ (chars other) _ _ c.loop-name-test.true
     (c.in_ok-add_name.ensures other u) (c.loop-name.invariant other u)
 
 pub returns : goal.returns
