@@ -1,8 +1,8 @@
 -- The names that rules call, met one by one.
-use Rattle.std.proofs.Common.{◌≡◌, ℕ, ◌+◌, ◌<◌, List, [], ◌∷◌, ◌++◌, Bool, true, false, not, ◌&&◌, ◌||◌, cond, map, length, take, get_or, refl, sym, ap, ◌∙◌, ◌≤◌, bytes_eq, drop, suc, add-one, drop-cons, if◌then◌else◌, chars, codes, Bor, arith, Result, Ok, Err, IfOk, Vec, Global}
+use Rattle.std.proofs.Common.{◌≡◌, ℕ, ◌+◌, ◌<◌, List, [], ◌∷◌, ◌++◌, Bool, true, false, not, ◌&&◌, ◌||◌, cond, map, length, take, get_or, refl, sym, ap, ◌∙◌, ◌≤◌, ◌-◌, bytes_eq, drop, suc, add-one, drop-cons, length-drop, if◌then◌else◌, chars, codes, Bor, arith, Result, Ok, Err, IfOk, Vec, Global}
 use Rattle.std.specs.Prelude.{flat_map, IsTrue, ◌↔◌}
 use Rattle.std.proofs.lemmas.Slice.Eq.{bytes_eq-Decides}
-use Rattle.std.proofs.lemmas.List.{drop_all, map-append, take_more}
+use Rattle.std.proofs.lemmas.List.{drop_all, map-append, take_all, take_more}
 use Rattle.std.proofs.lemmas.Bool.{false_from_ne_true}
 use Rattle.std.proofs.Math.Bool.{or_assoc, or-false}
 use Rattle.meta_base.specs.Language.Builtins.{is_one_of}
@@ -106,6 +106,10 @@ stops_free f rules i x h at e n inv = sym (stopped_at f rules i x h at e ∙ ap 
 pub nothing_stops : (f : Text → Bool) (rules : List ParserRule) (i : ℕ) → length rules ≤ i
     → after_first f (rule_views (drop i rules)) ≡ after_first f (rule_views rules) → rule_views (drop (length rules) rules) ≡ after_first f (rule_views rules)
 nothing_stops f rules i h inv = ap rule_views (drop_all (length rules) rules (omega arith)) ∙ (sym (ap (λ l. after_first f (rule_views l)) (drop_all i rules h)) ∙ inv)
+
+-- the rules from an index on
+pub whole_rest : (rules : List ParserRule) (n : ℕ) → take (length rules - n) (drop n rules) ≡ drop n rules
+whole_rest rules n = take_all (length rules - n) (drop n rules) (let e = length-drop n rules in omega (arith, e))
 
 -- the rules that are judged
 pub judged_all : {E : Type 0} (f : Text → Bool) (rules : List SpannedRule) (set : TextSet) (result : Result (Vec code.Span Global) E) → HasNames f set → knows_start f ≡ true

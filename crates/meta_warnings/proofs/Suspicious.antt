@@ -184,10 +184,16 @@ module _ (g : Grammar) (classes : Classes) (m : Mode) where
     any_once_rest : {s t u : State} {us vs : Trees} → Matches g classes (bare.RepOnce any) m s (Success t us) → IsStateIn text s → Does g classes (Skipping m) t (Success u vs) → u.rest ≡ []
     any_once_rest (rep_once (seq a k b)) st sk = any_rest b (fits text k (fits text a st).0).0 sk
 
+    rep_taken : (x : Spanned) → is_any x ≡ true → (s t u : State) (us vs : Trees) → Matches g classes (bare.Rep (without_spans x)) m s (Success t us) → IsStateIn text s → Does g classes (Skipping m) t (Success u vs) → u.rest ≡ []
+    rep_taken x h s t u us vs d st sk = any_rest {us = us} (subst (λ e. Matches g classes (bare.Rep e) m s (Success t us)) (to_any x h) d) st sk
+
+    once_taken : (x : Spanned) → is_any x ≡ true → (s t u : State) (us vs : Trees) → Matches g classes (bare.RepOnce (without_spans x)) m s (Success t us) → IsStateIn text s → Does g classes (Skipping m) t (Success u vs) → u.rest ≡ []
+    once_taken x h s t u us vs d st sk = any_once_rest {us = us} (subst (λ e. Matches g classes (bare.RepOnce e) m s (Success t us)) (to_any x h) d) st sk
+
     rest_taken : (x : Spanned) → takes_rest x ≡ true → {s t u : State} {us vs : Trees} → Matches g classes (without_spans x) m s (Success t us) → IsStateIn text s → Does g classes (Skipping m) t (Success u vs) → u.rest ≡ []
     rest_taken (Two p spanned.Seq x y) h (seq a k b) st sk = rest_taken y h b (fits text k (fits text a st).0).0 sk
-    rest_taken (One p spanned.Rep x) h d st sk = any_rest (subst (λ e. Matches g classes (bare.Rep e) m _ _) (to_any x h) d) st sk
-    rest_taken (One p spanned.RepOnce x) h d st sk = any_once_rest (subst (λ e. Matches g classes (bare.RepOnce e) m _ _) (to_any x h) d) st sk
+    rest_taken (One p spanned.Rep x) h d st sk = rep_taken x h _ _ _ _ _ d st sk
+    rest_taken (One p spanned.RepOnce x) h d st sk = once_taken x h _ _ _ _ _ d st sk
     rest_taken _ h d st sk = cc
 
     -- what takes a character fails where none is left
