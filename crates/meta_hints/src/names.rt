@@ -1,7 +1,7 @@
 //! Names of a grammar: where they are defined, and which is nearest to another.
 use crate::lexer::{Lexeme, LexemeClass, lexemes};
 use std::alloc::{AllocError, Global};
-use strsim::levenshtein;
+use strsim::osa_distance;
 
 /// Names of more bytes are not compared.
 const LONGEST_NAME: usize = 64;
@@ -32,7 +32,7 @@ fn name_span(lexeme: Lexeme) -> Option<(usize, usize)> {
     }
 }
 
-/// The name among some that is nearest to one by Levenshtein distance, at most a third of its length. A name
+/// The name among some that is nearest to one by edits (two letters may swap), at most a third of its length. A name
 /// that differs in the case of letters alone comes first, and else the first of several.
 pub fn nearest_name<'n>(
     alloc: Global,
@@ -51,7 +51,7 @@ pub fn nearest_name<'n>(
         if other.len().abs_diff(name.len()) >= bound {
             continue;
         }
-        let distance = levenshtein(alloc, name, other)?;
+        let distance = osa_distance(alloc, name, other)?;
         if distance < bound {
             bound = distance;
             best = Some(*other);
