@@ -32,8 +32,8 @@ fn name_span(lexeme: Lexeme) -> Option<(usize, usize)> {
     }
 }
 
-/// The name among some that is nearest to one by edits (two letters may swap), at most a third of its length. A name
-/// that differs in the case of letters alone comes first, and else the first of several.
+/// The name among some that is nearest to one by edits, of which swapping two letters is one, at most a third
+/// of its length. A name that differs in the case of letters alone comes first, else the first of several.
 pub fn nearest_name<'n>(
     alloc: Global,
     name: &str,
