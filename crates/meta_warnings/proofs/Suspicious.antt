@@ -1,8 +1,7 @@
 -- Parts of sequences, and what suspect nodes do.
-use Rattle.std.proofs.Common.{◌≡◌, ◌≢◌, ◌⊎◌, ◌∙◌, ℕ, zero, suc, ◌+◌, ◌-◌, ◌<◌, ◌≤◌, List, [], ◌∷◌, ◌++◌, Bool, true, false, Option, Some, None, if◌then◌else◌, refl, sym, ap, subst, append-nil, bytes_eq, codes, length, nat_eq, arith}
-use Rattle.std.specs.Prelude.{◌↔◌, min, nat_lt, replicate}
+use Rattle.std.proofs.Common.{◌≡◌, ◌∙◌, ℕ, zero, suc, ◌+◌, ◌-◌, ◌<◌, ◌≤◌, [], ◌∷◌, ◌++◌, Bool, true, Some, None, if◌then◌else◌, refl, sym, ap, subst, append-nil, codes, nat_eq, arith}
+use Rattle.std.specs.Prelude.{◌↔◌, min, replicate}
 use Rattle.std.specs.Char.{eq_ignore_ascii_case, len_utf8}
-use Rattle.std.specs.List.{sum_by}
 use Rattle.std.proofs.lemmas.Bool.{and_parts}
 use Rattle.std.proofs.lemmas.List.Sums.{sum_by-append, sum_by-cons}
 use Rattle.std.proofs.lemmas.Slice.Eq.{bytes_eq-Decides}
@@ -10,8 +9,8 @@ use Rattle.std.proofs.lemmas.Str.{len_utf8_bounds}
 use Rattle.meta_base.specs.Language.Builtins.{builtins}
 use Rattle.meta_base.specs.Language.Expression.{Expression, Str, Insens, Range, Ident, Grammar, rule_of}
 use Rattle.meta_base.specs.Language.Expression as bare
-use Rattle.meta_base.specs.Language.Matching.{begins, character_outcome, other_outcome, range_set, starts_in, text_outcome}
-use Rattle.meta_base.specs.Language.Meaning.{Does, Run, Turns, Skipping, Matches, str, insens, range, other, pos_pred, neg_pred, seq, seq_first, seq_second, opt, opt_none, rep, rep_none, turn, turn_none, rep_once, rep_exact, rep_max, rep_min_max, ahead, not_ahead, in_sequence, exactly, from_to}
+use Rattle.meta_base.specs.Language.Matching.{character_outcome, other_outcome, range_set, starts_in, text_outcome}
+use Rattle.meta_base.specs.Language.Meaning.{Does, Turns, Skipping, Matches, str, insens, range, other, pos_pred, neg_pred, seq, seq_first, seq_second, opt, opt_none, rep, rep_none, turn, turn_none, rep_once, rep_exact, rep_max, rep_min_max, ahead, not_ahead, in_sequence, exactly, from_to}
 use Rattle.meta_base.specs.Language.Places.{FitsIn, Nested, IsStateIn}
 use Rattle.meta_base.specs.Language.State.{Classes, Mode, NonAtomicMode, AtomicMode, CompoundAtomicMode, Between, IsRuleMode, State, Trees, None', Tree, Outcome, Success, Failure, moved}
 use Rattle.meta_base.specs.Language.Text.{Text, size_of}
@@ -24,7 +23,7 @@ use Rattle.meta_spanned.specs.Spanned.{Span, Spanned, Leaf, One, Two}
 use Rattle.meta_spanned.specs.declared.node.ParserExpr.{ParserExpr}
 use Rattle.meta_spanned.specs.declared.node.ParserExpr as expr
 use Rattle.meta_spanned.specs.declared.node.ParserExpr.TheVariants as is
-use Rattle.meta_warnings.specs.Suspects.{has_reversed_count, is_any, is_any_name, is_character, is_character_leaf, is_idle_test, is_optional, is_unmatchable, repeats_any, takes_character, takes_rest}
+use Rattle.meta_warnings.specs.Suspects.{is_any, is_any_name, is_character, is_character_leaf, is_optional, is_unmatchable, repeats_any, takes_character, takes_rest}
 
 -- what is no sequence is its last part, and its first
 pub no_last_part : (t : Span) (e : ParserExpr) → ((x y : _) → e ≡ expr.Seq x y → ⊥) → takes_rest (view_at t e) ≡ repeats_any (view_at t e)
