@@ -1,4 +1,8 @@
 //! Few edits that make one text another.
+ghost use Rattle.std.specs.Prelude.{◌≡◌, IfOk, true};
+ghost use Rattle.meta_symbols.specs.Edits.{AreInOrder, Edits, edited};
+
+use crate::parts::part;
 use crate::tokens::{Extent, Token, tokens_of};
 use std::alloc::{AllocError, Global};
 
@@ -11,21 +15,34 @@ pub struct Edit {
 
 /// Returns edits, in order and apart from one another, that make one text another one. Where both have the same tokens
 /// but for their white space, only the white space that differs is replaced; else all of the text.
-pub fn edits_between(alloc: Global, text: &str, other: &str) -> Result<Vec<Edit>, AllocError> {
+pub fn edits_between(alloc: Global, text: &str, other: &str) -> Result<Vec<Edit>, AllocError>
+    ensures { IfOk result (λ edits. Edits text.now other.now edits.items) }
+{
     let edits = candidate_edits(alloc, text, other)?;
     if is_edited(alloc, text.as_bytes(), other.as_bytes(), &edits)? {
-        return Ok(edits);
+        Ok(edits)
+    } else {
+        whole_edit(alloc, text.as_bytes(), other.as_bytes())
     }
-    let mut whole = Vec::new(alloc);
-    whole.push(Edit {
+}
+
+/// Returns the edit that replaces all of a text.
+fn whole_edit(alloc: Global, text: &[u8], other: &[u8]) -> Result<Vec<Edit>, AllocError>
+    ensures { IfOk result (λ edits. Edits text.now other.now edits.items) }
+{
+    let mut edits = Vec::new(alloc);
+    edits.push(Edit {
         old: extent_of(0, text.len()),
         new: extent_of(0, other.len()),
     })?;
-    Ok(whole)
+    Ok(edits)
 }
 
 /// Returns the bytes from `start` up to `end`.
-fn extent_of(start: usize, end: usize) -> Extent {
+fn extent_of(start: usize, end: usize) -> Extent
+    ensures start { result.start ≡ start }
+    ensures end { result.end ≡ end }
+{
     Extent { start, end }
 }
 
@@ -77,26 +94,59 @@ fn push_different(
     edit: Edit,
     edits: &mut Vec<Edit>,
 ) -> Result<(), AllocError> {
-    if part(text.as_bytes(), edit.old) != part(other.as_bytes(), edit.new) {
+    let old = part(text.as_bytes(), edit.old.start, edit.old.end);
+    let new = part(other.as_bytes(), edit.new.start, edit.new.end);
+    if old != new {
         edits.push(edit)?;
     }
     Ok(())
 }
 
-/// Returns the bytes of an extent, up to the end of the text.
-fn part(text: &[u8], extent: Extent) -> &[u8] {
-    text.get(extent.start..extent.end).unwrap_or(&[])
+/// Whether edits are in order, and make one text another one.
+fn is_edited(alloc: Global, text: &[u8], other: &[u8], edits: &[Edit]) -> Result<bool, AllocError>
+    ensures { IfOk result (λ answer. answer ≡ true → Edits text.now other.now edits.now) }
+{
+    if !are_in_order(edits) {
+        return Ok(false);
+    }
+    let edited = apply_edits(alloc, text, other, edits)?;
+    Ok(edited.as_slice() == other)
 }
 
-/// Whether the edits make one text another one.
-fn is_edited(alloc: Global, text: &[u8], other: &[u8], edits: &[Edit]) -> Result<bool, AllocError> {
-    let mut edited = Vec::new(alloc);
+/// Whether edits are in order, and apart from one another.
+fn are_in_order(edits: &[Edit]) -> bool
+    ensures { result ≡ true → AreInOrder 0 edits.now }
+{
     let mut cursor = 0;
-    for edit in edits {
-        edited.extend_from_slice(part(text, extent_of(cursor, edit.old.start)))?;
-        edited.extend_from_slice(part(other, edit.new))?;
+    let mut rest = edits;
+    while let Some((edit, after)) = rest.split_first() {
+        if edit.old.start < cursor || edit.old.end < edit.old.start {
+            return false;
+        }
         cursor = edit.old.end;
+        rest = after;
     }
-    edited.extend_from_slice(part(text, extent_of(cursor, text.len())))?;
-    Ok(edited.as_slice() == other)
+    true
+}
+
+/// Returns a text after edits.
+fn apply_edits(
+    alloc: Global,
+    text: &[u8],
+    other: &[u8],
+    edits: &[Edit],
+) -> Result<Vec<u8>, AllocError>
+    ensures { IfOk result (λ bytes. bytes.items ≡ edited text.now other.now 0 edits.now) }
+{
+    let mut bytes = Vec::new(alloc);
+    let mut cursor = 0;
+    let mut rest = edits;
+    while let Some((edit, after)) = rest.split_first() {
+        bytes.extend_from_slice(part(text, cursor, edit.old.start))?;
+        bytes.extend_from_slice(part(other, edit.new.start, edit.new.end))?;
+        cursor = edit.old.end;
+        rest = after;
+    }
+    bytes.extend_from_slice(part(text, cursor, text.len()))?;
+    Ok(bytes)
 }

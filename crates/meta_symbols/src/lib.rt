@@ -5,6 +5,7 @@ mod edits;
 mod folding;
 mod occurrences;
 mod outline;
+mod parts;
 mod renaming;
 mod scanning;
 mod selection;

@@ -1,4 +1,8 @@
 //! Where names occur in a text.
+ghost use Rattle.std.specs.Prelude.{◌≡◌, ◌≤◌, ◌++◌, All, IfOk, IfSome, OnOk};
+ghost use Rattle.meta_symbols.specs.Occurrences as spec;
+ghost use Rattle.meta_symbols.specs.Parts.{IsNamed};
+
 use crate::outline::is_named;
 use crate::tokens::{Extent, Token, TokenClass};
 use std::alloc::{AllocError, Global};
@@ -9,20 +13,51 @@ pub fn occurrences_of(
     text: &str,
     tokens: &[Token],
     name: &str,
-) -> Result<Vec<Extent>, AllocError> {
+) -> Result<Vec<Extent>, AllocError>
+    ensures exact { IfOk result (λ found. found.items ≡ spec.occurrences text.now name.now tokens.now) }
+    ensures names { IfOk result (λ found. All (IsNamed text.now name.now) found.items) }
+{
     let mut found = Vec::new(alloc);
-    for token in tokens {
-        if token.class == TokenClass::Name && is_named(text, token.extent(), name) {
-            found.push(token.extent())?;
-        }
+    let mut rest = tokens;
+    while let Some((token, after)) = rest.split_first() {
+        push_occurrence(text, *token, name, &mut found)?;
+        rest = after;
     }
     Ok(found)
 }
 
+/// Adds the bytes of a token, if it is this name.
+fn push_occurrence(
+    text: &str,
+    token: Token,
+    name: &str,
+    found: &mut Vec<Extent>,
+) -> Result<(), AllocError>
+    ensures { OnOk result
+        (found.new.items ≡ found.old.items ++ spec.occurrence_at text.now name.now token) }
+{
+    if is_name(token.class) && is_named(text, token.extent(), name) {
+        found.push(token.extent())?;
+    }
+    Ok(())
+}
+
+/// Whether a class is that of names.
+fn is_name(class: TokenClass) -> bool
+    ensures { result ≡ spec.is_name class }
+{
+    matches!(class, TokenClass::Name)
+}
+
 /// Returns the name that an offset is in, or at the end of.
-pub fn name_at(tokens: &[Token], offset: usize) -> Option<Extent> {
-    let found = tokens.iter().find(|token| {
-        token.class == TokenClass::Name && token.start <= offset && offset <= token.end
-    });
-    found.map(|token| token.extent())
+pub fn name_at(tokens: &[Token], offset: usize) -> Option<Extent>
+    ensures start { IfSome result (λ extent. extent.start ≤ offset) }
+    ensures end { IfSome result (λ extent. offset ≤ extent.end) }
+{
+    for token in tokens {
+        if is_name(token.class) && token.start <= offset && offset <= token.end {
+            return Some(token.extent());
+        }
+    }
+    None
 }

@@ -1,4 +1,10 @@
 //! The definitions of rules in a text.
+ghost use Rattle.std.specs.Prelude.{◌≡◌, ◌++◌, All, IfOk, OnOk, bytes_eq};
+ghost use Rattle.meta_symbols.specs.Occurrences as spec;
+ghost use Rattle.meta_symbols.specs.Parts as parts;
+ghost use Rattle.meta_symbols.specs.Parts.{IsNamed};
+
+use crate::parts::part;
 use crate::tokens::{Extent, Token, TokenClass};
 use std::alloc::{AllocError, Global};
 
@@ -145,17 +151,38 @@ pub fn definitions_named(
     text: &str,
     definitions: &[Definition],
     name: &str,
-) -> Result<Vec<Extent>, AllocError> {
+) -> Result<Vec<Extent>, AllocError>
+    ensures exact { IfOk result (λ found. found.items ≡ spec.names_of text.now name.now definitions.now) }
+    ensures names { IfOk result (λ found. All (IsNamed text.now name.now) found.items) }
+{
     let mut found = Vec::new(alloc);
-    for definition in definitions {
-        if is_named(text, definition.name, name) {
-            found.push(definition.name)?;
-        }
+    let mut rest = definitions;
+    while let Some((definition, after)) = rest.split_first() {
+        push_name(text, definition.name, name, &mut found)?;
+        rest = after;
     }
     Ok(found)
 }
 
+/// Adds the bytes of a definition's name, if it is this one.
+fn push_name(
+    text: &str,
+    extent: Extent,
+    name: &str,
+    found: &mut Vec<Extent>,
+) -> Result<(), AllocError>
+    ensures { OnOk result
+        (found.new.items ≡ found.old.items ++ spec.extent_named text.now name.now extent) }
+{
+    if is_named(text, extent, name) {
+        found.push(extent)?;
+    }
+    Ok(())
+}
+
 /// Whether these bytes of a text are a name.
-pub(crate) fn is_named(text: &str, extent: Extent, name: &str) -> bool {
-    text.as_bytes().get(extent.start..extent.end) == Some(name.as_bytes())
+pub(crate) fn is_named(text: &str, extent: Extent, name: &str) -> bool
+    ensures { result ≡ bytes_eq (parts.part text.now extent) name.now }
+{
+    part(text.as_bytes(), extent.start, extent.end) == name.as_bytes()
 }

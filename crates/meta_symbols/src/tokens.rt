@@ -1,5 +1,6 @@
 //! The tokens of a text.
-ghost use Rattle.std.specs.Prelude.{◌<◌, ◌≤◌, length};
+ghost use Rattle.std.specs.Prelude.{◌≡◌, ◌<◌, ◌≤◌, length};
+ghost use Rattle.meta_symbols.specs.Occurrences.{extent_of};
 
 use crate::scanning::{
     block_comment_end, character_end, line_end, name_end, number_end, string_end, wide_end,
@@ -47,7 +48,9 @@ pub struct Token {
 
 impl Token {
     /// Returns its bytes in the text.
-    pub fn extent(self) -> Extent {
+    pub fn extent(self) -> Extent
+        ensures { result ≡ extent_of self }
+    {
         Extent {
             start: self.start,
             end: self.end,

@@ -1,0 +1,4 @@
+pub mod Edits
+pub mod Occurrences
+pub mod Parts
+pub mod Renaming
