@@ -1,10 +1,10 @@
 //! Code actions: the fixes of diagnostics.
-use crate::context::Context;
 use crate::diagnostics::diagnostic_value;
-use crate::messages::{Answer, ErrorCode};
-use crate::params::lists_at;
-use crate::values::{edit_value, workspace_edit_value};
 use meta_diagnostics::{Diagnostic, Fix, Options, diagnose};
+use meta_requests::context::Context;
+use meta_requests::messages::{Answer, ErrorCode};
+use meta_requests::params::lists_at;
+use meta_requests::values::{edit_value, workspace_edit_value};
 use meta_symbols::Extent;
 use serde_json::{Value, json};
 use std::alloc::{AllocError, Global};

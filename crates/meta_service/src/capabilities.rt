@@ -1,22 +1,10 @@
 //! What a client can do, and what the server can.
-use crate::context::Client;
-use crate::params::{is_true_at, lists_at};
-use crate::semantic::{MODIFIERS, TYPES};
 use meta_positions::Encoding;
+use meta_requests::context::Client;
+use meta_requests::params::{is_true_at, lists_at};
+use meta_requests::semantic::{modifiers, types};
 use serde_json::{Value, json};
 use std::alloc::{AllocError, Global};
-
-impl Default for Client {
-    /// A client that said nothing.
-    fn default() -> Client {
-        Client {
-            encoding: Encoding::Utf16,
-            has_snippets: false,
-            has_markdown: false,
-            has_nested_symbols: false,
-        }
-    }
-}
 
 /// Returns what a client can do, by the parameters of `initialize`.
 pub fn client_of(params: &Value) -> Client {
@@ -90,10 +78,10 @@ fn capabilities(alloc: Global, encoding: &str) -> Result<Value, AllocError> {
 
 /// Returns the legend of semantic tokens.
 fn tokens_capability(alloc: Global) -> Result<Value, AllocError> {
-    let types = texts_value(alloc, &TYPES)?;
-    let modifiers = texts_value(alloc, &MODIFIERS)?;
+    let type_names = texts_value(alloc, types())?;
+    let modifier_names = texts_value(alloc, modifiers())?;
     json!(in alloc; {
-        "legend": { "tokenTypes": types, "tokenModifiers": modifiers },
+        "legend": { "tokenTypes": type_names, "tokenModifiers": modifier_names },
         "full": true,
     })
 }

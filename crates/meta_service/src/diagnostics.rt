@@ -1,9 +1,9 @@
 //! Diagnostics of a document.
-use crate::documents::Document;
-use crate::messages::notification;
-use crate::values::range_value;
 use meta_diagnostics::{Diagnostic, Options, Related, Severity, diagnose};
 use meta_positions::{Encoding, PositionIndex};
+use meta_requests::documents::Document;
+use meta_requests::messages::notification;
+use meta_requests::values::range_value;
 use meta_symbols::Extent;
 use serde_json::{Value, json};
 use std::alloc::{AllocError, Global};

@@ -1,5 +1,5 @@
 //! Whether a rule may match nothing, and what can begin it: its first set.
-use meta_analysis::{Groundwork, Joint, Node, Shape, Sign, groundwork_of};
+use meta_analysis::{Analysis, Joint, Node, Shape, UnaryOperator, analyze};
 use meta_ast::deep::Deep;
 use meta_base::grammar::Rule;
 use meta_base::runtime::Fault;
@@ -33,14 +33,14 @@ fn facts_in(alloc: Global, text: &str, name: &str) -> Result<Option<RuleFacts>, 
     let pairs = parse(alloc, Rule::grammar_rules, text)?;
     let rules = consume_rules_with_spans(alloc, pairs)?;
     let rules = Deep { value: rules };
-    let analysis = groundwork_of(alloc, &rules.value)?;
+    let analysis = analyze(alloc, &rules.value)?;
     Ok(facts_by(alloc, &analysis, name)?)
 }
 
 /// Returns what is known of the rule of a name, by an analysis.
 fn facts_by(
     alloc: Global,
-    analysis: &Groundwork<'_, '_>,
+    analysis: &Analysis<'_, '_>,
     name: &str,
 ) -> Result<Option<RuleFacts>, AllocError> {
     let Some(root) = root_of(analysis, name) else {
@@ -54,20 +54,20 @@ fn facts_by(
 }
 
 /// Returns the number of the body of the rule of a name.
-fn root_of(analysis: &Groundwork<'_, '_>, name: &str) -> Option<usize> {
+fn root_of(analysis: &Analysis<'_, '_>, name: &str) -> Option<usize> {
     let rule = analysis.names.place_of(name)?;
     analysis.table.roots.get(rule).copied()
 }
 
 /// Whether a node may match without taking a character.
-fn is_nullable(analysis: &Groundwork<'_, '_>, node: usize) -> bool {
+fn is_nullable(analysis: &Analysis<'_, '_>, node: usize) -> bool {
     analysis.facts.nullable.get(node) == Some(&true)
 }
 
 /// Returns the expressions that can begin a node, by a depth-first search of the nodes at its start.
 fn first_set(
     alloc: Global,
-    analysis: &Groundwork<'_, '_>,
+    analysis: &Analysis<'_, '_>,
     root: usize,
 ) -> Result<String, AllocError> {
     let count = analysis.table.nodes.len();
@@ -128,14 +128,14 @@ impl FirstSet {
 
 /// Adds what is at the start of a node: its operands to the stack, or itself to the first set.
 fn visit(
-    analysis: &Groundwork<'_, '_>,
+    analysis: &Analysis<'_, '_>,
     node: Node<'_, '_>,
     stack: &mut Vec<usize>,
     first: &mut FirstSet,
 ) -> Result<(), AllocError> {
     match node.shape {
         Shape::Leaf => visit_leaf(analysis, node, stack, first),
-        Shape::One(Sign::PosPred, _) | Shape::One(Sign::NegPred, _) => Ok(()),
+        Shape::One(UnaryOperator::PosPred, _) | Shape::One(UnaryOperator::NegPred, _) => Ok(()),
         Shape::One(_, inner) => {
             stack.push(inner)?;
             Ok(())
@@ -157,7 +157,7 @@ fn visit(
 
 /// Adds a leaf to the first set, or the body of the rule that it calls to the stack.
 fn visit_leaf(
-    analysis: &Groundwork<'_, '_>,
+    analysis: &Analysis<'_, '_>,
     node: Node<'_, '_>,
     stack: &mut Vec<usize>,
     first: &mut FirstSet,

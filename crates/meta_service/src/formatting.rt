@@ -1,9 +1,9 @@
 //! Formatting.
-use crate::context::Context;
-use crate::messages::{Answer, ErrorCode};
-use crate::values::edit_value;
 use meta_base::runtime::Fault;
 use meta_format::{Formatted, LineEnds, Options, format};
+use meta_requests::context::Context;
+use meta_requests::messages::{Answer, ErrorCode};
+use meta_requests::values::edit_value;
 use meta_symbols::{Edit, Extent, edits_between};
 use serde_json::Value;
 use std::alloc::{AllocError, Global};

@@ -1,108 +1,17 @@
 //! Hovers.
-use crate::context::Context;
 use crate::facts::rule_facts;
-use crate::messages::Answer;
-use crate::structure::modifier_name;
-use crate::values::range_value;
 use meta_ast::optimized::{OptimizedRule, release};
 use meta_base::runtime::Fault;
 use meta_names::is_builtin;
+use meta_requests::builtins::builtin_doc;
+use meta_requests::context::Context;
+use meta_requests::messages::Answer;
+use meta_requests::structure::modifier_name;
+use meta_requests::values::range_value;
 use meta_symbols::{Definition, Extent, TokenClass};
 use pest_meta::parse_and_optimize;
 use serde_json::{Value, json};
 use std::alloc::{AllocError, Global};
-
-/// A builtin, and what it matches.
-#[derive(Clone, Copy)]
-pub struct BuiltinDoc {
-    pub name: &'static str,
-    pub doc: &'static str,
-}
-
-/// The builtins other than Unicode properties, and what they match.
-static BUILTIN_DOCS: [BuiltinDoc; 19] = [
-    BuiltinDoc {
-        name: "ANY",
-        doc: "any character",
-    },
-    BuiltinDoc {
-        name: "SOI",
-        doc: "the start of the text",
-    },
-    BuiltinDoc {
-        name: "EOI",
-        doc: "the end of the text",
-    },
-    BuiltinDoc {
-        name: "PEEK",
-        doc: "the text on top of the stack, which stays there",
-    },
-    BuiltinDoc {
-        name: "POP",
-        doc: "the text on top of the stack, which is removed",
-    },
-    BuiltinDoc {
-        name: "DROP",
-        doc: "nothing; removes the top of the stack",
-    },
-    BuiltinDoc {
-        name: "PEEK_ALL",
-        doc: "all texts of the stack from the top down, which stay there",
-    },
-    BuiltinDoc {
-        name: "POP_ALL",
-        doc: "all texts of the stack from the top down, which are removed",
-    },
-    BuiltinDoc {
-        name: "NEWLINE",
-        doc: "`\\n`, `\\r\\n` or `\\r`",
-    },
-    BuiltinDoc {
-        name: "ASCII_DIGIT",
-        doc: "`'0'..'9'`",
-    },
-    BuiltinDoc {
-        name: "ASCII_NONZERO_DIGIT",
-        doc: "`'1'..'9'`",
-    },
-    BuiltinDoc {
-        name: "ASCII_BIN_DIGIT",
-        doc: "`'0'..'1'`",
-    },
-    BuiltinDoc {
-        name: "ASCII_OCT_DIGIT",
-        doc: "`'0'..'7'`",
-    },
-    BuiltinDoc {
-        name: "ASCII_HEX_DIGIT",
-        doc: "`'0'..'9'`, `'a'..'f'` or `'A'..'F'`",
-    },
-    BuiltinDoc {
-        name: "ASCII_ALPHA_LOWER",
-        doc: "`'a'..'z'`",
-    },
-    BuiltinDoc {
-        name: "ASCII_ALPHA_UPPER",
-        doc: "`'A'..'Z'`",
-    },
-    BuiltinDoc {
-        name: "ASCII_ALPHA",
-        doc: "`'a'..'z'` or `'A'..'Z'`",
-    },
-    BuiltinDoc {
-        name: "ASCII_ALPHANUMERIC",
-        doc: "`'0'..'9'`, `'a'..'z'` or `'A'..'Z'`",
-    },
-    BuiltinDoc {
-        name: "ASCII",
-        doc: "`'\\x00'..'\\x7F'`",
-    },
-];
-
-/// Returns the builtins other than Unicode properties.
-pub fn builtin_docs() -> &'static [BuiltinDoc] {
-    &BUILTIN_DOCS
-}
 
 /// Returns what is known of the name at a position.
 pub fn hover(alloc: Global, context: &Context<'_>, params: &Value) -> Result<Answer, AllocError> {
@@ -143,13 +52,18 @@ fn hover_value(
 
 /// Returns what a builtin matches, or nothing of another name.
 fn builtin_text(alloc: Global, name: &str) -> Result<String, AllocError> {
-    let found = BUILTIN_DOCS.iter().find(|builtin| builtin.name == name);
-    match found {
-        Some(builtin) => format!(in alloc; "`{}` matches {}.", builtin.name, builtin.doc),
-        None if is_builtin(name) => {
-            format!(in alloc; "`{name}` matches a character with this Unicode property.")
-        }
-        None => Ok(String::new(alloc)),
+    match builtin_doc(name) {
+        Some(doc) => format!(in alloc; "`{name}` matches {doc}."),
+        None => property_text(alloc, name),
+    }
+}
+
+/// Returns what the name of a Unicode property matches, or nothing of another name.
+fn property_text(alloc: Global, name: &str) -> Result<String, AllocError> {
+    if is_builtin(name) {
+        format!(in alloc; "`{name}` matches a character with this Unicode property.")
+    } else {
+        Ok(String::new(alloc))
     }
 }
 

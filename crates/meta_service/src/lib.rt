@@ -3,19 +3,10 @@
 
 mod actions;
 mod capabilities;
-mod completions;
-mod context;
 mod diagnostics;
-mod documents;
 mod facts;
 mod formatting;
 mod hovers;
-mod messages;
-mod names;
-mod params;
-mod semantic;
 mod server;
-mod structure;
-mod values;
 
 pub use server::{Reply, Server};

@@ -1,18 +1,20 @@
 //! A server: its state, and what it answers.
 use crate::actions::code_actions;
 use crate::capabilities::{client_of, initialize_result};
-use crate::completions::completions;
-use crate::context::{Client, Context};
 use crate::diagnostics::{publish, publish_none};
-use crate::documents::{Document, Documents};
 use crate::formatting::{format_document, format_range};
 use crate::hovers::hover;
-use crate::messages::{Answer, ErrorCode, Incoming, error_response, incoming, response};
-use crate::names::{definition, highlights, prepare_rename, references, rename_rule};
-use crate::params::{changes_of, text_at};
-use crate::semantic::semantic_tokens;
-use crate::structure::{document_symbols, folding_ranges, selection_ranges, workspace_symbols};
 use meta_positions::apply_changes;
+use meta_requests::completions::completions;
+use meta_requests::context::{Client, Context};
+use meta_requests::documents::{Document, Documents};
+use meta_requests::messages::{Answer, ErrorCode, Incoming, error_response, incoming, response};
+use meta_requests::names::{definition, highlights, prepare_rename, references, rename_rule};
+use meta_requests::params::{changes_of, text_at};
+use meta_requests::semantic::semantic_tokens;
+use meta_requests::structure::{
+    document_symbols, folding_ranges, selection_ranges, workspace_symbols,
+};
 use serde_json::Value;
 use std::alloc::{AllocError, Global};
 

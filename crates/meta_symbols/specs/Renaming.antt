@@ -4,7 +4,7 @@ use Rattle.std.specs.List.{slice_range}
 use Rattle.meta_base.specs.declared.grammar.Rule.{Rule}
 use Rattle.meta_base.specs.declared.grammar.Rule.TheVariants as rule_is
 use Rattle.meta_base.specs.declared.grammar.Rule.TheVariants.{grammar_rules}
-use Rattle.meta_syntax.specs.Parses.{TokensGive}
+use Rattle.meta_syntax.specs.Parses.{AreTokensOf}
 use Rattle.meta_syntax.specs.declared.entries.Entry.{Entry}
 use Rattle.meta_syntax.specs.declared.entries.Entry.TheVariants.{Start, End}
 use Rattle.meta_symbols.specs.Parts.{replaced}
@@ -65,14 +65,14 @@ renamed_after text name new e (f ∷ es) =
 -- an edited text is a grammar that has the tokens of another one, but for a new name
 pub record IsEdited (text name new : List ℕ) (entries : List Entry) (edited : List ℕ) : Type 0 where
   pub others : List Entry
-  pub of_edited : TokensGive grammar_rules edited others
+  pub of_edited : AreTokensOf grammar_rules edited others
   pub tokens : tokens_after edited first others ≡ renamed_after text name new first entries
 
 -- edits rename a rule: they are where its name is an identifier, and the edited text has the tokens of the text,
 -- with the new name in place of the old one
 pub record Renames (text name new : List ℕ) (edits : List Extent) : Type 0 where
   pub entries : List Entry
-  pub of_text : TokensGive grammar_rules text entries
+  pub of_text : AreTokensOf grammar_rules text entries
   pub places : edits ≡ places_after text name first entries
   pub edited : IsEdited text name new entries (replaced text 0 edits new)
 

@@ -3,6 +3,7 @@
 
 mod edits;
 mod folding;
+pub mod laws;
 mod occurrences;
 mod outline;
 mod parts;

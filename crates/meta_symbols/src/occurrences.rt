@@ -1,7 +1,6 @@
 //! Where names occur in a text.
-ghost use Rattle.std.specs.Prelude.{◌≡◌, ◌≤◌, ◌++◌, All, IfOk, IfSome, OnOk};
+ghost use Rattle.std.specs.Prelude.{◌≡◌, ◌≤◌, ◌++◌, IfOk, IfSome, OnOk};
 ghost use Rattle.meta_symbols.specs.Occurrences as spec;
-ghost use Rattle.meta_symbols.specs.Parts.{IsNamed};
 
 use crate::outline::is_named;
 use crate::tokens::{Extent, Token, TokenClass};
@@ -14,8 +13,7 @@ pub fn occurrences_of(
     tokens: &[Token],
     name: &str,
 ) -> Result<Vec<Extent>, AllocError>
-    ensures exact { IfOk result (λ found. found.items ≡ spec.occurrences text.now name.now tokens.now) }
-    ensures names { IfOk result (λ found. All (IsNamed text.now name.now) found.items) }
+    ensures { IfOk result (λ found. found.items ≡ spec.occurrences text.now name.now tokens.now) }
 {
     let mut found = Vec::new(alloc);
     let mut rest = tokens;

@@ -1,8 +1,7 @@
 //! The definitions of rules in a text.
-ghost use Rattle.std.specs.Prelude.{◌≡◌, ◌++◌, All, IfOk, OnOk, bytes_eq};
+ghost use Rattle.std.specs.Prelude.{◌≡◌, ◌++◌, IfOk, OnOk, bytes_eq};
 ghost use Rattle.meta_symbols.specs.Occurrences as spec;
 ghost use Rattle.meta_symbols.specs.Parts as parts;
-ghost use Rattle.meta_symbols.specs.Parts.{IsNamed};
 
 use crate::parts::part;
 use crate::tokens::{Extent, Token, TokenClass};
@@ -152,8 +151,7 @@ pub fn definitions_named(
     definitions: &[Definition],
     name: &str,
 ) -> Result<Vec<Extent>, AllocError>
-    ensures exact { IfOk result (λ found. found.items ≡ spec.names_of text.now name.now definitions.now) }
-    ensures names { IfOk result (λ found. All (IsNamed text.now name.now) found.items) }
+    ensures { IfOk result (λ found. found.items ≡ spec.names_of text.now name.now definitions.now) }
 {
     let mut found = Vec::new(alloc);
     let mut rest = definitions;

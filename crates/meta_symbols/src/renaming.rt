@@ -1,7 +1,7 @@
 //! Renamed rules.
 ghost use Rattle.std.specs.Prelude.{◌≡◌, ◌++◌, IfOk, MatchOption, OnOk, true};
 ghost use Rattle.meta_base.specs.declared.grammar.Rule.TheVariants.{grammar_rules};
-ghost use Rattle.meta_syntax.specs.Parses.{TokensGive};
+ghost use Rattle.meta_syntax.specs.Parses.{AreTokensOf};
 ghost use Rattle.meta_syntax.specs.declared.entries.Entry.TheVariants.{End};
 ghost use Rattle.meta_symbols.specs.Renaming as spec;
 ghost use Rattle.meta_symbols.specs.Renaming.{IsRenaming};
@@ -67,7 +67,7 @@ fn rename_in(
     name: &str,
     new_name: &str,
 ) -> Result<Renaming, AllocError>
-    requires { TokensGive grammar_rules text.now entries.now }
+    requires { AreTokensOf grammar_rules text.now entries.now }
     ensures { IfOk result (IsRenaming text.now name.now new_name.now) }
 {
     let bytes = text.as_bytes();
@@ -154,7 +154,7 @@ fn has_errors(errors: Result<Vec<Error<Rule>>, Fault>) -> Result<bool, AllocErro
 /// Returns the starts and ends of a grammar's tokens, or none where a text is no grammar.
 fn entries_of(alloc: Global, text: &str) -> Result<Option<Vec<Entry>>, AllocError>
     ensures { IfOk result (λ found. MatchOption found (Unit {0})
-        (λ entries. TokensGive grammar_rules text.now entries.items)) }
+        (λ entries. AreTokensOf grammar_rules text.now entries.items)) }
 {
     match PestParser::tokens(alloc, Rule::grammar_rules, text) {
         Ok(entries) => Ok(Some(entries)),
