@@ -5,8 +5,8 @@ use Rattle.meta_positions.specs.declared.changes.Change.{Change}
 use Rattle.meta_positions.specs.declared.positions.Encoding.{Encoding}
 use Rattle.meta_positions.specs.declared.positions.Range.{Range}
 
--- a range of a text is replaced: before its start and after its end the text stays. A range whose end is before
--- its start is empty
+-- a range of a text is replaced: before its start and after its end the text stays. A range whose end is
+-- before its start is empty
 pub record IsReplaced (encoding : Encoding) (text : List ℕ) (range : Range) (inserted changed : List ℕ) : Type 0 where
   pub start : ℕ
   pub end : ℕ

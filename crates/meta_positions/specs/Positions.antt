@@ -23,13 +23,14 @@ after_byte encoding text k position =
     then record { line = position.line + 1; character = 0 }
     else record { line = position.line; character = position.character + units encoding (slice_index text k) }
 
--- the position of a byte: line and character 0 of the first one, and of another that after the byte before it
+-- the position of a byte: line and character 0 of the first one, and of another that after the byte before
+-- it
 abbrev pub position_at : Encoding → List ℕ → ℕ → Position
 position_at encoding text zero = record { line = 0; character = 0 }
 position_at encoding text (suc k) = after_byte encoding text k (position_at encoding text k)
 
--- a byte that a position can name, or the end: no byte within a character, and none between a carriage return
--- and a line feed
+-- a byte that a position can name, or the end: no byte within a character, and none between a carriage
+-- return and a line feed
 abbrev pub IsPlace : List ℕ → ℕ → Type 0
 IsPlace text k = IsCharBoundary text k × (slice_index text k ≡ 10 → slice_index text (k - 1) ≢ 13)
 
@@ -37,8 +38,8 @@ IsPlace text k = IsCharBoundary text k × (slice_index text k ≡ 10 → slice_i
 abbrev pub IsAtMost : Position → Position → Type 0
 IsAtMost p q = (p.line < q.line) ⊎ ((p.line ≡ q.line) × (p.character ≤ q.character))
 
--- a position names the last byte whose own position is at most as far: so a character past the end of its line
--- is the end of that line, and a line past the last one is the end of the text
+-- a position names the last byte whose own position is at most as far: so a character past the end of its
+-- line is the end of that line, and a line past the last one is the end of the text
 pub record IsOffset (encoding : Encoding) (text : List ℕ) (position : Position) (offset : ℕ) : Type 0 where
   pub place : IsPlace text offset
   pub reached : IsAtMost (position_at encoding text offset) position

@@ -58,8 +58,8 @@ impl<'t> PositionIndex<'t> {
         self.text
     }
 
-    /// Returns the position of an offset in bytes, in constant time; of one past the end of the text, that of the
-    /// end.
+    /// Returns the position of an offset in bytes, in constant time; of one past the end of the text, that
+    /// of the end.
     pub fn position_of(&self, offset: usize) -> Position
         ensures { result ≡ position_at (index_encoding self.now) (index_text self.now)
             (min offset (length (index_text self.now))) }

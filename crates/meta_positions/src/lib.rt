@@ -1,4 +1,5 @@
-//! Positions in a text by line and character, as the Language Server Protocol counts them, and changes of texts.
+//! Positions in a text by line and character, as the Language Server Protocol counts them, and changes of
+//! texts.
 #![tactic(auto)]
 
 mod changes;

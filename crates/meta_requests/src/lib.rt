@@ -1,4 +1,5 @@
-//! Messages of the Language Server Protocol, and the requests that are answered by the tokens of a text alone.
+//! Messages of the Language Server Protocol, and the requests that are answered by the tokens of a text
+//! alone.
 #![tactic(auto)]
 
 pub mod builtins;

@@ -1,15 +1,18 @@
-//! Code actions: the fixes of diagnostics.
+//! Code actions: the remedies of findings.
 use crate::diagnostics::diagnostic_value;
-use meta_diagnostics::{Diagnostic, Fix, Options, diagnose};
+use crate::findings::{Finding, findings_of};
+use crate::remedies::{Remedy, remedy_of};
 use meta_requests::context::Context;
 use meta_requests::messages::{Answer, ErrorCode};
 use meta_requests::params::lists_at;
 use meta_requests::values::{edit_value, workspace_edit_value};
-use meta_symbols::Extent;
 use serde_json::{Value, json};
 use std::alloc::{AllocError, Global};
 
-/// Returns the fixes of the diagnostics that a range touches.
+/// The most remedies that are answered at once.
+const MOST_ACTIONS: usize = 20;
+
+/// Returns the remedies of the findings that a range touches, at most 20.
 pub fn code_actions(
     alloc: Global,
     context: &Context<'_>,
@@ -22,10 +25,11 @@ pub fn code_actions(
     if !is_asked_for(params) {
         return Ok(Answer::Result(Value::Array(actions)));
     }
-    let diagnostics = diagnose(alloc, context.text, Options::default())?;
-    for diagnostic in &diagnostics {
-        if diagnostic.start <= extent.end && extent.start <= diagnostic.end {
-            push_action(alloc, context, diagnostic, &mut actions)?;
+    let findings = findings_of(alloc, context.text)?;
+    for finding in &findings {
+        let is_touched = finding.start <= extent.end && extent.start <= finding.end;
+        if is_touched && actions.len() < MOST_ACTIONS {
+            push_action(alloc, context, finding, &mut actions)?;
         }
     }
     Ok(Answer::Result(Value::Array(actions)))
@@ -36,39 +40,49 @@ fn is_asked_for(params: &Value) -> bool {
     params.pointer("/context/only").is_none() || lists_at(params, "/context/only", "quickfix")
 }
 
-/// Adds the fix of a diagnostic, where it has one.
+/// Adds the remedy of a finding, where it has one.
 fn push_action(
     alloc: Global,
     context: &Context<'_>,
-    diagnostic: &Diagnostic,
+    finding: &Finding,
     actions: &mut Vec<Value>,
 ) -> Result<(), AllocError> {
-    let Some(help) = &diagnostic.help else {
-        return Ok(());
-    };
-    let Some(fix) = &help.fix else {
-        return Ok(());
-    };
-    let edit = fix_value(alloc, context, fix)?;
-    let value = diagnostic_value(alloc, context.uri, &context.index, diagnostic)?;
-    let action = json!(in alloc; {
-        "title": &help.message,
+    if let Some(remedy) = remedy_of(alloc, context, finding)? {
+        actions.push(action_value(alloc, context, finding, &remedy)?)?;
+    }
+    Ok(())
+}
+
+/// Returns a remedy as a value.
+fn action_value(
+    alloc: Global,
+    context: &Context<'_>,
+    finding: &Finding,
+    remedy: &Remedy,
+) -> Result<Value, AllocError> {
+    let edit = remedy_value(alloc, context, remedy)?;
+    let value = diagnostic_value(alloc, &context.index, finding)?;
+    json!(in alloc; {
+        "title": &remedy.title,
         "kind": "quickfix",
         "isPreferred": true,
         "diagnostics": [value],
         "edit": edit,
-    })?;
-    actions.push(action)?;
-    Ok(())
+    })
 }
 
-/// Returns a fix as a value.
-fn fix_value(alloc: Global, context: &Context<'_>, fix: &Fix) -> Result<Value, AllocError> {
-    let extent = Extent {
-        start: fix.start,
-        end: fix.end,
-    };
+/// Returns the edit of a remedy as a value.
+fn remedy_value(
+    alloc: Global,
+    context: &Context<'_>,
+    remedy: &Remedy,
+) -> Result<Value, AllocError> {
     let mut edits = Vec::new(alloc);
-    edits.push(edit_value(alloc, &context.index, extent, fix.replacement.as_str())?)?;
+    edits.push(edit_value(
+        alloc,
+        &context.index,
+        remedy.extent,
+        remedy.replacement.as_str(),
+    )?)?;
     workspace_edit_value(alloc, context.uri, edits)
 }

@@ -1,5 +1,5 @@
 //! Diagnostics of a document.
-use meta_diagnostics::{Diagnostic, Options, Related, Severity, diagnose};
+use crate::findings::{Finding, findings_of};
 use meta_positions::{Encoding, PositionIndex};
 use meta_requests::documents::Document;
 use meta_requests::messages::notification;
@@ -16,9 +16,9 @@ pub fn publish(
     document: &Document,
 ) -> Result<String, AllocError> {
     let text = document.text.as_str();
-    let diagnostics = diagnose(alloc, text, Options::default())?;
+    let findings = findings_of(alloc, text)?;
     let index = PositionIndex::new(alloc, text, encoding)?;
-    let values = diagnostic_values(alloc, uri, &index, &diagnostics)?;
+    let values = diagnostic_values(alloc, &index, &findings)?;
     publication(alloc, uri, document.version, values)
 }
 
@@ -46,79 +46,36 @@ fn publication(
     notification(alloc, "textDocument/publishDiagnostics", params)
 }
 
-/// Returns diagnostics as values.
+/// Returns findings as values.
 fn diagnostic_values(
     alloc: Global,
-    uri: &str,
     index: &PositionIndex<'_>,
-    diagnostics: &[Diagnostic],
+    findings: &[Finding],
 ) -> Result<Vec<Value>, AllocError> {
     let mut values = Vec::new(alloc);
-    for diagnostic in diagnostics {
-        values.push(diagnostic_value(alloc, uri, index, diagnostic)?)?;
+    for finding in findings {
+        values.push(diagnostic_value(alloc, index, finding)?)?;
     }
     Ok(values)
 }
 
-/// Returns a diagnostic as a value.
+/// Returns a finding as a value.
 pub fn diagnostic_value(
     alloc: Global,
-    uri: &str,
     index: &PositionIndex<'_>,
-    diagnostic: &Diagnostic,
+    finding: &Finding,
 ) -> Result<Value, AllocError> {
     let extent = Extent {
-        start: diagnostic.start,
-        end: diagnostic.end,
+        start: finding.start,
+        end: finding.end,
     };
     let range = range_value(alloc, index, extent)?;
-    let message = message_of(alloc, diagnostic)?;
-    let related = related_values(alloc, uri, index, &diagnostic.related)?;
+    let severity = if finding.class.is_error() { 1u64 } else { 2u64 };
     json!(in alloc; {
         "range": range,
-        "severity": severity_number(diagnostic.severity),
-        "code": diagnostic.code.name(),
+        "severity": severity,
+        "code": finding.class.code(),
         "source": "pest",
-        "message": &message,
-        "relatedInformation": Value::Array(related),
+        "message": &finding.message,
     })
-}
-
-/// Returns the message of a diagnostic, with its help on a line of its own.
-fn message_of(alloc: Global, diagnostic: &Diagnostic) -> Result<String, AllocError> {
-    match &diagnostic.help {
-        Some(help) => format!(in alloc; "{}\nhelp: {}", diagnostic.message, help.message),
-        None => diagnostic.message.clone(),
-    }
-}
-
-/// Returns the protocol's number of a severity.
-fn severity_number(severity: Severity) -> u64 {
-    match severity {
-        Severity::Error => 1,
-        Severity::Warning => 2,
-    }
-}
-
-/// Returns the parts of the text that matter to a diagnostic as values.
-fn related_values(
-    alloc: Global,
-    uri: &str,
-    index: &PositionIndex<'_>,
-    related: &[Related],
-) -> Result<Vec<Value>, AllocError> {
-    let mut values = Vec::new(alloc);
-    for part in related {
-        let extent = Extent {
-            start: part.start,
-            end: part.end,
-        };
-        let range = range_value(alloc, index, extent)?;
-        let value = json!(in alloc; {
-            "location": { "uri": uri, "range": range },
-            "message": &part.message,
-        })?;
-        values.push(value)?;
-    }
-    Ok(values)
 }

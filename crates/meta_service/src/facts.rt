@@ -19,7 +19,8 @@ pub struct RuleFacts {
     pub first: String,
 }
 
-/// Returns what is known of the rule of a name; nothing where the text is no grammar, or there is no such rule.
+/// Returns what is known of the rule of a name; nothing where the text is no grammar, or there is no such
+/// rule.
 pub fn rule_facts(alloc: Global, text: &str, name: &str) -> Result<Option<RuleFacts>, AllocError> {
     match facts_in(alloc, text, name) {
         Ok(facts) => Ok(facts),

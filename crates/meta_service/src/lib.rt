@@ -5,8 +5,10 @@ mod actions;
 mod capabilities;
 mod diagnostics;
 mod facts;
+mod findings;
 mod formatting;
 mod hovers;
+mod remedies;
 mod server;
 
 pub use server::{Reply, Server};

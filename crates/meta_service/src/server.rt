@@ -73,8 +73,8 @@ impl Server {
         }
     }
 
-    /// Takes the body of a message, and returns the answer. A request is answered once, also where memory runs out;
-    /// the documents then stay as they are.
+    /// Takes the body of a message, and returns the answer. A request is answered once, also where memory
+    /// runs out; the documents then stay as they are.
     pub fn handle(&mut self, alloc: Global, body: &[u8]) -> Reply {
         match Value::from_slice(alloc, body) {
             Ok(message) => self.handle_message(alloc, &message),

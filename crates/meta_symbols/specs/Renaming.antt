@@ -51,7 +51,8 @@ renamed_between text name new (Start r i m) (End j n) =
     if is_place text name r i j then new else slice_range text i j
 renamed_between text name new e f = []
 
--- the tokens after an entry: where they start and end among one another, and the texts of those that hold no other
+-- the tokens after an entry: where they start and end among one another, and the texts of those that hold
+-- no other
 abbrev pub tokens_after : List ℕ → Entry → List Entry → List (Entry × List ℕ)
 tokens_after text e [] = []
 tokens_after text e (f ∷ es) = (unplaced f, text_between text e f) ∷ tokens_after text f es
@@ -68,8 +69,8 @@ pub record IsEdited (text name new : List ℕ) (entries : List Entry) (edited : 
   pub of_edited : AreTokensOf grammar_rules edited others
   pub tokens : tokens_after edited first others ≡ renamed_after text name new first entries
 
--- edits rename a rule: they are where its name is an identifier, and the edited text has the tokens of the text,
--- with the new name in place of the old one
+-- edits rename a rule: they are where its name is an identifier, and the edited text has the tokens of the
+-- text, with the new name in place of the old one
 pub record Renames (text name new : List ℕ) (edits : List Extent) : Type 0 where
   pub entries : List Entry
   pub of_text : AreTokensOf grammar_rules text entries

@@ -13,8 +13,9 @@ pub struct Edit {
     pub new: Extent,
 }
 
-/// Returns edits, in order and apart from one another, that make one text another one. Where both have the same tokens
-/// but for their white space, only the white space that differs is replaced; else all of the text.
+/// Returns edits, in order and apart from one another, that make one text another one. Where both have the
+/// same tokens but for their white space, only the white space that differs is replaced; else all of the
+/// text.
 pub fn edits_between(alloc: Global, text: &str, other: &str) -> Result<Vec<Edit>, AllocError>
     ensures { IfOk result (λ edits. Edits text.now other.now edits.items) }
 {

@@ -10,7 +10,8 @@ pub struct Fold {
     pub is_comment: bool,
 }
 
-/// Returns what can be folded: bodies, and comments. Whether a part has several lines is for the caller to see.
+/// Returns what can be folded: bodies, and comments. Whether a part has several lines is for the caller to
+/// see.
 pub fn folds_of(
     alloc: Global,
     tokens: &[Token],

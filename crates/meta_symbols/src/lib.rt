@@ -1,4 +1,5 @@
-//! The symbols of a grammar's text, which need not be accepted: tokens, definitions, occurrences, and renamed texts.
+//! The symbols of a grammar's text, which need not be accepted: tokens, definitions, occurrences, and
+//! renamed texts.
 #![tactic(auto)]
 
 mod edits;

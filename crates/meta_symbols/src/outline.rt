@@ -87,8 +87,8 @@ impl Definition {
     }
 }
 
-/// Returns the definitions of rules, by the tokens of a text: each name before a `=`. A definition ends with the brace
-/// that closes its body, or with the last token before the next definition.
+/// Returns the definitions of rules, by the tokens of a text: each name before a `=`. A definition ends
+/// with the brace that closes its body, or with the last token before the next definition.
 pub fn definitions_of(
     alloc: Global,
     text: &str,

@@ -45,8 +45,9 @@ pub enum Renaming {
     Refused(Refusal),
 }
 
-/// Renames a rule. The edits are where its name is an identifier of the grammar, in definitions and in calls. They are
-/// given out only where the edited text is a grammar with the same tokens, but for the new name.
+/// Renames a rule. The edits are where its name is an identifier of the grammar, in definitions and in
+/// calls. They are given out only where the edited text is a grammar with the same tokens, but for the new
+/// name.
 pub fn rename(alloc: Global, text: &str, name: &str, new_name: &str) -> Result<Renaming, AllocError>
     ensures { IfOk result (IsRenaming text.now name.now new_name.now) }
 {
@@ -326,7 +327,8 @@ fn is_same_entry(entry: Entry, other: Entry) -> bool
     }
 }
 
-/// Whether tokens that hold no others have the same text, or the old and the new name. The entries are neighbours.
+/// Whether tokens that hold no others have the same text, or the old and the new name. The entries are
+/// neighbours.
 fn is_renamed_between(
     text: &[u8],
     last: Entry,

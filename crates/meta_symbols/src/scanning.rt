@@ -68,8 +68,8 @@ fn is_line_end(byte: u8) -> bool {
     byte == b'\n' || byte == b'\r'
 }
 
-/// Returns the byte after the quote that closes a string, or the end of the line where there is none. A backslash
-/// escapes the byte after it.
+/// Returns the byte after the quote that closes a string, or the end of the line where there is none. A
+/// backslash escapes the byte after it.
 pub(crate) fn string_end(text: &[u8], start: usize) -> usize
     requires { start ≤ length text.now }
     ensures further { start ≤ result }
@@ -89,8 +89,8 @@ pub(crate) fn string_end(text: &[u8], start: usize) -> usize
     text.len()
 }
 
-/// Returns the byte after the quote that closes a character, or none where there is none in its line. A quote closes
-/// no character that is that quote itself, or escaped.
+/// Returns the byte after the quote that closes a character, or none where there is none in its line. A
+/// quote closes no character that is that quote itself, or escaped.
 pub(crate) fn character_end(text: &[u8], start: usize) -> Option<usize>
     requires { start ≤ length text.now }
     ensures further { ForSome result (λ end. start < end) }

@@ -6,8 +6,9 @@ use std::alloc::{AllocError, Global};
 /// The most brackets around an offset that are answered.
 const MOST_BRACKETS: usize = 60;
 
-/// Returns the parts of a text around an offset, from the innermost to the outermost, no two of them the same: the
-/// token, what is in brackets around it (the innermost 60), the body, the definition, and all of the text.
+/// Returns the parts of a text around an offset, from the innermost to the outermost, no two of them the
+/// same: the token, what is in brackets around it (the innermost 60), the body, the definition, and all of
+/// the text.
 pub fn selections_at(
     alloc: Global,
     text: &str,
@@ -96,7 +97,8 @@ fn push_brackets(
     Ok(())
 }
 
-/// Adds the innermost of the brackets that are open, which end at a byte. Whether no further one is asked for.
+/// Adds the innermost of the brackets that are open, which end at a byte. Whether no further one is asked
+/// for.
 fn push_bracket(
     open: &mut Vec<usize>,
     end: usize,

@@ -84,8 +84,8 @@ impl Token {
     }
 }
 
-/// Returns the tokens of a text, comments among them, in order and in linear time. What is no token of a grammar is
-/// one of the class `Sign` or `Unknown`.
+/// Returns the tokens of a text, comments among them, in order and in linear time. What is no token of a
+/// grammar is one of the class `Sign` or `Unknown`.
 pub fn tokens_of(alloc: Global, text: &str) -> Result<Vec<Token>, AllocError> {
     let bytes = text.as_bytes();
     let mut tokens = Vec::new(alloc);

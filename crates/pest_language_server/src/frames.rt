@@ -22,8 +22,9 @@ pub enum InputFrame {
     End,
 }
 
-/// Returns the length that a line of a head says. What is before the name is passed over: a body whose length was
-/// wrong, or the rest of one, has no line break at its end, so the next head's first line is joined to it.
+/// Returns the length that a line of a head says. What is before the name is passed over: a body whose
+/// length was wrong, or the rest of one, has no line break at its end, so the next head's first line is
+/// joined to it.
 fn content_length(line: &[u8]) -> Option<u64> {
     let text = str::from_utf8(line).ok()?;
     let (_, value) = text.rsplit_once("Content-Length:")?;

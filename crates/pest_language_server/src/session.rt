@@ -7,8 +7,8 @@ use std::io::{self, BufRead, Write};
 /// The status of a session that ends without `shutdown` and `exit`.
 const FAILED: u8 = 1;
 
-/// Answers frames up to the notification `exit`, the input's end, or a failed read or write. Returns the status with
-/// which the process is to end: 0 where `shutdown` and `exit` came, else 1.
+/// Answers frames up to the notification `exit`, the input's end, or a failed read or write. Returns the
+/// status with which the process is to end: 0 where `shutdown` and `exit` came, else 1.
 pub fn run<R: BufRead, W: Write>(alloc: Global, input: &mut R, out: &mut W) -> u8 {
     let mut server = Server::new(alloc);
     for _ in 0..u64::MAX {
