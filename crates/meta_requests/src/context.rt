@@ -1,4 +1,7 @@
 //! The document that a request is about.
+ghost use Rattle.std.specs.Prelude.{◌≡◌};
+ghost use Rattle.meta_positions.specs.Shown.{index_encoding, index_text};
+
 use crate::documents::{Document, Documents};
 use crate::params::{position_of, range_of, text_at};
 use meta_positions::{Encoding, PositionIndex, offset_of};
@@ -37,6 +40,8 @@ pub struct Context<'d> {
     pub tokens: Vec<Token>,
     pub definitions: Vec<Definition>,
     pub index: PositionIndex<'d>,
+    pub ghost indexed: { index_text index ≡ text.now },
+    pub ghost encoded: { index_encoding index ≡ client.encoding },
 }
 
 impl<'d> Context<'d> {

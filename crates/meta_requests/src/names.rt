@@ -1,4 +1,9 @@
 //! Definitions, references and renames.
+ghost use Rattle.std.specs.Prelude.{◌≡◌, ◌++◌, ◌∷◌, [], IfOk, OnOk, map};
+ghost use Rattle.meta_requests.specs.Answers.{AreDefinitions, IsRename, rename_data};
+ghost use Rattle.meta_requests.specs.Values.{edit_data};
+ghost use Rattle.serde_json.specs.View.{view};
+
 use crate::context::Context;
 use crate::messages::{Answer, ErrorCode};
 use crate::params::{is_true_at, text_at};
@@ -14,7 +19,9 @@ pub fn definition(
     alloc: Global,
     context: &Context<'_>,
     params: &Value,
-) -> Result<Answer, AllocError> {
+) -> Result<Answer, AllocError>
+    ensures { IfOk result (AreDefinitions context.now) }
+{
     let Some(name) = context.name(params) else {
         return Ok(Answer::Result(Value::Null));
     };
@@ -98,7 +105,9 @@ pub fn rename_rule(
     alloc: Global,
     context: &Context<'_>,
     params: &Value,
-) -> Result<Answer, AllocError> {
+) -> Result<Answer, AllocError>
+    ensures { IfOk result (IsRename context.now) }
+{
     let Some(new_name) = text_at(params, "/newName") else {
         return Ok(Answer::Error(ErrorCode::InvalidParams, "no new name"));
     };
@@ -113,7 +122,10 @@ pub fn rename_rule(
             ErrorCode::RequestFailed,
             reason_of(refusal),
         )),
-        Renaming::Edits(extents) => rename_edits(alloc, context, &extents, new_name),
+        Renaming::Edits(extents) => {
+            let value = rename_edits(alloc, context, &extents, new_name)?;
+            Ok(Answer::Result(value))
+        }
     }
 }
 
@@ -123,12 +135,32 @@ fn rename_edits(
     context: &Context<'_>,
     extents: &[Extent],
     new_name: &str,
-) -> Result<Answer, AllocError> {
+) -> Result<Value, AllocError>
+    ensures { IfOk result (λ v. view v ≡ rename_data context.now new_name.now extents.now) }
+{
     let mut edits = Vec::new(alloc);
-    for extent in extents {
-        edits.push(edit_value(alloc, &context.index, *extent, new_name)?)?;
+    let mut rest = extents;
+    while let Some((extent, after)) = rest.split_first() {
+        push_edit(alloc, context, *extent, new_name, &mut edits)?;
+        rest = after;
     }
-    Ok(Answer::Result(workspace_edit_value(alloc, context.uri, edits)?))
+    workspace_edit_value(alloc, context.uri, edits)
+}
+
+/// Adds the edit that writes a name at an extent.
+fn push_edit(
+    alloc: Global,
+    context: &Context<'_>,
+    extent: Extent,
+    new_name: &str,
+    edits: &mut Vec<Value>,
+) -> Result<(), AllocError>
+    ensures { OnOk result (map view edits.new.items ≡ map view edits.old.items
+        ++ edit_data context.now.client.encoding context.now.text.now new_name.now extent ∷ []) }
+{
+    let edit = edit_value(alloc, &context.index, extent, new_name)?;
+    edits.push(edit)?;
+    Ok(())
 }
 
 /// Returns why a rename is refused, in words.
