@@ -47,7 +47,7 @@ pub enum Incoming<'m> {
 }
 
 /// Returns the class of a message. The id of a request is a number, a text, or null.
-pub fn incoming(message: &Value) -> Incoming<'_> {
+pub fn classify(message: &Value) -> Incoming<'_> {
     if !message.is_object() {
         return Incoming::Invalid;
     }

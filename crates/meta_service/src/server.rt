@@ -8,7 +8,7 @@ use meta_positions::apply_changes;
 use meta_requests::completions::completions;
 use meta_requests::context::{Client, Context};
 use meta_requests::documents::{Document, Documents};
-use meta_requests::messages::{Answer, ErrorCode, Incoming, error_response, incoming, response};
+use meta_requests::messages::{Answer, ErrorCode, Incoming, classify, error_response, response};
 use meta_requests::names::{definition, highlights, prepare_rename, references, rename_rule};
 use meta_requests::params::{changes_of, text_at};
 use meta_requests::semantic::semantic_tokens;
@@ -112,7 +112,7 @@ impl Server {
     fn handle_message(&mut self, alloc: Global, message: &Value) -> Reply {
         let null = Value::Null;
         let params = message.get("params").unwrap_or(&null);
-        match incoming(message) {
+        match classify(message) {
             Incoming::Response => Reply::none(),
             Incoming::Invalid => Reply::of(error_response(
                 alloc,
