@@ -7,7 +7,7 @@ ghost use Rattle.serde_json.specs.View.{view};
 use crate::context::Context;
 use crate::messages::{Answer, ErrorCode};
 use crate::params::{is_true_at, text_at};
-use crate::values::{edit_value, locations_value, range_value, workspace_edit_value};
+use crate::values::{document_edit_value, locations_value, range_value, workspace_edit_value};
 use meta_symbols::{
     Definition, Extent, Refusal, Renaming, definitions_named, occurrences_of, rename,
 };
@@ -158,7 +158,7 @@ fn push_edit(
     ensures { OnOk result (map view edits.new.items ≡ map view edits.old.items
         ++ edit_data context.now.client.encoding context.now.text.now new_name.now extent ∷ []) }
 {
-    let edit = edit_value(alloc, &context.index, extent, new_name)?;
+    let edit = document_edit_value(alloc, context, extent, new_name)?;
     edits.push(edit)?;
     Ok(())
 }

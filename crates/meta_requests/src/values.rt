@@ -95,6 +95,19 @@ pub fn edit_value(
     json!(in alloc; { "range": range, "newText": replacement })
 }
 
+/// Returns the edit that replaces an extent of a document as a value.
+pub fn document_edit_value(
+    alloc: Global,
+    context: &Context<'_>,
+    extent: Extent,
+    replacement: &str,
+) -> Result<Value, AllocError>
+    ensures { IfOk result (λ v. view v ≡ spec.edit_data context.now.client.encoding
+        context.now.text.now replacement.now extent) }
+{
+    edit_value(alloc, &context.index, extent, replacement)
+}
+
 /// Returns the edits of one document as a value.
 pub fn workspace_edit_value(
     alloc: Global,
