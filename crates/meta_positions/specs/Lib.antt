@@ -1,0 +1,5 @@
+pub mod Changes
+pub mod Index
+pub mod Laws
+pub mod Positions
+pub mod Shown

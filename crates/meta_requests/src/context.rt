@@ -1,0 +1,109 @@
+//! The document that a request is about.
+ghost use Rattle.std.specs.Prelude.{◌≡◌};
+ghost use Rattle.meta_positions.specs.Shown.{index_encoding, index_text};
+
+use crate::documents::{Document, Documents};
+use crate::params::{position_of, range_of, text_at};
+use meta_positions::{Encoding, PositionIndex, offset_of};
+use meta_symbols::{Definition, Extent, Token, definitions_of, name_at, tokens_of};
+use serde_json::Value;
+use std::alloc::{AllocError, Global};
+
+/// What a client can show, as it said when it was initialized.
+#[derive(Clone, Copy, Debug)]
+pub struct Client {
+    /// The code units in which characters are counted.
+    pub encoding: Encoding,
+    pub has_snippets: bool,
+    pub has_markdown: bool,
+    pub has_nested_symbols: bool,
+}
+
+impl Default for Client {
+    /// A client that said nothing.
+    fn default() -> Client {
+        Client {
+            encoding: Encoding::Utf16,
+            has_snippets: false,
+            has_markdown: false,
+            has_nested_symbols: false,
+        }
+    }
+}
+
+/// A document that a request is about, with its tokens and definitions.
+#[derive(Drop)]
+pub struct Context<'d> {
+    pub uri: &'d str,
+    pub text: &'d str,
+    pub client: Client,
+    pub tokens: Vec<Token>,
+    pub definitions: Vec<Definition>,
+    pub index: PositionIndex<'d>,
+    pub ghost indexed: { index_text index ≡ text.now },
+    pub ghost encoded: { index_encoding index ≡ client.encoding },
+}
+
+impl<'d> Context<'d> {
+    /// Returns the context of a document.
+    pub fn new(
+        alloc: Global,
+        client: Client,
+        uri: &'d str,
+        document: &'d Document,
+    ) -> Result<Context<'d>, AllocError> {
+        let text = document.text.as_str();
+        let tokens = tokens_of(alloc, text)?;
+        let definitions = definitions_of(alloc, text, &tokens)?;
+        let index = PositionIndex::new(alloc, text, client.encoding)?;
+        Ok(Context {
+            uri,
+            text,
+            client,
+            tokens,
+            definitions,
+            index,
+        })
+    }
+
+    /// Returns the context of the document that parameters name, if it is open.
+    pub fn of_params(
+        alloc: Global,
+        client: Client,
+        documents: &'d Documents,
+        params: &'d Value,
+    ) -> Result<Option<Context<'d>>, AllocError> {
+        let Some(uri) = text_at(params, "/textDocument/uri") else {
+            return Ok(None);
+        };
+        let Some(document) = documents.get(uri) else {
+            return Ok(None);
+        };
+        Ok(Some(Context::new(alloc, client, uri, document)?))
+    }
+
+    /// Returns the offset of the position in parameters.
+    pub fn offset(&self, params: &Value) -> Option<usize> {
+        let position = position_of(params.get("position")?)?;
+        Some(offset_of(self.text, self.client.encoding, position))
+    }
+
+    /// Returns the bytes of the range in parameters.
+    pub fn extent(&self, params: &Value) -> Option<Extent> {
+        let range = range_of(params.get("range")?)?;
+        let start = offset_of(self.text, self.client.encoding, range.start);
+        let end = offset_of(self.text, self.client.encoding, range.end);
+        Some(Extent { start, end })
+    }
+
+    /// Returns the name at the position in parameters.
+    pub fn name(&self, params: &Value) -> Option<Extent> {
+        let offset = self.offset(params)?;
+        name_at(&self.tokens, offset)
+    }
+
+    /// Returns the text of an extent.
+    pub fn part(&self, extent: Extent) -> &'d str {
+        self.text.get(extent.start..extent.end).unwrap_or("")
+    }
+}

@@ -1,0 +1,179 @@
+//! Definitions, references and renames.
+ghost use Rattle.std.specs.Prelude.{◌≡◌, ◌++◌, ◌∷◌, [], IfOk, OnOk, map};
+ghost use Rattle.meta_requests.specs.Answers.{AreDefinitions, IsRename, rename_data};
+ghost use Rattle.meta_requests.specs.Values.{edit_data};
+ghost use Rattle.serde_json.specs.View.{view};
+
+use crate::context::Context;
+use crate::messages::{Answer, ErrorCode};
+use crate::params::{is_true_at, text_at};
+use crate::values::{document_edit_value, locations_value, range_value, workspace_edit_value};
+use meta_symbols::{
+    Definition, Extent, Refusal, Renaming, definitions_named, occurrences_of, rename,
+};
+use serde_json::{Value, json};
+use std::alloc::{AllocError, Global};
+
+/// Returns where the rule at a position is defined.
+pub fn definition(
+    alloc: Global,
+    context: &Context<'_>,
+    params: &Value,
+) -> Result<Answer, AllocError>
+    ensures { IfOk result (AreDefinitions context.now) }
+{
+    let Some(name) = context.name(params) else {
+        return Ok(Answer::Result(Value::Null));
+    };
+    let name = context.part(name);
+    let extents = definitions_named(alloc, context.text, &context.definitions, name)?;
+    Ok(Answer::Result(locations_value(alloc, context, &extents)?))
+}
+
+/// Returns where the rule at a position is called, and defined where the parameters ask for that.
+pub fn references(
+    alloc: Global,
+    context: &Context<'_>,
+    params: &Value,
+) -> Result<Answer, AllocError> {
+    let Some(name) = context.name(params) else {
+        return Ok(Answer::Result(Value::Null));
+    };
+    let mut extents = occurrences_of(alloc, context.text, &context.tokens, context.part(name))?;
+    if !is_true_at(params, "/context/includeDeclaration") {
+        let definitions = &context.definitions;
+        extents.retain(|extent| !is_definition(definitions, *extent));
+    }
+    Ok(Answer::Result(locations_value(alloc, context, &extents)?))
+}
+
+/// Whether a name is that of a definition.
+fn is_definition(definitions: &[Definition], extent: Extent) -> bool {
+    definitions
+        .binary_search_by_key(&extent.start, |definition| definition.name.start)
+        .is_ok()
+}
+
+/// Returns where the name at a position occurs.
+pub fn highlights(
+    alloc: Global,
+    context: &Context<'_>,
+    params: &Value,
+) -> Result<Answer, AllocError> {
+    let Some(name) = context.name(params) else {
+        return Ok(Answer::Result(Value::Null));
+    };
+    let extents = occurrences_of(alloc, context.text, &context.tokens, context.part(name))?;
+    let mut values = Vec::new(alloc);
+    for extent in &extents {
+        values.push(highlight(alloc, context, *extent)?)?;
+    }
+    Ok(Answer::Result(Value::Array(values)))
+}
+
+/// Returns a highlight: a write of a definition's name, a read of another.
+fn highlight(alloc: Global, context: &Context<'_>, extent: Extent) -> Result<Value, AllocError> {
+    let kind = if is_definition(&context.definitions, extent) {
+        3u64
+    } else {
+        2u64
+    };
+    let range = range_value(alloc, &context.index, extent)?;
+    json!(in alloc; { "range": range, "kind": kind })
+}
+
+/// Returns the range of the name at a position, if a rule of that name is defined.
+pub fn prepare_rename(
+    alloc: Global,
+    context: &Context<'_>,
+    params: &Value,
+) -> Result<Answer, AllocError> {
+    let Some(name) = context.name(params) else {
+        return Ok(Answer::Result(Value::Null));
+    };
+    let placeholder = context.part(name);
+    if definitions_named(alloc, context.text, &context.definitions, placeholder)?.is_empty() {
+        return Ok(Answer::Error(ErrorCode::RequestFailed, reason_of(Refusal::NoRule)));
+    }
+    let range = range_value(alloc, &context.index, name)?;
+    let value = json!(in alloc; { "range": range, "placeholder": placeholder })?;
+    Ok(Answer::Result(value))
+}
+
+/// Returns the edits that rename the rule at a position.
+pub fn rename_rule(
+    alloc: Global,
+    context: &Context<'_>,
+    params: &Value,
+) -> Result<Answer, AllocError>
+    ensures { IfOk result (IsRename context.now) }
+{
+    let Some(new_name) = text_at(params, "/newName") else {
+        return Ok(Answer::Error(ErrorCode::InvalidParams, "no new name"));
+    };
+    let Some(name) = context.name(params) else {
+        return Ok(Answer::Error(
+            ErrorCode::RequestFailed,
+            "there is no name at this position",
+        ));
+    };
+    match rename(alloc, context.text, context.part(name), new_name)? {
+        Renaming::Refused(refusal) => Ok(Answer::Error(
+            ErrorCode::RequestFailed,
+            reason_of(refusal),
+        )),
+        Renaming::Edits(extents) => {
+            let value = rename_edits(alloc, context, &extents, new_name)?;
+            Ok(Answer::Result(value))
+        }
+    }
+}
+
+/// Returns the edits that write a name at extents.
+fn rename_edits(
+    alloc: Global,
+    context: &Context<'_>,
+    extents: &[Extent],
+    new_name: &str,
+) -> Result<Value, AllocError>
+    ensures { IfOk result (λ v. view v ≡ rename_data context.now new_name.now extents.now) }
+{
+    let mut edits = Vec::new(alloc);
+    let mut rest = extents;
+    while let Some((extent, after)) = rest.split_first() {
+        push_edit(alloc, context, *extent, new_name, &mut edits)?;
+        rest = after;
+    }
+    workspace_edit_value(alloc, context.uri, edits)
+}
+
+/// Adds the edit that writes a name at an extent.
+fn push_edit(
+    alloc: Global,
+    context: &Context<'_>,
+    extent: Extent,
+    new_name: &str,
+    edits: &mut Vec<Value>,
+) -> Result<(), AllocError>
+    ensures { OnOk result (map view edits.new.items ≡ map view edits.old.items
+        ++ edit_data context.now.client.encoding context.now.text.now new_name.now extent ∷ []) }
+{
+    let edit = document_edit_value(alloc, context, extent, new_name)?;
+    edits.push(edit)?;
+    Ok(())
+}
+
+/// Returns why a rename is refused, in words.
+fn reason_of(refusal: Refusal) -> &'static str {
+    match refusal {
+        Refusal::NoRule => "no rule of this name is defined here",
+        Refusal::NoIdentifier => {
+            "a name consists of letters, digits and `_`, and does not begin with a digit"
+        }
+        Refusal::Keyword => "the new name is a keyword",
+        Refusal::Builtin => "the new name is that of a builtin",
+        Refusal::Taken => "the new name is taken",
+        Refusal::NoGrammar => "the grammar has a syntax error",
+        Refusal::OtherTokens => "the grammar would mean something else",
+    }
+}

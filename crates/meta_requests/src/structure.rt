@@ -1,0 +1,190 @@
+//! Symbols, folds and selections.
+use crate::context::{Client, Context};
+use crate::documents::Documents;
+use crate::messages::{Answer, ErrorCode};
+use crate::params::position_of;
+use crate::values::{location_value, range_value};
+use meta_positions::offset_of;
+use meta_symbols::{Definition, Extent, Fold, folds_of, selections_at};
+use serde_json::{Value, json};
+use std::alloc::{AllocError, Global};
+
+/// The protocol's number of a function, as which rules are shown.
+const FUNCTION: u64 = 12;
+
+/// Returns the rules of a document.
+pub fn document_symbols(alloc: Global, context: &Context<'_>) -> Result<Answer, AllocError> {
+    let mut symbols = Vec::new(alloc);
+    for definition in &context.definitions {
+        let symbol = if context.client.has_nested_symbols {
+            nested_symbol(alloc, context, definition)?
+        } else {
+            flat_symbol(alloc, context, definition)?
+        };
+        symbols.push(symbol)?;
+    }
+    Ok(Answer::Result(Value::Array(symbols)))
+}
+
+/// Returns a rule as a `DocumentSymbol`.
+fn nested_symbol(
+    alloc: Global,
+    context: &Context<'_>,
+    definition: &Definition,
+) -> Result<Value, AllocError> {
+    let range = range_value(alloc, &context.index, definition.whole)?;
+    let selection = range_value(alloc, &context.index, definition.name)?;
+    json!(in alloc; {
+        "name": context.part(definition.name),
+        "detail": modifier_name(definition.modifier),
+        "kind": FUNCTION,
+        "range": range,
+        "selectionRange": selection,
+    })
+}
+
+/// Returns a rule as a `SymbolInformation`.
+fn flat_symbol(
+    alloc: Global,
+    context: &Context<'_>,
+    definition: &Definition,
+) -> Result<Value, AllocError> {
+    let location = location_value(alloc, context, definition.name)?;
+    json!(in alloc; {
+        "name": context.part(definition.name),
+        "kind": FUNCTION,
+        "location": location,
+    })
+}
+
+/// Returns what a modifier means.
+pub fn modifier_name(modifier: Option<u8>) -> &'static str {
+    match modifier {
+        Some(b'_') => "silent",
+        Some(b'@') => "atomic",
+        Some(b'$') => "compound-atomic",
+        Some(b'!') => "non-atomic",
+        _ => "",
+    }
+}
+
+/// Returns the rules of all documents whose names contain a text, up to the case of ASCII letters.
+pub fn workspace_symbols(
+    alloc: Global,
+    client: Client,
+    documents: &Documents,
+    query: &str,
+) -> Result<Answer, AllocError> {
+    let mut symbols = Vec::new(alloc);
+    for (uri, document) in documents.all() {
+        let context = Context::new(alloc, client, uri.as_str(), document)?;
+        push_symbols(alloc, &context, query, &mut symbols)?;
+    }
+    Ok(Answer::Result(Value::Array(symbols)))
+}
+
+/// Adds the rules of a document whose names contain a text.
+fn push_symbols(
+    alloc: Global,
+    context: &Context<'_>,
+    query: &str,
+    symbols: &mut Vec<Value>,
+) -> Result<(), AllocError> {
+    for definition in &context.definitions {
+        if contains(context.part(definition.name), query) {
+            symbols.push(flat_symbol(alloc, context, definition)?)?;
+        }
+    }
+    Ok(())
+}
+
+/// Whether a name contains a text, up to the case of ASCII letters.
+fn contains(name: &str, query: &str) -> bool {
+    query.is_empty()
+        || name
+            .as_bytes()
+            .windows(query.len())
+            .any(|window| window.eq_ignore_ascii_case(query.as_bytes()))
+}
+
+/// Returns what can be folded in a document.
+pub fn folding_ranges(alloc: Global, context: &Context<'_>) -> Result<Answer, AllocError> {
+    let folds = folds_of(alloc, &context.tokens, &context.definitions)?;
+    let mut values = Vec::new(alloc);
+    for fold in &folds {
+        push_fold(alloc, context, fold, &mut values)?;
+    }
+    Ok(Answer::Result(Value::Array(values)))
+}
+
+/// Adds a fold, if it has several lines. Of a body the line with the closing brace stays.
+fn push_fold(
+    alloc: Global,
+    context: &Context<'_>,
+    fold: &Fold,
+    values: &mut Vec<Value>,
+) -> Result<(), AllocError> {
+    let start = context.index.position_of(fold.extent.start).line;
+    let last = context.index.position_of(fold.extent.end).line;
+    let end = if fold.is_comment {
+        last
+    } else {
+        last.saturating_sub(1)
+    };
+    if end <= start {
+        return Ok(());
+    }
+    let value = json!(in alloc; {
+        "startLine": start as u64,
+        "endLine": end as u64,
+        "kind": if fold.is_comment { "comment" } else { "region" },
+    })?;
+    values.push(value)?;
+    Ok(())
+}
+
+/// Returns the parts of a document around each of the positions in parameters.
+pub fn selection_ranges(
+    alloc: Global,
+    context: &Context<'_>,
+    params: &Value,
+) -> Result<Answer, AllocError> {
+    let Some(positions) = params.get("positions").and_then(Value::as_array) else {
+        return Ok(Answer::Error(ErrorCode::InvalidParams, "no positions"));
+    };
+    let mut values = Vec::new(alloc);
+    for position in positions {
+        let Some(position) = position_of(position) else {
+            return Ok(Answer::Error(ErrorCode::InvalidParams, "no position"));
+        };
+        let offset = offset_of(context.text, context.client.encoding, position);
+        values.push(selection_value(alloc, context, offset)?)?;
+    }
+    Ok(Answer::Result(Value::Array(values)))
+}
+
+/// Returns the parts of a document around an offset, each with the next larger one.
+fn selection_value(
+    alloc: Global,
+    context: &Context<'_>,
+    offset: usize,
+) -> Result<Value, AllocError> {
+    let mut extents = selections_at(
+        alloc,
+        context.text,
+        &context.tokens,
+        &context.definitions,
+        offset,
+    )?;
+    let all = Extent {
+        start: 0,
+        end: context.text.len(),
+    };
+    let range = range_value(alloc, &context.index, extents.pop().unwrap_or(all))?;
+    let mut value = json!(in alloc; { "range": range })?;
+    for extent in extents.iter().rev() {
+        let range = range_value(alloc, &context.index, *extent)?;
+        value = json!(in alloc; { "range": range, "parent": value })?;
+    }
+    Ok(value)
+}

@@ -1,0 +1,5 @@
+pub mod Edits
+pub mod Laws
+pub mod Occurrences
+pub mod Parts
+pub mod Renaming

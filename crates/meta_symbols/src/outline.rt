@@ -1,0 +1,186 @@
+//! The definitions of rules in a text.
+ghost use Rattle.std.specs.Prelude.{◌≡◌, ◌++◌, IfOk, OnOk, bytes_eq};
+ghost use Rattle.meta_symbols.specs.Occurrences as spec;
+ghost use Rattle.meta_symbols.specs.Parts as parts;
+
+use crate::parts::part;
+use crate::tokens::{Extent, Token, TokenClass};
+use std::alloc::{AllocError, Global};
+
+/// A definition of a rule.
+#[derive(Clone, Copy, Debug)]
+pub struct Definition {
+    /// Its name.
+    pub name: Extent,
+    /// The definition, from its doc comment or its name to its closing brace, or up to the next definition.
+    pub whole: Extent,
+    /// Its body with the braces, where it has one.
+    pub body: Option<Extent>,
+    /// The byte of its modifier, where it has one.
+    pub modifier: Option<u8>,
+    /// Whether its closing brace is reached.
+    is_closed: bool,
+}
+
+impl Definition {
+    /// Returns a definition of which the name is read, with the byte at which its doc comment begins.
+    fn new(name: Token, start: usize) -> Definition {
+        Definition {
+            name: name.extent(),
+            whole: Extent {
+                start,
+                end: name.end,
+            },
+            body: None,
+            modifier: None,
+            is_closed: false,
+        }
+    }
+
+    /// Adds a token. Returns how many braces are open after it.
+    fn extend(&mut self, text: &[u8], token: Token, depth: usize) -> usize {
+        if self.is_closed {
+            return 0;
+        }
+        self.whole.end = token.end;
+        let Some(body) = self.body else {
+            return self.begin_body(text, token);
+        };
+        self.extend_body(body.start, token, depth)
+    }
+
+    /// Adds a token before the body. Returns how many braces are open after it.
+    fn begin_body(&mut self, text: &[u8], token: Token) -> usize {
+        if token.is_sign(b'{') {
+            self.body = Some(token.extent());
+            return 1;
+        }
+        self.set_modifier(text, token);
+        0
+    }
+
+    /// Takes a modifier, if the token is one.
+    fn set_modifier(&mut self, text: &[u8], token: Token) {
+        if let Some(byte) = text.get(token.start) {
+            if matches!(byte, b'_' | b'@' | b'$' | b'!')
+                && token.end == token.start.saturating_add(1)
+            {
+                self.modifier = Some(*byte);
+            }
+        }
+    }
+
+    /// Adds a token to the body. Returns how many braces are open after it.
+    fn extend_body(&mut self, start: usize, token: Token, depth: usize) -> usize {
+        self.body = Some(Extent {
+            start,
+            end: token.end,
+        });
+        if token.is_sign(b'{') {
+            return depth.saturating_add(1);
+        }
+        if token.is_sign(b'}') {
+            self.is_closed = depth <= 1;
+            return depth.saturating_sub(1);
+        }
+        depth
+    }
+}
+
+/// Returns the definitions of rules, by the tokens of a text: each name before a `=`. A definition ends
+/// with the brace that closes its body, or with the last token before the next definition.
+pub fn definitions_of(
+    alloc: Global,
+    text: &str,
+    tokens: &[Token],
+) -> Result<Vec<Definition>, AllocError> {
+    let mut definitions = Vec::new(alloc);
+    let mut depth = 0;
+    let mut doc = None;
+    for (i, token) in tokens.iter().enumerate() {
+        let start = doc.unwrap_or(token.start);
+        doc = doc_after(*token, doc);
+        if token.is_comment() {
+            continue;
+        }
+        if is_definition(tokens, i) {
+            definitions.push(Definition::new(*token, start))?;
+            depth = 0;
+        } else {
+            depth = extend_last(&mut definitions, text, *token, depth);
+        }
+    }
+    Ok(definitions)
+}
+
+/// Returns where the doc comments begin that end before the next token.
+fn doc_after(token: Token, doc: Option<usize>) -> Option<usize> {
+    match token.class {
+        TokenClass::Doc => Some(doc.unwrap_or(token.start)),
+        TokenClass::Comment => doc,
+        _ => None,
+    }
+}
+
+/// Adds a token to the last definition, where there is one. Returns how many braces are open after it.
+fn extend_last(definitions: &mut Vec<Definition>, text: &str, token: Token, depth: usize) -> usize {
+    match definitions.last_mut() {
+        Some(definition) => definition.extend(text.as_bytes(), token, depth),
+        None => 0,
+    }
+}
+
+/// Whether the token at an index is a name before a `=`.
+fn is_definition(tokens: &[Token], index: usize) -> bool {
+    let Some((token, after)) = tokens.get(index..).and_then(|rest| rest.split_first()) else {
+        return false;
+    };
+    if token.class != TokenClass::Name {
+        return false;
+    }
+    match after.iter().find(|next| !next.is_comment()) {
+        Some(next) => next.is_sign(b'='),
+        None => false,
+    }
+}
+
+/// Returns the names of the definitions of this name.
+pub fn definitions_named(
+    alloc: Global,
+    text: &str,
+    definitions: &[Definition],
+    name: &str,
+) -> Result<Vec<Extent>, AllocError>
+    ensures { IfOk result (λ found. found.items ≡ spec.names_of text.now name.now definitions.now) }
+{
+    let mut found = Vec::new(alloc);
+    let mut rest = definitions;
+    while let Some((definition, after)) = rest.split_first() {
+        push_name(text, definition.name, name, &mut found)?;
+        rest = after;
+    }
+    Ok(found)
+}
+
+/// Adds the bytes of a definition's name, if it is this one.
+fn push_name(
+    text: &str,
+    extent: Extent,
+    name: &str,
+    found: &mut Vec<Extent>,
+) -> Result<(), AllocError>
+    ensures { OnOk result
+        (found.new.items ≡ found.old.items ++ spec.extent_named text.now name.now extent) }
+{
+    if is_named(text, extent, name) {
+        found.push(extent)?;
+    }
+    Ok(())
+}
+
+/// Whether these bytes of a text are a name.
+pub(crate) fn is_named(text: &str, extent: Extent, name: &str) -> bool
+    ensures { result ≡ bytes_eq (parts.part text.now extent) name.now }
+{
+    part(text.as_bytes(), extent.start, extent.end) == name.as_bytes()
+}
