@@ -11,6 +11,11 @@ is_blank c = c == 32 || (c == 9 || c == 13)
 abbrev pub is_white : ℕ → Bool
 is_white c = is_blank c || c == 10
 
+-- blanks and line feeds alone
+abbrev pub is_all_white : List ℕ → Bool
+is_all_white [] = true
+is_all_white (c ∷ cs) = is_white c && is_all_white cs
+
 abbrev pub begins_with_line_feed : List ℕ → Bool
 begins_with_line_feed [] = false
 begins_with_line_feed (c ∷ cs) = c == 10

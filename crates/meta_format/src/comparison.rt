@@ -6,7 +6,7 @@ ghost use Rattle.meta_format.specs.Formatting.{EndsOnce};
 ghost use Rattle.meta_format.specs.Tokens as token;
 ghost use Rattle.meta_syntax.specs.declared.entries.Entry.TheVariants.{End};
 
-use crate::contents::{comments_of, has_blank_end, trim_lines};
+use crate::contents::{comments_of, has_blank_end, is_all_white, trim_lines};
 use meta_base::derived::equality_of_rules;
 use meta_base::grammar::Rule;
 use meta_syntax::entries::Entry;
@@ -101,11 +101,12 @@ fn is_same_line(alloc: Global, text: &[u8], other: &[u8]) -> Result<bool, AllocE
 }
 
 /// Returns whether two gaps have the same comments.
+#[tactic(auto, using(crate::proofs::WhiteGaps::same_white))]
 fn is_same_gap(alloc: Global, gap: &[u8], other: &[u8]) -> Result<bool, AllocError>
     ensures { IfOk result (λ same. same ≡ true
         → comment.comments_of gap.now ≡ comment.comments_of other.now) }
 {
-    if gap == other {
+    if gap == other || (is_all_white(gap) && is_all_white(other)) {
         return Ok(true);
     }
     let comments = comments_of(alloc, gap)?;

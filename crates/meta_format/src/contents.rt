@@ -1,5 +1,5 @@
 //! The comments of a gap, the text between two tokens, found by an automaton.
-ghost use Rattle.std.specs.Prelude.{◌≡◌, IfOk, false, reverse};
+ghost use Rattle.std.specs.Prelude.{◌≡◌, IfOk, false, reverse, true};
 ghost use Rattle.meta_format.specs.Comments as spec;
 
 use std::alloc::{AllocError, Global};
@@ -106,6 +106,20 @@ fn is_kept(place: GapState, byte: u8) -> bool
         GapState::Outside => !(is_blank(byte) || byte == b'\n'),
         _ => true,
     }
+}
+
+/// Returns whether a gap is of blanks and line feeds alone.
+pub fn is_all_white(gap: &[u8]) -> bool
+    ensures { result ≡ true → spec.is_all_white gap.now ≡ true }
+{
+    let mut rest = gap;
+    while let Some((byte, after)) = rest.split_first() {
+        if !(is_blank(*byte) || *byte == b'\n') {
+            return false;
+        }
+        rest = after;
+    }
+    true
 }
 
 /// Returns the lines of a piece before a line end, without the blanks at their ends, in reverse.
