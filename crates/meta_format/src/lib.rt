@@ -114,7 +114,18 @@ fn line_end_of(text: &str, line_ends: LineEnds) -> &'static str {
     }
 }
 
-/// Returns whether a text is the formatted text of a grammar with these tokens.
+/// Returns whether the text of a grammar with these tokens may stay as it is.
+#[tactic(auto, using(crate::proofs::Unchanged::its_own))]
+fn is_its_own(text: &str, entries: &[Entry], line_ends: LineEnds) -> bool
+    requires { AreTokens text.now entries.now }
+    ensures { result ≡ true → IsFormatted line_ends text.now text.now }
+{
+    let bytes = text.as_bytes();
+    has_lines(bytes, entries, line_ends) && ends_once(bytes)
+}
+
+/// Returns whether a text is the formatted text of a grammar with these tokens. An equal text is not read
+/// again.
 fn is_formatted(
     alloc: Global,
     text: &str,
@@ -125,6 +136,9 @@ fn is_formatted(
     requires { AreTokens text.now entries.now }
     ensures { IfOk result (λ answer. answer ≡ true → IsFormatted line_ends text.now candidate.now) }
 {
+    if candidate == text {
+        return Ok(is_its_own(text, entries, line_ends));
+    }
     let others = match PestParser::tokens(alloc, Rule::grammar_rules, candidate) {
         Ok(others) => others,
         Err(Fault::Grammar(_)) => return Ok(false),
