@@ -1,8 +1,9 @@
 //! The work on the text of a file.
-ghost use Rattle.std.specs.Prelude.{◌≡◌, ◌≢◌, IfNone, IfOk, IfSome, false, string_bytes};
-ghost use Rattle.meta_format.specs.Formatting.{IsFormatted};
+ghost use Rattle.std.specs.Prelude.{◌≡◌, ◌≢◌, IfOk, false, string_bytes};
 ghost use Rattle.std.specs.Io.KnownBytes.{Appends};
-ghost use Rattle.pest_fmt.specs.Processing.{IsReplacement, PrintsFormatted};
+ghost use Rattle.std.specs.String.{String as Text};
+ghost use Rattle.meta_format.specs.Formatting.{IsFormatted};
+ghost use Rattle.pest_fmt.specs.Processing.{PrintsFormatted};
 
 use crate::arguments::{Delivery, Target};
 use crate::diff::diff;
@@ -23,21 +24,11 @@ pub struct TextFile<'f> {
 
 /// The end of the work on a text.
 #[derive(Drop)]
-pub struct Processed {
-    pub status: Status,
-    /// The text to replace the file's one by.
-    pub replacement: Option<String>,
-}
-
-/// Returns the end of the work on a text that replaces no file.
-fn finish(status: Status) -> Processed
-    ensures status { result.status ≡ status }
-    ensures replacement { IfSome result.replacement (λ text. ⊥) }
-{
-    Processed {
-        status,
-        replacement: None,
-    }
+pub enum Processed {
+    /// The work on the file is done.
+    Ended(Status),
+    /// The file is to be replaced by this text.
+    Replacement(String),
 }
 
 /// Formats the text of a file. Prints the formatted text or the difference to `out`, as the delivery asks, or
@@ -51,21 +42,32 @@ pub fn process<W: Write, E: Write>(
     out: &mut Output<W>,
     err: &mut Output<E>,
 ) -> Result<Processed, AllocError>
-    ensures checked { IfOk result (λ end. delivery.target ≡ Target.Difference → end.status ≡ Status.Done
+    ensures checked { IfOk result (λ end. delivery.target ≡ Target.Difference
+        → end ≡ Processed.Ended Status.Done
         → IsFormatted options.line_ends file.entry.text.now file.entry.text.now × (out.new ≡ out.old)) }
     ensures printed { IfOk result (λ end. delivery.target ≡ Target.Output → delivery.is_to_terminal ≡ false
-        → end.status ≡ Status.Done
+        → end ≡ Processed.Ended Status.Done
         → PrintsFormatted options.line_ends file.entry.text.now
         (W.contents out.old.writer) (W.contents out.new.writer)) }
-    ensures replaced { IfOk result (λ end. IfSome end.replacement (λ text.
-        IsReplacement options.line_ends delivery.target file.entry.text.now (string_bytes text))) }
-    ensures kept { IfOk result (λ end. delivery.target ≡ Target.File → end.status ≡ Status.Done
-        → IfNone end.replacement (IsFormatted options.line_ends file.entry.text.now file.entry.text.now)) }
+    ensures kept { IfOk result (λ end. delivery.target ≡ Target.File → end ≡ Processed.Ended Status.Done
+        → IsFormatted options.line_ends file.entry.text.now file.entry.text.now) }
+    ensures replaced { IfOk result (λ end. (text : Text) → end ≡ Processed.Replacement text
+        → (delivery.target ≡ Target.File)
+        × IsFormatted options.line_ends file.entry.text.now (string_bytes text)) }
     ensures unprinted { delivery.target ≡ Target.File → out.new ≡ out.old }
 {
     match outcome_of(alloc, file.text, options)? {
-        FileChange::Same => keep(alloc, file.text, delivery, out),
-        FileChange::Changed(formatted) => deliver(alloc, file, formatted, delivery, out),
+        FileChange::Same => match delivery.target {
+            Target::Output => print(alloc, file.text, delivery, out),
+            Target::File | Target::Difference => Ok(Processed::Ended(Status::Done)),
+        },
+        FileChange::Changed(formatted) => match delivery.target {
+            Target::File => Ok(Processed::Replacement(formatted)),
+            Target::Output => print(alloc, formatted.as_str(), delivery, out),
+            Target::Difference => {
+                print_difference(alloc, file, formatted.as_str(), delivery, out)
+            }
+        },
         FileChange::LeftAlone => {
             let message = cannot_format(alloc, file.name)?;
             Ok(report(message.as_str(), err))
@@ -79,66 +81,28 @@ pub fn process<W: Write, E: Write>(
 
 /// Writes the reason why a text is left alone.
 fn report<E: Write>(message: &str, err: &mut Output<E>) -> Processed
-    ensures status { result.status ≡ Status.Found }
-    ensures replacement { IfSome result.replacement (λ text. ⊥) }
+    ensures { result ≡ Processed.Ended Status.Found }
 {
     let _ = err.write_text(message);
-    finish(Status::Found)
+    Processed::Ended(Status::Found)
 }
 
-/// Delivers a text that is formatted already.
-fn keep<W: Write>(
-    alloc: Global,
-    text: &str,
-    delivery: Delivery,
-    out: &mut Output<W>,
-) -> Result<Processed, AllocError>
-    ensures replacement { IfOk result (λ end. IfSome end.replacement (λ text. ⊥)) }
-    ensures printed { IfOk result (λ end. delivery.target ≡ Target.Output → delivery.is_to_terminal ≡ false
-        → end.status ≡ Status.Done
-        → Appends (W.contents out.old.writer) (W.contents out.new.writer) text.now) }
-    ensures checked { delivery.target ≡ Target.Difference → out.new ≡ out.old }
-    ensures unprinted { delivery.target ≡ Target.File → out.new ≡ out.old }
-{
-    let status = match delivery.target {
-        Target::Output => print(alloc, text, delivery, out)?,
-        Target::File | Target::Difference => Status::Done,
-    };
-    Ok(finish(status))
-}
-
-/// Delivers a formatted text that differs from the file's one.
-fn deliver<W: Write>(
+/// Prints the difference of a file's text and its formatted one.
+fn print_difference<W: Write>(
     alloc: Global,
     file: TextFile<'_>,
-    formatted: String,
+    formatted: &str,
     delivery: Delivery,
     out: &mut Output<W>,
 ) -> Result<Processed, AllocError>
-    ensures replaced { IfOk result (λ end. IfSome end.replacement (λ text.
-        (delivery.target ≡ Target.File) × (text ≡ formatted))) }
-    ensures printed { IfOk result (λ end. delivery.target ≡ Target.Output → delivery.is_to_terminal ≡ false
-        → end.status ≡ Status.Done
-        → Appends (W.contents out.old.writer) (W.contents out.new.writer) (string_bytes formatted)) }
-    ensures differs { IfOk result (λ end. delivery.target ≡ Target.Difference → end.status ≢ Status.Done) }
-    ensures kept { IfOk result (λ end. delivery.target ≡ Target.File → IfNone end.replacement ⊥) }
-    ensures unprinted { delivery.target ≡ Target.File → out.new ≡ out.old }
+    ensures differs { IfOk result (λ end. end ≢ Processed.Ended Status.Done) }
+    ensures ended { IfOk result (λ end. (text : Text) → end ≢ Processed.Replacement text) }
 {
-    match delivery.target {
-        Target::File => Ok(Processed {
-            status: Status::Done,
-            replacement: Some(formatted),
-        }),
-        Target::Output => {
-            let status = print(alloc, formatted.as_str(), delivery, out)?;
-            Ok(finish(status))
-        }
-        Target::Difference => {
-            let name = escape(alloc, file.name)?;
-            let changes = diff(alloc, name.as_str(), file.text, formatted.as_str())?;
-            let status = print(alloc, changes.as_str(), delivery, out)?;
-            Ok(finish(status.worse(Status::Found)))
-        }
+    let name = escape(alloc, file.name)?;
+    let changes = diff(alloc, name.as_str(), file.text, formatted)?;
+    match print(alloc, changes.as_str(), delivery, out)? {
+        Processed::Ended(Status::Done) => Ok(Processed::Ended(Status::Found)),
+        _ => Ok(Processed::Ended(Status::Unwritable)),
     }
 }
 
@@ -148,9 +112,11 @@ fn print<W: Write>(
     text: &str,
     delivery: Delivery,
     out: &mut Output<W>,
-) -> Result<Status, AllocError>
-    ensures { IfOk result (λ status. delivery.is_to_terminal ≡ false → status ≡ Status.Done
+) -> Result<Processed, AllocError>
+    ensures printed { IfOk result (λ end. delivery.is_to_terminal ≡ false
+        → end ≡ Processed.Ended Status.Done
         → Appends (W.contents out.old.writer) (W.contents out.new.writer) text.now) }
+    ensures ended { IfOk result (λ end. (text : Text) → end ≢ Processed.Replacement text) }
 {
     let written = if delivery.is_to_terminal {
         let shown = escape_lines(alloc, text)?;
@@ -159,7 +125,7 @@ fn print<W: Write>(
         out.write_text(text)
     };
     match written {
-        Ok(()) => Ok(Status::Done),
-        Err(_) => Ok(Status::Unwritable),
+        Ok(()) => Ok(Processed::Ended(Status::Done)),
+        Err(_) => Ok(Processed::Ended(Status::Unwritable)),
     }
 }

@@ -64,13 +64,9 @@ fn format_file(
     let mut out = Output::new(rt.stdout());
     let mut err = Output::new(rt.stderr());
     let file = TextFile { name, text };
-    let Processed {
-        status,
-        replacement,
-    } = process(alloc, file, delivery, options, &mut out, &mut err)?;
-    match replacement {
-        Some(formatted) => put_back(rt, name, formatted.as_str()),
-        None => Ok(status),
+    match process(alloc, file, delivery, options, &mut out, &mut err)? {
+        Processed::Ended(status) => Ok(status),
+        Processed::Replacement(formatted) => put_back(rt, name, formatted.as_str()),
     }
 }
 
