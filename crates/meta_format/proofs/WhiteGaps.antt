@@ -1,9 +1,9 @@
 -- A gap of white space alone has no comments.
 use Rattle.std.proofs.Common.{◌≡◌, refl, ◌∙◌, ℕ, ◌+◌, ◌++◌, ◌==◌, ◌&&◌, ◌||◌, List, [], ◌∷◌, Bool, true, false, arith}
-use Rattle.meta_format.specs.Comments.{is_blank, is_white, is_all_white, begins_with_line_feed, with_byte, trimmed, trimmed_line, kept_from, comments_of}
+use Rattle.meta_format.specs.Comments.{is_blank, is_white, is_all_white, begins_with_line_feed, with_byte, trimmed, trimmed_line, marked, kept_from, comments_of}
 use Rattle.meta_format.specs.declared.contents.GapState.TheVariants.{Outside}
 
-skips : (c : ℕ) (cs : List ℕ) → is_white c ≡ true → kept_from Outside (with_byte c cs) ≡ kept_from Outside cs
+skips : (c : ℕ) (cs : List ℕ) → is_white c ≡ true → kept_from Outside (marked (with_byte c cs)) ≡ kept_from Outside (marked cs)
 skips c cs h = grind (arith, h)
 
 split : (a b : Bool) → (a && b) ≡ true → (a ≡ true) × (b ≡ true)
