@@ -100,13 +100,23 @@ fn is_same_line(alloc: Global, text: &[u8], other: &[u8]) -> Result<bool, AllocE
     Ok(line.as_slice() == other_line.as_slice())
 }
 
-/// Returns whether two gaps have the same comments.
+/// Returns whether two gaps are white space alone.
 #[tactic(auto, using(crate::proofs::WhiteGaps::same_white))]
+fn are_white(gap: &[u8], other: &[u8]) -> bool
+    ensures { result ≡ true → comment.comments_of gap.now ≡ comment.comments_of other.now }
+{
+    is_all_white(gap) && is_all_white(other)
+}
+
+/// Returns whether two gaps have the same comments.
 fn is_same_gap(alloc: Global, gap: &[u8], other: &[u8]) -> Result<bool, AllocError>
     ensures { IfOk result (λ same. same ≡ true
         → comment.comments_of gap.now ≡ comment.comments_of other.now) }
 {
-    if gap == other || (is_all_white(gap) && is_all_white(other)) {
+    if gap == other {
+        return Ok(true);
+    }
+    if are_white(gap, other) {
         return Ok(true);
     }
     let comments = comments_of(alloc, gap)?;

@@ -137,8 +137,23 @@ fn is_formatted(
     ensures { IfOk result (λ answer. answer ≡ true → IsFormatted line_ends text.now candidate.now) }
 {
     if candidate == text {
-        return Ok(is_its_own(text, entries, line_ends));
+        Ok(is_its_own(text, entries, line_ends))
+    } else {
+        is_equivalent(alloc, text, entries, candidate, line_ends)
     }
+}
+
+/// Reads a text, and returns whether it is the formatted text of a grammar with these tokens.
+fn is_equivalent(
+    alloc: Global,
+    text: &str,
+    entries: &[Entry],
+    candidate: &str,
+    line_ends: LineEnds,
+) -> Result<bool, AllocError>
+    requires { AreTokens text.now entries.now }
+    ensures { IfOk result (λ answer. answer ≡ true → IsFormatted line_ends text.now candidate.now) }
+{
     let others = match PestParser::tokens(alloc, Rule::grammar_rules, candidate) {
         Ok(others) => others,
         Err(Fault::Grammar(_)) => return Ok(false),
