@@ -1,9 +1,8 @@
 //! The work on the text of a file.
-ghost use Rattle.std.specs.Prelude.{◌≡◌, ◌≢◌, IfOk, false, string_bytes};
+ghost use Rattle.std.specs.Prelude.{◌≡◌, ◌≢◌, IfOk, false};
 ghost use Rattle.std.specs.Io.KnownBytes.{Appends};
-ghost use Rattle.std.specs.String.{String as Text};
 ghost use Rattle.meta_format.specs.Formatting.{IsFormatted};
-ghost use Rattle.pest_fmt.specs.Processing.{PrintsFormatted};
+ghost use Rattle.pest_fmt.specs.Processing.{IsReplacement, PrintsFormatted};
 
 use crate::arguments::{Delivery, Target};
 use crate::diff::diff;
@@ -51,21 +50,26 @@ pub fn process<W: Write, E: Write>(
         (W.contents out.old.writer) (W.contents out.new.writer)) }
     ensures kept { IfOk result (λ end. delivery.target ≡ Target.File → end ≡ Processed.Ended Status.Done
         → IsFormatted options.line_ends file.entry.text.now file.entry.text.now) }
-    ensures replaced { IfOk result (λ end. (text : Text) → end ≡ Processed.Replacement text
-        → (delivery.target ≡ Target.File)
-        × IsFormatted options.line_ends file.entry.text.now (string_bytes text)) }
+    ensures replaced { IfOk result (IsReplacement options.line_ends delivery.target file.entry.text.now) }
     ensures unprinted { delivery.target ≡ Target.File → out.new ≡ out.old }
 {
     match outcome_of(alloc, file.text, options)? {
         FileChange::Same => match delivery.target {
-            Target::Output => print(alloc, file.text, delivery, out),
+            Target::Output => {
+                let status = print(alloc, file.text, delivery, out)?;
+                Ok(Processed::Ended(status))
+            }
             Target::File | Target::Difference => Ok(Processed::Ended(Status::Done)),
         },
         FileChange::Changed(formatted) => match delivery.target {
             Target::File => Ok(Processed::Replacement(formatted)),
-            Target::Output => print(alloc, formatted.as_str(), delivery, out),
+            Target::Output => {
+                let status = print(alloc, formatted.as_str(), delivery, out)?;
+                Ok(Processed::Ended(status))
+            }
             Target::Difference => {
-                print_difference(alloc, file, formatted.as_str(), delivery, out)
+                let status = print_difference(alloc, file, formatted.as_str(), delivery, out)?;
+                Ok(Processed::Ended(status))
             }
         },
         FileChange::LeftAlone => {
@@ -87,22 +91,22 @@ fn report<E: Write>(message: &str, err: &mut Output<E>) -> Processed
     Processed::Ended(Status::Found)
 }
 
-/// Prints the difference of a file's text and its formatted one.
+/// Prints the difference of a file's text and its formatted one. The status is not the one of a text that is
+/// formatted.
 fn print_difference<W: Write>(
     alloc: Global,
     file: TextFile<'_>,
     formatted: &str,
     delivery: Delivery,
     out: &mut Output<W>,
-) -> Result<Processed, AllocError>
-    ensures differs { IfOk result (λ end. end ≢ Processed.Ended Status.Done) }
-    ensures ended { IfOk result (λ end. (text : Text) → end ≢ Processed.Replacement text) }
+) -> Result<Status, AllocError>
+    ensures { IfOk result (λ status. status ≢ Status.Done) }
 {
     let name = escape(alloc, file.name)?;
     let changes = diff(alloc, name.as_str(), file.text, formatted)?;
     match print(alloc, changes.as_str(), delivery, out)? {
-        Processed::Ended(Status::Done) => Ok(Processed::Ended(Status::Found)),
-        _ => Ok(Processed::Ended(Status::Unwritable)),
+        Status::Done => Ok(Status::Found),
+        _ => Ok(Status::Unwritable),
     }
 }
 
@@ -112,11 +116,9 @@ fn print<W: Write>(
     text: &str,
     delivery: Delivery,
     out: &mut Output<W>,
-) -> Result<Processed, AllocError>
-    ensures printed { IfOk result (λ end. delivery.is_to_terminal ≡ false
-        → end ≡ Processed.Ended Status.Done
+) -> Result<Status, AllocError>
+    ensures { IfOk result (λ status. delivery.is_to_terminal ≡ false → status ≡ Status.Done
         → Appends (W.contents out.old.writer) (W.contents out.new.writer) text.now) }
-    ensures ended { IfOk result (λ end. (text : Text) → end ≢ Processed.Replacement text) }
 {
     let written = if delivery.is_to_terminal {
         let shown = escape_lines(alloc, text)?;
@@ -125,7 +127,7 @@ fn print<W: Write>(
         out.write_text(text)
     };
     match written {
-        Ok(()) => Ok(Processed::Ended(Status::Done)),
-        Err(_) => Ok(Processed::Ended(Status::Unwritable)),
+        Ok(()) => Ok(Status::Done),
+        Err(_) => Ok(Status::Unwritable),
     }
 }

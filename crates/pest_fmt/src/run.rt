@@ -1,4 +1,6 @@
 //! The program's work on each file.
+ghost use Rattle.std.specs.Prelude.{◌≡◌};
+
 use crate::arguments::{Delivery, Target};
 use crate::messages::{cannot_read, cannot_write, is_not_utf8};
 use crate::processing::{Processed, TextFile, process};
