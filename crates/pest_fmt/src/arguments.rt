@@ -44,6 +44,7 @@ pub fn command<'a>(alloc: Global) -> Result<Command<'a>, AllocError> {
     let stdout = Arg::new(alloc, "stdout")
         .long("stdout")
         .action(ArgAction::SetTrue)
+        .conflicts_with("check")?
         .help("Write to standard output, and leave the files alone");
     let keep = Arg::new(alloc, "keep-line-ends")
         .long("keep-line-ends")

@@ -67,6 +67,9 @@ fn format_file(
     let mut err = Output::new(rt.stderr());
     let file = TextFile { name, text };
     match process(alloc, file, delivery, options, &mut out, &mut err)? {
+        Processed::Ended(Status::Unwritable) => {
+            Ok(report(rt, "cannot write to standard output\n", Status::Unwritable))
+        }
         Processed::Ended(status) => Ok(status),
         Processed::Replacement(formatted) => put_back(rt, name, formatted.as_str()),
     }
