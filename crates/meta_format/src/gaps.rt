@@ -77,8 +77,8 @@ fn count_closings(
     Ok(counts)
 }
 
-/// Returns the position after the block comment that starts at `start` in the gap `from..end`, or `end` if it is
-/// left open. A comment begins within another one only if it is closed.
+/// Returns the position after the block comment that starts at `start` in the gap `from..end`, or `end` if it
+/// is left open. A comment begins within another one only if it is closed.
 fn find_block_end(bytes: &[u8], counts: &[usize], from: usize, start: usize, end: usize) -> usize {
     let mut depth = 0usize;
     let mut next = start;

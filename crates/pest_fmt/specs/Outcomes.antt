@@ -10,7 +10,7 @@ use Rattle.meta_syntax.specs.declared.entries.Entry.{Entry}
 use Rattle.pest_fmt.specs.declared.outcomes.FileChange.{FileChange}
 use Rattle.pest_fmt.specs.declared.outcomes.FileChange.TheVariants as is
 
--- the text is formatted, it has another formatted text, it is refused, or it is a grammar's and stays as it is
+-- the text is formatted, it has another formatted text, it is refused, or it is a grammar's and stays so
 abbrev pub IsFileChange : LineEnds → List ℕ → FileChange → Type 0
 IsFileChange line_ends text is.Same = IsFormatted line_ends text text
 IsFileChange line_ends text (is.Changed formatted) =
