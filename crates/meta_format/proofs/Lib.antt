@@ -1,1 +1,3 @@
 pub mod Readings
+pub mod Unchanged
+pub mod WhiteGaps

@@ -1,8 +1,7 @@
 -- A text is read as one list of rules at most.
-use Rattle.std.proofs.Common.{◌≡◌, ◌≢◌, refl, sym, ◌∙◌, ap, subst, ℕ, List, [], Bool, false, None, Some, Option, MatchOption}
+use Rattle.std.proofs.Common.{◌≡◌, ◌≢◌, sym, ◌∙◌, ap, subst, ℕ, List, false, None, Some, Option, MatchOption}
 use Rattle.meta_base.specs.Language.Expression as bare
-use Rattle.meta_base.specs.Language.State.{Classes, NonAtomicMode, Trees, None', Outcome, Success, Failure}
-use Rattle.meta_base.specs.Pieces.MetaRules.{name_of}
+use Rattle.meta_base.specs.Language.State.{Classes, Trees, None', Outcome, Success, Failure}
 use Rattle.meta_base.specs.declared.grammar.Rule.{Rule}
 use Rattle.meta_base.specs.declared.grammar.Rule.TheVariants.{grammar_rules}
 use Rattle.meta_base.specs.Pieces.Faults.{IsMemory}
@@ -10,7 +9,7 @@ use Rattle.meta_base.specs.declared.runtime.faults.Fault.{Fault}
 use Rattle.meta_base.specs.declared.runtime.faults.Fault.TheVariants.{Memory, Grammar}
 use Rattle.meta_base.proofs.OneOutcome as once
 use Rattle.meta_syntax.specs.MetaGrammar.{meta_grammar}
-use Rattle.meta_syntax.specs.Parses.{Spells, start_of}
+use Rattle.meta_syntax.specs.Parses.{Spells}
 use Rattle.meta_reader.specs.Flaws.{first_flaw, Flaw}
 use Rattle.meta_reader.specs.Reading.{ReadsRules}
 use Rattle.meta_reader.specs.Refusals.{IsReadRefusal, ReportsFlaw}

@@ -6,7 +6,7 @@ ghost use Rattle.meta_format.specs.Formatting.{EndsOnce};
 ghost use Rattle.meta_format.specs.Tokens as token;
 ghost use Rattle.meta_syntax.specs.declared.entries.Entry.TheVariants.{End};
 
-use crate::contents::{comments_of, has_blank_end, trim_lines};
+use crate::contents::{comments_of, has_blank_end, is_all_white, trim_lines};
 use meta_base::derived::equality_of_rules;
 use meta_base::grammar::Rule;
 use meta_syntax::entries::Entry;
@@ -100,12 +100,23 @@ fn is_same_line(alloc: Global, text: &[u8], other: &[u8]) -> Result<bool, AllocE
     Ok(line.as_slice() == other_line.as_slice())
 }
 
+/// Returns whether two gaps are white space alone.
+#[tactic(auto, using(crate::proofs::WhiteGaps::same_white))]
+fn are_white(gap: &[u8], other: &[u8]) -> bool
+    ensures { result ≡ true → comment.comments_of gap.now ≡ comment.comments_of other.now }
+{
+    is_all_white(gap) && is_all_white(other)
+}
+
 /// Returns whether two gaps have the same comments.
 fn is_same_gap(alloc: Global, gap: &[u8], other: &[u8]) -> Result<bool, AllocError>
     ensures { IfOk result (λ same. same ≡ true
         → comment.comments_of gap.now ≡ comment.comments_of other.now) }
 {
     if gap == other {
+        return Ok(true);
+    }
+    if are_white(gap, other) {
         return Ok(true);
     }
     let comments = comments_of(alloc, gap)?;

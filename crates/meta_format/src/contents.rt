@@ -1,5 +1,5 @@
 //! The comments of a gap, the text between two tokens, found by an automaton.
-ghost use Rattle.std.specs.Prelude.{◌≡◌, IfOk, false, reverse};
+ghost use Rattle.std.specs.Prelude.{◌≡◌, IfOk, false, reverse, true};
 ghost use Rattle.meta_format.specs.Comments as spec;
 
 use std::alloc::{AllocError, Global};
@@ -60,9 +60,10 @@ fn after_block(around: usize) -> GapState
     }
 }
 
-/// Returns the state after a byte.
-fn state_after(place: GapState, byte: u8) -> GapState
-    ensures { result ≡ spec.state_after place byte }
+/// Returns the state after a byte; so many of the block comments that are open there are closed in the rest of
+/// the gap.
+fn state_after(place: GapState, byte: u8, closings: usize) -> GapState
+    ensures { result ≡ spec.state_after place byte closings }
 {
     match place {
         GapState::Outside => {
@@ -82,7 +83,7 @@ fn state_after(place: GapState, byte: u8) -> GapState
         }
         GapState::InBlock(around) => within_block(around, byte),
         GapState::InBlockAfterSlash(around) => {
-            if byte == b'*' {
+            if byte == b'*' && closings != 0 {
                 GapState::InBlock(around.saturating_add(1))
             } else {
                 within_block(around, byte)
@@ -98,6 +99,21 @@ fn state_after(place: GapState, byte: u8) -> GapState
     }
 }
 
+/// Returns how many of the block comments that are open before a text are closed in it, by its first two
+/// bytes, and by these counts of the text from the third and from the second byte on. A comment that begins in the
+/// text and is left open is none, as the second one of `/* /*/`.
+pub fn closings_at(byte: u8, next: u8, third: usize, second: usize) -> usize
+    ensures { result ≡ spec.closings_at byte next third second }
+{
+    if byte == b'*' && next == b'/' {
+        third.saturating_add(1)
+    } else if byte == b'/' && next == b'*' && third != 0 {
+        third - 1
+    } else {
+        second
+    }
+}
+
 /// Returns whether a byte is more than white space outside of comments.
 fn is_kept(place: GapState, byte: u8) -> bool
     ensures { result ≡ spec.is_kept place byte }
@@ -106,6 +122,20 @@ fn is_kept(place: GapState, byte: u8) -> bool
         GapState::Outside => !(is_blank(byte) || byte == b'\n'),
         _ => true,
     }
+}
+
+/// Returns whether a gap is of blanks and line feeds alone.
+pub fn is_all_white(gap: &[u8]) -> bool
+    ensures { result ≡ true → spec.is_all_white gap.now ≡ true }
+{
+    let mut rest = gap;
+    while let Some((byte, after)) = rest.split_first() {
+        if !(is_blank(*byte) || *byte == b'\n') {
+            return false;
+        }
+        rest = after;
+    }
+    true
 }
 
 /// Returns the lines of a piece before a line end, without the blanks at their ends, in reverse.
@@ -127,18 +157,45 @@ pub fn trim_lines(alloc: Global, text: &[u8]) -> Result<Vec<u8>, AllocError>
     Ok(bytes)
 }
 
+/// Returns the lines of a gap before a line end, without the blanks at their ends, in reverse: each byte with
+/// how many of the block comments that are open after it are closed.
+fn mark_lines(alloc: Global, gap: &[u8]) -> Result<Vec<(u8, usize)>, AllocError>
+    ensures { IfOk result (λ marks. reverse marks.items ≡ spec.marked (spec.trimmed_line gap.now)) }
+{
+    let mut marks = Vec::new(alloc);
+    marks.push((b'\n', 0))?;
+    let mut first = b'\n';
+    let mut second_on = 0usize;
+    let mut closings = 0usize;
+    let mut is_at_end = true;
+    let mut left = gap.len();
+    while left > 0 {
+        left -= 1;
+        let byte = gap[left];
+        if !(is_blank(byte) && is_at_end) {
+            marks.push((byte, closings))?;
+            let all = closings_at(byte, first, second_on, closings);
+            second_on = closings;
+            closings = all;
+            first = byte;
+            is_at_end = byte == b'\n';
+        }
+    }
+    Ok(marks)
+}
+
 /// Returns the comments of a gap, and the words that have no token of their own.
 pub fn comments_of(alloc: Global, gap: &[u8]) -> Result<Vec<u8>, AllocError>
     ensures { IfOk result (λ kept. kept.items ≡ spec.comments_of gap.now) }
 {
-    let mut bytes = trim_lines(alloc, gap)?;
+    let mut marks = mark_lines(alloc, gap)?;
     let mut kept = Vec::new(alloc);
     let mut place = GapState::Outside;
-    while let Some(byte) = bytes.pop() {
+    while let Some((byte, closings)) = marks.pop() {
         if is_kept(place, byte) {
             kept.push(byte)?;
         }
-        place = state_after(place, byte);
+        place = state_after(place, byte, closings);
     }
     Ok(kept)
 }

@@ -1,5 +1,5 @@
 //! The comments of a gap, the text between two tokens.
-use crate::contents::is_blank;
+use crate::contents::{closings_at, is_blank};
 use std::alloc::{AllocError, Global};
 
 /// A comment of a gap.
@@ -52,20 +52,50 @@ pub fn find_line_feed(bytes: &[u8], from: usize, end: usize) -> usize {
     end
 }
 
-/// Returns the position after the block comment that starts at a position, or `end` if it is left open.
-fn find_block_end(bytes: &[u8], from: usize, end: usize) -> usize {
+/// Counts for each byte of the gap `from..end`, and for its end, how many of the block comments that are open
+/// there are closed in the gap.
+fn count_closings(
+    alloc: Global,
+    bytes: &[u8],
+    from: usize,
+    end: usize,
+) -> Result<Vec<usize>, AllocError> {
+    let mut counts = vec![in alloc; 0usize; end.saturating_sub(from).saturating_add(1)]?;
+    let mut next = 0u8;
+    let mut third = 0usize;
+    let mut second = 0usize;
+    for at in (from..end).rev() {
+        let byte = bytes.get(at).copied().unwrap_or(0);
+        let closings = closings_at(byte, next, third, second);
+        if let Some(count) = counts.get_mut(at - from) {
+            *count = closings;
+        }
+        next = byte;
+        third = second;
+        second = closings;
+    }
+    Ok(counts)
+}
+
+/// Returns the position after the block comment that starts at `start` in the gap `from..end`, or `end` if it
+/// is left open. A comment begins within another one only if it is closed.
+fn find_block_end(bytes: &[u8], counts: &[usize], from: usize, start: usize, end: usize) -> usize {
     let mut depth = 0usize;
-    let mut next = from;
-    for at in from..end {
+    let mut next = start;
+    for at in start..end {
         if at < next {
             continue;
         }
-        if has_pair(bytes, at, b'/', b'*') {
+        let after = at.saturating_add(2);
+        let is_closed = counts
+            .get(after.saturating_sub(from))
+            .is_some_and(|count| *count > 0);
+        if has_pair(bytes, at, b'/', b'*') && (is_closed || at == start) {
             depth = depth.saturating_add(1);
-            next = at.saturating_add(2);
+            next = after;
         } else if has_pair(bytes, at, b'*', b'/') {
             depth = depth.saturating_sub(1);
-            next = at.saturating_add(2);
+            next = after;
             if depth == 0 {
                 return next.min(end);
             }
@@ -77,6 +107,7 @@ fn find_block_end(bytes: &[u8], from: usize, end: usize) -> usize {
 /// Finds the comments of the gap `from..end`.
 pub fn scan_gap(alloc: Global, bytes: &[u8], from: usize, end: usize) -> Result<Gap, AllocError> {
     let mut comments = Vec::new(alloc);
+    let mut counts = Vec::new(alloc);
     let mut line_ends = 0usize;
     let mut next = from;
     for start in from..end {
@@ -85,10 +116,13 @@ pub fn scan_gap(alloc: Global, bytes: &[u8], from: usize, end: usize) -> Result<
         }
         let is_line = has_pair(bytes, start, b'/', b'/');
         if is_line || has_pair(bytes, start, b'/', b'*') {
+            if !is_line && counts.is_empty() {
+                counts = count_closings(alloc, bytes, from, end)?;
+            }
             next = if is_line {
                 find_line_feed(bytes, start, end)
             } else {
-                find_block_end(bytes, start, end)
+                find_block_end(bytes, &counts, from, start, end)
             };
             comments.push(Comment {
                 start,

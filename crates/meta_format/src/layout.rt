@@ -102,6 +102,11 @@ impl Measures {
         at(&self.line_ends, first) < at(&self.line_ends, end)
     }
 
+    /// Returns the number of columns of a piece.
+    fn columns_of(&self, i: usize) -> usize {
+        at(&self.columns, i.saturating_add(1)).saturating_sub(at(&self.columns, i))
+    }
+
     /// Returns the number of columns of the group that starts with a piece, with the pieces after it up to
     /// the next possible line end.
     fn columns_of_group(&self, first: usize) -> usize {
@@ -144,8 +149,8 @@ struct Printer<'t> {
 }
 
 impl<'t> Printer<'t> {
-    /// Prints a word.
-    fn word(&mut self, word: &str) -> Result<(), AllocError> {
+    /// Prints a word of so many columns.
+    fn word(&mut self, word: &str, columns: usize) -> Result<(), AllocError> {
         if word.is_empty() {
             return Ok(());
         }
@@ -164,7 +169,7 @@ impl<'t> Printer<'t> {
         self.line_ends = 0;
         self.has_blank = false;
         self.out.push_str(word)?;
-        self.column = self.column.saturating_add(word.chars().count());
+        self.column = self.column.saturating_add(columns);
         Ok(())
     }
 
@@ -237,9 +242,9 @@ impl<'t> Printer<'t> {
         match piece {
             Piece::Text { start, end } | Piece::Comment { start, end } => {
                 let text = self.text;
-                self.word(text.get(start..end).unwrap_or(""))?;
+                self.word(text.get(start..end).unwrap_or(""), measures.columns_of(i))?;
             }
-            Piece::Word(word) => self.word(word)?,
+            Piece::Word(word) => self.word(word, word.len())?,
             Piece::Blank => self.has_blank = self.line_ends == 0,
             Piece::Line {
                 is_blank,

@@ -114,8 +114,37 @@ fn line_end_of(text: &str, line_ends: LineEnds) -> &'static str {
     }
 }
 
-/// Returns whether a text is the formatted text of a grammar with these tokens.
+/// Returns whether the text of a grammar with these tokens may stay as it is.
+#[tactic(auto, using(crate::proofs::Unchanged::its_own))]
+fn is_its_own(text: &str, entries: &[Entry], line_ends: LineEnds) -> bool
+    requires { AreTokens text.now entries.now }
+    ensures { result ≡ true → IsFormatted line_ends text.now text.now }
+{
+    let bytes = text.as_bytes();
+    has_lines(bytes, entries, line_ends) && ends_once(bytes)
+}
+
+/// Returns whether a text is the formatted text of a grammar with these tokens. An equal text is not read
+/// again.
 fn is_formatted(
+    alloc: Global,
+    text: &str,
+    entries: &[Entry],
+    candidate: &str,
+    line_ends: LineEnds,
+) -> Result<bool, AllocError>
+    requires { AreTokens text.now entries.now }
+    ensures { IfOk result (λ answer. answer ≡ true → IsFormatted line_ends text.now candidate.now) }
+{
+    if candidate == text {
+        Ok(is_its_own(text, entries, line_ends))
+    } else {
+        is_equivalent(alloc, text, entries, candidate, line_ends)
+    }
+}
+
+/// Reads a text, and returns whether it is the formatted text of a grammar with these tokens.
+fn is_equivalent(
     alloc: Global,
     text: &str,
     entries: &[Entry],

@@ -22,6 +22,19 @@ pub struct Delivery {
     pub is_to_terminal: bool,
 }
 
+impl Delivery {
+    /// Returns the delivery for the file of a name: of standard input to standard output.
+    pub fn for_name(self, name: &str) -> Delivery {
+        match self.target {
+            Target::File if name == "-" => Delivery {
+                target: Target::Output,
+                ..self
+            },
+            _ => self,
+        }
+    }
+}
+
 /// Returns the command line that the program accepts.
 pub fn command<'a>(alloc: Global) -> Result<Command<'a>, AllocError> {
     let check = Arg::new(alloc, "check")
@@ -31,6 +44,7 @@ pub fn command<'a>(alloc: Global) -> Result<Command<'a>, AllocError> {
     let stdout = Arg::new(alloc, "stdout")
         .long("stdout")
         .action(ArgAction::SetTrue)
+        .conflicts_with("check")?
         .help("Write to standard output, and leave the files alone");
     let keep = Arg::new(alloc, "keep-line-ends")
         .long("keep-line-ends")

@@ -5,27 +5,37 @@ mod arguments;
 mod diff;
 mod messages;
 mod outcomes;
+mod processing;
 mod replacing;
 mod run;
+mod statuses;
 
 use arguments::{command, delivery_of, options_of};
-use run::{DONE, MEMORY, UNREADABLE, format_files};
+use run::format_files;
+use statuses::Status;
 use std::env;
-use std::io::IsTerminal;
+use std::io::{IsTerminal, Write};
 use std::process::ExitCode;
 
 /// Returns the status for the words of the command line.
-fn answer(rt: &HostRuntime) -> Result<u8, clap::Error> {
+fn answer(rt: &HostRuntime) -> Result<Status, clap::Error> {
     let alloc = rt.alloc();
     let Ok(words) = env::args(rt) else {
-        return Ok(UNREADABLE);
+        let _ = rt
+            .stderr()
+            .write_all(b"cannot read the command line: it is not UTF-8\n");
+        return Ok(Status::Unreadable);
     };
     let words: Vec<String> = words.collect(alloc)?;
     let matches = match command(alloc)?.try_get_matches_from(words.as_slice()) {
         Ok(matches) => matches,
         Err(error) => {
             let _ = error.print(rt);
-            return Ok(if error.use_stderr() { UNREADABLE } else { DONE });
+            return Ok(if error.use_stderr() {
+                Status::Unreadable
+            } else {
+                Status::Done
+            });
         }
     };
     let names = matches.get_strs("FILE").unwrap_or(&["-"]);
@@ -34,8 +44,12 @@ fn answer(rt: &HostRuntime) -> Result<u8, clap::Error> {
 }
 
 fn main(rt: HostRuntime) -> ExitCode {
-    match answer(&rt) {
-        Ok(status) => ExitCode::from(status),
-        Err(_) => ExitCode::from(MEMORY),
-    }
+    let status = match answer(&rt) {
+        Ok(status) => status,
+        Err(_) => {
+            let _ = rt.stderr().write_all(b"out of memory\n");
+            Status::OutOfMemory
+        }
+    };
+    ExitCode::from(status.code())
 }

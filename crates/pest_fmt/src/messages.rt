@@ -1,27 +1,40 @@
 //! Messages on standard error.
 use meta_base::grammar::Rule;
-use meta_base::runtime::Error;
+use meta_base::runtime::{Error, InputLocation};
+use meta_reader::rules::common_name;
+use meta_syntax::grammar::PestParser;
 use std::alloc::{AllocError, Global};
+use std::io;
 
-/// Returns a text with each control character as an escape.
+/// The greatest number of expected rules that a message names.
+const NAMED: usize = 5;
+
+/// Returns whether a character is shown as an escape: a control character, or one that is invisible or turns
+/// the direction of a line.
+fn is_hidden(c: char) -> bool {
+    c.is_control()
+        || matches!(
+            c,
+            '\u{ad}' | '\u{61c}' | '\u{200b}'..='\u{200f}' | '\u{2028}'..='\u{202e}'
+                | '\u{2060}'..='\u{206f}' | '\u{feff}'
+        )
+}
+
+/// Returns a text with each hidden character as an escape.
 pub fn escape(alloc: Global, text: &str) -> Result<String, AllocError> {
     let mut escaped = String::new(alloc);
     for c in text.chars() {
-        push_escaped(alloc, &mut escaped, c, c.is_control())?;
+        push_escaped(alloc, &mut escaped, c, is_hidden(c))?;
     }
     Ok(escaped)
 }
 
-/// Returns a text with each control character as an escape, but for tabs and line feeds.
+/// Returns a text with each hidden character as an escape, but for tabs and line feeds.
 pub fn escape_lines(alloc: Global, text: &str) -> Result<String, AllocError> {
     let mut escaped = String::new(alloc);
     for c in text.chars() {
-        push_escaped(
-            alloc,
-            &mut escaped,
-            c,
-            c.is_control() && c != '\t' && c != '\n',
-        )?;
+        let is_escaped = is_hidden(c) && c != '\t' && c != '\n';
+        push_escaped(alloc, &mut escaped, c, is_escaped)?;
     }
     Ok(escaped)
 }
@@ -42,13 +55,19 @@ fn push_escaped(
 }
 
 /// Returns the message that a file can't be read, and why.
-pub fn cannot_read(alloc: Global, name: &str, why: &str) -> Result<String, AllocError> {
+pub fn cannot_read(alloc: Global, name: &str, why: &io::Error) -> Result<String, AllocError> {
     let name = escape(alloc, name)?;
     format!(in alloc; "cannot read {name}: {why}\n")
 }
 
+/// Returns the message that a file can't be read, since it is not UTF-8.
+pub fn is_not_utf8(alloc: Global, name: &str) -> Result<String, AllocError> {
+    let name = escape(alloc, name)?;
+    format!(in alloc; "cannot read {name}: it is not UTF-8\n")
+}
+
 /// Returns the message that a file can't be written, and why.
-pub fn cannot_write(alloc: Global, name: &str, why: &str) -> Result<String, AllocError> {
+pub fn cannot_write(alloc: Global, name: &str, why: &io::Error) -> Result<String, AllocError> {
     let name = escape(alloc, name)?;
     format!(in alloc; "cannot write {name}: {why}\n")
 }
@@ -61,17 +80,76 @@ pub fn cannot_format(alloc: Global, name: &str) -> Result<String, AllocError> {
     )
 }
 
-/// Returns the message that a file is left alone, since it is no grammar, with its errors.
+/// Returns the message that a file is left alone, since its text is no grammar: for each error what was
+/// expected and found, the place, and the line.
 pub fn refusal_message(
     alloc: Global,
     name: &str,
+    text: &str,
     errors: &[Error<Rule>],
 ) -> Result<String, AllocError> {
     let name = escape(alloc, name)?;
-    let mut message = format!(in alloc; "cannot format {name}: it is no grammar\n")?;
+    let expected = expected_names(alloc, text)?;
+    let mut message = String::new(alloc);
     for error in errors {
-        let shown = format!(in alloc; "{error}\n")?;
+        let found = found_at(alloc, text, start_of(error))?;
+        let printed = format!(in alloc; "{error}")?;
+        let (margin, place) = printed.as_str().split_once("--> ").unwrap_or(("", ""));
+        let place = without_last_line(without_last_line(place));
+        let shown = format!(in alloc;
+            "cannot format {name}: {expected}found {found}\n{margin}--> {name}:{place}\n"
+        )?;
         message.push_str(shown.as_str())?;
     }
-    Ok(message)
+    escape_lines(alloc, message.as_str())
+}
+
+/// Returns the names of the rules that are expected where a text is refused, as `expected A or B, `.
+fn expected_names(alloc: Global, text: &str) -> Result<String, AllocError> {
+    let rules = PestParser::expected_set(alloc, Rule::grammar_rules, text)?;
+    let mut names = String::new(alloc);
+    for (i, rule) in rules.iter().take(NAMED).enumerate() {
+        let separator = match i {
+            0 => "expected ",
+            _ if i + 1 == rules.len() => " or ",
+            _ => ", ",
+        };
+        names.push_str(separator)?;
+        names.push_str(common_name(*rule))?;
+    }
+    if rules.len() > NAMED {
+        names.push_str(" or something else")?;
+    }
+    if !rules.is_empty() {
+        names.push_str(", ")?;
+    }
+    Ok(names)
+}
+
+/// Returns the byte at which an error begins.
+fn start_of(error: &Error<Rule>) -> usize {
+    match error.location {
+        InputLocation::Pos(place) => place,
+        InputLocation::Span((start, _)) => start,
+    }
+}
+
+/// Returns in words what a text has at a byte.
+fn found_at(alloc: Global, text: &str, place: usize) -> Result<String, AllocError> {
+    let rest = text.get(place..).unwrap_or("");
+    match rest.chars().next() {
+        None => String::from_str(alloc, "the end of the text"),
+        Some('\n' | '\r') => String::from_str(alloc, "the end of the line"),
+        Some('`') => String::from_str(alloc, "a grave accent"),
+        Some('\u{feff}') => String::from_str(alloc, "a byte order mark"),
+        Some(c) => format!(in alloc; "`{c}`"),
+    }
+}
+
+/// Returns a text up to its last line end.
+fn without_last_line(text: &str) -> &str {
+    match text.rsplit_once('\n') {
+        Some((before, _)) => before,
+        None => text,
+    }
 }

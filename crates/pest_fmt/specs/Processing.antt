@@ -1,0 +1,22 @@
+-- The texts that the program gives out.
+use Rattle.std.specs.Prelude.{◌≡◌, ℕ, List, Option, ⊤}
+use Rattle.std.specs.Io.KnownBytes.{Appends}
+use Rattle.std.specs.String.{string_bytes}
+use Rattle.meta_format.specs.Formatting.{IsFormatted}
+use Rattle.meta_format.specs.declared.LineEnds.{LineEnds}
+use Rattle.pest_fmt.specs.declared.arguments.Target.{Target}
+use Rattle.pest_fmt.specs.declared.arguments.Target.TheVariants.{File}
+use Rattle.pest_fmt.specs.declared.processing.Processed.{Processed}
+use Rattle.pest_fmt.specs.declared.processing.Processed.TheVariants.{Ended, Replacement}
+
+-- the contents of a writer grew by a formatted text
+pub record PrintsFormatted (line_ends : LineEnds) (text : List ℕ) (old new : Option (List ℕ)) : Type 0 where
+  pub formatted : List ℕ
+  pub is_formatted : IsFormatted line_ends text formatted
+  pub gained : Appends old new formatted
+
+-- a text replaces that of a file only where this is asked for, and it is the formatted one
+abbrev pub IsReplacement : LineEnds → Target → List ℕ → Processed → Type 0
+IsReplacement line_ends target text (Ended status) = ⊤
+IsReplacement line_ends target text (Replacement formatted) =
+    (target ≡ File) × IsFormatted line_ends text (string_bytes formatted)
