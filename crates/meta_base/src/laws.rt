@@ -92,7 +92,7 @@ pub fn stays_well_formed()
     ensures wrappers_plain { (g h : Grammar) → EachRestored g h → IsPlain g → IsPlain h }
 {}
 
-/// An expression that cannot fail is nullable: some run succeeds without taking anything.
+/// An expression that cannot fail is nullable.
 pub fn what_cannot_fail_is_nullable()
     ensures { (g : Grammar) (e : Expression) → CannotFail g e → IsNullable g e }
 {}
