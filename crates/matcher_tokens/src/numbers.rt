@@ -1,5 +1,5 @@
 //! Tokens, and the rules that are expected at a failure, as numbers.
-ghost use Rattle.std.specs.Prelude.{◌≡◌, ◌≤◌, ◌++◌, IfOk, OnOk, chars, length};
+ghost use Rattle.std.specs.Prelude.{◌≡◌, ◌∷◌, [], ◌++◌, IfOk, OnOk, chars};
 ghost use Rattle.meta_ast.specs.Optimized.{optimized_rules_of};
 ghost use Rattle.meta_base.specs.Language.State.{Trees};
 ghost use Rattle.meta_matcher.specs.ExpectedNames.{name_texts};
@@ -18,12 +18,27 @@ fn rule_number(rules: &[OptimizedRule], name: &str) -> usize
 {
     let mut below = rules.len();
     while below > 0 {
-        if same(rules[below - 1].name.as_str(), name) {
-            return below;
-        }
         below -= 1;
+        if same(rules[below].name.as_str(), name) {
+            return below + 1;
+        }
     }
     rules.len() + 1
+}
+
+/// Appends three numbers.
+fn push_three(
+    numbers: &mut Vec<usize>,
+    number: usize,
+    pos: usize,
+    partner: usize,
+) -> Result<(), AllocError>
+    ensures { OnOk result (numbers.new.items ≡ numbers.old.items ++ (number ∷ pos ∷ partner ∷ [])) }
+{
+    numbers.push(number)?;
+    numbers.push(pos)?;
+    numbers.push(partner)?;
+    Ok(())
 }
 
 /// Appends the three numbers of an entry.
@@ -35,14 +50,12 @@ fn push_entry(
     ensures { OnOk result (numbers.new.items
         ≡ numbers.old.items ++ entry_numbers (optimized_rules_of rules.now) (entry_of entry)) }
 {
-    let (number, pos, partner) = match entry {
-        Entry::Start { rule, pos, partner } => (rule_number(rules, rule), pos, partner),
-        Entry::End { pos, partner } => (0, pos, partner),
-    };
-    numbers.push(number)?;
-    numbers.push(pos)?;
-    numbers.push(partner)?;
-    Ok(())
+    match entry {
+        Entry::Start { rule, pos, partner } => {
+            push_three(numbers, rule_number(rules, rule), pos, partner)
+        }
+        Entry::End { pos, partner } => push_three(numbers, 0, pos, partner),
+    }
 }
 
 /// Appends the numbers of entries.
