@@ -87,7 +87,9 @@ impl Program {
             7 => Err(Unmatched::NoRule),
             8 => Err(Unmatched::OutOfSteps),
             9 => Err(Unmatched::EmptyStack),
-            _ => panic!("pest_meta: the library answered with status {status}, which is none for rules and a text"),
+            _ => panic!(
+                "pest_meta: the library answered with status {status}, which is none for rules and a text"
+            ),
         }
     }
 }

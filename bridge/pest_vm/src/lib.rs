@@ -17,11 +17,21 @@
 //! so is the position of a failure, with the rules expected there. This crate hands rules and texts over, and makes
 //! pest's pairs of the answer; that is tested.
 //!
+//! # Differences
+//!
+//! | The original | Here |
+//! |---|---|
+//! | an error has the rules that failed, and those that matched below a `!` | the rules that would have let the run get further; `negatives` is empty |
+//! | `PEEK` or `POP` on the empty stack panics | an error at the start of the text |
+//! | the listener is called at each call of a rule | at each token of a match, in the order of their starts |
+//! | a builtin can be parsed as a rule | another name than a rule's panics, as an undefined rule does there |
+//! | pairs of later versions have tags | pairs have none |
+//!
 //! # Limits
 //!
-//! The rules are handed over and compiled at each call of [`Vm::parse`]: a grammar of 30 rules takes longer than a
-//! short text. A rule that matches the empty text for ever runs for ever, as in the original. pest's parser state
-//! makes the pairs, and takes stack by the depth of the trees. Pairs have no tags.
+//! The library reads and compiles the rules at each call of [`Vm::parse`], which takes longer than a short text. A
+//! rule that matches the empty text for ever runs for ever, as in the original. pest's parser state makes the
+//! pairs, and takes stack by the depth of the trees.
 #![forbid(unsafe_code)]
 #![warn(missing_docs, rust_2018_idioms, unused_qualifications)]
 // The signatures are those of the original, and the errors pest's.
@@ -69,16 +79,21 @@ impl Vm {
     /// memory is refused.
     pub fn parse<'a>(&'a self, rule: &'a str, input: &'a str) -> Result<Pairs<'a, &'a str>, Error<&'a str>> {
         match self.program.run(rule, input, u64::MAX) {
-            Ok((_, tokens)) => pest::state(input, |state| self.replayed(state, input, &tokens, 0..tokens.len())),
+            Ok((_, tokens)) => {
+                pest::state(input, |state| self.replayed(state, input, &tokens, 0..tokens.len()))
+            }
             Err(Unmatched::Failed { pos, expected }) => {
-                let mut positives: Vec<&str> = expected.iter().map(|index| self.program.name(*index)).collect();
+                let mut positives: Vec<&str> =
+                    expected.iter().map(|index| self.program.name(*index)).collect();
                 positives.sort_unstable();
                 Err(error_at(input, pos, ErrorVariant::ParsingError { positives, negatives: Vec::new() }))
             }
             Err(Unmatched::EmptyStack) => Err(custom(input, "PEEK or POP was called on the empty stack")),
             Err(Unmatched::OutOfSteps) => Err(custom(input, "the rule takes too many steps")),
             Err(Unmatched::NoRule) => panic!("undefined rule {rule}"),
-            Err(Unmatched::Unfit) => panic!("the rules call an undefined rule, or have a range of no characters"),
+            Err(Unmatched::Unfit) => {
+                panic!("the rules call an undefined rule, or have a range of no characters")
+            }
         }
     }
 
