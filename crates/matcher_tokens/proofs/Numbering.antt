@@ -1,5 +1,6 @@
 -- The number of a rule by a search from the end, and numbers as far as they are written.
-use Rattle.std.proofs.Common.{◌≡◌, ◌∙◌, ap, refl, sym, ℕ, ◌+◌, ◌<◌, ◌≤◌, suc, zero, List, [], ◌∷◌, ◌++◌, None, Some, append_assoc, append-nil, add-one, arith, bytes_eq, chars, drop, drop-cons, false, get_or, length, map, true}
+use Prim.Native.Nat.{zero}
+use Rattle.std.proofs.Common.{◌≡◌, ◌∙◌, ap, refl, sym, ℕ, ◌+◌, ◌<◌, ◌≤◌, suc, List, [], ◌∷◌, ◌++◌, None, Some, append_assoc, append-nil, add-one, arith, bytes_eq, chars, drop, drop-cons, false, get_or, length, map, true}
 use Rattle.std.specs.Borrow.{Bor}
 use Rattle.std.proofs.Math.ListN.{drop_of_length-le}
 use Rattle.std.proofs.lemmas.List.{get_or-map, length-map}

@@ -1,5 +1,5 @@
 -- Tokens, and the rules that are expected at a failure, as numbers.
-use Rattle.std.specs.Prelude.{ℕ, List, [], ◌∷◌, ◌++◌, Some, None, length, map}
+use Rattle.std.specs.Prelude.{ℕ, suc, List, [], ◌∷◌, ◌++◌, Some, None, length, map}
 use Rattle.meta_base.specs.Language.Expression.{Grammar, last_place}
 use Rattle.meta_base.specs.Language.State.{Trees}
 use Rattle.meta_base.specs.Language.Text.{Text}
