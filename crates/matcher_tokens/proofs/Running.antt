@@ -5,6 +5,7 @@ use Rattle.meta_ast.specs.Optimized.{optimized_rules_of}
 use Rattle.meta_ast.specs.declared.optimized.OptimizedRule.{OptimizedRule}
 use Rattle.meta_base.specs.Language.Expression.{Grammar}
 use Rattle.meta_base.specs.Language.Expected.{expected, expected_at}
+use Rattle.meta_base.specs.Language.State.{Trees}
 use Rattle.meta_base.specs.Language.Text.{Text}
 use Rattle.meta_base.proofs.ExpectedOnce.{one_list}
 use Rattle.meta_json.specs.Reading.{AreOptimizedRules}
@@ -14,14 +15,24 @@ use Rattle.matcher_program.specs.declared.compile.Unfit.{Unfit}
 use Rattle.matcher_program.specs.declared.compile.Unfit.TheVariants as no
 use Rattle.matcher_program.specs.declared.form.Property.{Property}
 use Rattle.matcher_support.specs.Sets.{has_set, is_in_property}
-use Rattle.meta_matcher.specs.Answers.{AreExpectedAt, FailsAt, IsStopped}
+use Rattle.meta_matcher.specs.Answers.{AreExpectedAt, FailsAt, IsMatched, IsStopped}
+use Rattle.meta_matcher.specs.Written.{seen}
+use Rattle.meta_matcher.specs.declared.entries.Entry.{Entry}
+use Rattle.meta_syntax.specs.Entries.{entries_of}
 use Rattle.meta_matcher.specs.ExpectedNames.{each_once, name_texts}
 use Rattle.meta_matcher.specs.declared.machine.Stop.{Stop}
 use Rattle.meta_matcher.specs.declared.machine.Stop.TheVariants as stop
-use Rattle.matcher_tokens.specs.Numbers.{failure_numbers}
-use Rattle.matcher_tokens.specs.Outcomes.{IsFailureOutcome, IsMatchOutcome, IsRunOutcome, stopped_outcome, unfit_outcome}
+use Rattle.matcher_tokens.specs.Numbers.{failure_numbers, match_numbers}
+use Rattle.matcher_tokens.specs.Outcomes.{HasMatched, IsFailureOutcome, IsMatchOutcome, IsRunOutcome, stopped_outcome, unfit_outcome}
 use Rattle.matcher_tokens.specs.declared.outcome.MatchOutcome.{MatchOutcome}
 use Rattle.matcher_tokens.specs.declared.outcome.MatchOutcome.TheVariants as is
+
+-- the end of the match, and its tokens
+pub matched : (g : Grammar) (ps : List Property) (rule : Text) (text : List ℕ) (end_ : ℕ) (es : List Entry) (numbers : List ℕ)
+    → Fits ps is_in_property → IsMatched g ps rule text end_ es → ((trees : Trees) → seen es ≡ entries_of 0 trees → numbers ≡ match_numbers g end_ trees) → HasMatched g rule text numbers
+matched g ps rule text end_ es numbers fits m w =
+    let found = m.found is_in_property fits in
+    record { end_ = found.0; trees = m.trees; matches = found.2; numbered = w m.trees m.entries ∙ ap (λ n. match_numbers g n m.trees) (sym found.1) }
 
 -- the position of the failure, and the rules that are expected there
 pub failed : (g : Grammar) (ps : List Property) (rule : Text) (text : List ℕ) (steps place : ℕ) (names : List (Bor (List ℕ))) (o : MatchOutcome)
