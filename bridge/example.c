@@ -12,12 +12,34 @@
 #include <string.h>
 
 static uint8_t out[65536];
+static size_t numbers[64];
 
 static void show(const char *call, uint8_t status, size_t needed)
 {
     printf("%s: status %d, length %zu\n", call, status, needed);
     if (status <= PEST_META_REFUSED)
         printf("  %.*s\n", (int)needed, (const char *)out);
+}
+
+static void show_numbers(const char *call, uint8_t status, size_t needed)
+{
+    printf("%s: status %d, length %zu\n", call, status, needed);
+    if (status <= PEST_META_REFUSED) {
+        for (size_t i = 0; i < needed; i++)
+            printf(" %zu", numbers[i]);
+        printf("\n");
+    }
+}
+
+/* Runs a rule on a text, by rules of two that match "x!". */
+static void run(const char *call, const char *rule, const char *text, uint64_t steps, size_t room)
+{
+    static const char rules[] = "[{\"name\":\"a\",\"type\":\"normal\",\"expr\":[[\"seq\"],[\"ident\",\"b\"],[\"str\",\"!\"]]},"
+                                "{\"name\":\"b\",\"type\":\"normal\",\"expr\":[[\"str\",\"x\"]]}]";
+    size_t needed = 0;
+    uint8_t status = pest_meta_match((const uint8_t *)rules, strlen(rules), (const uint8_t *)rule, strlen(rule),
+                                     (const uint8_t *)text, strlen(text), steps, numbers, room, &needed);
+    show_numbers(call, status, needed);
 }
 
 int main(void)
@@ -65,5 +87,14 @@ int main(void)
     show("version without room", status, needed);
     status = pest_meta_names(NULL, 0, out, sizeof out, &needed);
     show("names of an empty text", status, needed);
+    run("match", "a", "x!", UINT64_MAX, 64);
+    run("match of a text that fails", "a", "y", UINT64_MAX, 64);
+    run("match by an unknown rule", "c", "x", UINT64_MAX, 64);
+    run("match in one step", "a", "x!", 1, 64);
+    run("match with too little room", "a", "x!", UINT64_MAX, 12);
+    status = pest_meta_match(text, length, text, length, text, length, UINT64_MAX, numbers, 64, &needed);
+    show_numbers("match by no rules", status, needed);
+    status = pest_meta_match(rules, strlen((const char *)rules), bytes, 1, text, length, UINT64_MAX, numbers, 64, &needed);
+    show_numbers("match of no text", status, needed);
     return 0;
 }

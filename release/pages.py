@@ -25,8 +25,8 @@ class Row:
 class Page:
     """The help of a program, parted."""
 
-    def __init__(self, name, help_text):
-        self.name = name
+    def __init__(self, name, help_text, others):
+        self.name, self.others = name, others
         self.usage, self.about, self.options, self.arguments, self.statuses = "", [], [], [], []
         for block in re.split(r"\n\s*\n", help_text.strip()):
             self.take(block)
@@ -72,13 +72,12 @@ class Page:
             lines += [f".SH {title}"] if rows else []
             for row in rows:
                 lines += [".TP", ".B " + roff(row.words), roff(row.text)]
-        lines += [".SH SEE ALSO", *self.others(), ".PP", "/usr/share/doc/kingorewa has the documents.", ""]
+        lines += [".SH SEE ALSO", *self.references(), ".PP", "/usr/share/doc/kingorewa has the documents.", ""]
         return "\n".join(lines)
 
-    def others(self):
+    def references(self):
         """The other programs, as references."""
-        names = [name for name in ("pest-check", "pest-lint", "pest-run") if name != self.name]
-        return [f".BR {roff(name)} (1){',' if name != names[-1] else ''}" for name in names]
+        return [f".BR {roff(name)} (1){',' if name != self.others[-1] else ''}" for name in self.others]
 
     def bash(self):
         """A completion for bash: the values of an option, options, and files."""

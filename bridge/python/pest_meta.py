@@ -6,8 +6,13 @@
     >>> [rule] = pest_meta.rules('a = @{ "x"? }')
     >>> rule.name, rule.type, str(rule.expr)
     ('a', 'atomic', '(opt (str "x"))')
+    >>> matcher = pest_meta.Matcher('list = { item ~ ("," ~ item)* ~ EOI } item = @{ ASCII_ALPHA+ }')
+    >>> [list] = matcher.parse("list", "a,bc").trees
+    >>> [(tree.rule, tree.text) for tree in list.children]
+    [('item', 'a'), ('item', 'bc'), ('EOI', '')]
 
-A refused grammar raises GrammarError, which has all that is wrong with it. Positions are bytes of the grammar's UTF-8,
+A refused grammar raises GrammarError, which has all that is wrong with it, and a text that a rule does not match
+raises MatchError. Positions are bytes of the grammar's UTF-8,
 counted from 0, as in docs/FORMAT.md; lines and columns count from 1, and a column is a character.
 
 This file needs Python 3.8 and nothing else but the shared library. It looks for that in the folder that the variable
@@ -23,10 +28,15 @@ __all__ = [
     "Expr",
     "GrammarError",
     "LibraryError",
+    "Match",
+    "MatchError",
+    "Matcher",
     "Optimized",
     "Problem",
     "Rule",
+    "RunError",
     "Token",
+    "Tree",
     "check",
     "optimize",
     "optimize_rules",
@@ -38,6 +48,8 @@ __all__ = [
 _LIBRARY = "libpest_meta_c.so.1"
 _FORMAT = 1
 _ANSWERED, _REFUSED, _MEMORY, _NO_TEXT, _NO_ROOM = range(5)
+_UNFIT, _NO_RULE, _OUT_OF_STEPS, _EMPTY_STACK = range(6, 10)
+_MOST_STEPS = 2**64 - 1
 # How many operands the nodes of a form have (docs/FORMAT.md).
 _OPERANDS = {
     **dict.fromkeys(["str", "insens", "range", "ident", "peek_slice", "skip", "push_literal"], 0),
@@ -157,6 +169,129 @@ class Token(NamedTuple):
     position: int
     partner: int
     """The number of the tree's other token."""
+
+
+class Tree:
+    """A token pair of a matched text: its rule, its span in bytes, and the trees inside it."""
+
+    __slots__ = ("rule", "start", "end", "children", "_source")
+
+    def __init__(self, rule: str, start: int, source: bytes) -> None:
+        self.rule = rule
+        self.start = start
+        self.end = start
+        self.children: List["Tree"] = []
+        self._source = source
+
+    @property
+    def text(self) -> str:
+        """The part of the text that it spans."""
+        return self._source[self.start : self.end].decode()
+
+    def walk(self) -> Iterator["Tree"]:
+        """The tree and all trees inside it, each before its children."""
+        left = [self]
+        while left:
+            tree = left.pop()
+            yield tree
+            left.extend(reversed(tree.children))
+
+    def __repr__(self) -> str:
+        return f"<Tree {self.rule} {self.start}..{self.end}>"
+
+
+class Match(NamedTuple):
+    """The match of a rule."""
+
+    end: int
+    """The byte after the match."""
+    trees: List[Tree]
+    """The trees of the match, in the order of the text."""
+
+
+class MatchError(ValueError):
+    """A rule does not match a text."""
+
+    def __init__(self, position: int, expected: Sequence[str], source: bytes) -> None:
+        before = source[:position].decode()
+        self.position = position
+        """The furthest byte at which a rule failed."""
+        self.expected = tuple(expected)
+        """The rules that would have let the run get further."""
+        self.line = before.count("\n") + 1
+        self.column = len(before) - before.rfind("\n")
+        expectation = f"expected {', '.join(expected)}" if expected else "unknown parsing error"
+        super().__init__(f"{self.line}:{self.column}: {expectation}")
+
+
+class RunError(RuntimeError):
+    """A rule was stopped: it takes more steps than it may, or has no outcome."""
+
+
+class Matcher:
+    """Rules of a grammar, to run them on texts.
+
+    The rules are handed to the library and compiled at each call of parse.
+    """
+
+    def __init__(self, grammar: str) -> None:
+        """Reads, checks and optimizes a grammar. Raises GrammarError where anything is wrong with it."""
+        rules = _ask("pest_meta_parse_and_optimize", grammar)["rules"]
+        self.names = tuple(rule["name"] for rule in rules)
+        """The names of the rules, in the order of the grammar."""
+        self._rules = json.dumps(rules).encode()
+
+    def parse(self, rule: str, text: str, steps: int = _MOST_STEPS) -> Match:
+        """Matches a text by the rule of a name, from the text's start on, in so many steps at most.
+
+        Raises MatchError where the rule does not match, ValueError where no rule has the name, and RunError where
+        the run is stopped. A rule that does not end in EOI may match a part of the text: see Match.end.
+        """
+        source = text.encode()
+        status, numbers = self._run(rule.encode(), source, steps)
+        if status == _ANSWERED:
+            return Match(numbers[0], self._trees(numbers[1:], source))
+        if status == _REFUSED:
+            raise MatchError(numbers[0], sorted(map(self._name, numbers[1:])), source)
+        if status == _NO_RULE:
+            raise ValueError(f"no rule has the name {rule!r}")
+        if status == _UNFIT:
+            raise ValueError("a range of the grammar has a bound that is not one character")
+        if status == _OUT_OF_STEPS:
+            raise RunError(f"{rule} takes more than {steps} steps")
+        if status == _EMPTY_STACK:
+            raise RunError(f"{rule} has no outcome: PEEK or POP met the empty stack")
+        if status == _MEMORY:
+            raise MemoryError("there is no memory for this text")
+        raise LibraryError(f"pest_meta_match: status {status} is none of this file's release")
+
+    def _run(self, rule: bytes, source: bytes, steps: int) -> Tuple[int, List[int]]:
+        """The status of a run, and its numbers."""
+        function = _library().pest_meta_match
+        needed = ctypes.c_size_t(256 + len(source))
+        status = _NO_ROOM
+        while status == _NO_ROOM:
+            room = (ctypes.c_size_t * needed.value)()
+            words = [self._rules, len(self._rules), rule, len(rule), source, len(source), steps]
+            status = function(*words, room, len(room), ctypes.byref(needed))
+        return status, room[: needed.value]
+
+    def _name(self, number: int) -> str:
+        """The name of a rule's number."""
+        return self.names[number - 1] if number <= len(self.names) else "EOI"
+
+    def _trees(self, numbers: Sequence[int], source: bytes) -> List[Tree]:
+        """The trees of entries, three numbers each."""
+        root = Tree("", 0, source)
+        around = [root]
+        for rule, position in zip(numbers[::3], numbers[1::3]):
+            if rule:
+                tree = Tree(self._name(rule), position, source)
+                around[-1].children.append(tree)
+                around.append(tree)
+            else:
+                around.pop().end = position
+        return root.children
 
 
 def check(grammar: str) -> List[str]:
@@ -283,6 +418,14 @@ def _declare(function: Any, texts: int) -> None:
     function.restype = ctypes.c_uint8
 
 
+def _declare_match(function: Any) -> None:
+    """Declares what pest_meta.h says of pest_meta_match: three texts, the steps, and room for numbers."""
+    text = [ctypes.c_char_p, ctypes.c_size_t]
+    room = [ctypes.POINTER(ctypes.c_size_t), ctypes.c_size_t, ctypes.POINTER(ctypes.c_size_t)]
+    function.argtypes = [*(3 * text), ctypes.c_uint64, *room]
+    function.restype = ctypes.c_uint8
+
+
 _loaded: Any = None
 
 
@@ -303,6 +446,7 @@ def _load() -> Any:
         library = ctypes.CDLL(found[0] if found else fallback)
         for function, texts in _FUNCTIONS.items():
             _declare(getattr(library, function), texts)
+        _declare_match(library.pest_meta_match)
         answer = _call(library, "pest_meta_version")
     except (OSError, AttributeError) as error:
         looked = ", ".join(os.path.normpath(os.path.dirname(path)) for path in paths)

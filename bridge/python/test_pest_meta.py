@@ -7,7 +7,7 @@ import threading
 import unittest
 
 import pest_meta
-from pest_meta import Expr, GrammarError, LibraryError, Problem, Rule
+from pest_meta import Expr, GrammarError, LibraryError, Matcher, MatchError, Problem, Rule, RunError
 
 HERE = os.path.dirname(os.path.realpath(__file__))
 
@@ -97,6 +97,56 @@ class Calls(unittest.TestCase):
         version, number = pest_meta.versions()
         self.assertRegex(version, r"^\d+\.\d+\.\d+$")
         self.assertEqual(number, 1)
+
+
+LISTS = """
+list = { "[" ~ (item ~ ("," ~ item)*)? ~ "]" ~ EOI }
+item = @{ letter+ }
+letter = { LETTER | "-" }
+WHITESPACE = _{ " " }
+"""
+
+
+class Matching(unittest.TestCase):
+    def test_trees_are_those_of_the_match(self):
+        match = Matcher(LISTS).parse("list", "[aä , b]")
+        [root] = match.trees
+        found = [(tree.rule, tree.start, tree.end, tree.text) for tree in root.walk()]
+        wanted = [("list", 0, 9, "[aä , b]"), ("item", 1, 4, "aä"), ("item", 7, 8, "b"), ("EOI", 9, 9, "")]
+        self.assertEqual((found, match.end), (wanted, 9))
+        self.assertEqual(repr(root.children[0]), "<Tree item 1..4>")
+
+    def test_a_rule_may_match_a_part(self):
+        match = Matcher(LISTS).parse("item", "ab c")
+        self.assertEqual((match.end, [tree.text for tree in match.trees]), (2, ["ab"]))
+
+    def test_a_failure_has_its_position_and_what_was_expected(self):
+        with self.assertRaises(MatchError) as caught:
+            Matcher(LISTS).parse("list", "[a,\n7]")
+        error = caught.exception
+        self.assertEqual((error.position, error.line, error.column, error.expected), (3, 1, 4, ("item",)))
+        self.assertEqual(str(error), "1:4: expected item")
+        with self.assertRaises(MatchError) as caught:
+            Matcher(LISTS).parse("list", "[]x")
+        self.assertEqual((caught.exception.position, caught.exception.expected), (2, ("EOI",)))
+
+    def test_what_can_not_be_run_is_told_apart(self):
+        with self.assertRaisesRegex(ValueError, "no rule has the name 'none'"):
+            Matcher(LISTS).parse("none", "")
+        with self.assertRaises(GrammarError):
+            Matcher("a = { b }")
+        with self.assertRaisesRegex(RunError, "empty stack"):
+            Matcher("a = { POP }").parse("a", "x")
+        with self.assertRaisesRegex(RunError, "more than 10 steps"):
+            Matcher(LISTS).parse("list", "[a,b,c,d,e,f]", steps=10)
+
+    def test_long_and_deep_texts(self):
+        matcher = Matcher('a = { "(" ~ a ~ ")" | "x"* }')
+        depth = 20_000
+        [root] = matcher.parse("a", "(" * depth + "x" + ")" * depth).trees
+        self.assertEqual(sum(1 for _ in root.walk()), depth + 1)
+        many = Matcher("a = { b* } b = { ANY }").parse("a", "y" * 50_000)
+        self.assertEqual(len(many.trees[0].children), 50_000)
 
 
 class Limits(unittest.TestCase):

@@ -60,6 +60,8 @@ mod json;
 #[allow(unsafe_code)]
 #[cfg_attr(pest_meta_unlinked, path = "unlinked.rs")]
 mod library;
+#[doc(hidden)]
+pub mod matching;
 mod nodes;
 pub mod optimizer;
 pub mod parser;

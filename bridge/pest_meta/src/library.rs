@@ -33,6 +33,18 @@ extern "C" {
         room: usize,
         needed: *mut usize,
     ) -> u8;
+    fn pest_meta_match(
+        rules: *const u8,
+        rules_len: usize,
+        rule: *const u8,
+        rule_len: usize,
+        text: *const u8,
+        text_len: usize,
+        steps: u64,
+        out: *mut usize,
+        out_len: usize,
+        needed: *mut usize,
+    ) -> u8;
     fn pest_meta_version(out: *mut u8, out_len: usize, needed: *mut usize) -> u8;
 }
 
@@ -60,6 +72,32 @@ pub(crate) fn tokens(text: &str, rule: &str, out: &mut [u8], needed: &mut usize)
             text.len(),
             rule.as_ptr(),
             rule.len(),
+            out.as_mut_ptr(),
+            out.len(),
+            needed,
+        )
+    }
+}
+
+/// The tokens of a text by a rule of optimized rules in JSON, as numbers, or those of a failure.
+pub(crate) fn match_text(
+    rules: &str,
+    rule: &str,
+    text: &str,
+    steps: u64,
+    out: &mut [usize],
+    needed: &mut usize,
+) -> u8 {
+    // SAFETY: as above.
+    unsafe {
+        pest_meta_match(
+            rules.as_ptr(),
+            rules.len(),
+            rule.as_ptr(),
+            rule.len(),
+            text.as_ptr(),
+            text.len(),
+            steps,
             out.as_mut_ptr(),
             out.len(),
             needed,

@@ -16,18 +16,25 @@ use crate::printing::{spelled, BareSide};
 /// rules this crate does not know.
 pub fn optimize(rules: Vec<Rule>) -> Vec<OptimizedRule> {
     let mut json = String::new();
-    write_list(&mut json, &rules, write_rule);
+    write_list(&mut json, &rules, |out, rule| write_rule(out, &rule.name, rule.ty, &flat(&rule.expr)));
     let optimized = answers::optimize(&json, OptimizedRule::try_from);
     optimized.unwrap_or_else(|why| panic!("pest_meta: {why}"))
 }
 
+/// Returns optimized rules as JSON.
+pub(crate) fn json_of(rules: &[OptimizedRule]) -> String {
+    let mut json = String::new();
+    write_list(&mut json, rules, |out, rule| write_rule(out, &rule.name, rule.ty, &flat(&rule.expr)));
+    json
+}
+
 /// Writes a rule as JSON.
-fn write_rule(out: &mut String, rule: &Rule) {
+fn write_rule(out: &mut String, name: &str, ty: RuleType, body: &[Node]) {
     out.push_str("{\"expr\":");
-    write_list(out, &flat(&rule.expr), nodes::write);
+    write_list(out, body, nodes::write);
     out.push_str(",\"name\":");
-    write_text(out, &rule.name);
-    let ty = match rule.ty {
+    write_text(out, name);
+    let ty = match ty {
         RuleType::Normal => "normal",
         RuleType::Silent => "silent",
         RuleType::Atomic => "atomic",

@@ -23,6 +23,10 @@ pub(crate) fn tokens(_: &str, _: &str, _: &mut [u8], _: &mut usize) -> u8 {
     refused()
 }
 
+pub(crate) fn match_text(_: &str, _: &str, _: &str, _: u64, _: &mut [usize], _: &mut usize) -> u8 {
+    refused()
+}
+
 pub(crate) fn version(_: &mut [u8], _: &mut usize) -> u8 {
     refused()
 }

@@ -37,6 +37,11 @@ extern "C" {
 #define PEST_META_MEMORY 2
 #define PEST_META_NO_TEXT 3
 #define PEST_META_NO_ROOM 4
+#define PEST_META_NO_RULES 5
+#define PEST_META_UNFIT 6
+#define PEST_META_NO_RULE 7
+#define PEST_META_OUT_OF_STEPS 8
+#define PEST_META_EMPTY_STACK 9
 
 /* The tokens of the text for the rule of the meta-grammar of that name, from
  * the text's start on ("Tokens"). Refused with a list of one error, or with an
@@ -77,6 +82,36 @@ uint8_t pest_meta_optimize(const uint8_t *rules, size_t rules_len, uint8_t *out,
  * the first flaw, else of the rules. */
 uint8_t pest_meta_parse_and_optimize(const uint8_t *text, size_t text_len, uint8_t *out,
                                      size_t out_len, size_t *needed);
+
+/* The tokens of a text by a rule of optimized rules in JSON ("Rules"), from the
+ * text's start on. `out` is a buffer of `out_len` numbers, and `*needed` counts
+ * numbers. The run takes `steps` steps at most; UINT64_MAX is no limit in
+ * practice. The rules are read and compiled at each call. With status
+ *
+ *   0  the rule matches: the position after the match, in bytes, and then for
+ *      each entry of the tokens ("Tokens as numbers") a pest_meta_entry
+ *   1  the rule fails: the furthest position of a failure, in bytes, and then
+ *      the numbers of the rules that would have let the run get further
+ *   5  the JSON is no list of optimized rules
+ *   6  the rules call a name that is neither a rule nor a builtin, or have a
+ *      range with a bound that is not one character
+ *   7  no rule has the name
+ *   8  the run would take more steps
+ *   9  PEEK or POP met the empty stack: the rule has no outcome
+ *
+ * and 2, 3 and 4 are as above. With 5 to 9 nothing is written, and `*needed` is
+ * 0. A rule's number is one more than its index in the list; of rules of one
+ * name, the last is meant. EOI has the number after all rules. */
+uint8_t pest_meta_match(const uint8_t *rules, size_t rules_len, const uint8_t *rule, size_t rule_len,
+                        const uint8_t *text, size_t text_len, uint64_t steps, size_t *out,
+                        size_t out_len, size_t *needed);
+
+/* The start or the end of a token, as it lies in `out`. */
+typedef struct pest_meta_entry {
+    size_t rule;    /* the rule's number, or 0 for an end */
+    size_t pos;     /* the position, in bytes */
+    size_t partner; /* the index of the entry at the other end of the token */
+} pest_meta_entry;
 
 /* The number of the format, and the version of the original crate
  * ("Versions"). Never refused. */

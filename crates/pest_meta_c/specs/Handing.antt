@@ -1,7 +1,9 @@
 -- The result of a call for its caller: a status, bytes in a buffer, and a length.
-use Rattle.std.specs.Prelude.{◌≡◌, ◌<◌, ◌≤◌, ◌⊎◌, ◌++◌, ℕ, List, Result, Ok, Err, drop, length, string_bytes}
+use Rattle.std.specs.Prelude.{◌≡◌, ◌≢◌, ◌<◌, ◌≤◌, ◌⊎◌, ◌++◌, ℕ, List, Result, Ok, Err, drop, length, string_bytes}
 use Rattle.std.specs.declared.string.String.{String}
 use Rattle.std.specs.declared.alloc.Global.{Global}
+use Rattle.matcher_tokens.specs.declared.outcome.MatchOutcome.{MatchOutcome}
+use Rattle.matcher_tokens.specs.declared.outcome.MatchOutcome.TheVariants as match_is
 use Rattle.pest_meta_c.specs.declared.outcome.CallError as why
 use Rattle.pest_meta_c.specs.declared.outcome.CallError.TheVariants as why_is
 
@@ -36,11 +38,11 @@ pub record HandsOver (Answer Refusal : List ℕ → Type 0) (old new : List ℕ)
   pub no_text : status ≡ 3 → WritesNothing old new needed
   pub no_room : status ≡ 4 → LacksRoom (λ bytes. Answer bytes ⊎ Refusal bytes) old new needed
 
--- bytes with that status are put into the buffer where they fit, and `needed` is their length
-pub record IsPut (wanted : ℕ) (bytes old new : List ℕ) (needed status : ℕ) : Type 0 where
-  pub told : needed ≡ length bytes
-  pub put : length bytes ≤ length old → (status ≡ wanted) × (new ≡ bytes ++ drop (length bytes) old)
-  pub no_room : length old < length bytes → (status ≡ 4) × (new ≡ old)
+-- items with that status are put into the buffer where they fit, and `needed` is their count
+pub record IsPut {A : Type 0} (wanted : ℕ) (items old new : List A) (needed status : ℕ) : Type 0 where
+  pub told : needed ≡ length items
+  pub put : length items ≤ length old → (status ≡ wanted) × (new ≡ items ++ drop (length items) old)
+  pub no_room : length old < length items → (status ≡ 4) × (new ≡ old)
 
 -- the result of an outcome: status 0 for an answer, 1 for a refusal, 2 for an allocation failure
 abbrev pub IsHandedOver : Result (String Global) why.CallError → List ℕ → List ℕ → ℕ → ℕ → Type 0
@@ -48,3 +50,30 @@ IsHandedOver (Ok json) old new needed status = IsPut 0 (string_bytes json) old n
 IsHandedOver (Err (why_is.Refused json)) old new needed status =
     IsPut 1 (string_bytes json) old new needed status
 IsHandedOver (Err why_is.Memory) old new needed status = (status ≡ 2) × WritesNothing old new needed
+
+-- nothing is written, with that status
+abbrev pub IsNothing : ℕ → List ℕ → List ℕ → ℕ → ℕ → Type 0
+IsNothing wanted old new needed status = (status ≡ wanted) × WritesNothing old new needed
+
+-- the result of the outcome of a rule on a text
+abbrev pub IsMatchHandedOver : MatchOutcome → List ℕ → List ℕ → ℕ → ℕ → Type 0
+IsMatchHandedOver (match_is.Matched numbers) old new needed status = IsPut 0 numbers.items old new needed status
+IsMatchHandedOver (match_is.Failed numbers) old new needed status = IsPut 1 numbers.items old new needed status
+IsMatchHandedOver match_is.NoRules old new needed status = IsNothing 5 old new needed status
+IsMatchHandedOver match_is.Unfit old new needed status = IsNothing 6 old new needed status
+IsMatchHandedOver match_is.NoRule old new needed status = IsNothing 7 old new needed status
+IsMatchHandedOver match_is.OutOfSteps old new needed status = IsNothing 8 old new needed status
+IsMatchHandedOver match_is.EmptyStack old new needed status = IsNothing 9 old new needed status
+IsMatchHandedOver match_is.Memory old new needed status = IsNothing 2 old new needed status
+
+-- the result is that of an outcome with this property
+pub record IsOfMatch (P : MatchOutcome → Type 0) (old new : List ℕ) (needed status : ℕ) : Type 0 where
+  pub outcome : MatchOutcome
+  pub holds : P outcome
+  pub handed : IsMatchHandedOver outcome old new needed status
+
+-- the result of a call that runs a rule on a text: that of an outcome with this property, or 3 for an input that
+-- is not UTF-8, with nothing written
+pub record HandsOverMatch (P : MatchOutcome → Type 0) (old new : List ℕ) (needed status : ℕ) : Type 0 where
+  pub no_text : status ≡ 3 → WritesNothing old new needed
+  pub of_outcome : status ≢ 3 → IsOfMatch P old new needed status

@@ -1,8 +1,9 @@
 //! The result of a call for its caller: a status, bytes in a buffer, and their length.
 ghost use Rattle.std.specs.Prelude.{◌≡◌, ◌<◌, ◌≤◌, ◌++◌, drop, length};
-ghost use Rattle.pest_meta_c.specs.Handing.{IsHandedOver, IsPut};
+ghost use Rattle.pest_meta_c.specs.Handing.{IsHandedOver, IsMatchHandedOver, IsPut};
 
 use crate::outcome::{CallError, Outcome};
+use matcher_tokens::outcome::MatchOutcome;
 
 /// The call is answered, and the answer is written.
 const ANSWERED: u8 = 0;
@@ -14,6 +15,16 @@ const MEMORY: u8 = 2;
 const NO_TEXT: u8 = 3;
 /// The buffer is too small.
 const NO_ROOM: u8 = 4;
+/// The JSON is no list of optimized rules.
+const NO_RULES: u8 = 5;
+/// The rules can't be run.
+const UNFIT: u8 = 6;
+/// No rule has the name.
+const NO_RULE: u8 = 7;
+/// The run takes more steps than it may.
+const OUT_OF_STEPS: u8 = 8;
+/// The stack was empty for `PEEK` or `POP`.
+const EMPTY_STACK: u8 = 9;
 
 /// Writes an outcome to the buffer `out`, its length to `needed`, and returns its status.
 pub(crate) fn hand_over(out: &mut [u8], needed: &mut usize, outcome: Outcome) -> u8
@@ -29,6 +40,32 @@ pub(crate) fn hand_over(out: &mut [u8], needed: &mut usize, outcome: Outcome) ->
     }
 }
 
+/// Writes the outcome of a rule on a text to the buffer `out`, the count of its numbers to `needed`, and returns
+/// its status.
+pub(crate) fn hand_over_match(out: &mut [usize], needed: &mut usize, outcome: MatchOutcome) -> u8
+    ensures { IsMatchHandedOver outcome out.old out.new needed.new result }
+{
+    match outcome {
+        MatchOutcome::Matched(numbers) => put(out, needed, &numbers, ANSWERED),
+        MatchOutcome::Failed(numbers) => put(out, needed, &numbers, REFUSED),
+        MatchOutcome::NoRules => nothing(needed, NO_RULES),
+        MatchOutcome::Unfit => nothing(needed, UNFIT),
+        MatchOutcome::NoRule => nothing(needed, NO_RULE),
+        MatchOutcome::OutOfSteps => nothing(needed, OUT_OF_STEPS),
+        MatchOutcome::EmptyStack => nothing(needed, EMPTY_STACK),
+        MatchOutcome::Memory => nothing(needed, MEMORY),
+    }
+}
+
+/// Returns a status with which nothing is written, with 0 in `needed`.
+fn nothing(needed: &mut usize, status: u8) -> u8
+    ensures status { result ≡ status }
+    ensures needed { needed.new ≡ 0 }
+{
+    *needed = 0;
+    status
+}
+
 /// Returns the status of an input that is not UTF-8, with 0 in `needed`.
 pub(crate) fn no_text(needed: &mut usize) -> u8
     ensures status { result ≡ 3 }
@@ -38,16 +75,16 @@ pub(crate) fn no_text(needed: &mut usize) -> u8
     NO_TEXT
 }
 
-/// Puts bytes at the start of the buffer and returns that status, or writes nothing if they do not fit. Their
-/// length goes to `needed`.
-fn put(out: &mut [u8], needed: &mut usize, bytes: &[u8], status: u8) -> u8
-    ensures { IsPut status bytes.now out.old out.new needed.new result }
+/// Puts items at the start of the buffer and returns that status, or writes nothing if they do not fit. Their
+/// count goes to `needed`.
+fn put<T: Copy>(out: &mut [T], needed: &mut usize, items: &[T], status: u8) -> u8
+    ensures { IsPut status items.now out.old out.new needed.new result }
 {
-    *needed = bytes.len();
-    if out.len() < bytes.len() {
+    *needed = items.len();
+    if out.len() < items.len() {
         return NO_ROOM;
     }
-    let (head, _) = out.split_at_mut(bytes.len());
-    head.copy_from_slice(bytes);
+    let (head, _) = out.split_at_mut(items.len());
+    head.copy_from_slice(items);
     status
 }

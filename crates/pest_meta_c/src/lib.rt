@@ -4,20 +4,23 @@
 //! Inputs are UTF-8; outputs are JSON (docs/FORMAT.md) with positions in bytes. Every call returns a status:
 //! 0 for an answer, and 1 for a refusal, with JSON at the start of `out` and its length in `needed`; 2 for an
 //! allocation failure and 3 for an input that is not UTF-8, with nothing written and 0 in `needed`; 4 where
-//! `out` is too small, with nothing written and the length of the JSON in `needed`.
+//! `out` is too small, with nothing written and the length of the JSON in `needed`. `pest_meta_match` writes
+//! numbers, and has more statuses.
 #![tactic(auto)]
 
 mod calls;
 mod handing;
 mod outcome;
 
-ghost use Rattle.std.specs.Prelude.{◌≡◌, ◌≢◌};
+ghost use Rattle.std.specs.Prelude.{◌≡◌, ◌≢◌, chars};
 ghost use Rattle.std.specs.Str.{IsUtf8};
 ghost use Rattle.pest_meta_c.specs.Answers.{AreKeywordErrors, AreNames, AreNodes, AreOptimized, AreRules, AreTokens, IsVersion, IsWhole};
-ghost use Rattle.pest_meta_c.specs.Handing.{HandsOver};
+ghost use Rattle.matcher_tokens.specs.Outcomes.{IsMatchOutcome};
+ghost use Rattle.pest_meta_c.specs.Handing.{HandsOver, HandsOverMatch};
 ghost use Rattle.pest_meta_c.specs.Refusals.{HasNoNames, HasNoNodes, HasNoRules, HasNoTokens, IsNoJson, IsRefused, Never};
 
-use handing::{hand_over, no_text};
+use handing::{hand_over, hand_over_match, no_text};
+use matcher_tokens::run::match_text;
 use std::alloc::Global;
 
 /// Writes the tokens of a text for the rule of the meta-grammar of that name, from the text's start on.
@@ -148,6 +151,35 @@ pub extern "C" fn pest_meta_parse_and_optimize(
     match str::from_utf8(text) {
         Ok(text) => hand_over(out, needed, calls::parse_and_optimize(alloc, text)),
         Err(_) => no_text(needed),
+    }
+}
+
+/// Writes the tokens of a text by a rule of optimized rules in JSON, as numbers. The run takes at most `steps`
+/// steps.
+#[unsafe(no_mangle)]
+pub extern "C" fn pest_meta_match(
+    alloc: Global,
+    rules: &[u8],
+    rule: &[u8],
+    text: &[u8],
+    steps: u64,
+    out: &mut [usize],
+    needed: &mut usize,
+) -> u8
+    ensures hands { HandsOverMatch (IsMatchOutcome rules.now (chars rule.now) text.now steps)
+        out.old out.new needed.new result }
+    ensures texts { result ≢ 3 → IsUtf8 rules.now × IsUtf8 rule.now × IsUtf8 text.now }
+    ensures no_texts { result ≡ 3 → IsUtf8 rules.now × IsUtf8 rule.now × IsUtf8 text.now → ⊥ }
+{
+    match (
+        str::from_utf8(rules),
+        str::from_utf8(rule),
+        str::from_utf8(text),
+    ) {
+        (Ok(rules), Ok(rule), Ok(text)) => {
+            hand_over_match(out, needed, match_text(alloc, rules, rule, text, steps))
+        }
+        _ => no_text(needed),
     }
 }
 

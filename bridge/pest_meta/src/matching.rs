@@ -1,0 +1,104 @@
+//! Optimized rules run on texts by the proved matcher, for the crate pest_vm. No part of the original's interface.
+#![forbid(unsafe_code)]
+
+use crate::library;
+use crate::optimizer::OptimizedRule;
+
+/// Optimized rules as the library reads them.
+#[derive(Clone, Debug)]
+pub struct Program {
+    rules: String,
+    names: Vec<String>,
+}
+
+/// An entry of a list of tokens.
+#[derive(Clone, Copy, Debug, PartialEq)]
+pub enum Token {
+    /// The start of a token: the rule's index, the position in bytes, and the index of the entry that ends it.
+    Start {
+        /// The rule's index; `EOI` has the index after all rules.
+        rule: usize,
+        /// The position, in bytes.
+        pos: usize,
+        /// The index of the entry that ends the token.
+        partner: usize,
+    },
+    /// The end of a token.
+    End {
+        /// The position, in bytes.
+        pos: usize,
+    },
+}
+
+/// The reason why a rule has no tokens on a text.
+#[derive(Clone, Debug, PartialEq)]
+pub enum Unmatched {
+    /// The rule fails: the furthest position of a failure, in bytes, and the indexes of the rules that were
+    /// expected there.
+    Failed {
+        /// The position, in bytes.
+        pos: usize,
+        /// The indexes of the rules.
+        expected: Vec<usize>,
+    },
+    /// The rules can't be run: they call a name that is none, or have a range with a bound that is no character.
+    Unfit,
+    /// No rule has the name.
+    NoRule,
+    /// The rule takes more steps than it may.
+    OutOfSteps,
+    /// `PEEK` or `POP` met the empty stack.
+    EmptyStack,
+}
+
+impl Program {
+    /// Writes rules as the library reads them.
+    pub fn new(rules: &[OptimizedRule]) -> Program {
+        let names = rules.iter().map(|rule| rule.name.clone()).collect();
+        Program { rules: crate::optimizer::json_of(rules), names }
+    }
+
+    /// Returns the name of the rule of an index.
+    pub fn name(&self, index: usize) -> &str {
+        self.names.get(index).map_or("EOI", String::as_str)
+    }
+
+    /// Returns the position after the match of a rule from the start of a text, and the tokens.
+    ///
+    /// # Panics
+    /// Where the library has no memory.
+    pub fn run(&self, rule: &str, text: &str, steps: u64) -> Result<(usize, Vec<Token>), Unmatched> {
+        let mut numbers = vec![0; 64 + text.len()];
+        let mut needed = 0;
+        let mut status = library::match_text(&self.rules, rule, text, steps, &mut numbers, &mut needed);
+        if status == 4 {
+            numbers = vec![0; needed];
+            status = library::match_text(&self.rules, rule, text, steps, &mut numbers, &mut needed);
+        }
+        let numbers = &numbers[..needed];
+        match status {
+            0 => Ok((numbers[0], numbers[1..].chunks_exact(3).map(token).collect())),
+            1 => {
+                let expected = numbers[1..].iter().map(|number| number - 1).collect();
+                Err(Unmatched::Failed { pos: numbers[0], expected })
+            }
+            2 => panic!("pest_meta: there is no memory for this text"),
+            6 => Err(Unmatched::Unfit),
+            7 => Err(Unmatched::NoRule),
+            8 => Err(Unmatched::OutOfSteps),
+            9 => Err(Unmatched::EmptyStack),
+            _ => panic!(
+                "pest_meta: the library answered with status {status}, which is none for rules and a text"
+            ),
+        }
+    }
+}
+
+/// Reads an entry of three numbers.
+fn token(numbers: &[usize]) -> Token {
+    match *numbers {
+        [0, pos, _] => Token::End { pos },
+        [rule, pos, partner] => Token::Start { rule: rule - 1, pos, partner },
+        _ => unreachable!("an entry has three numbers"),
+    }
+}

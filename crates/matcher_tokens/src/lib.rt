@@ -1,0 +1,6 @@
+//! A rule of optimized rules in JSON, run on a text, with its tokens as numbers, for callers in other languages.
+#![tactic(auto)]
+
+mod numbers;
+pub mod outcome;
+pub mod run;
