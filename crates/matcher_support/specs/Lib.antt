@@ -3,3 +3,4 @@ pub mod Flat
 pub mod Values
 pub mod Built
 pub mod Sets
+pub mod Json

@@ -1,6 +1,7 @@
 //! What programs over the matcher need: its token trees as text and as JSON, and the sets of property names.
 #![tactic(auto)]
 
+pub mod json;
 pub mod literal;
 pub mod shown;
 pub mod unicode_properties;
